@@ -1,0 +1,15 @@
+//! The values that a terminal screen is made of: colours, attributes, cells,
+//! positions and modes, and the small sequences that describe their changes.
+#![tactic(auto)]
+
+pub mod attrs;
+pub mod color;
+pub mod error;
+pub mod modes;
+pub mod pos;
+
+pub use attrs::{Attrs, Intensity};
+pub use color::Color;
+pub use error::Error;
+pub use modes::{CursorStyle, MouseProtocolEncoding, MouseProtocolMode};
+pub use pos::Pos;
