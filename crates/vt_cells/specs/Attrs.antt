@@ -1,7 +1,9 @@
 -- Attributes: six components, as ECMA-48's SGR sets them.
-use Rattle.std.specs.Prelude.{false}
+use Rattle.std.specs.Prelude.{Bool, true, false, not, ◌&&◌, ◌==◌, if◌then◌else◌}
 use Rattle.vt_cells.specs.declared.attrs.Attrs.{Attrs}
-use Rattle.vt_cells.specs.declared.attrs.Intensity.TheVariants.{Normal}
+use Rattle.vt_cells.specs.declared.attrs.Intensity.{Intensity}
+use Rattle.vt_cells.specs.declared.attrs.Intensity.TheVariants.{Normal, Bold, Dim}
+use Rattle.vt_cells.specs.declared.color.Color.{Color}
 use Rattle.vt_cells.specs.declared.color.Color.TheVariants as color
 
 -- what a fresh screen draws with
@@ -14,3 +16,40 @@ default_attrs = record {
   underline = false;
   inverse = false;
 }
+
+-- the same colour
+unfoldable pub same_color : Color → Color → Bool
+same_color color.Default color.Default = true
+same_color (color.Idx i) (color.Idx j) = i == j
+same_color (color.Rgb r g b) (color.Rgb s h c) = (r == s) && ((g == h) && (b == c))
+same_color _ _ = false
+
+abbrev pub same_intensity : Intensity → Intensity → Bool
+same_intensity Normal Normal = true
+same_intensity Bold Bold = true
+same_intensity Dim Dim = true
+same_intensity _ _ = false
+
+abbrev pub same_bool : Bool → Bool → Bool
+same_bool true b = b
+same_bool false b = not b
+
+-- the same in all six components
+unfoldable pub same_attrs : Attrs → Attrs → Bool
+same_attrs a b =
+    same_color a.fgcolor b.fgcolor && (same_color a.bgcolor b.bgcolor && (same_intensity a.intensity b.intensity
+    && (same_bool a.italic b.italic && (same_bool a.underline b.underline && same_bool a.inverse b.inverse))))
+
+-- the attributes that a change from `was` to `new` makes of others: default ones at once, else part by part
+unfoldable pub changed_attrs : Attrs → Attrs → Attrs → Attrs
+changed_attrs was new attrs =
+    if same_attrs was new then attrs
+    else if same_attrs new default_attrs then default_attrs
+    else record {
+      fgcolor = if same_color was.fgcolor new.fgcolor then attrs.fgcolor else new.fgcolor;
+      bgcolor = if same_color was.bgcolor new.bgcolor then attrs.bgcolor else new.bgcolor;
+      intensity = if same_intensity was.intensity new.intensity then attrs.intensity else new.intensity;
+      italic = if same_bool was.italic new.italic then attrs.italic else new.italic;
+      underline = if same_bool was.underline new.underline then attrs.underline else new.underline;
+      inverse = if same_bool was.inverse new.inverse then attrs.inverse else new.inverse;
+    }

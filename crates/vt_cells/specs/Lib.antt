@@ -1,1 +1,4 @@
 pub mod Attrs
+pub mod Cell
+pub mod Glyph
+pub mod Op

@@ -1,0 +1,56 @@
+-- Cells: a blank, a glyph, or the right half of the wide glyph before it.
+use Rattle.std.specs.Prelude.{◌≡◌, ℕ, ◌==◌, Bool, true, false, List, [], ◌∷◌, length, Some, if◌then◌else◌}
+use Rattle.std.specs.Char.{encode_utf8}
+use Rattle.vt_cells.specs.Attrs.{default_attrs}
+use Rattle.vt_cells.specs.Glyph.{IsGlyphText, marked_text}
+use Rattle.vt_cells.specs.declared.attrs.Attrs.{Attrs}
+
+-- a blank in attributes; a glyph with its text in UTF-8, wide (two columns) or narrow, in attributes; a right half
+pub data CellValue : Type 0 where
+  blank : Attrs → CellValue
+  glyph : (text : List ℕ) → (wide : Bool) → Attrs → CellValue
+  right_half : CellValue
+
+abbrev pub default_blank : CellValue
+default_blank = blank default_attrs
+
+-- a wide glyph, which is the left half of two columns
+abbrev pub is_wide : CellValue → Bool
+is_wide (glyph text wide attrs) = wide
+is_wide _ = false
+
+abbrev pub is_blank : CellValue → Bool
+is_blank (blank attrs) = true
+is_blank _ = false
+
+abbrev pub is_right_half : CellValue → Bool
+is_right_half right_half = true
+is_right_half _ = false
+
+-- the text that a cell holds, empty where it is no glyph
+abbrev pub text_of : CellValue → List ℕ
+text_of (glyph text wide attrs) = text
+text_of _ = []
+
+-- the attributes of a cell; a right half has the default ones
+abbrev pub attrs_of : CellValue → Attrs
+attrs_of (blank attrs) = attrs
+attrs_of (glyph text wide attrs) = attrs
+attrs_of right_half = default_attrs
+
+-- a cell with a mark put on it: a blank becomes a space glyph first, and keeps its attributes
+abbrev pub marked : ℕ → CellValue → CellValue
+marked mark (blank attrs) = glyph (marked_text (0x20 ∷ []) mark) false attrs
+marked mark (glyph text wide attrs) = glyph (marked_text text mark) wide attrs
+marked mark right_half = right_half
+
+-- a glyph made wide or narrow
+abbrev pub widened : Bool → CellValue → CellValue
+widened wide (glyph text was attrs) = glyph text wide attrs
+widened wide (blank attrs) = blank attrs
+widened wide right_half = right_half
+
+-- what every cell is
+abbrev pub IsCell : CellValue → Type 0
+IsCell (glyph text wide attrs) = IsGlyphText text wide
+IsCell _ = Unit {0}

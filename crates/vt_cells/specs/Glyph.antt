@@ -1,0 +1,54 @@
+-- Texts of cells: one character that takes columns, and the marks put on it.
+use Rattle.std.specs.Prelude.{◌≡◌, ◌≢◌, ℕ, ◌<◌, Bool, true, false, ◌==◌, nat_lt, min, List, [], ◌∷◌, ◌++◌, length, Option, Some, None, chars, encode_utf8_all, if◌then◌else◌}
+use Rattle.std.specs.List.{list_any, AllByRecursion}
+use Rattle.std.specs.Char.{encode_utf8, IsScalar}
+use Rattle.unicode_width.specs.Width.{char_width, str_width}
+
+-- the columns that a character takes, of those that `unicode_width` gives: at most 2, and 1 from U+0100 on where it gives none (UAX #11)
+abbrev pub columns_or : ℕ → Option ℕ → Option ℕ
+columns_or c (Some width) = Some (min width 2)
+columns_or c None = if nat_lt c 0x100 then None else Some 1
+
+unfoldable pub columns_of : ℕ → Option ℕ
+columns_of c = columns_or c (char_width false c)
+
+-- U+FE0F, variation selector 16, which asks for the look of an emoji
+abbrev pub is_selector : ℕ → Bool
+is_selector c = c == 0xFE0F
+
+-- a text takes more than one column
+unfoldable pub is_wide_text : List ℕ → Bool
+is_wide_text text = nat_lt 1 (str_width false (chars text))
+
+-- a cell with this much text takes no further mark
+abbrev pub has_room : List ℕ → Bool
+has_room text = nat_lt (length text) 18
+
+-- a text with a mark put on it
+abbrev pub marked_text : List ℕ → ℕ → List ℕ
+marked_text text mark = if has_room text then text ++ encode_utf8 mark else text
+
+-- the character takes no column of its own
+abbrev pub IsMark : ℕ → Type 0
+IsMark c = IsScalar c × (columns_of c ≡ Some 0)
+
+-- each mark was added while the text before it had room
+abbrev pub Joins : List ℕ → List ℕ → List ℕ → Type 0
+Joins text [] whole = text ≡ whole
+Joins text (mark ∷ marks) whole = (has_room text ≡ true) × Joins (text ++ encode_utf8 mark) marks whole
+
+-- what the width of a glyph may be: its first character's, unless U+FE0F is among its marks
+abbrev pub first_columns : Bool → ℕ
+first_columns wide = if wide then 2 else 1
+
+-- the text of a glyph: a first character that takes columns, then marks
+pub record IsGlyphText (text : List ℕ) (wide : Bool) : Type 0 where
+  pub first : ℕ
+  pub marks : List ℕ
+  pub scalar : IsScalar first
+  pub drawn : columns_of first ≢ Some 0
+  pub shown : columns_of first ≢ None
+  pub reported : first ≢ 0xFFFD
+  pub are_marks : AllByRecursion IsMark marks
+  pub spelled : Joins (encode_utf8 first) marks text
+  pub width : list_any is_selector marks ≡ false → columns_of first ≡ Some (first_columns wide)
