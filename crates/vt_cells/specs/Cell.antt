@@ -1,7 +1,7 @@
 -- Cells: a blank, a glyph, or the right half of the wide glyph before it.
 use Rattle.std.specs.Prelude.{◌≡◌, ℕ, ◌==◌, Bool, true, false, List, [], ◌∷◌, length, Some, if◌then◌else◌}
 use Rattle.std.specs.Char.{encode_utf8}
-use Rattle.vt_cells.specs.Attrs.{default_attrs}
+use Rattle.vt_cells.specs.Attrs.{default_attrs, same_attrs}
 use Rattle.vt_cells.specs.Glyph.{IsGlyphText, marked_text}
 use Rattle.vt_cells.specs.declared.attrs.Attrs.{Attrs}
 
@@ -26,6 +26,11 @@ is_blank _ = false
 abbrev pub is_right_half : CellValue → Bool
 is_right_half right_half = true
 is_right_half _ = false
+
+-- a blank in default attributes
+abbrev pub is_default_blank : CellValue → Bool
+is_default_blank (blank attrs) = same_attrs attrs default_attrs
+is_default_blank _ = false
 
 -- the text that a cell holds, empty where it is no glyph
 abbrev pub text_of : CellValue → List ℕ

@@ -1,0 +1,2 @@
+//! Rows of cells, and what happens within a row.
+#![tactic(auto)]
