@@ -1,5 +1,5 @@
 -- What a redraw asks of the terminal that reads it, one operation after the other, and the exact text of each.
-use Rattle.std.specs.Prelude.{ℕ, zero, suc, ◌+◌, ◌&&◌, ◌==◌, nat_lt, Bool, true, false, List, [], ◌∷◌, ◌++◌, decimal, if◌then◌else◌}
+use Rattle.std.specs.Prelude.{ℕ, zero, suc, ◌+◌, ◌-◌, ◌&&◌, ◌==◌, nat_lt, Bool, true, false, List, [], ◌∷◌, ◌++◌, decimal, if◌then◌else◌}
 use Rattle.std.specs.List.{flat_map}
 use Rattle.vt_cells.specs.Attrs.{default_attrs, same_attrs, same_color, same_intensity, same_bool}
 use Rattle.vt_cells.specs.declared.attrs.Attrs.{Attrs}
@@ -110,3 +110,11 @@ bytes_of (Print text) = text
 -- the text of a list of operations
 abbrev pub bytes_of_all : List Op → List ℕ
 bytes_of_all ops = flat_map bytes_of ops
+
+-- from one position to another: the next row's first column, a column to the right in the same row, or any other
+unfoldable pub moving : (from_row from_col row col : ℕ) → List Op
+moving from_row from_col row col =
+    if (row == from_row + 1) && (col == 0) then NextRow ∷ []
+    else if (row == from_row) && nat_lt from_col col then MoveRight (col - from_col) ∷ []
+    else if (row == from_row) && (col == from_col) then []
+    else MoveTo row col ∷ []

@@ -1,0 +1,38 @@
+-- Moves of the cursor (ECMA-48's CUF, CUP, CR and LF, with the VT510's region and origin mode).
+use Rattle.std.specs.Prelude.{ℕ, ◌+◌, ◌-◌, ◌==◌, nat_lt, Bool, true, false, length, min, if◌then◌else◌}
+use Rattle.vt_grid.specs.Page.{Page, scrolled_up}
+
+-- to the first column (CR)
+abbrev pub carriage_return : Page → Page
+carriage_return page = record page { column = 0 }
+
+-- left by n columns, from the column as it is, down to the first (CUB, BS)
+abbrev pub moved_left : ℕ → Page → Page
+moved_left n page = record page { column = page.column - n }
+
+-- right by n columns, at most to the last one, also from a pending wrap (CUF)
+abbrev pub moved_right : ℕ → Page → Page
+moved_right n page = record page { column = min (page.column + n) (page.width - 1) }
+
+-- the row that a row of CUP means: in origin mode it counts from the region's top and stays in the region
+abbrev pub target_row : ℕ → Page → ℕ
+target_row r page = if page.origin then min (page.top + r) page.bottom else min r (length page.rows - 1)
+
+-- to a row and a column, counted from 0, at most the last ones (CUP)
+abbrev pub moved_to : ℕ → ℕ → Page → Page
+moved_to r c page = record page { row = target_row r page; column = min c (page.width - 1) }
+
+-- a line feed scrolls exactly at the region's bottom (LF)
+abbrev pub at_bottom : Page → Bool
+at_bottom page = page.row == page.bottom
+
+-- a line feed: at the region's bottom the region scrolls up by one, else the cursor moves down, at most to the last row
+unfoldable pub line_feed : Page → Page
+line_feed page =
+    if at_bottom page then scrolled_up 1 page
+    else if nat_lt (page.row + 1) (length page.rows) then record page { row = page.row + 1 }
+    else page
+
+-- rows leave the page at its top: the region that scrolls begins there
+abbrev pub feeds_out : Page → Bool
+feeds_out page = if at_bottom page then page.top == 0 else false

@@ -1,0 +1,94 @@
+-- A page: rows of one width, a cursor, a scroll region, origin mode, and what was saved (VT510 manual, DECSC, DECSTBM, DECOM).
+use Rattle.std.specs.Prelude.{◌≡◌, ℕ, ◌+◌, ◌-◌, ◌<◌, ◌≤◌, ◌^◌, ◌⊎◌, nat_lt, nat_le, ◌&&◌, ◌==◌, not, Bool, true, false, List, [], ◌∷◌, ◌++◌, length, take, drop, replicate, map, slice_index_or, slice_set, All, if◌then◌else◌}
+use Rattle.std.specs.List.{range_with_len}
+use Rattle.vt_cells.specs.Attrs.{default_attrs}
+use Rattle.vt_cells.specs.Cell.{CellValue}
+use Rattle.vt_cells.specs.declared.attrs.Attrs.{Attrs}
+use Rattle.vt_rows.specs.Cells.{at, ends_blank}
+use Rattle.vt_rows.specs.Row.{RowValue, IsRow, blank_row}
+
+pub record Page : Type 0 where
+  pub rows : List RowValue
+  -- the cursor; its column may be the width, which is a pending wrap
+  pub row : ℕ
+  pub column : ℕ
+  -- the saved cursor
+  pub saved_row : ℕ
+  pub saved_column : ℕ
+  -- the first and the last row of the scroll region
+  pub top : ℕ
+  pub bottom : ℕ
+  pub origin : Bool
+  pub saved_origin : Bool
+  pub width : ℕ
+
+-- the row at a place; past the end a blank row
+abbrev pub row_or : ℕ → List RowValue → ℕ → RowValue
+row_or width rows r = slice_index_or rows r (blank_row default_attrs width)
+
+abbrev pub row_at : Page → ℕ → RowValue
+row_at page r = row_or page.width page.rows r
+
+-- the cell at a position; outside the page a default blank
+abbrev pub cell_at : Page → ℕ → ℕ → CellValue
+cell_at page r c = at (row_at page r).cells c
+
+-- the row that the cursor is in
+abbrev pub cursor_row : Page → RowValue
+cursor_row page = row_at page page.row
+
+-- a page whose row r was changed
+abbrev pub with_row : ℕ → RowValue → Page → Page
+with_row r row page = record page { rows = slice_set page.rows r row }
+
+-- the region is the whole page
+abbrev pub IsWhole : Page → Type 0
+IsWhole page = (page.top ≡ 0) × (page.bottom + 1 ≡ length page.rows)
+
+-- what every page is
+pub record IsPage (page : Page) : Type 0 where
+  pub has_columns : 0 < page.width
+  pub columns : page.width < 2 ^ 16
+  pub height : length page.rows < 2 ^ 16
+  pub cursor_row : page.row < length page.rows
+  pub cursor_column : page.column ≤ page.width
+  pub saved_row : page.saved_row < length page.rows
+  pub saved_column : page.saved_column ≤ page.width
+  pub region : (page.top < page.bottom) ⊎ IsWhole page
+  pub region_end : page.bottom < length page.rows
+  pub rows : All (IsRow page.width) page.rows
+  pub last : (row_at page (length page.rows - 1)).wrapped ≡ false
+
+-- a fresh page: default blanks, the cursor in the corner, the whole page as region
+abbrev pub blank_page : ℕ → ℕ → Page
+blank_page height width = record {
+  rows = replicate height (blank_row default_attrs width);
+  row = 0;
+  column = 0;
+  saved_row = 0;
+  saved_column = 0;
+  top = 0;
+  bottom = height - 1;
+  origin = false;
+  saved_origin = false;
+  width = width;
+}
+
+-- ---- rows among each other: row r comes from row `source r`, past the end a blank row
+
+abbrev pub by_row : ℕ → (ℕ → RowValue) → List RowValue
+by_row n f = map f (range_with_len 0 n)
+
+unfoldable pub moved_rows : ℕ → (ℕ → ℕ) → List RowValue → List RowValue
+moved_rows width source rows = by_row (length rows) (λ r. row_or width rows (source r))
+
+-- rows from top to bottom move up by n
+abbrev pub up_source : ℕ → ℕ → ℕ → ℕ → ℕ → ℕ
+up_source past top bottom n r = if nat_le top r && nat_le r bottom then (if nat_le (r + n) bottom then r + n else past) else r
+
+abbrev pub rows_up : ℕ → ℕ → ℕ → ℕ → List RowValue → List RowValue
+rows_up width top bottom n rows = moved_rows width (up_source (length rows) top bottom n) rows
+
+-- the region scrolls up by n rows (SU)
+abbrev pub scrolled_up : ℕ → Page → Page
+scrolled_up n page = record page { rows = rows_up page.width page.top page.bottom n page.rows }

@@ -1,0 +1,107 @@
+-- Printing a character: its width decides whether the cursor wraps first, and what becomes of its neighbours (VT510 manual, DECAWM set).
+use Rattle.std.specs.Prelude.{ℕ, ◌+◌, ◌-◌, ◌==◌, ◌&&◌, nat_lt, not, Bool, true, false, List, length, Option, Some, None, zero, suc, if◌then◌else◌}
+use Rattle.std.specs.Char.{encode_utf8}
+use Rattle.vt_cells.specs.Attrs.{default_attrs}
+use Rattle.vt_cells.specs.Cell.{CellValue, text_of, is_wide, is_blank, is_right_half, marked}
+use Rattle.vt_cells.specs.Glyph.{columns_of, is_selector, is_wide_text, has_room}
+use Rattle.vt_cells.specs.declared.attrs.Attrs.{Attrs}
+use Rattle.vt_rows.specs.Cells.{at, ends_blank, erased, put_narrow, put_wide, marked_at, widened_at, narrowed_at}
+use Rattle.vt_rows.specs.Row.{RowValue, with_cells}
+use Rattle.vt_grid.specs.Page.{Page, row_at, cursor_row, with_row}
+use Rattle.vt_grid.specs.Moves.{line_feed, at_bottom, feeds_out}
+
+-- the cells of the cursor's row become others
+abbrev pub with_cursor_cells : List CellValue → Page → Page
+with_cursor_cells cells page = with_row page.row (with_cells (cursor_row page) cells) page
+
+-- row r goes on below exactly if `goes_on`
+abbrev pub flagged : ℕ → Bool → Page → Page
+flagged r goes_on page = with_row r (record (row_at page r) { wrapped = goes_on }) page
+
+-- the row that is left at a wrap: it moved up if the region scrolled, and is gone from a region of one row
+abbrev pub left_row : Page → Option ℕ
+left_row page =
+    if at_bottom page then (if page.row == page.top then None else Some (page.row - 1))
+    else Some page.row
+
+-- the cursor stands in another row than before, or the rows moved
+abbrev pub goes_down : Page → Bool
+goes_down page = if at_bottom page then true else nat_lt (page.row + 1) (length page.rows)
+
+abbrev pub flagged_left : Option ℕ → Bool → Page → Page
+flagged_left (Some r) goes_on page = flagged r goes_on page
+flagged_left None goes_on page = page
+
+-- a wrap: to column 0 by a line feed; the row that was left goes on exactly if its last column was not blank and the cursor is now directly below it
+unfoldable pub wrapped_page : Page → Page
+wrapped_page page =
+    record (flagged_left (left_row page) (goes_down page && not (ends_blank (cursor_row page).cells)) (line_feed page)) { column = 0 }
+
+-- there is no room for this many columns at the cursor
+abbrev pub lacks_room : ℕ → Page → Bool
+lacks_room columns page = nat_lt (page.width - columns) page.column
+
+unfoldable pub room_made : ℕ → Page → Page
+room_made columns page = if lacks_room columns page then wrapped_page page else page
+
+-- a glyph at the cursor, which moves behind it
+abbrev pub glyph_put : List ℕ → Bool → Attrs → Page → Page
+glyph_put text false attrs page =
+    record (with_cursor_cells (put_narrow page.column text attrs (cursor_row page).cells) page) { column = page.column + 1 }
+glyph_put text true attrs page =
+    record (with_cursor_cells (put_wide page.column text attrs (cursor_row page).cells) page) { column = page.column + 2 }
+
+-- the column of the glyph before the cursor: the left half where a right half stands before it
+abbrev pub mark_column : Page → ℕ
+mark_column page = if is_right_half (at (cursor_row page).cells (page.column - 1)) then page.column - 2 else page.column - 1
+
+-- the cell before the cursor, a blank as a space, has room for a mark
+abbrev pub takes_mark : CellValue → Bool
+takes_mark cell = if is_blank cell then true else has_room (text_of cell)
+
+-- a mark is put on the cell at column k, which keeps its width
+abbrev pub mark_put : ℕ → ℕ → Page → Page
+mark_put k mark page = with_cursor_cells (marked_at k mark (cursor_row page).cells) page
+
+-- a glyph at a pending wrap that became wide: its cell is blanked, and it is put again in the next row
+unfoldable pub carried : List ℕ → ℕ → Attrs → Page → Page
+carried text k attrs page =
+    glyph_put text true attrs (wrapped_page (with_cursor_cells (erased k 1 attrs (cursor_row page).cells) page))
+
+-- the glyph at column k, which got U+FE0F, becomes wide: in place where a column is left for its right half, else in the next row
+unfoldable pub made_wide : ℕ → Attrs → Page → Page
+made_wide k attrs page =
+    if nat_lt page.column page.width
+    then record (with_cursor_cells (widened_at k attrs (cursor_row page).cells) page) { column = page.column + 1 }
+    else carried (text_of (at (cursor_row page).cells k)) k attrs page
+
+-- the glyph at column k becomes narrow, and the cursor stays
+abbrev pub made_narrow : ℕ → Attrs → Page → Page
+made_narrow k attrs page = with_cursor_cells (narrowed_at k attrs (cursor_row page).cells) page
+
+-- the width of the glyph at column k follows its whole text; on a page of one column it stays narrow
+unfoldable pub width_followed : ℕ → Attrs → Page → Page
+width_followed k attrs page =
+    let cell = at (cursor_row page).cells k in
+    let wide = is_wide_text (text_of cell) && nat_lt 1 page.width in
+    if is_wide cell then (if wide then page else made_narrow k attrs page)
+    else (if wide then made_wide k attrs page else page)
+
+-- a character without columns of its own goes to the glyph before the cursor
+unfoldable pub mark_printed : ℕ → Attrs → Page → Page
+mark_printed mark attrs page =
+    let k = mark_column page in
+    if takes_mark (at (cursor_row page).cells k)
+    then (if is_selector mark then width_followed k attrs (mark_put k mark page) else mark_put k mark page)
+    else page
+
+-- by the columns that the character takes
+abbrev pub printed_by : Option ℕ → ℕ → Attrs → Page → Page
+printed_by None c attrs page = page
+printed_by (Some zero) c attrs page = if page.column == 0 then page else mark_printed c attrs page
+printed_by (Some (suc zero)) c attrs page = glyph_put (encode_utf8 c) false attrs (room_made 1 page)
+printed_by (Some (suc (suc n))) c attrs page = if nat_lt 1 page.width then glyph_put (encode_utf8 c) true attrs (room_made 2 page) else page
+
+-- a character is printed
+abbrev pub printed : ℕ → Attrs → Page → Page
+printed c attrs page = printed_by (columns_of c) c attrs page
