@@ -17,18 +17,24 @@ default_attrs = record {
   inverse = false;
 }
 
+abbrev pub same_intensity : Intensity → Intensity → Bool
+same_intensity Normal Normal = true
+same_intensity Bold Bold = true
+same_intensity Dim Dim = true
+same_intensity _ _ = false
+
+abbrev pub is_bold : Attrs → Bool
+is_bold attrs = same_intensity attrs.intensity Bold
+
+abbrev pub is_dim : Attrs → Bool
+is_dim attrs = same_intensity attrs.intensity Dim
+
 -- the same colour
 unfoldable pub same_color : Color → Color → Bool
 same_color color.Default color.Default = true
 same_color (color.Idx i) (color.Idx j) = i == j
 same_color (color.Rgb r g b) (color.Rgb s h c) = (r == s) && ((g == h) && (b == c))
 same_color _ _ = false
-
-abbrev pub same_intensity : Intensity → Intensity → Bool
-same_intensity Normal Normal = true
-same_intensity Bold Bold = true
-same_intensity Dim Dim = true
-same_intensity _ _ = false
 
 abbrev pub same_bool : Bool → Bool → Bool
 same_bool true b = b

@@ -1,7 +1,6 @@
 -- Cells: a blank, a glyph, or the right half of the wide glyph before it.
-use Rattle.std.specs.Prelude.{◌≡◌, ℕ, ◌==◌, Bool, true, false, List, [], ◌∷◌, length, Some, if◌then◌else◌}
-use Rattle.std.specs.Char.{encode_utf8}
-use Rattle.vt_cells.specs.Attrs.{default_attrs, same_attrs}
+use Rattle.std.specs.Prelude.{ℕ, ◌==◌, Bool, true, false, List, [], ◌∷◌, length, bytes_eq, ◌&&◌, if◌then◌else◌}
+use Rattle.vt_cells.specs.Attrs.{default_attrs, same_bool, same_attrs}
 use Rattle.vt_cells.specs.Glyph.{IsGlyphText, marked_text}
 use Rattle.vt_cells.specs.declared.attrs.Attrs.{Attrs}
 
@@ -14,6 +13,10 @@ pub data CellValue : Type 0 where
 abbrev pub default_blank : CellValue
 default_blank = blank default_attrs
 
+-- the cell that a text, its width, the mark of a right half and attributes stand for: without text it is a blank
+abbrev pub cell_of : List ℕ → Bool → Bool → Attrs → CellValue
+cell_of text wide right attrs = if right then right_half else if length text == 0 then blank attrs else glyph text wide attrs
+
 -- a wide glyph, which is the left half of two columns
 abbrev pub is_wide : CellValue → Bool
 is_wide (glyph text wide attrs) = wide
@@ -22,6 +25,11 @@ is_wide _ = false
 abbrev pub is_blank : CellValue → Bool
 is_blank (blank attrs) = true
 is_blank _ = false
+
+-- a cell with a text
+abbrev pub is_glyph : CellValue → Bool
+is_glyph (glyph text wide attrs) = true
+is_glyph _ = false
 
 abbrev pub is_right_half : CellValue → Bool
 is_right_half right_half = true
@@ -43,6 +51,13 @@ attrs_of (blank attrs) = attrs
 attrs_of (glyph text wide attrs) = attrs
 attrs_of right_half = default_attrs
 
+-- the same cell: the same variant with the same text, as wide, in the same attributes
+unfoldable pub same_cell : CellValue → CellValue → Bool
+same_cell (blank a) (blank b) = same_attrs a b
+same_cell (glyph s v a) (glyph t w b) = bytes_eq s t && (same_bool v w && same_attrs a b)
+same_cell right_half right_half = true
+same_cell _ _ = false
+
 -- a cell with a mark put on it: a blank becomes a space glyph first, and keeps its attributes
 abbrev pub marked : ℕ → CellValue → CellValue
 marked mark (blank attrs) = glyph (marked_text (0x20 ∷ []) mark) false attrs
@@ -54,6 +69,12 @@ abbrev pub widened : Bool → CellValue → CellValue
 widened wide (glyph text was attrs) = glyph text wide attrs
 widened wide (blank attrs) = blank attrs
 widened wide right_half = right_half
+
+-- a blank or a glyph in other attributes
+abbrev pub redrawn : Attrs → CellValue → CellValue
+redrawn attrs (blank was) = blank attrs
+redrawn attrs (glyph text wide was) = glyph text wide attrs
+redrawn attrs right_half = right_half
 
 -- what every cell is
 abbrev pub IsCell : CellValue → Type 0

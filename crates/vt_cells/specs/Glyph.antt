@@ -1,5 +1,5 @@
 -- Texts of cells: one character that takes columns, and the marks put on it.
-use Rattle.std.specs.Prelude.{◌≡◌, ◌≢◌, ℕ, ◌<◌, Bool, true, false, ◌==◌, nat_lt, min, List, [], ◌∷◌, ◌++◌, length, Option, Some, None, chars, encode_utf8_all, if◌then◌else◌}
+use Rattle.std.specs.Prelude.{◌≡◌, ◌≢◌, ℕ, Bool, true, false, ◌==◌, nat_lt, min, List, [], ◌∷◌, ◌++◌, length, Option, Some, None, chars, if◌then◌else◌}
 use Rattle.std.specs.List.{list_any, AllByRecursion}
 use Rattle.std.specs.Char.{encode_utf8, IsScalar}
 use Rattle.unicode_width.specs.Width.{char_width, str_width}
@@ -20,9 +20,12 @@ is_selector c = c == 0xFE0F
 unfoldable pub is_wide_text : List ℕ → Bool
 is_wide_text text = nat_lt 1 (str_width false (chars text))
 
--- a cell with this much text takes no further mark
+-- a cell whose text has this many bytes takes no further mark
+abbrev pub mark_limit : ℕ
+mark_limit = 18
+
 abbrev pub has_room : List ℕ → Bool
-has_room text = nat_lt (length text) 18
+has_room text = nat_lt (length text) mark_limit
 
 -- a text with a mark put on it
 abbrev pub marked_text : List ℕ → ℕ → List ℕ

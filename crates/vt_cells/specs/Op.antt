@@ -1,5 +1,5 @@
 -- What a redraw asks of the terminal that reads it, one operation after the other, and the exact text of each.
-use Rattle.std.specs.Prelude.{ℕ, zero, suc, ◌+◌, ◌-◌, ◌&&◌, ◌==◌, nat_lt, Bool, true, false, List, [], ◌∷◌, ◌++◌, decimal, if◌then◌else◌}
+use Rattle.std.specs.Prelude.{ℕ, zero, suc, ◌+◌, ◌-◌, ◌^◌, ◌<◌, ◌&&◌, ◌==◌, nat_lt, Bool, true, false, List, [], ◌∷◌, ◌++◌, decimal, if◌then◌else◌}
 use Rattle.std.specs.List.{flat_map}
 use Rattle.vt_cells.specs.Attrs.{default_attrs, same_attrs, same_color, same_intensity, same_bool}
 use Rattle.vt_cells.specs.declared.attrs.Attrs.{Attrs}
@@ -111,10 +111,32 @@ bytes_of (Print text) = text
 abbrev pub bytes_of_all : List Op → List ℕ
 bytes_of_all ops = flat_map bytes_of ops
 
--- from one position to another: the next row's first column, a column to the right in the same row, or any other
-unfoldable pub moving : (from_row from_col row col : ℕ) → List Op
-moving from_row from_col row col =
-    if (row == from_row + 1) && (col == 0) then NextRow ∷ []
-    else if (row == from_row) && nat_lt from_col col then MoveRight (col - from_col) ∷ []
-    else if (row == from_row) && (col == from_col) then []
-    else MoveTo row col ∷ []
+-- from one position to another: the next row's first column, to the right in the row, anywhere else, or nothing
+abbrev pub moving : (from_row from_col to_row to_col : ℕ) → List Op
+moving from_row from_col to_row to_col =
+    if (to_row == from_row + 1) && (to_col == 0) then NextRow ∷ []
+    else if (to_row == from_row) && nat_lt from_col to_col then MoveRight (to_col - from_col) ∷ []
+    else if (to_row == from_row) && (to_col == from_col) then []
+    else MoveTo to_row to_col ∷ []
+
+-- a colour whose numbers are bytes
+abbrev pub FitsColor : Color → Type 0
+FitsColor Default = Unit {0}
+FitsColor (Idx i) = i < 256
+FitsColor (Rgb r g b) = (r < 256) × ((g < 256) × (b < 256))
+
+abbrev pub FitsAttrs : Attrs → Type 0
+FitsAttrs attrs = FitsColor attrs.fgcolor × FitsColor attrs.bgcolor
+
+-- an operation whose numbers are those of a program: 16 bits for rows, columns and counts, and bytes for colours
+abbrev pub FitsOp : Op → Type 0
+FitsOp (MoveTo row col) = (row < 2 ^ 16) × (col < 2 ^ 16)
+FitsOp (MoveRight count) = count < 2 ^ 16
+FitsOp (EraseChars count) = count < 2 ^ 16
+FitsOp (ChangeAttrs was new) = FitsAttrs was × FitsAttrs new
+FitsOp _ = Unit {0}
+
+-- an operation that draws a text
+abbrev pub is_print : Op → Bool
+is_print (Print text) = true
+is_print _ = false

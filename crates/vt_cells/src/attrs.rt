@@ -1,7 +1,7 @@
 //! Attributes that a cell is drawn with.
 
 ghost use Rattle.std.specs.Prelude.{◌≡◌};
-ghost use Rattle.vt_cells.specs.Attrs.{default_attrs};
+ghost use Rattle.vt_cells.specs.Attrs.{default_attrs, is_bold, is_dim};
 
 use crate::color::Color;
 
@@ -54,5 +54,99 @@ impl Attrs {
             underline: false,
             inverse: false,
         }
+    }
+
+    /// Whether characters are drawn bold.
+    #[inline]
+    pub fn bold(&self) -> bool
+        ensures { result ≡ is_bold self.now }
+    {
+        self.intensity == Intensity::Bold
+    }
+
+    /// Whether characters are drawn dim.
+    #[inline]
+    pub fn dim(&self) -> bool
+        ensures { result ≡ is_dim self.now }
+    {
+        self.intensity == Intensity::Dim
+    }
+
+    /// Makes characters bold, and not dim.
+    pub fn set_bold(&mut self)
+        ensures { self.new ≡ record self.old { intensity = Intensity.Bold } }
+    {
+        self.intensity = Intensity::Bold;
+    }
+
+    /// Makes characters dim, and not bold.
+    pub fn set_dim(&mut self)
+        ensures { self.new ≡ record self.old { intensity = Intensity.Dim } }
+    {
+        self.intensity = Intensity::Dim;
+    }
+
+    /// Makes characters neither bold nor dim.
+    pub fn set_normal_intensity(&mut self)
+        ensures { self.new ≡ record self.old { intensity = Intensity.Normal } }
+    {
+        self.intensity = Intensity::Normal;
+    }
+
+    /// Sets or ends italics.
+    pub fn set_italic(&mut self, italic: bool)
+        ensures { self.new ≡ record self.old { italic = italic } }
+    {
+        self.italic = italic;
+    }
+
+    /// Sets or ends underlining.
+    pub fn set_underline(&mut self, underline: bool)
+        ensures { self.new ≡ record self.old { underline = underline } }
+    {
+        self.underline = underline;
+    }
+
+    /// Sets or ends the exchange of foreground and background.
+    pub fn set_inverse(&mut self, inverse: bool)
+        ensures { self.new ≡ record self.old { inverse = inverse } }
+    {
+        self.inverse = inverse;
+    }
+}
+
+impl Default for Attrs {
+    ghost use Rattle.std.specs.Prelude.{◌≡◌};
+    ghost use Rattle.vt_cells.specs.Attrs.{default_attrs};
+
+    fn default() -> Self
+        ensures { result ≡ default_attrs }
+    {
+        Attrs::new()
+    }
+}
+
+#[cfg(test)]
+mod tests {
+    use super::*;
+
+    #[test]
+    fn sets_each_part(rt: HostRuntime) {
+        let mut attrs = Attrs::default();
+        assert_eq!(rt; attrs, Attrs::new());
+        attrs.set_bold();
+        assert!(rt; attrs.bold() && !attrs.dim());
+        attrs.set_dim();
+        assert!(rt; attrs.dim() && !attrs.bold());
+        attrs.set_normal_intensity();
+        assert!(rt; !attrs.dim() && !attrs.bold());
+        attrs.set_italic(true);
+        attrs.set_underline(true);
+        attrs.set_inverse(true);
+        assert!(rt; attrs.italic && attrs.underline && attrs.inverse);
+        attrs.set_italic(false);
+        attrs.set_underline(false);
+        attrs.set_inverse(false);
+        assert_eq!(rt; attrs, Attrs::new());
     }
 }

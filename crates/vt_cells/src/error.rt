@@ -1,5 +1,8 @@
 //! What a call can refuse.
 
+use std::alloc::AllocError;
+use std::fmt;
+
 /// Why a call did nothing.
 #[derive(Clone, Copy, PartialEq, Eq, Debug)]
 pub enum Error {
@@ -8,4 +11,51 @@ pub enum Error {
 
     /// The parser ran out of memory before, and reads nothing any more.
     Failed,
+}
+
+/// A refused growth, for `?`.
+impl From<AllocError> for Error {
+    ghost use Rattle.std.specs.Prelude.{◌≡◌};
+    ghost use Rattle.vt_cells.specs.declared.error.Error.TheVariants.{OutOfMemory};
+
+    ghost from_gives = { λ _ e. e ≡ OutOfMemory };
+
+    fn from(_refused: AllocError) -> Error {
+        Error::OutOfMemory
+    }
+}
+
+/// `out of memory` or `parser failed`.
+impl fmt::Display for Error {
+    ghost use Rattle.std.specs.Prelude.{Some};
+    ghost use Rattle.vt_cells.specs.ErrorText.{error_text};
+
+    ghost output = { λ e. Some (error_text e) };
+
+    fn fmt<W: fmt::Write>(&self, f: &mut fmt::Formatter<W>) -> fmt::Result {
+        match self {
+            Error::OutOfMemory => f.write_str("out of memory"),
+            Error::Failed => f.write_str("parser failed"),
+        }
+    }
+}
+
+impl std::error::Error for Error {}
+
+#[cfg(test)]
+mod tests {
+    use super::*;
+    use std::test::Fail;
+
+    #[test]
+    fn displays_its_words(rt: HostRuntime) -> Result<(), Fail> {
+        for (error, words) in [
+            (Error::OutOfMemory, "out of memory"),
+            (Error::Failed, "parser failed"),
+            (Error::from(AllocError), "out of memory"),
+        ] {
+            assert_eq!(rt; error.to_string(rt.alloc())?.as_str(), words);
+        }
+        Ok(())
+    }
 }

@@ -3,13 +3,20 @@
 #![tactic(auto)]
 
 pub mod attrs;
+pub mod cell;
 pub mod color;
 pub mod error;
 pub mod modes;
 pub mod pos;
+pub mod sink;
+pub mod term;
+pub mod width;
 
 pub use attrs::{Attrs, Intensity};
+pub use cell::Cell;
 pub use color::Color;
 pub use error::Error;
 pub use modes::{CursorStyle, MouseProtocolEncoding, MouseProtocolMode};
 pub use pos::Pos;
+pub use sink::Sink;
+pub use width::columns;

@@ -1,0 +1,259 @@
+-- Changes of attributes: the code's `==` is the definitions' sameness, and what the numbers of a change are.
+use Rattle.std.proofs.Common.{◌≡◌, ℕ, ◌≤◌, ◌<◌, Bool, true, false, List, [], ◌∷◌, ◌++◌, length, nat_lt, decimal, refl, sym, ◌∙◌, ap, append_assoc, append-nil, length-append, flat_map, if◌then◌else◌, rules, arith}
+use Rattle.std.proofs.lemmas.Bool.Decides.{nat_tests}
+use Rattle.std.specs.List.{AllByRecursion}
+use Rattle.vt_cells.specs.Attrs.{default_attrs, same_attrs, same_bool, same_color, same_intensity}
+use Rattle.vt_cells.specs.Op.{FitsAttrs, FitsColor, background_numbers, change_numbers, change_text, csi, foreground_numbers, intensity_number, joined, part}
+use Rattle.vt_cells.specs.declared.attrs.Attrs.{Attrs}
+use Rattle.vt_cells.specs.declared.attrs.Intensity.{Intensity}
+use Rattle.vt_cells.specs.declared.attrs.Intensity.TheVariants.{Normal, Bold, Dim}
+use Rattle.vt_cells.specs.declared.color.Color.{Color}
+use Rattle.vt_cells.specs.declared.color.Color.TheVariants.{Default, Idx, Rgb}
+use Rattle.vt_cells.specs.contracts.attrs.AttrsPartialEq.TheImpl as attrs
+use Rattle.vt_cells.specs.contracts.attrs.IntensityPartialEq.TheImpl as intensity
+use Rattle.std.specs.contracts.prelude.BoolPartialEq.TheImpl as bool
+use Rattle.vt_cells.specs.contracts.color.ColorPartialEq.TheImpl as color
+
+-- the code's `==` of two colours
+pub same_color_is : (a b : Color) → (color.ghosts).eq a b ≡ same_color a b
+unfolding same_color
+same_color_is Default Default = refl
+same_color_is Default (Idx j) = refl
+same_color_is Default (Rgb s h c) = refl
+same_color_is (Idx i) Default = refl
+same_color_is (Idx i) (Idx j) = refl
+same_color_is (Idx i) (Rgb s h c) = refl
+same_color_is (Rgb r g b) Default = refl
+same_color_is (Rgb r g b) (Idx j) = refl
+same_color_is (Rgb r g b) (Rgb s h c) = refl
+
+pub same_intensity_is : (a b : Intensity) → (intensity.ghosts).eq a b ≡ same_intensity a b
+same_intensity_is = search rules
+
+pub same_bool_is : (a b : Bool) → (bool.ghosts).eq a b ≡ same_bool a b
+same_bool_is = search rules
+
+pub same_attrs_is : (a b : Attrs) → (attrs.ghosts).eq a b ≡ same_attrs a b
+unfolding same_attrs
+same_attrs_is a b =
+    rw (
+      sym (same_color_is a.fgcolor b.fgcolor),
+      sym (same_color_is a.bgcolor b.bgcolor),
+      sym (same_intensity_is a.intensity b.intensity),
+    )
+    (search rules)
+
+-- where the colours are the same, a part adds nothing
+pub nothing_of_same : (a b : Color) (xs ns : List ℕ) → (color.ghosts).eq a b ≡ true → xs ≡ xs ++ part (same_color a b) ns
+nothing_of_same a b xs ns e = rw (sym (same_color_is a b), e) (search rules)
+
+-- six lists, added one after the other or nested to the right
+right_nested : (a b c d e f : List ℕ) →
+    ((((([] ++ a) ++ b) ++ c) ++ d) ++ e) ++ f ≡ a ++ (b ++ (c ++ (d ++ (e ++ f))))
+right_nested a b c d e f =
+    append_assoc (((a ++ b) ++ c) ++ d) e f ∙ append_assoc ((a ++ b) ++ c) d (e ++ f)
+    ∙ append_assoc (a ++ b) c (d ++ (e ++ f)) ∙ append_assoc a b (c ++ (d ++ (e ++ f)))
+
+-- the six parts of a change
+abbrev foreground_part : Attrs → Attrs → List ℕ
+foreground_part was new = part (same_color was.fgcolor new.fgcolor) (foreground_numbers new.fgcolor)
+
+abbrev background_part : Attrs → Attrs → List ℕ
+background_part was new = part (same_color was.bgcolor new.bgcolor) (background_numbers new.bgcolor)
+
+abbrev intensity_part : Attrs → Attrs → List ℕ
+intensity_part was new = part (same_intensity was.intensity new.intensity) (intensity_number new.intensity ∷ [])
+
+abbrev italic_part : Attrs → Attrs → List ℕ
+italic_part was new = part (same_bool was.italic new.italic) ((if new.italic then 3 else 23) ∷ [])
+
+abbrev underline_part : Attrs → Attrs → List ℕ
+underline_part was new = part (same_bool was.underline new.underline) ((if new.underline then 4 else 24) ∷ [])
+
+abbrev inverse_part : Attrs → Attrs → List ℕ
+inverse_part was new = part (same_bool was.inverse new.inverse) ((if new.inverse then 7 else 27) ∷ [])
+
+-- the parts, added one after the other
+pub parts_of_change : (was new : Attrs) →
+    ((((([] ++ foreground_part was new) ++ background_part was new) ++ intensity_part was new)
+    ++ italic_part was new) ++ underline_part was new) ++ inverse_part was new ≡ change_numbers was new
+unfolding change_numbers
+parts_of_change was new =
+    right_nested (foreground_part was new) (background_part was new) (intensity_part was new)
+    (italic_part was new) (underline_part was new) (inverse_part was new)
+
+by_if : (P : List ℕ → Type 0) (b : Bool) (xs ys : List ℕ) → (b ≡ true → P xs) → (b ≡ false → P ys) →
+    P (if b then xs else ys)
+by_if P true xs ys f g = f refl
+by_if P false xs ys f g = g refl
+
+-- how many numbers a colour has
+abbrev IsShort : List ℕ → Type 0
+IsShort ns = (0 < length ns) × (length ns ≤ 5)
+
+foreground-length : (c : Color) → IsShort (foreground_numbers c)
+unfolding foreground_numbers
+foreground-length Default = (omega arith, omega arith)
+foreground-length (Idx i) =
+    by_if IsShort (nat_lt i 8) _ _ (λ _. (omega arith, omega arith))
+    (λ _. by_if IsShort (nat_lt i 16) _ _ (λ _. (omega arith, omega arith)) (λ _. (omega arith, omega arith)))
+foreground-length (Rgb r g b) = (omega arith, omega arith)
+
+background-length : (c : Color) → IsShort (background_numbers c)
+unfolding background_numbers
+background-length Default = (omega arith, omega arith)
+background-length (Idx i) =
+    by_if IsShort (nat_lt i 8) _ _ (λ _. (omega arith, omega arith))
+    (λ _. by_if IsShort (nat_lt i 16) _ _ (λ _. (omega arith, omega arith)) (λ _. (omega arith, omega arith)))
+background-length (Rgb r g b) = (omega arith, omega arith)
+
+part-length : (same : Bool) (ns : List ℕ) → length (part same ns) ≤ length ns
+part-length true ns = omega arith
+part-length false ns = omega arith
+
+six-length : (a b c d e f : List ℕ) → length a ≤ 5 → length b ≤ 5 → length c ≤ 1 → length d ≤ 1 → length e ≤ 1 →
+    length f ≤ 1 → length (a ++ (b ++ (c ++ (d ++ (e ++ f))))) ≤ 14
+six-length a b c d e f p q r s t u =
+    omega (
+      arith,
+      length-append a (b ++ (c ++ (d ++ (e ++ f)))),
+      length-append b (c ++ (d ++ (e ++ f))),
+      length-append c (d ++ (e ++ f)),
+      length-append d (e ++ f),
+      length-append e f,
+    )
+
+-- a change has at most 14 numbers
+pub length-change_numbers : (was new : Attrs) → length (change_numbers was new) ≤ 14
+unfolding change_numbers
+length-change_numbers was new =
+    let f = foreground-length new.fgcolor in
+    let b = background-length new.bgcolor in
+    let f' = part-length (same_color was.fgcolor new.fgcolor) (foreground_numbers new.fgcolor) in
+    let b' = part-length (same_color was.bgcolor new.bgcolor) (background_numbers new.bgcolor) in
+    six-length (foreground_part was new) (background_part was new) (intensity_part was new)
+    (italic_part was new) (underline_part was new) (inverse_part was new)
+    (omega (arith, f.1, f')) (omega (arith, b.1, b'))
+    (part-length (same_intensity was.intensity new.intensity) (intensity_number new.intensity ∷ []))
+    (part-length (same_bool was.italic new.italic) ((if new.italic then 3 else 23) ∷ []))
+    (part-length (same_bool was.underline new.underline) ((if new.underline then 4 else 24) ∷ []))
+    (part-length (same_bool was.inverse new.inverse) ((if new.inverse then 7 else 27) ∷ []))
+
+-- each of the numbers is a byte
+abbrev pub AllBytes : List ℕ → Type 0
+AllBytes ns = AllByRecursion (λ n. n < 256) ns
+
+AllBytes-append : (ms ns : List ℕ) → AllBytes ms → AllBytes ns → AllBytes (ms ++ ns)
+AllBytes-append [] ns p q = q
+AllBytes-append (m ∷ ms) ns p q = (p.0, AllBytes-append ms ns p.1 q)
+
+AllBytes-part : (same : Bool) (ns : List ℕ) → AllBytes ns → AllBytes (part same ns)
+AllBytes-part true ns p = tt
+AllBytes-part false ns p = p
+
+below : (i n : ℕ) → nat_lt i n ≡ true → i < n
+below i n e = grind (arith, nat_tests)
+
+AllBytes-foreground : (c : Color) → FitsColor c → AllBytes (foreground_numbers c)
+unfolding foreground_numbers
+AllBytes-foreground Default h = (omega arith, tt)
+AllBytes-foreground (Idx i) h =
+    by_if AllBytes (nat_lt i 8) _ _ (λ e. (omega (arith, below i 8 e), tt))
+    (λ _. by_if AllBytes (nat_lt i 16) _ _ (λ e. (omega (arith, below i 16 e), tt))
+    (λ _. (omega arith, (omega arith, (h, tt)))))
+AllBytes-foreground (Rgb r g b) h = (omega arith, (omega arith, (h.0, (h.1.0, (h.1.1, tt)))))
+
+AllBytes-background : (c : Color) → FitsColor c → AllBytes (background_numbers c)
+unfolding background_numbers
+AllBytes-background Default h = (omega arith, tt)
+AllBytes-background (Idx i) h =
+    by_if AllBytes (nat_lt i 8) _ _ (λ e. (omega (arith, below i 8 e), tt))
+    (λ _. by_if AllBytes (nat_lt i 16) _ _ (λ e. (omega (arith, below i 16 e), tt))
+    (λ _. (omega arith, (omega arith, (h, tt)))))
+AllBytes-background (Rgb r g b) h = (omega arith, (omega arith, (h.0, (h.1.0, (h.1.1, tt)))))
+
+AllBytes-intensity : (i : Intensity) → AllBytes (intensity_number i ∷ [])
+AllBytes-intensity Normal = (omega arith, tt)
+AllBytes-intensity Bold = (omega arith, tt)
+AllBytes-intensity Dim = (omega arith, tt)
+
+AllBytes-switch : (same new : Bool) (on off : ℕ) → on < 256 → off < 256 →
+    AllBytes (part same ((if new then on else off) ∷ []))
+AllBytes-switch true new on off p q = tt
+AllBytes-switch false true on off p q = (p, tt)
+AllBytes-switch false false on off p q = (q, tt)
+
+-- the numbers of a change are bytes
+pub AllBytes-change_numbers : (was new : Attrs) → FitsAttrs new → AllBytes (change_numbers was new)
+unfolding change_numbers
+AllBytes-change_numbers was new h =
+    AllBytes-append (foreground_part was new) _
+    (AllBytes-part (same_color was.fgcolor new.fgcolor) (foreground_numbers new.fgcolor)
+    (AllBytes-foreground new.fgcolor h.0))
+    (AllBytes-append (background_part was new) _
+    (AllBytes-part (same_color was.bgcolor new.bgcolor) (background_numbers new.bgcolor)
+    (AllBytes-background new.bgcolor h.1))
+    (AllBytes-append (intensity_part was new) _
+    (AllBytes-part (same_intensity was.intensity new.intensity) (intensity_number new.intensity ∷ [])
+    (AllBytes-intensity new.intensity))
+    (AllBytes-append (italic_part was new) _
+    (AllBytes-switch (same_bool was.italic new.italic) new.italic 3 23 (omega arith) (omega arith))
+    (AllBytes-append (underline_part was new) (inverse_part was new)
+    (AllBytes-switch (same_bool was.underline new.underline) new.underline 4 24 (omega arith) (omega arith))
+    (AllBytes-switch (same_bool was.inverse new.inverse) new.inverse 7 27 (omega arith) (omega arith))))))
+
+both_empty : (xs ys : List ℕ) → xs ++ ys ≡ [] → (xs ≡ []) × (ys ≡ [])
+both_empty [] ys e = (refl, e)
+both_empty (x ∷ xs) ys e = absurd (omega (arith, ap length e))
+
+part-none : (same : Bool) (ns : List ℕ) → 0 < length ns → part same ns ≡ [] → same ≡ true
+part-none true ns l e = refl
+part-none false ns l e = absurd (omega (arith, l, ap length e))
+
+-- a change without numbers changes nothing
+pub change_numbers-none : (was new : Attrs) → change_numbers was new ≡ [] → same_attrs was new ≡ true
+unfolding change_numbers same_attrs
+change_numbers-none was new none =
+    let a = both_empty (foreground_part was new) (background_part was new ++ (intensity_part was new
+    ++ (italic_part was new ++ (underline_part was new ++ inverse_part was new)))) none in
+    let b = both_empty (background_part was new) (intensity_part was new
+    ++ (italic_part was new ++ (underline_part was new ++ inverse_part was new))) a.1 in
+    let i = both_empty (intensity_part was new)
+    (italic_part was new ++ (underline_part was new ++ inverse_part was new)) b.1 in
+    let t = both_empty (italic_part was new) (underline_part was new ++ inverse_part was new) i.1 in
+    let u = both_empty (underline_part was new) (inverse_part was new) t.1 in
+    rw (
+      part-none (same_color was.fgcolor new.fgcolor) _ (foreground-length new.fgcolor).0 a.0,
+      part-none (same_color was.bgcolor new.bgcolor) _ (background-length new.bgcolor).0 b.0,
+      part-none (same_intensity was.intensity new.intensity) _ (omega arith) i.0,
+      part-none (same_bool was.italic new.italic) _ (omega arith) t.0,
+      part-none (same_bool was.underline new.underline) _ (omega arith) u.0,
+      part-none (same_bool was.inverse new.inverse) _ (omega arith) u.1,
+    )
+    refl
+
+-- a number with its separator
+abbrev pub separated : ℕ → List ℕ
+separated n = 0x3B ∷ decimal n
+
+-- numbers joined: the first, and then each other one with its separator
+pub joined_is : (x : ℕ) (xs : List ℕ) → joined (x ∷ xs) ≡ decimal x ++ flat_map separated xs
+joined_is x [] = sym (append-nil (decimal x))
+joined_is x (y ∷ xs) = ap (λ rest. decimal x ++ 0x3B ∷ rest) (joined_is y xs)
+
+-- the three cases of a change's text, by the code's `==`
+pub change_text-same : (was new : Attrs) → (attrs.ghosts).eq was new ≡ true → change_text was new ≡ []
+unfolding change_text
+change_text-same was new e = rw (sym (same_attrs_is was new), e) refl
+
+pub change_text-default : (was new : Attrs) → (attrs.ghosts).eq was new ≡ false →
+    (attrs.ghosts).eq new default_attrs ≡ true → change_text was new ≡ csi [] 0x6D
+unfolding change_text
+change_text-default was new e f =
+    rw (sym (same_attrs_is was new), e, sym (same_attrs_is new default_attrs), f) refl
+
+pub change_text-other : (was new : Attrs) → (attrs.ghosts).eq was new ≡ false →
+    (attrs.ghosts).eq new default_attrs ≡ false → change_text was new ≡ csi (joined (change_numbers was new)) 0x6D
+unfolding change_text
+change_text-other was new e f =
+    rw (sym (same_attrs_is was new), e, sym (same_attrs_is new default_attrs), f) refl

@@ -1,0 +1,9 @@
+pub mod Changes
+pub mod Texts
+pub mod Cells
+pub mod Encoding
+pub mod Glyphs
+pub mod KeptCells
+pub mod Same
+pub mod SameCells
+pub mod Widths

@@ -1,0 +1,184 @@
+-- What `==` on attributes and colours says.
+use Rattle.std.proofs.Common.{◌≡◌, ◌≢◌, ◌&&◌, Bool, true, false, if◌then◌else◌, refl, arith, ap, sym, eqb-true}
+use Rattle.std.proofs.lemmas.Bool.Decides.{nat_tests}
+use mathlib.Core.Bool.{beq}
+use Rattle.vt_cells.specs.Attrs.{default_attrs, same_color, same_intensity, same_bool, same_attrs, changed_attrs}
+use Rattle.vt_cells.specs.CellEq.{attrs_eq}
+use Rattle.vt_cells.specs.contracts.attrs.IntensityPartialEq.TheImpl as intensity
+use Rattle.vt_cells.specs.contracts.color.ColorPartialEq.TheImpl as colors
+use Rattle.vt_cells.specs.declared.attrs.Attrs.{Attrs}
+use Rattle.vt_cells.specs.declared.attrs.Intensity.{Intensity}
+use Rattle.vt_cells.specs.declared.attrs.Intensity.TheVariants.{Normal, Bold, Dim}
+use Rattle.vt_cells.specs.declared.color.Color.{Color}
+use Rattle.vt_cells.specs.declared.color.Color.TheVariants.{Default, Idx, Rgb}
+
+-- the test that `==` on colours computes
+abbrev pub color_eq : Color → Color → Bool
+color_eq = (colors.ghosts).eq
+
+abbrev pub intensity_eq : Intensity → Intensity → Bool
+intensity_eq = (intensity.ghosts).eq
+
+pub color_eq-same : (a b : Color) → color_eq a b ≡ same_color a b
+unfolding same_color
+color_eq-same Default Default = refl
+color_eq-same Default (Idx i) = refl
+color_eq-same Default (Rgb r g b) = refl
+color_eq-same (Idx i) Default = refl
+color_eq-same (Idx i) (Idx j) = refl
+color_eq-same (Idx i) (Rgb r g b) = refl
+color_eq-same (Rgb r g b) Default = refl
+color_eq-same (Rgb r g b) (Idx i) = refl
+color_eq-same (Rgb r g b) (Rgb s h c) = refl
+
+pub intensity_eq-same : (a b : Intensity) → intensity_eq a b ≡ same_intensity a b
+intensity_eq-same Normal Normal = refl
+intensity_eq-same Normal Bold = refl
+intensity_eq-same Normal Dim = refl
+intensity_eq-same Bold Normal = refl
+intensity_eq-same Bold Bold = refl
+intensity_eq-same Bold Dim = refl
+intensity_eq-same Dim Normal = refl
+intensity_eq-same Dim Bold = refl
+intensity_eq-same Dim Dim = refl
+
+beq-same : (a b : Bool) → beq a b ≡ same_bool a b
+beq-same true true = refl
+beq-same true false = refl
+beq-same false true = refl
+beq-same false false = refl
+
+six : (p q r s t u p' q' r' s' t' u' : Bool) → p ≡ p' → q ≡ q' → r ≡ r' → s ≡ s' → t ≡ t' → u ≡ u'
+    → (p && (q && (r && (s && (t && u))))) ≡ (p' && (q' && (r' && (s' && (t' && u')))))
+six p q r s t u p' q' r' s' t' u' e1 e2 e3 e4 e5 e6 = cc
+
+pub attrs_eq-same : (a b : Attrs) → attrs_eq a b ≡ same_attrs a b
+unfolding same_attrs
+attrs_eq-same a b =
+    six _ _ _ _ _ _ _ _ _ _ _ _ (color_eq-same a.fgcolor b.fgcolor) (color_eq-same a.bgcolor b.bgcolor) (intensity_eq-same a.intensity b.intensity)
+    (beq-same a.italic b.italic) (beq-same a.underline b.underline) (beq-same a.inverse b.inverse)
+
+pub two_parts : (p q : Bool) → (p && q) ≡ true → (p ≡ true) × (q ≡ true)
+two_parts true q e = (refl, e)
+two_parts false q e = cc
+
+pub color_of-same : (a b : Color) → same_color a b ≡ true → a ≡ b
+unfolding same_color
+color_of-same Default Default e = refl
+color_of-same Default (Idx i) e = cc
+color_of-same Default (Rgb r g b) e = cc
+color_of-same (Idx i) Default e = cc
+color_of-same (Idx i) (Idx j) e = ap Idx (eqb-true i j e)
+color_of-same (Idx i) (Rgb r g b) e = cc
+color_of-same (Rgb r g b) Default e = cc
+color_of-same (Rgb r g b) (Idx i) e = cc
+color_of-same (Rgb r g b) (Rgb s h c) e =
+    let whole = two_parts _ _ e in
+    let rest = two_parts _ _ whole.1 in
+    let red = eqb-true r s whole.0 in
+    let green = eqb-true g h rest.0 in
+    let blue = eqb-true b c rest.1 in
+    cc
+
+pub same_color-itself : (a : Color) → same_color a a ≡ true
+unfolding same_color
+same_color-itself Default = refl
+same_color-itself (Idx i) = grind (arith, nat_tests)
+same_color-itself (Rgb r g b) = grind (arith, nat_tests)
+
+pub intensity_of-same : (a b : Intensity) → same_intensity a b ≡ true → a ≡ b
+intensity_of-same Normal Normal e = refl
+intensity_of-same Normal Bold e = cc
+intensity_of-same Normal Dim e = cc
+intensity_of-same Bold Normal e = cc
+intensity_of-same Bold Bold e = refl
+intensity_of-same Bold Dim e = cc
+intensity_of-same Dim Normal e = cc
+intensity_of-same Dim Bold e = cc
+intensity_of-same Dim Dim e = refl
+
+pub same_intensity-itself : (a : Intensity) → same_intensity a a ≡ true
+same_intensity-itself Normal = refl
+same_intensity-itself Bold = refl
+same_intensity-itself Dim = refl
+
+pub bool_of-same : (a b : Bool) → same_bool a b ≡ true → a ≡ b
+bool_of-same true b e = sym e
+bool_of-same false true e = cc
+bool_of-same false false e = refl
+
+pub same_bool-itself : (a : Bool) → same_bool a a ≡ true
+same_bool-itself true = refl
+same_bool-itself false = refl
+
+six_parts : (p q r s t u : Bool) → (p && (q && (r && (s && (t && u))))) ≡ true
+    → (p ≡ true) × (q ≡ true) × (r ≡ true) × (s ≡ true) × (t ≡ true) × (u ≡ true)
+six_parts p q r s t u e =
+    let (first, e1) = two_parts _ _ e in
+    let (second, e2) = two_parts _ _ e1 in
+    let (third, e3) = two_parts _ _ e2 in
+    let (fourth, e4) = two_parts _ _ e3 in
+    let (fifth, sixth) = two_parts _ _ e4 in
+    (first, second, third, fourth, fifth, sixth)
+
+-- attributes that are the same in all six components are equal
+pub attrs_of-same : (a b : Attrs) → same_attrs a b ≡ true → a ≡ b
+unfolding same_attrs
+attrs_of-same a b e =
+    let (fgcolor, bgcolor, intensity, italic, underline, inverse) = six_parts _ _ _ _ _ _ e in
+    λ i. record {
+      fgcolor = color_of-same a.fgcolor b.fgcolor fgcolor i;
+      bgcolor = color_of-same a.bgcolor b.bgcolor bgcolor i;
+      intensity = intensity_of-same a.intensity b.intensity intensity i;
+      italic = bool_of-same a.italic b.italic italic i;
+      underline = bool_of-same a.underline b.underline underline i;
+      inverse = bool_of-same a.inverse b.inverse inverse i;
+    }
+
+pub same_attrs-itself : (a : Attrs) → same_attrs a a ≡ true
+unfolding same_attrs
+same_attrs-itself a =
+    six _ _ _ _ _ _ true true true true true true (same_color-itself a.fgcolor) (same_color-itself a.bgcolor) (same_intensity-itself a.intensity)
+    (same_bool-itself a.italic) (same_bool-itself a.underline) (same_bool-itself a.inverse)
+
+pub false_of : (b : Bool) → b ≢ true → b ≡ false
+false_of b never = elim b as (λ v. (v ≡ true → ⊥) → v ≡ false) [ true ↦ λ h. absurd (h refl) | false ↦ λ _. refl ] never
+
+chosen : {A : Type 0} (b : Bool) (x y : A) → (b ≡ true → x ≡ y) → (if b then x else y) ≡ y
+chosen true x y e = e refl
+chosen false x y e = refl
+
+third : {A : Type 0} (b c : Bool) (x y z n : A) → (b ≡ true → x ≡ n) → (c ≡ true → y ≡ n) → z ≡ n → (if b then x else if c then y else z) ≡ n
+third true c x y z n first second last = first refl
+third false true x y z n first second last = second refl
+third false false x y z n first second last = last
+
+-- what a change makes of the attributes that it was made for
+pub changed_attrs-new : (was new : Attrs) → changed_attrs was new was ≡ new
+unfolding changed_attrs
+changed_attrs-new was new =
+    third (same_attrs was new) (same_attrs new default_attrs) was default_attrs _ new (attrs_of-same was new) (λ e. sym (attrs_of-same new default_attrs e)) (λ i. record {
+      fgcolor = chosen (same_color was.fgcolor new.fgcolor) was.fgcolor new.fgcolor (color_of-same was.fgcolor new.fgcolor) i;
+      bgcolor = chosen (same_color was.bgcolor new.bgcolor) was.bgcolor new.bgcolor (color_of-same was.bgcolor new.bgcolor) i;
+      intensity = chosen (same_intensity was.intensity new.intensity) was.intensity new.intensity (intensity_of-same was.intensity new.intensity) i;
+      italic = chosen (same_bool was.italic new.italic) was.italic new.italic (bool_of-same was.italic new.italic) i;
+      underline = chosen (same_bool was.underline new.underline) was.underline new.underline (bool_of-same was.underline new.underline) i;
+      inverse = chosen (same_bool was.inverse new.inverse) was.inverse new.inverse (bool_of-same was.inverse new.inverse) i;
+    })
+
+-- no change leaves all attributes
+pub changed_attrs-none : (attrs others : Attrs) → changed_attrs attrs attrs others ≡ others
+unfolding changed_attrs
+changed_attrs-none attrs others = rw (same_attrs-itself attrs) refl
+
+-- attributes that change to the default ones at all are the default ones
+pub changed_attrs-default : (was others : Attrs) → same_attrs was default_attrs ≡ false → changed_attrs was default_attrs others ≡ default_attrs
+unfolding changed_attrs
+changed_attrs-default was others differ = rw (differ, same_attrs-itself default_attrs) refl
+
+-- attributes that aren't equal aren't the same
+pub same_attrs-differ : (a b : Attrs) → a ≢ b → same_attrs a b ≡ false
+same_attrs-differ a b differ = false_of (same_attrs a b) (λ e. differ (attrs_of-same a b e))
+
+pub same_color-differ : (a b : Color) → a ≢ b → same_color a b ≡ false
+same_color-differ a b differ = false_of (same_color a b) (λ e. differ (color_of-same a b e))

@@ -1,0 +1,14 @@
+use Rattle.vt_cells.proofs.Changes.{parts_of_change}
+use Rattle.vt_cells.proofs.term.sgr.Numbers.of_change.Goals as goal
+
+pub returns : goal.returns
+returns c =
+    rw (
+      c.push_switch-3.ensures.value,
+      c.push_switch-2.ensures.value,
+      c.push_switch.ensures.value,
+      c.push_intensity.ensures.value,
+      c.push_background.ensures.value,
+      c.push_foreground.ensures.value,
+    )
+    (parts_of_change c.args.was c.args.new)

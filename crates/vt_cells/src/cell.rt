@@ -1,0 +1,468 @@
+//! One cell of a screen.
+
+ghost use Rattle.std.specs.Prelude.{◌≡◌, ◌≢◌, ◌<◌, ◌≤◌, ◌==◌, ◌++◌, ◌+◌, ◌%◌, ◌↔◌, [], ◌∷◌, length, take, not, true, false, Some, if◌then◌else◌, IsTrue, encode_utf8};
+ghost use Rattle.vt_cells.specs.Attrs.{default_attrs, is_bold, is_dim};
+ghost use Rattle.vt_cells.specs.Cell.{blank, glyph, right_half, cell_of, is_wide, is_blank, is_glyph, is_right_half, text_of, attrs_of, same_cell, marked, widened, redrawn, IsCell};
+ghost use Rattle.vt_cells.specs.CellKeeping.{spaced};
+ghost use Rattle.vt_cells.specs.Glyph.{columns_of, is_wide_text, marked_text};
+
+use crate::attrs::Attrs;
+use crate::color::Color;
+use std::marker::Model;
+use std::str;
+use unicode_width::UnicodeWidthStr;
+
+/// A cell whose text has this many bytes takes no further mark.
+const MARK_LIMIT: u8 = 18;
+
+/// The bytes of a cell's array: one character more than [`MARK_LIMIT`].
+const TEXT_ROOM: usize = 22;
+
+/// A cell: a blank, a glyph, or the right half of the wide glyph before it.
+///
+/// A glyph is one character that takes columns and the marks put on it, at
+/// most 21 bytes in UTF-8.
+#[derive(Clone, Debug, Drop)]
+pub struct Cell {
+    attrs: Attrs,
+    contents: [u8; TEXT_ROOM],
+    len: u8,
+    wide: bool,
+    right_half: bool,
+}
+
+impl Model for Cell {
+    ghost use Rattle.std.specs.Prelude.{take};
+    ghost use Rattle.vt_cells.specs.Cell.{CellValue, cell_of};
+    ghost use Rattle.vt_cells.specs.CellKeeping.{IsKept};
+
+    ghost Value = { CellValue };
+
+    ghost view = { λ c. cell_of (take c.len c.contents) c.wide c.right_half c.attrs };
+
+    ghost invariant = { λ c. IsKept c.len (take c.len c.contents) c.wide c.right_half c.attrs };
+}
+
+impl Cell {
+    /// A blank with default attributes.
+    #[inline]
+    pub fn new() -> Self
+        ensures { result ≡ blank default_attrs }
+    {
+        Cell::blank(Attrs::new())
+    }
+
+    /// A blank with these attributes.
+    #[inline]
+    pub fn blank(attrs: Attrs) -> Self
+        ensures { result ≡ blank attrs }
+    {
+        Cell {
+            attrs,
+            contents: [0; TEXT_ROOM],
+            len: 0,
+            wide: false,
+            right_half: false,
+        }
+    }
+
+    /// The right half of a wide glyph: no text, default attributes.
+    #[inline]
+    pub fn right_half() -> Self
+        ensures { result ≡ right_half }
+    {
+        Cell {
+            attrs: Attrs::new(),
+            contents: [0; TEXT_ROOM],
+            len: 0,
+            wide: false,
+            right_half: true,
+        }
+    }
+
+    /// A glyph of one character that takes two columns, if it is wide, or one.
+    ///
+    /// [`columns`](crate::columns) tells its width; U+FFFD is never drawn.
+    #[inline]
+    pub fn glyph(c: char, wide: bool, attrs: Attrs) -> Self
+        requires reported { c ≢ 0xFFFD }
+        requires columns { columns_of c ≡ Some (if wide then 2 else 1) }
+        ensures { result ≡ glyph (encode_utf8 c) wide attrs }
+    {
+        let mut contents = [0; TEXT_ROOM];
+        let len = push_char(&mut contents, 0, c);
+        Cell {
+            attrs,
+            contents,
+            len,
+            wide,
+            right_half: false,
+        }
+    }
+
+    /// The glyph of a space.
+    #[inline]
+    pub fn space(attrs: Attrs) -> Self
+        ensures { result ≡ glyph (0x20 ∷ []) false attrs }
+    {
+        Cell::glyph(' ', false, attrs)
+    }
+
+    /// Makes the cell a blank with these attributes.
+    #[inline]
+    pub fn clear(&mut self, attrs: Attrs)
+        ensures { self.new ≡ blank attrs }
+    {
+        self.attrs = attrs;
+        self.len = 0;
+        self.wide = false;
+        self.right_half = false;
+    }
+
+    /// Puts a mark, a character of width 0, on the cell.
+    ///
+    /// A blank becomes a space glyph first, in its attributes. From 18 bytes
+    /// on nothing happens. A right half takes no mark: its left half does.
+    pub fn append(&mut self, c: char)
+        requires shown { is_right_half self.old ≡ false }
+        requires mark { columns_of c ≡ Some 0 }
+        ensures { self.new ≡ marked c self.old }
+    {
+        self.fill_blank();
+        self.put_mark(c);
+    }
+
+    /// Makes a blank the glyph of a space.
+    fn fill_blank(&mut self)
+        ensures { self.new ≡ spaced self.old }
+    {
+        if self.is_blank() {
+            *self = Cell::space(self.attrs());
+        }
+    }
+
+    /// Puts a mark on a glyph that has room for it.
+    fn put_mark(&mut self, c: char)
+        requires glyph { is_blank self.old ≡ false }
+        requires shown { is_right_half self.old ≡ false }
+        requires mark { columns_of c ≡ Some 0 }
+        ensures { self.new ≡ marked c self.old }
+    {
+        if self.len < MARK_LIMIT {
+            self.len = push_char(&mut self.contents, self.len, c);
+        }
+    }
+
+    /// Makes a glyph wide or narrow; any other cell stays.
+    ///
+    /// A glyph is as wide as its first character, unless U+FE0F was put on
+    /// it: then it may be of either width.
+    pub fn set_wide(&mut self, wide: bool)
+        requires { IsCell (widened wide self.old) }
+        ensures { self.new ≡ widened wide self.old }
+    {
+        if self.len > 0 {
+            self.wide = wide;
+        }
+    }
+
+    /// Gives a blank or a glyph other attributes; a right half stays.
+    #[inline]
+    pub fn set_attrs(&mut self, attrs: Attrs)
+        ensures { self.new ≡ redrawn attrs self.old }
+    {
+        if !self.right_half {
+            self.attrs = attrs;
+        }
+    }
+
+    /// The text: a character and its marks, 1 to 21 bytes, or nothing for a
+    /// blank and a right half.
+    #[inline]
+    pub fn contents(&self) -> &str
+        ensures value { result.now ≡ text_of self.now }
+        ensures sound { IsCell self.now }
+    {
+        let bytes = &self.contents[..usize::from(self.len)];
+        unsafe { str::from_utf8_unchecked(bytes) }
+    }
+
+    /// Whether the cell has a text, as each glyph has.
+    #[inline]
+    pub fn has_contents(&self) -> bool
+        ensures { result ≡ is_glyph self.now }
+    {
+        self.len > 0
+    }
+
+    /// Whether the cell is a wide glyph, the left half of two columns.
+    #[inline]
+    pub fn is_wide(&self) -> bool
+        ensures { result ≡ is_wide self.now }
+    {
+        self.wide
+    }
+
+    /// Whether the cell is the right half of a wide glyph.
+    #[inline]
+    pub fn is_wide_continuation(&self) -> bool
+        ensures { result ≡ is_right_half self.now }
+    {
+        self.right_half
+    }
+
+    /// Whether the cell is a blank.
+    #[inline]
+    pub fn is_blank(&self) -> bool
+        ensures { result ≡ is_blank self.now }
+    {
+        !self.right_half && self.len == 0
+    }
+
+    /// Whether `unicode_width` gives the whole text more than one column.
+    #[tactic(auto, unfolding(crate::specs::Glyph::is_wide_text))]
+    pub fn is_wide_text(&self) -> bool
+        ensures { result ≡ is_wide_text (text_of self.now) }
+    {
+        self.contents().width() > 1
+    }
+
+    /// Whether both are the same cell.
+    #[inline]
+    fn is_same(&self, other: &Cell) -> bool
+        ensures { result ≡ same_cell self.now other.now }
+    {
+        let alike = (self.attrs() == other.attrs())
+            & (self.is_wide() == other.is_wide())
+            & (self.is_wide_continuation() == other.is_wide_continuation());
+        alike && self.contents() == other.contents()
+    }
+
+    /// The attributes; default ones for a right half.
+    #[inline]
+    pub fn attrs(&self) -> Attrs
+        ensures { result ≡ attrs_of self.now }
+    {
+        self.attrs
+    }
+
+    /// The foreground colour.
+    #[inline]
+    pub fn fgcolor(&self) -> Color
+        ensures { result ≡ (attrs_of self.now).fgcolor }
+    {
+        self.attrs.fgcolor
+    }
+
+    /// The background colour.
+    #[inline]
+    pub fn bgcolor(&self) -> Color
+        ensures { result ≡ (attrs_of self.now).bgcolor }
+    {
+        self.attrs.bgcolor
+    }
+
+    /// Whether the cell is drawn bold.
+    #[inline]
+    pub fn bold(&self) -> bool
+        ensures { result ≡ is_bold (attrs_of self.now) }
+    {
+        self.attrs.bold()
+    }
+
+    /// Whether the cell is drawn dim.
+    #[inline]
+    pub fn dim(&self) -> bool
+        ensures { result ≡ is_dim (attrs_of self.now) }
+    {
+        self.attrs.dim()
+    }
+
+    /// Whether the cell is drawn in italics.
+    #[inline]
+    pub fn italic(&self) -> bool
+        ensures { result ≡ (attrs_of self.now).italic }
+    {
+        self.attrs.italic
+    }
+
+    /// Whether the cell is underlined.
+    #[inline]
+    pub fn underline(&self) -> bool
+        ensures { result ≡ (attrs_of self.now).underline }
+    {
+        self.attrs.underline
+    }
+
+    /// Whether foreground and background are exchanged.
+    #[inline]
+    pub fn inverse(&self) -> bool
+        ensures { result ≡ (attrs_of self.now).inverse }
+    {
+        self.attrs.inverse
+    }
+}
+
+impl PartialEq for Cell {
+    ghost use Rattle.std.specs.Prelude.{◌≡◌, ◌↔◌, IsTrue};
+    ghost use Rattle.std.specs.Cmp.{partial_equiv_from_equiv};
+    ghost use Rattle.vt_cells.specs.Cell.{same_cell};
+    ghost use Rattle.vt_cells.specs.CellEq.{cell_eq, cell_eq_equiv};
+
+    ghost eq = { cell_eq };
+
+    ghost laws = { partial_equiv_from_equiv cell_eq_equiv };
+
+    /// Whether both are the same cell: text, width, both flags and attributes.
+    #[inline]
+    fn eq(&self, other: &Self) -> bool
+        ensures value { result ≡ cell_eq self.now other.now }
+        ensures test { result ≡ same_cell self.now other.now }
+        ensures same { IsTrue result ↔ (self.now ≡ other.now) }
+    {
+        self.is_same(other)
+    }
+}
+
+impl Eq for Cell {
+    ghost use Rattle.vt_cells.specs.CellEq.{cell_eq_equiv};
+
+    ghost laws = { cell_eq_equiv };
+}
+
+/// Writes a character in UTF-8 behind the first `len` bytes, and answers the
+/// new length (Unicode, Table 3-6).
+#[inline]
+fn push_char(contents: &mut [u8; TEXT_ROOM], len: u8, c: char) -> u8
+    requires { len < MARK_LIMIT }
+    ensures text { take result contents.new ≡ take len contents.old ++ encode_utf8 c }
+    ensures len { result ≡ len + length (encode_utf8 c) }
+    ensures fits { result ≤ TEXT_ROOM }
+{
+    let code = c as u32;
+    if code < 0x80 {
+        push_byte(contents, len, code as u8)
+    } else if code < 0x800 {
+        let lead = push_byte(contents, len, (0xC0 + code / 64) as u8);
+        push_byte(contents, lead, low_bits(code))
+    } else if code < 0x1_0000 {
+        let lead = push_byte(contents, len, (0xE0 + code / 4096) as u8);
+        let second = push_byte(contents, lead, low_bits(code / 64));
+        push_byte(contents, second, low_bits(code))
+    } else {
+        let lead = push_byte(contents, len, (0xF0 + code / 262_144) as u8);
+        let second = push_byte(contents, lead, low_bits(code / 4096));
+        let third = push_byte(contents, second, low_bits(code / 64));
+        push_byte(contents, third, low_bits(code))
+    }
+}
+
+/// Writes a byte behind the first `len`, and answers the new length.
+#[inline]
+fn push_byte(contents: &mut [u8; TEXT_ROOM], len: u8, byte: u8) -> u8
+    requires { len < TEXT_ROOM }
+    ensures text { take result contents.new ≡ take len contents.old ++ byte ∷ [] }
+    ensures len { result ≡ len + 1 }
+{
+    contents[usize::from(len)] = byte;
+    len + 1
+}
+
+/// A byte with the lowest six bits, as it stands behind the first of a character.
+#[inline]
+fn low_bits(bits: u32) -> u8
+    ensures { result ≡ 0x80 + bits % 64 }
+{
+    (0x80 + bits % 64) as u8
+}
+
+#[cfg(test)]
+mod tests {
+    use super::*;
+    use crate::width::columns;
+
+    // The cell in which a character and the marks after it come to stand.
+    fn cell_of_text(text: &str) -> Cell {
+        let mut cell = Cell::new();
+        for c in text.chars() {
+            match columns(c) {
+                Some(0) if !cell.is_wide_continuation() => cell.append(c),
+                Some(1) if c != char::REPLACEMENT_CHARACTER => {
+                    cell = Cell::glyph(c, false, Attrs::new());
+                }
+                Some(2) if c != char::REPLACEMENT_CHARACTER => {
+                    cell = Cell::glyph(c, true, Attrs::new());
+                }
+                _ => {}
+            }
+        }
+        cell
+    }
+
+    #[test]
+    fn keeps_a_character_and_its_marks(rt: HostRuntime) {
+        let nine = "e\u{301}\u{301}\u{301}\u{301}\u{301}\u{301}\u{301}\u{301}\u{301}";
+        let twelve =
+            "e\u{301}\u{301}\u{301}\u{301}\u{301}\u{301}\u{301}\u{301}\u{301}\u{301}\u{301}\u{301}";
+        for (text, contents, wide, wide_text) in [
+            ("", "", false, false),
+            ("a", "a", false, false),
+            ("e\u{301}", "e\u{301}", false, false),
+            (twelve, nine, false, false),
+            ("\u{301}", " \u{301}", false, false),
+            ("中", "中", true, true),
+            ("\u{2764}", "\u{2764}", false, false),
+            ("\u{2764}\u{fe0f}", "\u{2764}\u{fe0f}", false, true),
+        ] {
+            let cell = cell_of_text(text);
+            assert_eq!(rt; cell.contents(), contents, "contents of {text}");
+            assert_eq!(rt;
+                cell.has_contents(),
+                !contents.is_empty(),
+                "has contents: {text}"
+            );
+            assert_eq!(rt; cell.is_blank(), contents.is_empty(), "is blank: {text}");
+            assert_eq!(rt; cell.is_wide(), wide, "is wide: {text}");
+            assert_eq!(rt; cell.is_wide_text(), wide_text, "wide text: {text}");
+        }
+        assert_eq!(rt; nine.len(), 19);
+    }
+
+    #[test]
+    fn compares_text_width_flags_and_attributes(rt: HostRuntime) {
+        let mut bold = Attrs::new();
+        bold.set_bold();
+        let mut shorter = cell_of_text("e\u{301}");
+        shorter.clear(Attrs::new());
+        for (cell, other, same) in [
+            (Cell::new(), Cell::blank(Attrs::new()), true),
+            (shorter, Cell::new(), true),
+            (Cell::new(), Cell::blank(bold), false),
+            (Cell::new(), Cell::right_half(), false),
+            (Cell::new(), Cell::space(Attrs::new()), false),
+            (cell_of_text("e"), cell_of_text("e"), true),
+            (cell_of_text("e"), cell_of_text("e\u{301}"), false),
+            (cell_of_text("e"), cell_of_text("f"), false),
+        ] {
+            assert_eq!(rt; cell == other, same);
+        }
+    }
+
+    #[test]
+    fn lends_its_attributes(rt: HostRuntime) {
+        let mut attrs = Attrs::new();
+        attrs.fgcolor = Color::Idx(1);
+        attrs.bgcolor = Color::Rgb(2, 3, 4);
+        attrs.set_dim();
+        attrs.set_italic(true);
+        attrs.set_inverse(true);
+        let cell = Cell::space(attrs);
+        assert_eq!(rt; cell.contents(), " ");
+        assert_eq!(rt; cell.attrs(), attrs);
+        assert_eq!(rt; cell.fgcolor(), Color::Idx(1));
+        assert_eq!(rt; cell.bgcolor(), Color::Rgb(2, 3, 4));
+        assert!(rt; cell.dim() && cell.italic() && cell.inverse());
+        assert!(rt; !cell.bold() && !cell.underline());
+        assert!(rt; Cell::right_half().is_wide_continuation());
+    }
+}

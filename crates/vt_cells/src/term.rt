@@ -1,0 +1,35 @@
+//! The small sequences that a redraw is made of, each with its exact text
+//! (ECMA-48, the VT510's manual and xterm's control sequences).
+
+ghost use Rattle.std.specs.Prelude.{◌≡◌, ◌++◌, ℕ, List, OnOk};
+
+use crate::sink::Sink;
+
+mod changes;
+mod cursor;
+mod decimal;
+mod erasing;
+mod input;
+mod moves;
+mod sgr;
+#[cfg(test)]
+mod tests;
+
+pub use changes::{ChangeAttrs, ClearAttrs};
+pub use cursor::{Backspace, Crlf, HideCursor, LineFeed, RestoreCursor, SaveCursor};
+pub use erasing::{ClearBelow, ClearRowForward, ClearScreen, EraseChar};
+pub use input::{
+    ApplicationCursor, ApplicationKeypad, BracketedPaste, CursorStyle, MouseProtocolEncoding,
+    MouseProtocolMode,
+};
+pub use moves::{MoveFromTo, MoveRight, MoveTo};
+
+/// A sequence that can be written to a sink.
+pub trait BufWrite {
+    ghost bytes: { Self → List ℕ };
+
+    /// Appends the sequence's text to `sink`; an error is the sink's own, and then part of the
+    /// text may have been appended.
+    fn write_buf<S: Sink>(&self, sink: &mut S) -> Result<(), S::Error>
+        ensures { OnOk result (S.text sink.new ≡ S.text sink.old ++ bytes self.now) };
+}

@@ -1,0 +1,83 @@
+//! Sequences about the cursor that have no parameters.
+
+ghost use Rattle.std.specs.Prelude.{◌≡◌, ◌++◌, OnOk};
+ghost use Rattle.vt_cells.specs.Op as op;
+ghost use Rattle.vt_cells.specs.Op.{bytes_of};
+
+use crate::sink::Sink;
+use crate::term::BufWrite;
+
+/// Moves to the first column of the next row (CR, then LF).
+#[derive(Clone, Copy, Debug)]
+pub struct Crlf;
+
+impl BufWrite for Crlf {
+    ghost bytes = { λ _. bytes_of op.NextRow };
+
+    fn write_buf<S: Sink>(&self, sink: &mut S) -> Result<(), S::Error> {
+        sink.write_str("\r\n")
+    }
+}
+
+/// Moves one row down, and scrolls at the bottom (LF).
+#[derive(Clone, Copy, Debug)]
+pub struct LineFeed;
+
+impl BufWrite for LineFeed {
+    ghost bytes = { λ _. bytes_of op.LineFeed };
+
+    fn write_buf<S: Sink>(&self, sink: &mut S) -> Result<(), S::Error> {
+        sink.write_str("\n")
+    }
+}
+
+/// Moves one column left (BS).
+#[derive(Clone, Copy, Debug)]
+pub struct Backspace;
+
+impl BufWrite for Backspace {
+    ghost bytes = { λ _. bytes_of op.Backspace };
+
+    fn write_buf<S: Sink>(&self, sink: &mut S) -> Result<(), S::Error> {
+        sink.write_str("\x08")
+    }
+}
+
+/// Saves the cursor and its attributes (DECSC).
+#[derive(Clone, Copy, Debug)]
+pub struct SaveCursor;
+
+impl BufWrite for SaveCursor {
+    ghost bytes = { λ _. bytes_of op.SaveCursor };
+
+    fn write_buf<S: Sink>(&self, sink: &mut S) -> Result<(), S::Error> {
+        sink.write_str("\x1b7")
+    }
+}
+
+/// Restores what `SaveCursor` saved (DECRC).
+#[derive(Clone, Copy, Debug)]
+pub struct RestoreCursor;
+
+impl BufWrite for RestoreCursor {
+    ghost bytes = { λ _. bytes_of op.RestoreCursor };
+
+    fn write_buf<S: Sink>(&self, sink: &mut S) -> Result<(), S::Error> {
+        sink.write_str("\x1b8")
+    }
+}
+
+/// Hides or shows the cursor (DECTCEM).
+#[derive(Clone, Copy, Debug)]
+pub struct HideCursor {
+    /// The cursor is hidden from now on.
+    pub state: bool,
+}
+
+impl BufWrite for HideCursor {
+    ghost bytes = { λ it. bytes_of (op.Hide it.state) };
+
+    fn write_buf<S: Sink>(&self, sink: &mut S) -> Result<(), S::Error> {
+        sink.write_str(if self.state { "\x1b[?25l" } else { "\x1b[?25h" })
+    }
+}

@@ -1,0 +1,68 @@
+//! Sequences that erase; they move no cursor, but for the one that clears the screen.
+
+ghost use Rattle.std.specs.Prelude.{◌≡◌, ◌++◌, [], ◌∷◌, OnOk};
+ghost use Rattle.vt_cells.specs.Op as op;
+ghost use Rattle.vt_cells.specs.Op.{bytes_of, bytes_of_all};
+
+use crate::sink::Sink;
+use crate::term::BufWrite;
+use crate::term::decimal::write_decimal;
+
+/// Moves home and erases the whole screen (CUP, then ED).
+#[derive(Clone, Copy, Debug)]
+pub struct ClearScreen;
+
+impl BufWrite for ClearScreen {
+    ghost bytes = { λ _. bytes_of_all (op.MoveTo 0 0 ∷ op.EraseBelow ∷ []) };
+
+    fn write_buf<S: Sink>(&self, sink: &mut S) -> Result<(), S::Error> {
+        sink.write_str("\x1b[H\x1b[J")
+    }
+}
+
+/// Erases from the cursor to the end of the screen (ED).
+#[derive(Clone, Copy, Debug)]
+pub struct ClearBelow;
+
+impl BufWrite for ClearBelow {
+    ghost bytes = { λ _. bytes_of op.EraseBelow };
+
+    fn write_buf<S: Sink>(&self, sink: &mut S) -> Result<(), S::Error> {
+        sink.write_str("\x1b[J")
+    }
+}
+
+/// Erases from the cursor to the end of its row (EL).
+#[derive(Clone, Copy, Debug)]
+pub struct ClearRowForward;
+
+impl BufWrite for ClearRowForward {
+    ghost bytes = { λ _. bytes_of op.EraseRest };
+
+    fn write_buf<S: Sink>(&self, sink: &mut S) -> Result<(), S::Error> {
+        sink.write_str("\x1b[K")
+    }
+}
+
+/// Erases columns from the cursor on (ECH); nothing where there are none.
+#[derive(Clone, Copy, Debug)]
+pub struct EraseChar {
+    /// How many columns.
+    pub count: u16,
+}
+
+impl BufWrite for EraseChar {
+    ghost bytes = { λ it. bytes_of (op.EraseChars it.count) };
+
+    fn write_buf<S: Sink>(&self, sink: &mut S) -> Result<(), S::Error> {
+        match self.count {
+            0 => Ok(()),
+            1 => sink.write_str("\x1b[X"),
+            count => {
+                sink.write_str("\x1b[")?;
+                write_decimal(sink, u32::from(count))?;
+                sink.write_str("X")
+            }
+        }
+    }
+}

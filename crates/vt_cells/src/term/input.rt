@@ -1,0 +1,148 @@
+//! Sequences that set modes of a terminal's input, and the look of its cursor.
+
+ghost use Rattle.std.specs.Prelude.{◌≡◌, ◌++◌, OnOk};
+ghost use Rattle.vt_cells.specs.InputModes.{keypad_text, application_cursor_text, bracketed_paste_text, mouse_mode_change, mouse_encoding_change, cursor_style_change};
+
+use crate::modes;
+use crate::sink::Sink;
+use crate::term::BufWrite;
+
+/// Has the keypad send application sequences, or digits (DECKPAM, DECKPNM).
+#[derive(Clone, Copy, Debug)]
+pub struct ApplicationKeypad {
+    /// Application sequences are sent from now on.
+    pub state: bool,
+}
+
+impl BufWrite for ApplicationKeypad {
+    ghost bytes = { λ it. keypad_text it.state };
+
+    fn write_buf<S: Sink>(&self, sink: &mut S) -> Result<(), S::Error> {
+        sink.write_str(if self.state { "\x1b=" } else { "\x1b>" })
+    }
+}
+
+/// Has the cursor keys send application sequences, or cursor sequences (DECCKM).
+#[derive(Clone, Copy, Debug)]
+pub struct ApplicationCursor {
+    /// Application sequences are sent from now on.
+    pub state: bool,
+}
+
+impl BufWrite for ApplicationCursor {
+    ghost bytes = { λ it. application_cursor_text it.state };
+
+    fn write_buf<S: Sink>(&self, sink: &mut S) -> Result<(), S::Error> {
+        sink.write_str(if self.state { "\x1b[?1h" } else { "\x1b[?1l" })
+    }
+}
+
+/// Has pasted text marked as such, or not (xterm's mode 2004).
+#[derive(Clone, Copy, Debug)]
+pub struct BracketedPaste {
+    /// Pasted text is marked from now on.
+    pub state: bool,
+}
+
+impl BufWrite for BracketedPaste {
+    ghost bytes = { λ it. bracketed_paste_text it.state };
+
+    fn write_buf<S: Sink>(&self, sink: &mut S) -> Result<(), S::Error> {
+        sink.write_str(if self.state {
+            "\x1b[?2004h"
+        } else {
+            "\x1b[?2004l"
+        })
+    }
+}
+
+/// Changes which mouse events are reported; nothing where that stays, and the reset of the mode
+/// before where no events are reported any more.
+#[derive(Clone, Copy, Debug)]
+pub struct MouseProtocolMode {
+    /// The mode before.
+    pub was: modes::MouseProtocolMode,
+
+    /// The mode from now on.
+    pub new: modes::MouseProtocolMode,
+}
+
+impl BufWrite for MouseProtocolMode {
+    ghost bytes = { λ it. mouse_mode_change it.was it.new };
+
+    fn write_buf<S: Sink>(&self, sink: &mut S) -> Result<(), S::Error> {
+        use modes::MouseProtocolMode::{AnyMotion, ButtonMotion, None, Press, PressRelease};
+        let text = match (self.was, self.new) {
+            (None, None)
+            | (Press, Press)
+            | (PressRelease, PressRelease)
+            | (ButtonMotion, ButtonMotion)
+            | (AnyMotion, AnyMotion) => return Ok(()),
+            (Press, None) => "\x1b[?9l",
+            (PressRelease, None) => "\x1b[?1000l",
+            (ButtonMotion, None) => "\x1b[?1002l",
+            (AnyMotion, None) => "\x1b[?1003l",
+            (_, Press) => "\x1b[?9h",
+            (_, PressRelease) => "\x1b[?1000h",
+            (_, ButtonMotion) => "\x1b[?1002h",
+            (_, AnyMotion) => "\x1b[?1003h",
+        };
+        sink.write_str(text)
+    }
+}
+
+/// Changes how mouse events are encoded; nothing where that stays, and the reset of the encoding
+/// before where the default one comes back.
+#[derive(Clone, Copy, Debug)]
+pub struct MouseProtocolEncoding {
+    /// The encoding before.
+    pub was: modes::MouseProtocolEncoding,
+
+    /// The encoding from now on.
+    pub new: modes::MouseProtocolEncoding,
+}
+
+impl BufWrite for MouseProtocolEncoding {
+    ghost bytes = { λ it. mouse_encoding_change it.was it.new };
+
+    fn write_buf<S: Sink>(&self, sink: &mut S) -> Result<(), S::Error> {
+        use modes::MouseProtocolEncoding::{Default, Sgr, Utf8};
+        let text = match (self.was, self.new) {
+            (Default, Default) | (Utf8, Utf8) | (Sgr, Sgr) => return Ok(()),
+            (Utf8, Default) => "\x1b[?1005l",
+            (Sgr, Default) => "\x1b[?1006l",
+            (_, Utf8) => "\x1b[?1005h",
+            (_, Sgr) => "\x1b[?1006h",
+        };
+        sink.write_str(text)
+    }
+}
+
+/// Changes the look of the cursor (DECSCUSR); nothing where that stays.
+#[derive(Clone, Copy, Debug)]
+pub struct CursorStyle {
+    /// The look before.
+    pub was: modes::CursorStyle,
+
+    /// The look from now on.
+    pub new: modes::CursorStyle,
+}
+
+impl BufWrite for CursorStyle {
+    ghost bytes = { λ it. cursor_style_change it.was it.new };
+
+    fn write_buf<S: Sink>(&self, sink: &mut S) -> Result<(), S::Error> {
+        if self.was == self.new {
+            return Ok(());
+        }
+        sink.write_str(match self.new {
+            modes::CursorStyle::Default => "\x1b[0 q",
+            modes::CursorStyle::BlinkBlock => "\x1b[1 q",
+            modes::CursorStyle::SteadyBlock => "\x1b[2 q",
+            modes::CursorStyle::BlinkUnderline => "\x1b[3 q",
+            modes::CursorStyle::SteadyUnderline => "\x1b[4 q",
+            modes::CursorStyle::BlinkVerticalBar => "\x1b[5 q",
+            modes::CursorStyle::SteadyVerticalBar => "\x1b[6 q",
+        })
+    }
+}

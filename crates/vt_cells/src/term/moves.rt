@@ -1,0 +1,86 @@
+//! Sequences that move the cursor to a column or a position.
+
+ghost use Rattle.std.specs.Prelude.{◌≡◌, ◌++◌, OnOk};
+ghost use Rattle.vt_cells.specs.Op as op;
+ghost use Rattle.vt_cells.specs.Op.{bytes_of, bytes_of_all, moving};
+
+use crate::pos::Pos;
+use crate::sink::Sink;
+use crate::term::BufWrite;
+use crate::term::cursor::Crlf;
+use crate::term::decimal::write_decimal;
+
+/// Moves to a position (CUP, which counts from 1).
+#[derive(Clone, Copy, Debug)]
+pub struct MoveTo {
+    /// Where the cursor goes.
+    pub pos: Pos,
+}
+
+impl BufWrite for MoveTo {
+    ghost bytes = { λ it. bytes_of (op.MoveTo it.pos.row it.pos.col) };
+
+    fn write_buf<S: Sink>(&self, sink: &mut S) -> Result<(), S::Error> {
+        let Pos { row, col } = self.pos;
+        if row == 0 && col == 0 {
+            return sink.write_str("\x1b[H");
+        }
+        sink.write_str("\x1b[")?;
+        write_decimal(sink, u32::from(row) + 1)?;
+        sink.write_str(";")?;
+        write_decimal(sink, u32::from(col) + 1)?;
+        sink.write_str("H")
+    }
+}
+
+/// Moves to the right in the row (CUF); nothing for no column.
+#[derive(Clone, Copy, Debug)]
+pub struct MoveRight {
+    /// By how many columns.
+    pub count: u16,
+}
+
+impl BufWrite for MoveRight {
+    ghost bytes = { λ it. bytes_of (op.MoveRight it.count) };
+
+    fn write_buf<S: Sink>(&self, sink: &mut S) -> Result<(), S::Error> {
+        match self.count {
+            0 => Ok(()),
+            1 => sink.write_str("\x1b[C"),
+            count => {
+                sink.write_str("\x1b[")?;
+                write_decimal(sink, u32::from(count))?;
+                sink.write_str("C")
+            }
+        }
+    }
+}
+
+/// Moves from one position to another by the shortest of these: CR and LF to the first column of
+/// the next row, CUF within a row, CUP; nothing where they are the same.
+#[derive(Clone, Copy, Debug)]
+pub struct MoveFromTo {
+    /// Where the cursor is.
+    pub from: Pos,
+
+    /// Where the cursor goes.
+    pub to: Pos,
+}
+
+impl BufWrite for MoveFromTo {
+    ghost bytes = { λ it. bytes_of_all (moving it.from.row it.from.col it.to.row it.to.col) };
+
+    fn write_buf<S: Sink>(&self, sink: &mut S) -> Result<(), S::Error> {
+        let MoveFromTo { from, to } = *self;
+        if from.row < to.row && to.row - from.row == 1 && to.col == 0 {
+            Crlf.write_buf(sink)
+        } else if to.row == from.row && from.col < to.col {
+            let count = to.col - from.col;
+            MoveRight { count }.write_buf(sink)
+        } else if to != from {
+            MoveTo { pos: to }.write_buf(sink)
+        } else {
+            Ok(())
+        }
+    }
+}
