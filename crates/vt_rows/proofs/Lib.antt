@@ -1,0 +1,9 @@
+pub mod Columns
+pub mod Pairs
+pub mod Sound
+pub mod Rows
+pub mod Steps
+pub mod Moves
+pub mod ShiftSteps
+pub mod Trims
+pub mod Examples

@@ -1,0 +1,25 @@
+-- What the helpers of the edits leave; for private contracts and proofs only.
+use Rattle.std.specs.Prelude.{◌≡◌, ℕ, ◌+◌, ◌-◌, ◌<◌, ◌&&◌, nat_le, nat_lt, true, List, length, slice_set, if◌then◌else◌}
+use Rattle.vt_cells.specs.Cell.{CellValue, blank, is_wide, is_right_half, attrs_of}
+use Rattle.vt_rows.specs.Cells.{at}
+
+-- before column c is overwritten: the left half of a right half there is blank, in its own attributes
+unfoldable pub left_blanked : ℕ → List CellValue → List CellValue
+left_blanked c cells = if is_right_half (at cells c) then slice_set cells (c - 1) (blank (attrs_of (at cells (c - 1)))) else cells
+
+-- before column c is overwritten: the right half of a left half there becomes `cell`
+unfoldable pub right_replaced : ℕ → CellValue → List CellValue → List CellValue
+right_replaced c cell cells = if is_wide (at cells c) then slice_set cells (c + 1) cell else cells
+
+-- a left half in column c has a column for its right half
+abbrev pub HasRoom : ℕ → List CellValue → Type 0
+HasRoom c cells = is_wide (at cells c) ≡ true → c + 1 < length cells
+
+-- cells cut or moved at their end: a left half in the last column is blank, in its own attributes
+unfoldable pub end_blanked : List CellValue → List CellValue
+end_blanked cells =
+    if is_wide (at cells (length cells - 1)) then slice_set cells (length cells - 1) (blank (attrs_of (at cells (length cells - 1)))) else cells
+
+-- where each item comes from after the part from..to is rotated left by n
+abbrev pub turn_source : ℕ → ℕ → ℕ → ℕ → ℕ
+turn_source from to n k = if nat_le from k && nat_lt k to then (if nat_lt (k + n) to then k + n else k + n - (to - from)) else k

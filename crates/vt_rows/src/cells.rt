@@ -1,0 +1,221 @@
+//! Edits of the cells of a row, in place.
+//!
+//! A wide glyph takes two columns, its left and its right half. No edit leaves
+//! a half alone: each one says what becomes of the partner of a half that it
+//! overwrites.
+
+ghost use Rattle.std.specs.Prelude.{◌≡◌, ◌≢◌, ◌<◌, ◌≤◌, ◌+◌, ◌-◌, ◌&&◌, ◌∷◌, [], All, Some, encode_utf8, false, true, length, not};
+ghost use Rattle.vt_cells.specs.Attrs.{default_attrs};
+ghost use Rattle.vt_cells.specs.Cell.{IsCell, attrs_of, blank, glyph, is_blank, is_right_half, is_wide, text_of, widened};
+ghost use Rattle.vt_cells.specs.Glyph.{columns_of};
+ghost use Rattle.vt_rows.specs.Cells.{IsPaired, at, blanks, ends_blank, erased, marked_at, narrowed_at, put_narrow, put_wide, widened_at};
+ghost use Rattle.vt_rows.specs.Keeping.{HasRoom, left_blanked, right_replaced};
+
+use std::mem;
+use vt_cells::{Attrs, Cell};
+
+/// Puts a narrow glyph at a column.
+///
+/// Of a wide glyph whose right half stood there the left half becomes blank,
+/// in its own attributes. Of one whose left half stood there the right half
+/// becomes a space in `attrs`.
+#[inline]
+pub fn put_narrow(cells: &mut [Cell], column: usize, c: char, attrs: Attrs)
+    requires paired { IsPaired cells.old }
+    requires inside { column < length cells.old }
+    requires reported { c ≢ 0xFFFD }
+    requires columns { columns_of c ≡ Some 1 }
+    ensures value { cells.new ≡ put_narrow column (encode_utf8 c) attrs cells.old }
+    ensures paired { IsPaired cells.new }
+    ensures sound { All IsCell cells.old → All IsCell cells.new }
+{
+    blank_left(cells, column);
+    space_right(cells, column, attrs);
+    cells[column] = Cell::glyph(c, false, attrs);
+}
+
+/// Puts a wide glyph at a column and the next.
+///
+/// Of a wide glyph whose right half stood at the first the left half becomes
+/// blank, in its own attributes. Of one whose left half stood at the second
+/// the right half becomes blank, in `attrs`.
+pub fn put_wide(cells: &mut [Cell], column: usize, c: char, attrs: Attrs)
+    requires paired { IsPaired cells.old }
+    requires inside { column + 1 < length cells.old }
+    requires reported { c ≢ 0xFFFD }
+    requires columns { columns_of c ≡ Some 2 }
+    ensures value { cells.new ≡ put_wide column (encode_utf8 c) attrs cells.old }
+    ensures paired { IsPaired cells.new }
+    ensures sound { All IsCell cells.old → All IsCell cells.new }
+{
+    put_wide_cell(cells, column, Cell::glyph(c, true, attrs));
+}
+
+/// Puts a wide cell at a column, and its right half at the next; neighbours as
+/// under `put_wide`, in the attributes of the cell.
+pub fn put_wide_cell(cells: &mut [Cell], column: usize, cell: Cell)
+    requires paired { IsPaired cells.old }
+    requires inside { column + 1 < length cells.old }
+    requires wide { is_wide cell ≡ true }
+    ensures value { cells.new ≡ put_wide column (text_of cell) (attrs_of cell) cells.old }
+    ensures paired { IsPaired cells.new }
+    ensures sound { IsCell cell → All IsCell cells.old → All IsCell cells.new }
+{
+    blank_left(cells, column);
+    blank_right(cells, column + 1, cell.attrs());
+    cells[column] = cell;
+    cells[column + 1] = Cell::right_half();
+}
+
+/// Takes the cell at a column out, and leaves a blank; a half whose partner
+/// goes becomes blank too, in its own attributes.
+pub fn lift(cells: &mut [Cell], column: usize, attrs: Attrs) -> Cell
+    requires paired { IsPaired cells.old }
+    requires inside { column < length cells.old }
+    ensures lifted { result ≡ at cells.old column }
+    ensures value { cells.new ≡ erased column 1 attrs cells.old }
+    ensures paired { IsPaired cells.new }
+    ensures sound { All IsCell cells.old → All IsCell cells.new }
+{
+    blank_left(cells, column);
+    blank_right(cells, column, Attrs::new());
+    mem::replace(&mut cells[column], Cell::blank(attrs))
+}
+
+/// Puts a mark, a character of width 0, on the cell at a column.
+///
+/// A blank becomes a space glyph first, and keeps its attributes. From 18
+/// bytes of text on nothing happens.
+pub fn append(cells: &mut [Cell], column: usize, mark: char)
+    requires inside { column < length cells.old }
+    requires shown { is_right_half (at cells.old column) ≡ false }
+    requires mark { columns_of mark ≡ Some 0 }
+    ensures value { cells.new ≡ marked_at column mark cells.old }
+    ensures paired { IsPaired cells.old → IsPaired cells.new }
+    ensures sound { All IsCell cells.old → All IsCell cells.new }
+{
+    let cell = &mut cells[column];
+    cell.append(mark);
+}
+
+/// Makes the glyph at a column wide, and the next column its right half.
+///
+/// Of a wide glyph whose left half stood there the right half becomes blank,
+/// in `attrs`.
+pub fn widen(cells: &mut [Cell], column: usize, attrs: Attrs)
+    requires paired { IsPaired cells.old }
+    requires inside { column + 1 < length cells.old }
+    requires glyph { is_blank (at cells.old column) ≡ false }
+    requires shown { is_right_half (at cells.old column) ≡ false }
+    requires fits { IsCell (widened true (at cells.old column)) }
+    ensures value { cells.new ≡ widened_at column attrs cells.old }
+    ensures paired { IsPaired cells.new }
+    ensures sound { All IsCell cells.old → All IsCell cells.new }
+{
+    blank_right(cells, column + 1, attrs);
+    let cell = &mut cells[column];
+    cell.set_wide(true);
+    cells[column + 1] = Cell::right_half();
+}
+
+/// Makes the glyph at a column narrow; its right half becomes a space in
+/// `attrs`.
+pub fn narrow(cells: &mut [Cell], column: usize, attrs: Attrs)
+    requires paired { IsPaired cells.old }
+    requires inside { column < length cells.old }
+    requires shown { is_right_half (at cells.old column) ≡ false }
+    requires fits { IsCell (widened false (at cells.old column)) }
+    ensures value { cells.new ≡ narrowed_at column attrs cells.old }
+    ensures paired { IsPaired cells.new }
+    ensures sound { All IsCell cells.old → All IsCell cells.new }
+{
+    space_right(cells, column, attrs);
+    let cell = &mut cells[column];
+    cell.set_wide(false);
+}
+
+/// Makes all columns blank.
+pub fn clear(cells: &mut [Cell], attrs: Attrs)
+    ensures { cells.new ≡ blanks attrs (length cells.old) }
+{
+    for cell in cells.iter_mut() {
+        cell.clear(attrs);
+    }
+}
+
+/// Makes the columns from `start` up to `end` blank.
+///
+/// A half whose partner is erased becomes blank too, in its own attributes.
+pub fn erase(cells: &mut [Cell], start: usize, end: usize, attrs: Attrs)
+    requires paired { IsPaired cells.old }
+    requires some { start < end }
+    requires inside { end ≤ length cells.old }
+    ensures value { cells.new ≡ erased start (end - start) attrs cells.old }
+    ensures paired { IsPaired cells.new }
+    ensures sound { All IsCell cells.old → All IsCell cells.new }
+{
+    blank_left(cells, start);
+    blank_right(cells, end - 1, Attrs::new());
+    clear(&mut cells[start..end], attrs);
+}
+
+/// Whether the last column is blank.
+#[inline]
+pub fn ends_blank(cells: &[Cell]) -> bool
+    ensures { result ≡ ends_blank cells.now }
+{
+    match cells.last() {
+        Some(cell) => cell.is_blank(),
+        None => true,
+    }
+}
+
+/// The wrapped flag of a row after a print or an erase left these cells: it
+/// falls where the last column is blank.
+#[inline]
+pub fn flag_left(cells: &[Cell], wrapped: bool) -> bool
+    ensures { result ≡ (wrapped && not (ends_blank cells.now)) }
+{
+    wrapped && !ends_blank(cells)
+}
+
+/// Before a column is overwritten: blanks the left half of a right half there.
+#[tactic(auto, unfolding(crate::specs::Keeping::left_blanked))]
+#[inline]
+pub(crate) fn blank_left(cells: &mut [Cell], column: usize)
+    requires paired { IsPaired cells.old }
+    requires inside { column < length cells.old }
+    ensures { cells.new ≡ left_blanked column cells.old }
+{
+    if cells[column].is_wide_continuation() {
+        let attrs = cells[column - 1].attrs();
+        cells[column - 1] = Cell::blank(attrs);
+    }
+}
+
+/// Before a column is overwritten: makes the right half of a left half there a
+/// space.
+#[tactic(auto, unfolding(crate::specs::Keeping::right_replaced))]
+#[inline]
+fn space_right(cells: &mut [Cell], column: usize, attrs: Attrs)
+    requires room { HasRoom column cells.old }
+    requires inside { column < length cells.old }
+    ensures { cells.new ≡ right_replaced column (glyph (0x20 ∷ []) false attrs) cells.old }
+{
+    if cells[column].is_wide() {
+        cells[column + 1] = Cell::space(attrs);
+    }
+}
+
+/// Before a column is overwritten: blanks the right half of a left half there.
+#[tactic(auto, unfolding(crate::specs::Keeping::right_replaced))]
+#[inline]
+pub(crate) fn blank_right(cells: &mut [Cell], column: usize, attrs: Attrs)
+    requires room { HasRoom column cells.old }
+    requires inside { column < length cells.old }
+    ensures { cells.new ≡ right_replaced column (blank attrs) cells.old }
+{
+    if cells[column].is_wide() {
+        cells[column + 1] = Cell::blank(attrs);
+    }
+}
