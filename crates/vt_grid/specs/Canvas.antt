@@ -1,5 +1,5 @@
 -- What a redraw works on: the active page with the current attributes and whether the cursor is hidden, and what its operations draw.
-use Rattle.std.specs.Prelude.{ℕ, ◌+◌, ◌==◌, ◌&&◌, nat_lt, not, Bool, true, false, List, [], ◌∷◌, ◌++◌, Option, Some, None, chars, zero, suc, if◌then◌else◌}
+use Rattle.std.specs.Prelude.{ℕ, ◌==◌, ◌&&◌, nat_lt, not, Bool, false, List, [], ◌∷◌, Option, Some, None, chars, zero, suc, if◌then◌else◌}
 use Rattle.vt_cells.specs.Attrs.{default_attrs, changed_attrs}
 use Rattle.vt_cells.specs.Glyph.{columns_of, is_selector, is_wide_text}
 use Rattle.vt_cells.specs.Cell.{text_of, is_wide, marked}

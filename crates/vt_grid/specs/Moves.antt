@@ -1,5 +1,5 @@
 -- Moves of the cursor (ECMA-48's CUF, CUP, CR and LF, with the VT510's region and origin mode).
-use Rattle.std.specs.Prelude.{ℕ, ◌+◌, ◌-◌, ◌==◌, nat_lt, Bool, true, false, length, min, if◌then◌else◌}
+use Rattle.std.specs.Prelude.{ℕ, ◌+◌, ◌-◌, ◌==◌, nat_lt, Bool, false, length, min, if◌then◌else◌}
 use Rattle.vt_grid.specs.Page.{Page, scrolled_up}
 
 -- to the first column (CR)

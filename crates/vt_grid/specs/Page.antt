@@ -1,10 +1,9 @@
 -- A page: rows of one width, a cursor, a scroll region, origin mode, and what was saved (VT510 manual, DECSC, DECSTBM, DECOM).
-use Rattle.std.specs.Prelude.{◌≡◌, ℕ, ◌+◌, ◌-◌, ◌<◌, ◌≤◌, ◌^◌, ◌⊎◌, nat_lt, nat_le, ◌&&◌, ◌==◌, not, Bool, true, false, List, [], ◌∷◌, ◌++◌, length, take, drop, replicate, map, slice_index_or, slice_set, All, if◌then◌else◌}
+use Rattle.std.specs.Prelude.{◌≡◌, ℕ, ◌+◌, ◌-◌, ◌<◌, ◌≤◌, ◌^◌, ◌⊎◌, nat_le, ◌&&◌, Bool, false, List, length, replicate, map, slice_index_or, slice_set, All, if◌then◌else◌}
 use Rattle.std.specs.List.{range_with_len}
 use Rattle.vt_cells.specs.Attrs.{default_attrs}
 use Rattle.vt_cells.specs.Cell.{CellValue}
-use Rattle.vt_cells.specs.declared.attrs.Attrs.{Attrs}
-use Rattle.vt_rows.specs.Cells.{at, ends_blank}
+use Rattle.vt_rows.specs.Cells.{at}
 use Rattle.vt_rows.specs.Row.{RowValue, IsRow, blank_row}
 
 pub record Page : Type 0 where

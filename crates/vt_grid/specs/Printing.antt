@@ -1,14 +1,13 @@
 -- Printing a character: its width decides whether the cursor wraps first, and what becomes of its neighbours (VT510 manual, DECAWM set).
 use Rattle.std.specs.Prelude.{ℕ, ◌+◌, ◌-◌, ◌==◌, ◌&&◌, nat_lt, not, Bool, true, false, List, length, Option, Some, None, zero, suc, if◌then◌else◌}
 use Rattle.std.specs.Char.{encode_utf8}
-use Rattle.vt_cells.specs.Attrs.{default_attrs}
-use Rattle.vt_cells.specs.Cell.{CellValue, text_of, is_wide, is_blank, is_right_half, marked}
+use Rattle.vt_cells.specs.Cell.{CellValue, text_of, is_wide, is_blank, is_right_half}
 use Rattle.vt_cells.specs.Glyph.{columns_of, is_selector, is_wide_text, has_room}
 use Rattle.vt_cells.specs.declared.attrs.Attrs.{Attrs}
 use Rattle.vt_rows.specs.Cells.{at, ends_blank, erased, put_narrow, put_wide, marked_at, widened_at, narrowed_at}
-use Rattle.vt_rows.specs.Row.{RowValue, with_cells}
+use Rattle.vt_rows.specs.Row.{with_cells}
 use Rattle.vt_grid.specs.Page.{Page, row_at, cursor_row, with_row}
-use Rattle.vt_grid.specs.Moves.{line_feed, at_bottom, feeds_out}
+use Rattle.vt_grid.specs.Moves.{line_feed, at_bottom}
 
 -- the cells of the cursor's row become others
 abbrev pub with_cursor_cells : List CellValue → Page → Page

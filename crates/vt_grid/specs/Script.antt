@@ -1,12 +1,12 @@
 -- The redraw of a page as a list of operations: what differs from a page that the reader shows, row by row and from left to right.
-use Rattle.std.specs.Prelude.{ℕ, suc, zero, ◌+◌, ◌-◌, ◌==◌, ◌&&◌, min, Bool, true, false, List, [], ◌∷◌, ◌++◌, length, drop, if◌then◌else◌}
+use Rattle.std.specs.Prelude.{ℕ, suc, zero, ◌+◌, ◌-◌, min, Bool, false, List, [], ◌∷◌, ◌++◌, length, drop, if◌then◌else◌}
+use Rattle.std.specs.List.{prefix_len}
 use Rattle.vt_cells.specs.Attrs.{default_attrs, same_attrs}
-use Rattle.vt_cells.specs.Cell.{CellValue, blank, glyph, right_half}
+use Rattle.vt_cells.specs.Cell.{CellValue, blank, glyph, right_half, same_cell}
 use Rattle.vt_cells.specs.Op.{Op, Hide, ClearAttrs, MoveTo, EraseBelow, EraseRest, EraseChars, ChangeAttrs, Print, moving}
-use Rattle.vt_cells.specs.Same.{same_cell}
 use Rattle.vt_cells.specs.declared.attrs.Attrs.{Attrs}
 use Rattle.vt_rows.specs.Row.{RowValue}
-use Rattle.vt_grid.specs.Page.{Page, blank_page}
+use Rattle.vt_grid.specs.Page.{blank_page}
 use Rattle.vt_grid.specs.Canvas.{Canvas}
 use Rattle.vt_grid.specs.declared.pen.Pen.{Pen}
 
@@ -25,18 +25,21 @@ abbrev pub pen_at : ℕ → ℕ → Attrs → Pen
 pen_at row col attrs = record { row = row; col = col; attrs = attrs }
 
 -- from the pen to a position, and to other attributes
-abbrev pub going : Pen → ℕ → ℕ → List Op
+unfoldable pub going : Pen → ℕ → ℕ → List Op
 going pen row col = moving pen.row pen.col row col
 
-abbrev pub changing : Attrs → Attrs → List Op
+unfoldable pub changing : Attrs → Attrs → List Op
 changing was new = if same_attrs was new then [] else ChangeAttrs was new ∷ []
+
+-- the cell is a blank in these attributes
+abbrev pub is_blank_of : Attrs → CellValue → Bool
+is_blank_of attrs (blank b) = same_attrs attrs b
+is_blank_of attrs (glyph text wide b) = false
+is_blank_of attrs right_half = false
 
 -- how many blanks of these attributes the cells begin with
 abbrev pub run : Attrs → List CellValue → ℕ
-run attrs [] = 0
-run attrs (blank b ∷ xs) = if same_attrs attrs b then suc (run attrs xs) else 0
-run attrs (glyph text wide b ∷ xs) = 0
-run attrs (right_half ∷ xs) = 0
+run attrs cells = prefix_len (is_blank_of attrs) cells
 
 -- a run of n blanks: to the end of the row where nothing is behind it
 abbrev pub erase_run : ℕ → List CellValue → Op
@@ -69,12 +72,15 @@ rows_written r pen (x ∷ xs) (y ∷ ys) =
     after row.ops (rows_written (r + 1) row.pen xs ys)
 
 -- last, the cursor and the attributes; a pending wrap is written as the last column
-unfoldable pub cursor_written : Canvas → Pen → List Op
-cursor_written self pen =
-    going pen self.page.row (min self.page.column (self.page.width - 1)) ++ changing pen.attrs self.attrs
+unfoldable pub cursor_written : Pen → (width row column : ℕ) → Attrs → List Op
+cursor_written pen width row column attrs = going pen row (min column (width - 1)) ++ changing pen.attrs attrs
 
--- the page cleared, then what differs from a blank one
-unfoldable pub redraw : Canvas → List Op
-redraw self =
-    let rows = rows_written 0 (pen_at 0 0 default_attrs) self.page.rows (blank_page (length self.page.rows) self.page.width).rows in
-    Hide self.hidden ∷ ClearAttrs ∷ MoveTo 0 0 ∷ EraseBelow ∷ (rows.ops ++ cursor_written self rows.pen)
+-- the page cleared, then what differs from a blank one, then the cursor and the attributes
+unfoldable pub redraw_of : (hidden : Bool) → List RowValue → (width row column : ℕ) → Attrs → List Op
+redraw_of hidden rows width row column attrs =
+    let written = rows_written 0 (pen_at 0 0 default_attrs) rows (blank_page (length rows) width).rows in
+    Hide hidden ∷ ClearAttrs ∷ MoveTo 0 0 ∷ EraseBelow ∷ (written.ops ++ cursor_written written.pen width row column attrs)
+
+-- the redraw of a screen: of what it shows, and nothing else of it
+abbrev pub redraw : Canvas → List Op
+redraw self = redraw_of self.hidden self.page.rows self.page.width self.page.row self.page.column self.attrs

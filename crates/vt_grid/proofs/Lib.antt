@@ -1,0 +1,17 @@
+pub mod Examples
+pub mod Flat
+pub mod Drawing
+pub mod Glyphs
+pub mod Steps
+pub mod Row
+pub mod Rows
+pub mod Showing
+pub mod Fitting
+pub mod Dispatch
+pub mod Marks
+pub mod PageExamples
+pub mod Pages
+pub mod Prints
+pub mod Scrolls
+pub mod Sized
+pub mod Writing

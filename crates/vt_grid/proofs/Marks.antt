@@ -1,0 +1,242 @@
+-- A mark and U+FE0F leave a page.
+use Rattle.std.proofs.Common.{◌≡◌, ◌≢◌, ℕ, zero, suc, ◌+◌, ◌-◌, ◌<◌, ◌≤◌, ◌==◌, ◌&&◌, nat_lt, Bool, true, false, List, [], ◌∷◌, ◌++◌, length, refl, inl, inr, sym, ap, subst, ◌∙◌, arith}
+use Rattle.std.specs.Prelude.{if◌then◌else◌, Option, Some, None}
+use Rattle.std.specs.Char.{encode_utf8, IsScalar}
+use Rattle.std.specs.List.{list_any, AllByRecursion}
+use Rattle.std.proofs.lemmas.Bool.{ltb-true, cases_lt}
+use Rattle.std.proofs.lemmas.Bool.Decides.{nat_tests}
+use Rattle.std.proofs.lemmas.Grind.{get_or-set_at}
+use Rattle.std.proofs.lemmas.List.{length-set}
+use Rattle.std.proofs.lemmas.List.Folds.{list_any-append}
+use Rattle.std.proofs.lemmas.List.Elements.{All-get_or}
+use Rattle.vt_cells.specs.Cell.{CellValue, blank, glyph, right_half, default_blank, is_wide, is_blank, is_right_half, text_of, marked, widened, redrawn, IsCell}
+use Rattle.vt_cells.specs.Glyph.{IsGlyphText, IsMark, Joins, is_selector, has_room, is_wide_text, columns_of}
+use Rattle.vt_cells.specs.declared.attrs.Attrs.{Attrs}
+use Rattle.vt_cells.proofs.Glyphs.{IsGlyphText-first}
+use Rattle.vt_cells.proofs.Widths.{columns_of-le}
+use Rattle.vt_rows.specs.Cells.{at, IsPaired, marked_at, widened_at, narrowed_at, erased}
+use Rattle.vt_rows.specs.Row.{RowValue, with_cells}
+use Rattle.vt_rows.proofs.Columns.{at-past}
+use Rattle.vt_rows.proofs.Pairs.{not_both}
+use Rattle.vt_cells.proofs.Cells.{IsCell-space, IsCell-marked}
+use Rattle.vt_rows.proofs.Rows.{IsRow-marked_at, IsRow-widened_at, IsRow-narrowed_at, IsRow-erased}
+use Rattle.vt_grid.specs.Keeping.{IsMarkPlace, IsSelected}
+use Rattle.vt_grid.specs.Page.{Page, IsPage, cursor_row}
+use Rattle.vt_grid.specs.Printing.{with_cursor_cells, wrapped_page, glyph_put, room_made, mark_column, takes_mark, mark_put, carried, made_wide, made_narrow, width_followed, mark_printed, printed_by, printed}
+use Rattle.vt_grid.proofs.Pages.{page_at, page_if, page_cursor_cells, IsRow-cursor_row}
+use Rattle.vt_grid.proofs.Prints.{page_wrapped, column_wrapped_page, width_wrapped_page, page_glyph_put, page_drawn}
+
+-- ---- the cell before the cursor
+
+is_right_past : (cells : List CellValue) (k : ℕ) → is_right_half (at cells k) ≡ true → k < length cells
+is_right_past cells k h = elim (cases_lt k (length cells)) [
+  | inl lt ↦ lt
+  | inr ge ↦ let e : is_right_half (at cells k) ≡ false = ap is_right_half (at-past cells k ge) in cc
+]
+
+wide_not_right : (x : CellValue) → is_wide x ≡ true → is_right_half x ≡ false
+wide_not_right x h = let b = not_both x in grind (arith, b, h)
+
+place_by : (cells : List CellValue) (column : ℕ) → IsPaired cells → 0 < column → column ≤ length cells → (b : Bool) → is_right_half (at cells (column - 1)) ≡ b →
+    IsMarkPlace cells column (if b then column - 2 else column - 1)
+place_by cells column p pos h true e =
+    let second : column ≡ 1 → ⊥ = λ one. let z : is_right_half (at cells 0) ≡ true = ap (λ (k : ℕ). is_right_half (at cells k)) (omega arith) ∙ e in let f = p.first in cc in
+    let i : column - 2 + 1 ≡ column - 1 = omega arith in
+    let w : is_wide (at cells (column - 2)) ≡ true = p.halves (column - 2) ∙ (ap (λ (k : ℕ). is_right_half (at cells k)) i ∙ e) in
+    record {
+      inside = omega arith;
+      shown = wide_not_right (at cells (column - 2)) w;
+      narrow = λ n. cc;
+      wide = λ _. omega arith;
+    }
+place_by cells column p pos h false e =
+    let i : column - 1 + 1 ≡ column = omega arith in
+    record {
+      inside = omega arith;
+      shown = e;
+      narrow = λ _. i;
+      wide = λ w. is_right_past cells (column - 1 + 1) (sym (p.halves (column - 1)) ∙ w);
+    }
+
+pub mark_place : (page : Page) → IsPage page → 0 < page.column → IsMarkPlace (cursor_row page).cells page.column (mark_column page)
+mark_place page p pos =
+    let row = IsRow-cursor_row page p in
+    let l = row.columns in
+    let c = p.cursor_column in
+    place_by (cursor_row page).cells page.column row.paired pos (omega arith) (is_right_half (at (cursor_row page).cells (page.column - 1))) refl
+
+-- ---- a mark
+
+pub wide_marked : (mark : ℕ) (x : CellValue) → is_wide (marked mark x) ≡ is_wide x
+wide_marked mark (blank attrs) = refl
+wide_marked mark (glyph text wide attrs) = refl
+wide_marked mark right_half = refl
+
+pub right_marked : (mark : ℕ) (x : CellValue) → is_right_half (marked mark x) ≡ is_right_half x
+right_marked mark (blank attrs) = refl
+right_marked mark (glyph text wide attrs) = refl
+right_marked mark right_half = refl
+
+pub blank_marked : (mark : ℕ) (x : CellValue) → is_right_half x ≡ false → is_blank (marked mark x) ≡ false
+blank_marked mark (blank attrs) h = refl
+blank_marked mark (glyph text wide attrs) h = refl
+blank_marked mark right_half h = cc
+
+pub page_mark_put : (k mark : ℕ) (page : Page) → IsMark mark → k < length (cursor_row page).cells → IsPage page → IsPage (mark_put k mark page)
+page_mark_put k mark page m h p =
+    let row = IsRow-cursor_row page p in
+    let cells = (cursor_row page).cells in
+    page_cursor_cells (marked_at k mark cells) page p
+    (IsRow-marked_at page.width (cursor_row page) k mark (IsCell-marked mark (at cells k) m (All-get_or IsCell cells k default_blank h row.sound)) row)
+
+-- ---- U+FE0F
+
+Joins-push : (text marks whole : List ℕ) (mark : ℕ) → Joins text marks whole → has_room whole ≡ true → Joins text (marks ++ mark ∷ []) (whole ++ encode_utf8 mark)
+Joins-push text [] whole mark e room = (rw e room, ap (λ t. t ++ encode_utf8 mark) e)
+Joins-push text (m ∷ marks) whole mark (first, more) room = (first, Joins-push (text ++ encode_utf8 m) marks whole mark more room)
+
+are_marks-push : (marks : List ℕ) (mark : ℕ) → AllByRecursion IsMark marks → IsMark mark → AllByRecursion IsMark (marks ++ mark ∷ [])
+are_marks-push [] mark all here = (here, tt)
+are_marks-push (m ∷ marks) mark (first, more) here = (first, are_marks-push marks mark more here)
+
+any_push : (marks : List ℕ) (mark : ℕ) → is_selector mark ≡ true → list_any is_selector (marks ++ mark ∷ []) ≡ false → ⊥
+any_push marks mark s e = let both = list_any-append is_selector marks (mark ∷ []) in grind (arith, both)
+
+-- with U+FE0F among its marks a glyph may be wide or narrow
+pub selected_text : (text : List ℕ) (was wide : Bool) (mark : ℕ) → IsGlyphText text was → IsMark mark → is_selector mark ≡ true → has_room text ≡ true → IsGlyphText (text ++ encode_utf8 mark) wide
+selected_text text was wide mark old is_mark selector room = record {
+  first = old.first;
+  marks = old.marks ++ mark ∷ [];
+  scalar = old.scalar;
+  drawn = old.drawn;
+  shown = old.shown;
+  reported = old.reported;
+  are_marks = are_marks-push old.marks mark old.are_marks is_mark;
+  spelled = Joins-push (encode_utf8 old.first) old.marks text mark old.spelled room;
+  width = λ none. absurd (any_push old.marks mark selector none);
+}
+
+selected_cell : (mark : ℕ) (wide : Bool) (x : CellValue) → IsMark mark → is_selector mark ≡ true → takes_mark x ≡ true → IsCell x → IsCell (widened wide (marked mark x))
+selected_cell mark wide (blank attrs) m s t h = selected_text (0x20 ∷ []) false wide mark (IsCell-space attrs) m s refl
+selected_cell mark wide (glyph text was attrs) m s t h = rw t (selected_text text was wide mark h m s t)
+selected_cell mark wide right_half m s t h = tt
+
+pub glyph_text : (wide : Bool) (x : CellValue) → is_blank x ≡ false → is_right_half x ≡ false → IsCell (widened wide x) → IsGlyphText (text_of x) wide
+glyph_text wide (blank attrs) b r h = cc
+glyph_text wide (glyph text was attrs) b r h = h
+glyph_text wide right_half b r h = cc
+
+pub and_right : (a b : Bool) → (a && b) ≡ true → b ≡ true
+and_right true b h = h
+and_right false b h = cc
+
+-- a glyph lifted out, in other attributes and wide
+pub lifted_is : (attrs : Attrs) (x : CellValue) → is_blank x ≡ false → is_right_half x ≡ false → widened true (redrawn attrs x) ≡ glyph (text_of x) true attrs
+lifted_is attrs (blank was) b r = cc
+lifted_is attrs (glyph text wide was) b r = refl
+lifted_is attrs right_half b r = cc
+
+pub lifted_cell : (attrs : Attrs) (x : CellValue) → IsCell (widened true x) → IsCell (widened true (redrawn attrs x))
+lifted_cell attrs (blank was) h = tt
+lifted_cell attrs (glyph text wide was) h = h
+lifted_cell attrs right_half h = tt
+
+pub page_erased_at : (k : ℕ) (attrs : Attrs) (page : Page) → IsSelected page k → IsPage page → IsPage (with_cursor_cells (erased k 1 attrs (cursor_row page).cells) page)
+page_erased_at k attrs page s p =
+    let row = IsRow-cursor_row page p in
+    let l = row.columns in
+    let inside = s.place.inside in
+    page_cursor_cells (erased k 1 attrs (cursor_row page).cells) page p (IsRow-erased page.width (cursor_row page) k 1 attrs (omega arith) row)
+
+pub page_carried : (k : ℕ) (attrs : Attrs) (page : Page) → IsSelected page k → 1 < page.width → IsPage page → IsPage (carried (text_of (at (cursor_row page).cells k)) k attrs page)
+unfolding carried
+page_carried k attrs page s h p =
+    let q = with_cursor_cells (erased k 1 attrs (cursor_row page).cells) page in
+    let w : (wrapped_page q).width ≡ page.width = width_wrapped_page q in
+    page_glyph_put (text_of (at (cursor_row page).cells k)) true attrs (wrapped_page q) (glyph_text true (at (cursor_row page).cells k) s.drawn s.place.shown (s.either true))
+    (omega (arith, column_wrapped_page q)) (page_wrapped q (page_erased_at k attrs page s p))
+
+pub page_widened : (k : ℕ) (attrs : Attrs) (page : Page) → IsSelected page k → k + 1 ≡ page.column → page.column < page.width → IsPage page →
+    IsPage (record (with_cursor_cells (widened_at k attrs (cursor_row page).cells) page) { column = page.column + 1 })
+page_widened k attrs page s before room p =
+    let cells = (cursor_row page).cells in
+    let q = page_cursor_cells (widened_at k attrs cells) page p (IsRow-widened_at page.width (cursor_row page) k attrs (omega arith) s.drawn s.place.shown (s.either true) (IsRow-cursor_row page p)) in
+    page_at page.row (page.column + 1) (with_cursor_cells (widened_at k attrs cells) page) q.cursor_row (omega arith) q
+
+pub page_made_wide : (k : ℕ) (attrs : Attrs) (page : Page) → IsSelected page k → is_wide (at (cursor_row page).cells k) ≡ false → 1 < page.width → IsPage page → IsPage (made_wide k attrs page)
+unfolding made_wide
+page_made_wide k attrs page s n h p =
+    let cells = (cursor_row page).cells in
+    page_if (nat_lt page.column page.width) (record (with_cursor_cells (widened_at k attrs cells) page) { column = page.column + 1 }) (carried (text_of (at cells k)) k attrs page)
+    (λ t. page_widened k attrs page s (s.place.narrow n) (ltb-true page.column page.width t) p)
+    (λ f. page_carried k attrs page s h p)
+
+pub page_made_narrow : (k : ℕ) (attrs : Attrs) (page : Page) → IsSelected page k → IsPage page → IsPage (made_narrow k attrs page)
+page_made_narrow k attrs page s p =
+    let row = IsRow-cursor_row page p in
+    let l = row.columns in
+    let inside = s.place.inside in
+    page_cursor_cells (narrowed_at k attrs (cursor_row page).cells) page p (IsRow-narrowed_at page.width (cursor_row page) k attrs (omega arith) s.place.shown (s.either false) row)
+
+pub page_width_followed : (k : ℕ) (attrs : Attrs) (page : Page) → IsSelected page k → IsPage page → IsPage (width_followed k attrs page)
+unfolding width_followed
+page_width_followed k attrs page s p =
+    let cell = at (cursor_row page).cells k in
+    let wide = is_wide_text (text_of cell) && nat_lt 1 page.width in
+    page_if (is_wide cell) (if wide then page else made_narrow k attrs page) (if wide then made_wide k attrs page else page)
+    (λ _. page_if wide page (made_narrow k attrs page) (λ _. p) (λ _. page_made_narrow k attrs page s p))
+    (λ n. page_if wide (made_wide k attrs page) page (λ t. page_made_wide k attrs page s n (ltb-true 1 page.width (and_right (is_wide_text (text_of cell)) (nat_lt 1 page.width) t)) p) (λ _. p))
+
+-- ---- a mark is printed
+
+pub cursor_row_put : (cells : List CellValue) (page : Page) → IsPage page → cursor_row (with_cursor_cells cells page) ≡ with_cells (cursor_row page) cells
+cursor_row_put cells page p = get_or-set_at page.rows page.row page.row (with_cells (cursor_row page) cells) _ refl p.cursor_row
+
+pub marked_selected : (k mark : ℕ) (page : Page) → IsMark mark → is_selector mark ≡ true → takes_mark (at (cursor_row page).cells k) ≡ true → IsMarkPlace (cursor_row page).cells page.column k →
+    IsPage page → IsSelected (mark_put k mark page) k
+marked_selected k mark page m s t place p =
+    let row = IsRow-cursor_row page p in
+    let cells = (cursor_row page).cells in
+    let x = at cells k in
+    let new = marked_at k mark cells in
+    let e : (cursor_row (mark_put k mark page)).cells ≡ new = ap (λ (row : RowValue). row.cells) (cursor_row_put new page p) in
+    let here : at new k ≡ marked mark x = get_or-set_at cells k k (marked mark x) default_blank refl place.inside in
+    let l : length new ≡ length cells = length-set cells k (marked mark x) in
+    let w : is_wide (at new k) ≡ is_wide x = ap is_wide here ∙ wide_marked mark x in
+    let r : is_right_half (at new k) ≡ is_right_half x = ap is_right_half here ∙ right_marked mark x in
+    record {
+      place = subst (λ (cs : List CellValue). IsMarkPlace cs page.column k) (sym e) (record {
+        inside = rw l place.inside;
+        shown = r ∙ place.shown;
+        narrow = λ n. place.narrow (sym w ∙ n);
+        wide = λ y. rw l (place.wide (sym w ∙ y));
+      });
+      drawn = ap (λ (cs : List CellValue). is_blank (at cs k)) e ∙ (ap is_blank here ∙ blank_marked mark x place.shown);
+      either = λ wide. subst (λ (cs : List CellValue). IsCell (widened wide (at cs k))) (sym e) (subst (λ (c : CellValue). IsCell (widened wide c)) (sym here)
+          (selected_cell mark wide x m s t (All-get_or IsCell cells k default_blank place.inside row.sound)));
+    }
+
+pub page_mark_printed : (mark : ℕ) (attrs : Attrs) (page : Page) → IsMark mark → 0 < page.column → IsPage page → IsPage (mark_printed mark attrs page)
+unfolding mark_printed
+page_mark_printed mark attrs page m pos p =
+    let k = mark_column page in
+    let place = mark_place page p pos in
+    let put = page_mark_put k mark page m place.inside p in
+    page_if (takes_mark (at (cursor_row page).cells k)) (if is_selector mark then width_followed k attrs (mark_put k mark page) else mark_put k mark page) page
+    (λ t. page_if (is_selector mark) (width_followed k attrs (mark_put k mark page)) (mark_put k mark page)
+    (λ s. page_width_followed k attrs (mark_put k mark page) (marked_selected k mark page m s t place p) put) (λ _. put))
+    (λ _. p)
+
+-- ---- a character is printed
+
+pub page_printed : (c : ℕ) (attrs : Attrs) (page : Page) → IsScalar c → c ≢ 0xFFFD → IsPage page → IsPage (printed c attrs page)
+page_printed c attrs page scalar reported p = by_columns (columns_of c) refl where
+  by_columns : (w : Option ℕ) → columns_of c ≡ w → IsPage (printed_by w c attrs page)
+  by_columns None e = p
+  by_columns (Some zero) e = page_if (page.column == 0) page (mark_printed c attrs page) (λ _. p) (λ f. page_mark_printed c attrs page (scalar, e) (grind (arith, nat_tests)) p)
+  by_columns (Some (suc zero)) e = page_drawn (encode_utf8 c) false attrs page (IsGlyphText-first c false scalar reported e) (omega (arith, p.has_columns)) p
+  by_columns (Some (suc (suc n))) e =
+      let le = columns_of-le c (suc (suc n)) e in
+      let two : n ≡ 0 = omega arith in
+      page_if (nat_lt 1 page.width) (glyph_put (encode_utf8 c) true attrs (room_made 2 page)) page
+      (λ t. page_drawn (encode_utf8 c) true attrs page (IsGlyphText-first c true scalar reported (e ∙ ap (λ (m : ℕ). Some (suc (suc m))) two)) (omega (arith, ltb-true 1 page.width t)) p) (λ _. p)

@@ -1,0 +1,51 @@
+-- What the fields of a grid are together; for its model and private contracts only.
+use Rattle.std.specs.Prelude.{◌≡◌, ℕ, ◌+◌, ◌-◌, ◌<◌, ◌&&◌, nat_le, nat_lt, Bool, true, false, List, length, if◌then◌else◌}
+use Rattle.vt_cells.specs.declared.attrs.Attrs.{Attrs}
+use Rattle.vt_cells.specs.declared.pos.Pos.{Pos}
+use Rattle.vt_cells.specs.Cell.{CellValue, is_wide, is_blank, is_right_half, widened, IsCell}
+use Rattle.vt_rows.specs.Cells.{at}
+use Rattle.vt_rows.specs.Row.{RowValue, blank_row}
+use Rattle.vt_grid.specs.Page.{Page, IsPage, cursor_row}
+use Rattle.vt_grid.specs.Sheet.{SheetValue}
+
+-- the page of a sheet, a cursor, a saved one, a region and origin modes
+abbrev pub page_of : SheetValue → Pos → Pos → ℕ → ℕ → Bool → Bool → Page
+page_of sheet pos saved_pos top bottom origin saved_origin = record {
+  rows = sheet.rows;
+  row = pos.row;
+  column = pos.col;
+  saved_row = saved_pos.row;
+  saved_column = saved_pos.col;
+  top = top;
+  bottom = bottom;
+  origin = origin;
+  saved_origin = saved_origin;
+  width = sheet.width;
+}
+
+-- a page of this many rows and columns
+pub record IsSized (rows cols : ℕ) (page : Page) : Type 0 where
+  pub sound : IsPage page
+  pub height : rows ≡ length page.rows
+  pub width : cols ≡ page.width
+
+-- where item k of a list comes from, after those from `from` up to `to` were turned to the left by n
+abbrev pub turn_source : ℕ → ℕ → ℕ → ℕ → ℕ
+turn_source from to n k = if nat_le from k && nat_lt k to then (if nat_lt (k + n) to then k + n else k + n - (to - from)) else k
+
+-- a row made blank, in its own width
+abbrev pub cleared_row : Attrs → RowValue → RowValue
+cleared_row attrs row = blank_row attrs (length row.cells)
+
+-- where a mark goes: a cell of the row that is no right half, and directly before the cursor unless it is wide
+pub record IsMarkPlace (cells : List CellValue) (column k : ℕ) : Type 0 where
+  pub inside : k < length cells
+  pub shown : is_right_half (at cells k) ≡ false
+  pub narrow : is_wide (at cells k) ≡ false → k + 1 ≡ column
+  pub wide : is_wide (at cells k) ≡ true → k + 1 < length cells
+
+-- what U+FE0F finds at column k, after it was put there
+pub record IsSelected (page : Page) (k : ℕ) : Type 0 where
+  pub place : IsMarkPlace (cursor_row page).cells page.column k
+  pub drawn : is_blank (at (cursor_row page).cells k) ≡ false
+  pub either : (wide : Bool) → IsCell (widened wide (at (cursor_row page).cells k))

@@ -1,0 +1,277 @@
+//! The rows of a page, without its cursor.
+
+ghost use Rattle.std.specs.Prelude.{◌≡◌, ◌≢◌, ◌+◌, ◌-◌, ◌&&◌, ◌++◌, ◌<◌, ◌≤◌, ◌↔◌, ℕ, IfErr, IfOk, IfSome, IsSome, Some, All, true, false, encode_utf8, if◌then◌else◌, length, nat_le, nat_lt, replicate, slice_index_or, take};
+ghost use Rattle.vt_cells.specs.Cell.{IsCell, attrs_of, is_blank, is_right_half, is_wide, text_of, widened};
+ghost use Rattle.vt_cells.specs.Glyph.{columns_of};
+ghost use Rattle.vt_rows.specs.Cells.{IsPaired, at, ends_blank, erased, marked_at, narrowed_at, put_narrow, put_wide, widened_at};
+ghost use Rattle.vt_rows.specs.Row.{RowValue, IsRow, blank_row, with_cells};
+ghost use Rattle.vt_grid.specs.Keeping.{cleared_row, turn_source};
+ghost use Rattle.vt_grid.specs.Page.{rows_up};
+ghost use Rattle.vt_grid.specs.Sheet.{blank_sheet, sheet_flagged, sheet_row, with_sheet_row, with_row_cells};
+
+use crate::size::Size;
+use std::alloc::Global;
+use std::marker::Model;
+use vt_cells::{Attrs, Cell, Error};
+use vt_rows::{Row, cells};
+
+/// Rows of one width, changed one at a time or put in another order.
+#[derive(Debug, Drop)]
+pub struct Sheet {
+    rows: Vec<Row>,
+    width: u16,
+}
+
+impl Model for Sheet {
+    ghost use Rattle.vt_grid.specs.Sheet.{SheetValue};
+
+    ghost Value = { SheetValue };
+
+    ghost view = { λ s. record { rows = s.rows.items; width = s.width } };
+}
+
+impl Sheet {
+    /// Rows of default blanks.
+    ///
+    /// Fails where memory for them is refused.
+    pub fn new(alloc: Global, size: Size) -> Result<Sheet, Error>
+        ensures ok { IfOk result (λ sheet. sheet ≡ blank_sheet size.rows size.cols) }
+        ensures memory { IfErr result (λ error. error ≡ Error.OutOfMemory) }
+    {
+        let height = usize::from(size.rows);
+        let Ok(mut rows) = Vec::with_capacity(alloc, height) else {
+            return Err(Error::OutOfMemory);
+        };
+        for _row in 0..height {
+            rows.push_reserved(Row::new(alloc, usize::from(size.cols))?);
+        }
+        Ok(Sheet {
+            rows,
+            width: size.cols,
+        })
+    }
+
+    /// The rows, from the top.
+    #[inline]
+    pub fn rows(&self) -> &[Row]
+        ensures { result.now ≡ self.now.rows }
+    {
+        &self.rows
+    }
+
+    /// The row at a place, if the sheet has it.
+    #[inline]
+    pub fn row(&self, row: u16) -> Option<&Row>
+        ensures inside { IsSome result ↔ (row < length self.now.rows) }
+        ensures value { IfSome result (λ found. found.now ≡ sheet_row self.now row) }
+    {
+        let row = usize::from(row);
+        if row < self.rows.len() {
+            Some(&self.rows[row])
+        } else {
+            None
+        }
+    }
+
+    /// The cell at a column of a row.
+    #[inline]
+    pub fn cell(&self, row: u16, col: u16) -> &Cell
+        requires inside { row < length self.now.rows }
+        requires column { col < length (sheet_row self.now row).cells }
+        ensures { result.now ≡ at (sheet_row self.now row).cells col }
+    {
+        &self.rows[usize::from(row)].cells()[usize::from(col)]
+    }
+
+    /// Whether the last column of a row is blank.
+    #[inline]
+    pub fn ends_blank(&self, row: u16) -> bool
+        requires { row < length self.now.rows }
+        ensures { result ≡ ends_blank (sheet_row self.now row).cells }
+    {
+        cells::ends_blank(self.rows[usize::from(row)].cells())
+    }
+
+    /// Says whether a row goes on in the row below.
+    #[inline]
+    pub fn wrap(&mut self, row: u16, wrapped: bool)
+        requires { row < length self.old.rows }
+        ensures { self.new ≡ with_sheet_row row (record (sheet_row self.old row) { wrapped = wrapped }) self.old }
+    {
+        self.rows[usize::from(row)].wrap(wrapped);
+    }
+
+    /// Says whether the row that a wrap left, if there is one, goes on below.
+    pub fn wrap_left(&mut self, left: Option<u16>, goes_on: bool)
+        requires { IfSome left (λ row. row < length self.old.rows) }
+        ensures { self.new ≡ sheet_flagged left goes_on self.old }
+    {
+        if let Some(row) = left {
+            self.wrap(row, goes_on);
+        }
+    }
+
+    /// Puts a narrow glyph at a column of a row; see `Row::put_narrow`.
+    #[inline]
+    pub fn put_narrow(&mut self, row: u16, col: u16, c: char, attrs: Attrs)
+        requires inside { row < length self.old.rows }
+        requires paired { IsPaired (sheet_row self.old row).cells }
+        requires column { col < length (sheet_row self.old row).cells }
+        requires reported { c ≢ 0xFFFD }
+        requires columns { columns_of c ≡ Some 1 }
+        ensures { self.new ≡ with_row_cells row (put_narrow col (encode_utf8 c) attrs (sheet_row self.old row).cells) self.old }
+    {
+        self.rows[usize::from(row)].put_narrow(usize::from(col), c, attrs);
+    }
+
+    /// Puts a wide glyph at a column of a row and the next; see `Row::put_wide`.
+    pub fn put_wide(&mut self, row: u16, col: u16, c: char, attrs: Attrs)
+        requires inside { row < length self.old.rows }
+        requires paired { IsPaired (sheet_row self.old row).cells }
+        requires column { col + 1 < length (sheet_row self.old row).cells }
+        requires reported { c ≢ 0xFFFD }
+        requires columns { columns_of c ≡ Some 2 }
+        ensures { self.new ≡ with_row_cells row (put_wide col (encode_utf8 c) attrs (sheet_row self.old row).cells) self.old }
+    {
+        self.rows[usize::from(row)].put_wide(usize::from(col), c, attrs);
+    }
+
+    /// Puts a mark on the cell at a column of a row; see `Row::append`.
+    pub fn append(&mut self, row: u16, col: u16, mark: char)
+        requires inside { row < length self.old.rows }
+        requires column { col < length (sheet_row self.old row).cells }
+        requires shown { is_right_half (at (sheet_row self.old row).cells col) ≡ false }
+        requires mark { columns_of mark ≡ Some 0 }
+        ensures { self.new ≡ with_row_cells row (marked_at col mark (sheet_row self.old row).cells) self.old }
+    {
+        self.rows[usize::from(row)].append(usize::from(col), mark);
+    }
+
+    /// Makes the glyph at a column of a row wide; see `Row::widen`.
+    pub fn widen(&mut self, row: u16, col: u16, attrs: Attrs)
+        requires inside { row < length self.old.rows }
+        requires paired { IsPaired (sheet_row self.old row).cells }
+        requires column { col + 1 < length (sheet_row self.old row).cells }
+        requires glyph { is_blank (at (sheet_row self.old row).cells col) ≡ false }
+        requires shown { is_right_half (at (sheet_row self.old row).cells col) ≡ false }
+        requires fits { IsCell (widened true (at (sheet_row self.old row).cells col)) }
+        ensures { self.new ≡ with_row_cells row (widened_at col attrs (sheet_row self.old row).cells) self.old }
+    {
+        self.rows[usize::from(row)].widen(usize::from(col), attrs);
+    }
+
+    /// Makes the glyph at a column of a row narrow; see `Row::narrow`.
+    pub fn narrow(&mut self, row: u16, col: u16, attrs: Attrs)
+        requires inside { row < length self.old.rows }
+        requires paired { IsPaired (sheet_row self.old row).cells }
+        requires column { col < length (sheet_row self.old row).cells }
+        requires shown { is_right_half (at (sheet_row self.old row).cells col) ≡ false }
+        requires fits { IsCell (widened false (at (sheet_row self.old row).cells col)) }
+        ensures { self.new ≡ with_row_cells row (narrowed_at col attrs (sheet_row self.old row).cells) self.old }
+    {
+        self.rows[usize::from(row)].narrow(usize::from(col), attrs);
+    }
+
+    /// Takes the cell at a column of a row out; see `Row::lift`.
+    pub fn lift(&mut self, row: u16, col: u16, attrs: Attrs) -> Cell
+        requires inside { row < length self.old.rows }
+        requires paired { IsPaired (sheet_row self.old row).cells }
+        requires column { col < length (sheet_row self.old row).cells }
+        ensures lifted { result ≡ at (sheet_row self.old row).cells col }
+        ensures value { self.new ≡ with_row_cells row (erased col 1 attrs (sheet_row self.old row).cells) self.old }
+    {
+        self.rows[usize::from(row)].lift(usize::from(col), attrs)
+    }
+
+    /// Puts a wide cell at a column of a row and the next; see `Row::put_wide_cell`.
+    pub fn put_wide_cell(&mut self, row: u16, col: u16, cell: Cell)
+        requires inside { row < length self.old.rows }
+        requires paired { IsPaired (sheet_row self.old row).cells }
+        requires column { col + 1 < length (sheet_row self.old row).cells }
+        requires wide { is_wide cell ≡ true }
+        ensures { self.new ≡ with_row_cells row (put_wide col (text_of cell) (attrs_of cell) (sheet_row self.old row).cells) self.old }
+    {
+        self.rows[usize::from(row)].put_wide_cell(usize::from(col), cell);
+    }
+
+    /// Makes the columns of a row from `start` up to `end` blank; see `Row::erase`.
+    pub fn erase(&mut self, row: u16, start: u16, end: u16, attrs: Attrs)
+        requires inside { row < length self.old.rows }
+        requires paired { IsPaired (sheet_row self.old row).cells }
+        requires some { start < end }
+        requires columns { end ≤ length (sheet_row self.old row).cells }
+        ensures { self.new ≡ with_row_cells row (erased start (end - start) attrs (sheet_row self.old row).cells) self.old }
+    {
+        self.rows[usize::from(row)].erase(usize::from(start), usize::from(end), attrs);
+    }
+
+    /// Makes the rows below a row blank.
+    pub fn clear_below(&mut self, row: u16, attrs: Attrs)
+        requires inside { row < length self.old.rows }
+        requires sound { All (IsRow self.old.width) self.old.rows }
+        ensures { self.new ≡ record self.old { rows = take (row + 1) self.old.rows ++ replicate (length self.old.rows - (row + 1)) (blank_row attrs self.old.width) } }
+    {
+        clear_from(&mut self.rows, usize::from(row) + 1, attrs);
+    }
+
+    /// Moves the rows from `top` to `bottom` up by `count`; blank rows come in
+    /// below, and what passes `top` is dropped.
+    ///
+    /// No cell of a row that stays is moved.
+    pub fn scroll_up(&mut self, top: u16, bottom: u16, count: u16)
+        requires in_order { top ≤ bottom }
+        requires inside { bottom < length self.old.rows }
+        requires sound { All (IsRow self.old.width) self.old.rows }
+        ensures { self.new ≡ record self.old { rows = rows_up self.old.width top bottom count self.old.rows } }
+    {
+        scroll_rows(
+            &mut self.rows,
+            usize::from(top),
+            usize::from(bottom),
+            usize::from(count),
+        );
+    }
+}
+
+/// Moves rows up by `count`; see `Sheet::scroll_up`.
+fn scroll_rows(rows: &mut [Row], top: usize, bottom: usize, count: usize)
+    requires in_order { top ≤ bottom }
+    requires inside { bottom < length rows.old }
+    ensures { (width : ℕ) → All (IsRow width) rows.old → rows.new ≡ rows_up width top bottom count rows.old }
+{
+    let end = bottom + 1;
+    let count = count.min(end - top);
+    turn(rows, top, end, count);
+    clear_rows(rows, end - count, end, Attrs::new());
+}
+
+/// Makes the rows from `from` on blank; see `Sheet::clear_below`.
+fn clear_from(rows: &mut [Row], from: usize, attrs: Attrs)
+    requires { from ≤ length rows.old }
+    ensures { (width : ℕ) → All (IsRow width) rows.old → rows.new ≡ take from rows.old ++ replicate (length rows.old - from) (blank_row attrs width) }
+{
+    let end = rows.len();
+    clear_rows(rows, from, end, attrs);
+}
+
+/// Rotates the items from `from` up to `to` to the left by `count`.
+fn turn<T>(items: &mut [T], from: usize, to: usize, count: usize)
+    requires in_order { from + count ≤ to }
+    requires inside { to ≤ length items.old }
+    ensures len { length items.new ≡ length items.old }
+    ensures by_index { (k : ℕ) (d : T) → slice_index_or items.new k d ≡ slice_index_or items.old (turn_source from to count k) d }
+{
+    items[from..to].rotate_left(count);
+}
+
+/// Makes the rows from `from` up to `to` blank, each in its width.
+fn clear_rows(rows: &mut [Row], from: usize, to: usize, attrs: Attrs)
+    requires in_order { from ≤ to }
+    requires inside { to ≤ length rows.old }
+    ensures len { length rows.new ≡ length rows.old }
+    ensures by_index { (k : ℕ) (d : RowValue) → slice_index_or rows.new k d ≡ (if nat_le from k && nat_lt k to then cleared_row attrs (slice_index_or rows.old k d) else slice_index_or rows.old k d) }
+{
+    for k in from..to {
+        rows[k].clear(attrs);
+    }
+}
