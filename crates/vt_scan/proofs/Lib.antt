@@ -1,0 +1,13 @@
+pub mod Collecting
+pub mod Cutting
+pub mod Feeding
+pub mod Lists
+pub mod Readback
+pub mod Reading
+pub mod Rows
+pub mod Running
+pub mod Sequences
+pub mod Standing
+pub mod Stepping
+pub mod Tables
+pub mod Written

@@ -1,0 +1,6 @@
+-- Numbers in decimal.
+use Rattle.vt_scan.proofs.Written.{empty_groups, decimal_groups, joined_groups, place_groups_are}
+use Rattle.vt_scan.proofs.laws.numbers.Goals as goal
+
+pub returns : goal.returns
+returns c = record { empty = empty_groups; one = decimal_groups; several = joined_groups; place = place_groups_are }

@@ -1,0 +1,7 @@
+-- Whole sequences.
+use Rattle.vt_scan.proofs.Readback.{read_escape}
+use Rattle.vt_scan.proofs.Sequences.{read_csi, read_private}
+use Rattle.vt_scan.proofs.laws.sequences.Goals as goal
+
+pub returns : goal.returns
+returns c = record { escape = read_escape; plain = read_csi; private = read_private }

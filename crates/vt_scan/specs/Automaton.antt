@@ -1,0 +1,89 @@
+-- The state of the automaton, and what a byte makes of it: the state that follows, and at most two events.
+-- A state is a kind and the bytes collected in it; sequences are read from all of these at once, when their last byte comes.
+use Rattle.std.specs.Prelude.{ℕ, Bool, not, ◌&&◌, ◌==◌, nat_lt, nat_le, List, [], ◌∷◌, ◌++◌, take, filter, if◌then◌else◌}
+use Rattle.std.specs.List.{slice_split}
+use Rattle.vt_scan.specs.Table.{class_of, turn_of}
+use Rattle.vt_scan.specs.Parameters.{table_of}
+use Rattle.vt_scan.specs.Characters.{is_character, is_beginning, character_of}
+use Rattle.vt_scan.specs.declared.table.Kind.{Kind}
+use Rattle.vt_scan.specs.declared.table.Kind.TheVariants.{Ground}
+use Rattle.vt_scan.specs.declared.table.Turn.{Turn}
+use Rattle.vt_scan.specs.declared.table.Turn.TheVariants.{Collect, Drop, Execute, End}
+use Rattle.vt_scan.specs.declared.table.Ending as ending
+use Rattle.vt_scan.specs.declared.table.Ending.TheVariants as ends
+
+pub record State : Type 0 where
+  pub kind : Kind
+  pub collected : List ℕ
+
+pub data Event : Type 0 where
+  -- a character to print
+  Character : (code : ℕ) → Event
+  -- a control function of one byte
+  Executed : (byte : ℕ) → Event
+  -- an escape sequence: its intermediates and its last byte
+  EscDispatch : (marks : List ℕ) (byte : ℕ) → Event
+  -- a control sequence: its groups of numbers, its marker and intermediates, and its final byte
+  CsiDispatch : (groups : List (List ℕ)) (marks : List ℕ) (byte : ℕ) → Event
+  -- an operating system command: its parts
+  OscDispatch : (parts : List (List ℕ)) → Event
+
+pub record Step : Type 0 where
+  pub state : State
+  pub events : List Event
+
+-- nothing begun
+abbrev pub start : State
+start = record { kind = Ground; collected = [] }
+
+-- a byte of the parameter text: a digit, `:` or `;`
+abbrev pub is_parameter : ℕ → Bool
+is_parameter b = nat_le 0x30 b && nat_le b 0x3B
+
+abbrev pub parameter_text : List ℕ → List ℕ
+parameter_text text = filter is_parameter text
+
+-- the first two of marker and intermediates
+abbrev pub marks_of : List ℕ → List ℕ
+marks_of text = take 2 (filter (λ b. not (is_parameter b)) text)
+
+-- the first 16 parts of an operating system command, parted by `;`
+abbrev pub parts_of : List ℕ → List (List ℕ)
+parts_of text = take 16 (slice_split (λ b. b == 0x3B) text)
+
+-- what the last byte b of a collected text gives
+abbrev pub given : ending.Ending → List ℕ → ℕ → List Event
+given ends.Nothing text b = []
+given ends.Character text b = Character b ∷ []
+given ends.Executed text b = Executed b ∷ []
+given ends.EscDispatch text b = EscDispatch (marks_of text) b ∷ []
+given ends.CsiDispatch text b = CsiDispatch (table_of (parameter_text text)).groups (marks_of text) b ∷ []
+given ends.OscDispatch text b = OscDispatch (parts_of text) ∷ []
+given ends.OscDispatchAndExecuted text b = OscDispatch (parts_of text) ∷ Executed b ∷ []
+
+abbrev pub after : Kind → List ℕ → ℕ → Turn → Step
+after kind text b (Collect next) = record { state = record { kind = next; collected = text ++ b ∷ [] }; events = [] }
+after kind text b Drop = record { state = record { kind = kind; collected = text }; events = [] }
+after kind text b Execute = record { state = record { kind = kind; collected = text }; events = Executed b ∷ [] }
+after kind text b (End next end) = record { state = record { kind = next; collected = [] }; events = given end text b }
+
+-- no character is unfinished: a byte from 80 on begins one, or is a U+FFFD by itself
+unfoldable pub fresh_step : ℕ → Step
+fresh_step b =
+    if nat_lt b 0x80 then after Ground [] b (turn_of Ground (class_of b))
+    else if is_beginning (b ∷ []) then record { state = record { kind = Ground; collected = b ∷ [] }; events = [] }
+    else record { state = start; events = Character 0xFFFD ∷ [] }
+
+-- a character is unfinished: a byte that can't go on it ends it as one U+FFFD, and is read anew (Unicode 3.9, the greatest
+-- part that begins a well-formed sequence is replaced as one)
+unfoldable pub character_step : List ℕ → ℕ → Step
+character_step text b =
+    if is_character (text ++ b ∷ []) then record { state = start; events = Character (character_of (text ++ b ∷ [])) ∷ [] }
+    else if is_beginning (text ++ b ∷ []) then record { state = record { kind = Ground; collected = text ++ b ∷ [] }; events = [] }
+    else record { state = (fresh_step b).state; events = Character 0xFFFD ∷ (fresh_step b).events }
+
+-- one byte
+abbrev pub step_in : Kind → List ℕ → ℕ → Step
+step_in Ground [] b = fresh_step b
+step_in Ground (x ∷ xs) b = character_step (x ∷ xs) b
+step_in kind text b = after kind text b (turn_of kind (class_of b))

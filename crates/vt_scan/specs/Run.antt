@@ -1,0 +1,11 @@
+-- Bytes one after the other.
+use Rattle.std.specs.Prelude.{ℕ, List, [], ◌∷◌, ◌++◌}
+use Rattle.vt_scan.specs.Automaton.{State, Step, step_in}
+
+-- the state after these bytes, and all events on the way
+abbrev pub run : State → List ℕ → Step
+run state [] = record { state = state; events = [] }
+run state (b ∷ bytes) =
+    let step = step_in state.kind state.collected b in
+    let rest = run step.state bytes in
+    record { state = rest.state; events = step.events ++ rest.events }

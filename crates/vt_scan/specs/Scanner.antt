@@ -1,0 +1,60 @@
+-- What the scanner holds of the bytes that it has read, which states of the automaton that stands for, and what its answer means.
+use Rattle.std.specs.Prelude.{◌≡◌, ℕ, List, ◌++◌, map, option_to_list}
+use Rattle.vt_scan.specs.Parameters.{Table, table_of}
+use Rattle.vt_scan.specs.Automaton as automaton
+use Rattle.vt_scan.specs.Automaton.{State, Step, parameter_text, marks_of, parts_of, step_in}
+use Rattle.vt_scan.specs.declared.table.Kind.{Kind}
+use Rattle.vt_scan.specs.declared.table.Kind.TheVariants.{Ground, CsiIgnore, OscString, Skip}
+use Rattle.vt_scan.specs.declared.event.Event as event
+use Rattle.vt_scan.specs.declared.event.Event.TheVariants as given
+use Rattle.vt_scan.specs.declared.event.Events.{Events}
+
+-- all that is held; what its kind doesn't use is left over from before
+pub record Held : Type 0 where
+  pub kind : Kind
+  -- the bytes of an unfinished character
+  pub unfinished : List ℕ
+  -- the numbers of a sequence
+  pub table : Table
+  -- the first two of its marker and intermediates
+  pub marks : List ℕ
+  -- the text of an operating system command
+  pub text : List ℕ
+
+pub record ReadsSequence (held : Held) (text : List ℕ) : Type 0 where
+  pub table : held.table ≡ table_of (parameter_text text)
+  pub marks : held.marks ≡ marks_of text
+
+-- in this kind, what is held is the reading of these collected bytes
+abbrev pub Reads : Held → Kind → List ℕ → Type 0
+Reads held Ground text = held.unfinished ≡ text
+Reads held CsiIgnore text = Unit {0}
+Reads held OscString text = held.text ≡ text
+Reads held Skip text = Unit {0}
+Reads held _ text = ReadsSequence held text
+
+-- a state that a scanner which holds this may be in: what is held tells all that the state's future events need
+pub record StandsFor (held : Held) (state : State) : Type 0 where
+  pub kind : held.kind ≡ state.kind
+  pub reads : Reads held held.kind state.collected
+
+-- what an event of the answer means; the lists are those that the scanner lends until its next byte
+abbrev pub event_of : Held → event.Event → automaton.Event
+event_of held (given.Character c) = automaton.Character c
+event_of held (given.Executed b) = automaton.Executed b
+event_of held (given.Escape b) = automaton.EscDispatch held.marks b
+event_of held (given.Csi b) = automaton.CsiDispatch held.table.groups held.marks b
+event_of held given.Osc = automaton.OscDispatch (parts_of held.text)
+
+-- the events of an answer, in their order
+abbrev pub events_in : Held → Events → List automaton.Event
+events_in held events = map (event_of held) (option_to_list events.first ++ option_to_list events.second)
+
+-- what is held stands for the step's state, and the answer means exactly its events
+pub record Follows (new : Held) (answer : Events) (step : Step) : Type 0 where
+  pub stands : StandsFor new step.state
+  pub means : events_in new answer ≡ step.events
+
+-- whatever state the scanner was in, it is then in the one that follows by this byte
+abbrev pub Feeds : Held → ℕ → Held → Events → Type 0
+Feeds old b new answer = (state : State) → StandsFor old state → Follows new answer (step_in state.kind state.collected b)

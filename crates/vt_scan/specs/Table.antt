@@ -1,0 +1,63 @@
+-- The byte automaton but for UTF-8: what each byte does in each kind of state. After Williams' parser for ANSI terminals,
+-- with the structure of sequences of ECMA-48 section 5.4 and of its escape sequences in ECMA-35.
+use Rattle.std.specs.Prelude.{ℕ, ◌==◌, ◌||◌, nat_lt, if◌then◌else◌}
+use Rattle.vt_scan.specs.declared.table.Kind.{Kind}
+use Rattle.vt_scan.specs.declared.table.Kind.TheVariants.{Ground, Escape, EscapeIntermediate, CsiEntry, CsiParam, CsiIntermediate, CsiIgnore, OscString, Skip}
+use Rattle.vt_scan.specs.declared.table.Class.{Class}
+use Rattle.vt_scan.specs.declared.table.Class.TheVariants.{Control, Bell, Cancel, Introducer, Intermediate, Parameter, Marker, Final, CsiStart, OscStart, SkipStart, Delete, High}
+use Rattle.vt_scan.specs.declared.table.Turn.{Turn}
+use Rattle.vt_scan.specs.declared.table.Turn.TheVariants.{Collect, Drop, Execute, End}
+use Rattle.vt_scan.specs.declared.table.Ending.TheVariants.{Nothing, Character, Executed, EscDispatch, CsiDispatch, OscDispatch, OscDispatchAndExecuted}
+
+-- the columns of ECMA-48's code table, with the bytes that have a meaning of their own
+unfoldable pub class_of : ℕ → Class
+class_of b =
+    if nat_lt b 0x20 then
+    (if b == 0x07 then Bell
+    else if b == 0x18 || b == 0x1A then Cancel
+    else if b == 0x1B then Introducer
+    else Control)
+    else if nat_lt b 0x30 then Intermediate
+    else if nat_lt b 0x3C then Parameter
+    else if nat_lt b 0x40 then Marker
+    else if nat_lt b 0x7F then
+    (if b == 0x5B then CsiStart
+    else if b == 0x5D then OscStart
+    else if b == 0x50 || (b == 0x58 || (b == 0x5E || b == 0x5F)) then SkipStart
+    else Final)
+    else if b == 0x7F then Delete
+    else High
+
+-- what a byte of this class does; the first line that fits holds. In Ground bytes from 80 on are UTF-8 and don't go by this table
+abbrev pub turn_of : Kind → Class → Turn
+turn_of OscString Bell = End Ground OscDispatch
+turn_of OscString Cancel = End Ground OscDispatchAndExecuted
+turn_of OscString Introducer = End Escape OscDispatch
+turn_of OscString Control = Drop
+turn_of OscString _ = Collect OscString
+turn_of _ Cancel = End Ground Executed
+turn_of _ Introducer = End Escape Nothing
+turn_of Skip _ = Drop
+turn_of _ Control = Execute
+turn_of _ Bell = Execute
+turn_of Ground _ = End Ground Character
+turn_of _ Delete = Drop
+turn_of _ High = Drop
+turn_of Escape Intermediate = Collect EscapeIntermediate
+turn_of Escape CsiStart = End CsiEntry Nothing
+turn_of Escape OscStart = End OscString Nothing
+turn_of Escape SkipStart = End Skip Nothing
+turn_of Escape _ = End Ground EscDispatch
+turn_of EscapeIntermediate Intermediate = Collect EscapeIntermediate
+turn_of EscapeIntermediate _ = End Ground EscDispatch
+turn_of CsiIgnore Intermediate = Drop
+turn_of CsiIgnore Parameter = Drop
+turn_of CsiIgnore Marker = Drop
+turn_of CsiIgnore _ = End Ground Nothing
+turn_of _ Intermediate = Collect CsiIntermediate
+turn_of CsiIntermediate Parameter = End CsiIgnore Nothing
+turn_of CsiIntermediate Marker = End CsiIgnore Nothing
+turn_of _ Parameter = Collect CsiParam
+turn_of CsiEntry Marker = Collect CsiParam
+turn_of _ Marker = End CsiIgnore Nothing
+turn_of _ _ = End Ground CsiDispatch

@@ -1,0 +1,21 @@
+//! The byte automaton of a terminal: bytes in, characters and sequences out.
+#![tactic(auto)]
+
+pub mod automaton;
+pub mod event;
+pub mod groups;
+pub mod laws;
+pub mod marks;
+pub mod parameters;
+pub mod parts;
+mod registers;
+pub mod table;
+pub mod unfinished;
+
+pub use automaton::Scanner;
+pub use event::{Event, Events};
+pub use groups::Groups;
+pub use parts::Parts;
+
+#[cfg(test)]
+mod tests;

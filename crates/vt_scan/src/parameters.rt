@@ -1,0 +1,130 @@
+//! The numbers of a control sequence.
+
+ghost use Rattle.std.specs.Prelude.{◌≡◌, ℕ, ◌+◌, ◌*◌, ◌-◌, ◌<◌, ◌≤◌, List, [], ◌∷◌, ◌++◌, min, take, true};
+ghost use Rattle.vt_scan.specs.Parameters.{Table, table_of};
+ghost use Rattle.vt_scan.specs.Keeping.{Ascends, groups_from};
+
+use crate::groups::Groups;
+use std::marker::Model;
+
+/// The first 32 numbers of a parameter text, in their groups.
+#[derive(Drop)]
+pub struct Parameters {
+    numbers: [u16; 32],
+    len: usize,
+
+    // the places where the groups end, but for the last group
+    ends: [usize; 32],
+    closed: usize,
+
+    // whether there were more numbers
+    is_cut: bool,
+}
+
+impl Model for Parameters {
+    ghost Value = { Table };
+
+    ghost view = { λ p. record { groups = groups_from 0 (take p.closed p.ends) p.len p.numbers; is_cut = p.is_cut } };
+
+    ghost invariant = { λ p. (p.len ≤ 32) × (p.closed < p.len) × Ascends 0 (take p.closed p.ends) p.len × (p.is_cut ≡ true → p.len ≡ 32) };
+}
+
+impl Parameters {
+    /// Those of the empty text: one group with the number 0.
+    pub fn new() -> Self
+        ensures { result ≡ table_of [] }
+    {
+        Parameters {
+            numbers: [0; 32],
+            len: 1,
+            ends: [0; 32],
+            closed: 0,
+            is_cut: false,
+        }
+    }
+
+    /// Begins with the empty text again.
+    #[inline]
+    pub fn clear(&mut self)
+        ensures { self.new ≡ table_of [] }
+    {
+        self.numbers[0] = 0;
+        self.len = 1;
+        self.closed = 0;
+        self.is_cut = false;
+    }
+
+    /// Reads one more byte of the text: a digit, `:` or `;`. Numbers above
+    /// 65535 stay there, and what follows the 32nd number is not kept.
+    #[inline]
+    pub fn push(&mut self, byte: u8)
+        requires from { 0x30 ≤ byte }
+        requires to { byte ≤ 0x3B }
+        ensures { (text : List ℕ) → self.old ≡ table_of text → self.new ≡ table_of (text ++ byte ∷ []) }
+    {
+        match byte {
+            b';' => self.end_group(),
+            b':' => self.end_number(),
+            _ => self.push_digit(byte),
+        }
+    }
+
+    fn push_digit(&mut self, byte: u8)
+        requires from { 0x30 ≤ byte }
+        requires to { byte < 0x3A }
+        ensures { (text : List ℕ) → self.old ≡ table_of text → self.new ≡ table_of (text ++ byte ∷ []) }
+    {
+        if self.is_cut {
+            return;
+        }
+        let last = self.len - 1;
+        self.numbers[last] = with_digit(self.numbers[last], byte - b'0');
+    }
+
+    fn end_number(&mut self)
+        ensures { (text : List ℕ) → self.old ≡ table_of text → self.new ≡ table_of (text ++ 0x3A ∷ []) }
+    {
+        if self.len == 32 {
+            self.is_cut = true;
+            return;
+        }
+        self.numbers[self.len] = 0;
+        self.len += 1;
+    }
+
+    fn end_group(&mut self)
+        ensures { (text : List ℕ) → self.old ≡ table_of text → self.new ≡ table_of (text ++ 0x3B ∷ []) }
+    {
+        if self.len == 32 {
+            self.is_cut = true;
+            return;
+        }
+        self.ends[self.closed] = self.len;
+        self.closed += 1;
+        self.numbers[self.len] = 0;
+        self.len += 1;
+    }
+
+    /// The groups, lent until the next byte.
+    pub fn groups(&self) -> Groups<'_>
+        ensures { result ≡ self.now.groups }
+    {
+        let mut groups = Groups::new();
+        let mut start = 0;
+        for i in 0..self.closed {
+            let end = self.ends[i];
+            groups.push(&self.numbers[start..end]);
+            start = end;
+        }
+        groups.push(&self.numbers[start..self.len]);
+        groups
+    }
+}
+
+// A number with one more digit, at most 65535.
+#[inline]
+fn with_digit(number: u16, digit: u8) -> u16
+    ensures { result ≡ min 65535 (10 * number + digit) }
+{
+    number.saturating_mul(10).saturating_add(u16::from(digit))
+}

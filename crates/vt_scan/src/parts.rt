@@ -1,0 +1,60 @@
+//! The parts of an operating system command, as slices.
+
+ghost use Rattle.std.specs.Prelude.{◌≡◌, ℕ, ◌≤◌, List, [], ◌∷◌, ◌++◌, map, take};
+ghost use Rattle.vt_scan.specs.Automaton.{parts_of};
+
+use std::marker::Model;
+
+/// At most 16 parts, in a table of their own: no memory is taken.
+#[derive(Drop)]
+pub struct Parts<'a> {
+    table: [&'a [u8]; 16],
+    len: usize,
+}
+
+impl<'a> Model for Parts<'a> {
+    ghost Value = { List (List ℕ) };
+
+    ghost view = { λ p. map (λ r. r.now) (take p.len p.table) };
+
+    ghost invariant = { λ p. p.len ≤ 16 };
+}
+
+impl<'a> Parts<'a> {
+    /// The first 16 parts of a text, which `;` parts.
+    pub fn of(text: &'a [u8]) -> Parts<'a>
+        ensures { result ≡ parts_of text.now }
+    {
+        let mut parts = Parts {
+            table: [&[]; 16],
+            len: 0,
+        };
+        let mut start = 0;
+        for (i, byte) in text.iter().enumerate() {
+            if *byte == b';' {
+                parts.push(&text[start..i]);
+                start = i + 1;
+            }
+        }
+        parts.push(&text[start..]);
+        parts
+    }
+
+    /// Keeps one more part, if there are fewer than 16.
+    fn push(&mut self, part: &'a [u8])
+        ensures { (all : List (List ℕ)) → self.old ≡ take 16 all → self.new ≡ take 16 (all ++ part.now ∷ []) }
+    {
+        if self.len < 16 {
+            self.table[self.len] = part;
+            self.len += 1;
+        }
+    }
+
+    /// The parts, in their order.
+    #[inline]
+    pub fn as_slice(&self) -> &[&'a [u8]]
+        ensures { map (λ r. r.now) result.now ≡ self.now }
+    {
+        &self.table[..self.len]
+    }
+}

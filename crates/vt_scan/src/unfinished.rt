@@ -1,0 +1,201 @@
+//! The bytes of a character that isn't finished.
+#![tactic(auto, using(std::proofs::lemmas::Bool::Decides::nat_tests), unfolding(crate::specs::Characters::is_character, crate::specs::Characters::is_beginning))]
+
+ghost use Rattle.std.specs.Prelude.{◌≡◌, ◌≢◌, ℕ, ◌==◌, true, List, [], ◌∷◌, length, if◌then◌else◌};
+ghost use Rattle.vt_scan.specs.Characters.{character_of, continues, is_beginning, is_character, is_second};
+ghost use Rattle.vt_scan.specs.Keeping.{Extends, bytes_in, is_unfinished};
+
+use std::marker::Model;
+
+/// The bytes so far.
+#[derive(Clone, Copy, PartialEq, Eq, Debug)]
+enum Bytes {
+    Zero,
+    One(u8),
+    Two(u8, u8),
+    Three(u8, u8, u8),
+}
+
+/// What one more byte makes of an unfinished character.
+#[derive(Clone, Copy, PartialEq, Eq, Debug)]
+pub enum Extended {
+    /// It goes on, and isn't finished.
+    Further,
+
+    /// It is finished.
+    Character(char),
+
+    /// The byte can't go on it.
+    Broken,
+}
+
+/// Nothing, or a proper beginning of a character in UTF-8.
+#[derive(Drop)]
+pub struct Unfinished {
+    bytes: Bytes,
+}
+
+impl Model for Unfinished {
+    ghost Value = { List ℕ };
+
+    ghost view = { λ u. bytes_in u.bytes };
+
+    ghost invariant = { λ u. is_unfinished (bytes_in u.bytes) ≡ true };
+}
+
+impl Unfinished {
+    /// Nothing.
+    pub fn new() -> Self
+        ensures { result ≡ [] }
+    {
+        Unfinished { bytes: Bytes::Zero }
+    }
+
+    /// Forgets the bytes.
+    #[inline]
+    pub fn clear(&mut self)
+        ensures { self.new ≡ [] }
+    {
+        self.bytes = Bytes::Zero;
+    }
+
+    /// Whether there is no byte.
+    #[inline]
+    pub fn is_empty(&self) -> bool
+        ensures { result ≡ (length self.now == 0) }
+    {
+        match self.bytes {
+            Bytes::Zero => true,
+            _ => false,
+        }
+    }
+
+    /// Begins a character with its first byte, if one begins so.
+    pub fn begin(&mut self, byte: u8) -> bool
+        requires { self.old ≡ [] }
+        ensures tells { result ≡ is_beginning (byte ∷ []) }
+        ensures keeps { self.new ≡ (if result then byte ∷ [] else []) }
+    {
+        let is_first = (0xC2..=0xF4).contains(&byte);
+        if is_first {
+            self.bytes = Bytes::One(byte);
+        }
+        is_first
+    }
+
+    /// Takes one more byte. Nothing is left where the character is finished
+    /// or broken.
+    pub fn extend(&mut self, byte: u8) -> Extended
+        requires { self.old ≢ [] }
+        ensures { Extends self.old byte result self.new }
+    {
+        let (bytes, extended) = extend_bytes(self.bytes, byte);
+        self.bytes = bytes;
+        extended
+    }
+}
+
+fn extend_bytes(bytes: Bytes, byte: u8) -> (Bytes, Extended)
+    requires begun { is_beginning (bytes_in bytes) ≡ true }
+    ensures extends { Extends (bytes_in bytes) byte result.1 (bytes_in result.0) }
+    ensures valid { is_unfinished (bytes_in result.0) ≡ true }
+{
+    match bytes {
+        Bytes::Zero => unreachable!(),
+        Bytes::One(first) => extend_one(first, byte),
+        Bytes::Two(first, second) => extend_two(first, second, byte),
+        Bytes::Three(first, second, third) => extend_three(first, second, third, byte),
+    }
+}
+
+fn extend_one(first: u8, byte: u8) -> (Bytes, Extended)
+    requires { is_beginning (first ∷ []) ≡ true }
+    ensures extends { Extends (first ∷ []) byte result.1 (bytes_in result.0) }
+    ensures valid { is_unfinished (bytes_in result.0) ≡ true }
+{
+    if !may_be_second(first, byte) {
+        return (Bytes::Zero, Extended::Broken);
+    }
+    if first < 0xE0 {
+        return (Bytes::Zero, Extended::Character(join_two(first, byte)));
+    }
+    (Bytes::Two(first, byte), Extended::Further)
+}
+
+fn extend_two(first: u8, second: u8, byte: u8) -> (Bytes, Extended)
+    requires { is_beginning (first ∷ second ∷ []) ≡ true }
+    ensures extends { Extends (first ∷ second ∷ []) byte result.1 (bytes_in result.0) }
+    ensures valid { is_unfinished (bytes_in result.0) ≡ true }
+{
+    if !may_continue(byte) {
+        return (Bytes::Zero, Extended::Broken);
+    }
+    if first < 0xF0 {
+        return (
+            Bytes::Zero,
+            Extended::Character(join_three(first, second, byte)),
+        );
+    }
+    (Bytes::Three(first, second, byte), Extended::Further)
+}
+
+fn extend_three(first: u8, second: u8, third: u8, byte: u8) -> (Bytes, Extended)
+    requires { is_beginning (first ∷ second ∷ third ∷ []) ≡ true }
+    ensures extends { Extends (first ∷ second ∷ third ∷ []) byte result.1 (bytes_in result.0) }
+    ensures valid { is_unfinished (bytes_in result.0) ≡ true }
+{
+    if !may_continue(byte) {
+        return (Bytes::Zero, Extended::Broken);
+    }
+    (
+        Bytes::Zero,
+        Extended::Character(join_four(first, second, third, byte)),
+    )
+}
+
+// Whether this can be the second byte after the first.
+fn may_be_second(first: u8, byte: u8) -> bool
+    ensures { result ≡ is_second first byte }
+{
+    match first {
+        0xE0 => byte >= 0xA0 && byte <= 0xBF,
+        0xED => byte >= 0x80 && byte <= 0x9F,
+        0xF0 => byte >= 0x90 && byte <= 0xBF,
+        0xF4 => byte >= 0x80 && byte <= 0x8F,
+        _ => may_continue(byte),
+    }
+}
+
+// Whether this can be a third or fourth byte.
+fn may_continue(byte: u8) -> bool
+    ensures { result ≡ continues byte }
+{
+    byte >= 0x80 && byte <= 0xBF
+}
+
+fn join_two(a: u8, b: u8) -> char
+    requires { is_character (a ∷ b ∷ []) ≡ true }
+    ensures { result ≡ character_of (a ∷ b ∷ []) }
+{
+    let code = u32::from(a % 32) * 64 + u32::from(b % 64);
+    char::from_u32(code).unwrap()
+}
+
+fn join_three(a: u8, b: u8, c: u8) -> char
+    requires { is_character (a ∷ b ∷ c ∷ []) ≡ true }
+    ensures { result ≡ character_of (a ∷ b ∷ c ∷ []) }
+{
+    let code = u32::from(a % 16) * 4096 + u32::from(b % 64) * 64 + u32::from(c % 64);
+    char::from_u32(code).unwrap()
+}
+
+fn join_four(a: u8, b: u8, c: u8, d: u8) -> char
+    requires { is_character (a ∷ b ∷ c ∷ d ∷ []) ≡ true }
+    ensures { result ≡ character_of (a ∷ b ∷ c ∷ d ∷ []) }
+{
+    let code = u32::from(a % 8) * 262144
+        + u32::from(b % 64) * 4096
+        + u32::from(c % 64) * 64
+        + u32::from(d % 64);
+    char::from_u32(code).unwrap()
+}
