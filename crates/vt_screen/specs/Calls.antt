@@ -1,0 +1,20 @@
+-- What a terminal tells the program around it.
+use Rattle.std.specs.Prelude.{ℕ, Bool, List, Option}
+use Rattle.vt_rows.specs.Row.{RowValue}
+
+pub data CallValue : Type 0 where
+  AudibleBell : CallValue
+  VisualBell : CallValue
+  -- a size that a program asked for: rows and columns
+  Resize : (rows cols : ℕ) → CallValue
+  SetWindowIconName : (name : List ℕ) → CallValue
+  SetWindowTitle : (title : List ℕ) → CallValue
+  CopyToClipboard : (kind text : List ℕ) → CallValue
+  PasteFromClipboard : (kind : List ℕ) → CallValue
+  UnhandledChar : (code : ℕ) → CallValue
+  UnhandledControl : (byte : ℕ) → CallValue
+  UnhandledEscape : (first second : Option ℕ) (byte : ℕ) → CallValue
+  UnhandledCsi : (first second : Option ℕ) (groups : List (List ℕ)) (byte : ℕ) → CallValue
+  UnhandledOsc : (parts : List (List ℕ)) → CallValue
+  -- a row left the page at its top
+  OnScroll : (row : RowValue) (alternate : Bool) → CallValue

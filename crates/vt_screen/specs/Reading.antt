@@ -1,0 +1,69 @@
+-- Reading a text that calls nobody, takes no memory and pushes no row off the page: what it makes of a screen.
+use Rattle.std.specs.Prelude.{◌≡◌, ℕ, Bool, true, false, List, [], ◌∷◌, Option, Some, None, if◌then◌else◌}
+use Rattle.vt_grid.specs.Canvas.{and_then, pushes}
+use Rattle.vt_grid.specs.Moves.{feeds_out}
+use Rattle.vt_grid.specs.Simple.{IsPlain, SameSize}
+use Rattle.vt_screen.specs.Screen.{ScreenValue, IsScreen}
+use Rattle.vt_screen.specs.Steps.{Step, Print, LineFeed, Tell, stepped, steps_of}
+use Rattle.vt_scan.specs.Automaton.{State, Event, step_in, start}
+use Rattle.vt_scan.specs.Table.{class_of, turn_of}
+use Rattle.vt_scan.specs.declared.table.Kind.TheVariants.{OscString}
+use Rattle.vt_scan.specs.declared.table.Turn.{Turn}
+use Rattle.vt_scan.specs.declared.table.Turn.TheVariants.{Collect}
+
+-- a step that calls nobody and takes no memory
+abbrev pub quiet_step : Step → ScreenValue → Option ScreenValue
+quiet_step (Print c) screen = if pushes c screen.page then None else Some (stepped (Print c) screen)
+quiet_step LineFeed screen = if feeds_out screen.page then None else Some (stepped LineFeed screen)
+quiet_step (Tell call) screen = None
+quiet_step step screen = Some (stepped step screen)
+
+abbrev pub quiet_steps : List Step → ScreenValue → Option ScreenValue
+quiet_steps [] screen = Some screen
+quiet_steps (step ∷ steps) screen = and_then (quiet_steps steps) (quiet_step step screen)
+
+abbrev pub quiet_events : List Event → ScreenValue → Option ScreenValue
+quiet_events [] screen = Some screen
+quiet_events (event ∷ events) screen = and_then (quiet_events events) (quiet_steps (steps_of event screen) screen)
+
+-- a byte collected into the text of an operating system command takes memory
+abbrev pub grows : Turn → Bool
+grows (Collect OscString) = true
+grows _ = false
+
+-- a terminal: where its scanner stands, and its screen
+pub record Terminal : Type 0 where
+  pub scan : State
+  pub screen : ScreenValue
+
+abbrev pub terminal : State → ScreenValue → Terminal
+terminal scan screen = record { scan = scan; screen = screen }
+
+-- a byte read; none where it would call a callback, take memory or push a row off the page
+unfoldable pub read_byte : Terminal → ℕ → Option Terminal
+read_byte t b =
+    if grows (turn_of t.scan.kind (class_of b)) then None
+    else let step = step_in t.scan.kind t.scan.collected b in
+    and_then (λ screen. Some (terminal step.state screen)) (quiet_events step.events t.screen)
+
+abbrev pub read : Terminal → List ℕ → Option Terminal
+read t [] = Some t
+read t (b ∷ bytes) = and_then (λ u. read u bytes) (read_byte t b)
+
+-- ---- what a redraw does
+
+-- the reader, which shows what the screen shows: its rows, cursor and attributes, and whether the cursor is hidden
+abbrev pub showing : (self reader : ScreenValue) (last : Option ℕ) → ScreenValue
+showing self reader last = record reader {
+  page = record (reader.page) { rows = self.page.rows; row = self.page.row; column = self.page.column };
+  attrs = self.attrs;
+  hidden = self.hidden;
+  last = last;
+}
+
+-- every plain terminal of the same size that reads the text from where nothing is begun shows what the screen shows; only its
+-- last character is open, and all else of it stays as it is
+abbrev pub Redraws : ScreenValue → List ℕ → Type 0
+Redraws self text =
+    (reader : ScreenValue) → IsScreen reader → IsPlain reader.page → SameSize self.page reader.page
+    → (last : Option ℕ) × (read (terminal start reader) text ≡ Some (terminal start (showing self reader last)))

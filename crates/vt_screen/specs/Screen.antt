@@ -1,0 +1,74 @@
+-- A screen: the active page and the other one, scrollback, attributes and modes.
+use Rattle.std.specs.Prelude.{ℕ, ◌≤◌, Bool, false, List, [], length, Option, None}
+use Rattle.vt_cells.specs.Attrs.{default_attrs}
+use Rattle.vt_cells.specs.declared.attrs.Attrs.{Attrs}
+use Rattle.vt_cells.specs.declared.modes.MouseProtocolMode.TheVariants as mouse
+use Rattle.vt_cells.specs.declared.modes.MouseProtocolEncoding.TheVariants as encoding
+use Rattle.vt_cells.specs.declared.modes.CursorStyle.TheVariants as style
+use Rattle.vt_rows.specs.Row.{RowValue}
+use Rattle.vt_grid.specs.Page.{Page, IsPage, blank_page}
+use Rattle.vt_grid.specs.Canvas.{Canvas}
+pub use Rattle.vt_screen.specs.declared.modes.Modes.{Modes}
+
+-- rows that left the main page at its top, how many are kept at most, how many there would be without that limit, and how many are in view
+pub record Scrollback : Type 0 where
+  pub rows : List RowValue
+  pub capacity : ℕ
+  pub theoretical : ℕ
+  pub offset : ℕ
+
+pub record ScreenValue : Type 0 where
+  -- the active page, and the other one if it was ever entered
+  pub page : Page
+  pub other : Option Page
+  pub is_alternate : Bool
+  pub scrollback : Scrollback
+  pub attrs : Attrs
+  pub saved_attrs : Attrs
+  pub hidden : Bool
+  pub modes : Modes
+  -- the last character that was printed in columns of its own
+  pub last : Option ℕ
+
+abbrev pub no_modes : Modes
+no_modes = record {
+  application_keypad = false;
+  application_cursor = false;
+  bracketed_paste = false;
+  mouse_mode = mouse.None;
+  mouse_encoding = encoding.Default;
+  cursor_style = style.Default;
+}
+
+abbrev pub no_scrollback : ℕ → Scrollback
+no_scrollback capacity = record { rows = []; capacity = capacity; theoretical = 0; offset = 0 }
+
+-- a fresh screen
+abbrev pub fresh_screen : (rows cols capacity : ℕ) → ScreenValue
+fresh_screen rows cols capacity = record {
+  page = blank_page rows cols;
+  other = None;
+  is_alternate = false;
+  scrollback = no_scrollback capacity;
+  attrs = default_attrs;
+  saved_attrs = default_attrs;
+  hidden = false;
+  modes = no_modes;
+  last = None;
+}
+
+abbrev pub with_page : Page → ScreenValue → ScreenValue
+with_page page screen = record screen { page = page }
+
+-- what a redraw works on
+abbrev pub canvas_of : ScreenValue → Canvas
+canvas_of screen = record { page = screen.page; attrs = screen.attrs; saved_attrs = screen.saved_attrs; hidden = screen.hidden }
+
+abbrev pub with_canvas : Canvas → ScreenValue → ScreenValue
+with_canvas canvas screen = record screen { page = canvas.page; attrs = canvas.attrs; saved_attrs = canvas.saved_attrs; hidden = canvas.hidden }
+
+-- what every screen is
+pub record IsScreen (screen : ScreenValue) : Type 0 where
+  pub page : IsPage screen.page
+  pub kept : length screen.scrollback.rows ≤ screen.scrollback.capacity
+  pub in_view : screen.scrollback.offset ≤ length screen.scrollback.rows

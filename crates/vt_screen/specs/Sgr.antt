@@ -1,0 +1,106 @@
+-- SGR, group by group (ECMA-48 and xterm's control sequences): a group sets an attribute, begins or goes on a long colour, or is not known.
+use Rattle.std.specs.Prelude.{ℕ, ◌-◌, ◌==◌, ◌&&◌, nat_lt, nat_le, Bool, true, false, List, [], ◌∷◌, if◌then◌else◌}
+use Rattle.vt_cells.specs.Attrs.{default_attrs}
+use Rattle.vt_cells.specs.declared.attrs.Attrs.{Attrs}
+use Rattle.vt_cells.specs.declared.attrs.Intensity.TheVariants.{Normal, Bold, Dim}
+use Rattle.vt_cells.specs.declared.color.Color.{Color}
+use Rattle.vt_cells.specs.declared.color.Color.TheVariants.{Default, Idx, Rgb}
+use Rattle.vt_screen.specs.declared.sgr.Setting.{Setting}
+use Rattle.vt_screen.specs.declared.sgr.Setting.TheVariants.{Reset, Foreground, Background, Strength, Italic, Underline, Inverse}
+use Rattle.vt_screen.specs.declared.sgr.Layer.{Layer}
+use Rattle.vt_screen.specs.declared.sgr.Layer.TheVariants.{Front, Back}
+use Rattle.vt_screen.specs.declared.sgr.Wanted.{Wanted}
+use Rattle.vt_screen.specs.declared.sgr.Wanted.TheVariants.{Any, Form, Index, Red, Green, Blue, Stopped}
+pub use Rattle.vt_screen.specs.declared.sgr.GroupRead.{GroupRead}
+use Rattle.vt_screen.specs.declared.sgr.Reading.TheVariants.{Silent, Set, Unhandled}
+
+-- what a setting makes of attributes
+abbrev pub rendered : Setting → Attrs → Attrs
+rendered Reset attrs = default_attrs
+rendered (Foreground color) attrs = record attrs { fgcolor = color }
+rendered (Background color) attrs = record attrs { bgcolor = color }
+rendered (Strength intensity) attrs = record attrs { intensity = intensity }
+rendered (Italic on) attrs = record attrs { italic = on }
+rendered (Underline on) attrs = record attrs { underline = on }
+rendered (Inverse on) attrs = record attrs { inverse = on }
+
+abbrev pub colored : Layer → Color → Setting
+colored Front color = Foreground color
+colored Back color = Background color
+
+abbrev pub silent : Wanted → GroupRead
+silent wanted = record { reading = Silent; wanted = wanted }
+
+abbrev pub set : Setting → GroupRead
+set setting = record { reading = Set setting; wanted = Any }
+
+abbrev pub is_between : ℕ → ℕ → ℕ → Bool
+is_between low high n = nat_le low n && nat_le n high
+
+-- a group of one number where a setting is wanted
+unfoldable pub number_read : ℕ → GroupRead
+number_read n =
+    if n == 0 then set Reset
+    else if n == 1 then set (Strength Bold)
+    else if n == 2 then set (Strength Dim)
+    else if n == 22 then set (Strength Normal)
+    else if n == 3 then set (Italic true)
+    else if n == 23 then set (Italic false)
+    else if n == 4 then set (Underline true)
+    else if n == 24 then set (Underline false)
+    else if n == 7 then set (Inverse true)
+    else if n == 27 then set (Inverse false)
+    else if is_between 30 37 n then set (Foreground (Idx (n - 30)))
+    else if n == 38 then silent (Form Front)
+    else if n == 39 then set (Foreground Default)
+    else if is_between 40 47 n then set (Background (Idx (n - 40)))
+    else if n == 48 then silent (Form Back)
+    else if n == 49 then set (Background Default)
+    else if is_between 90 97 n then set (Foreground (Idx (n - 82)))
+    else if is_between 100 107 n then set (Background (Idx (n - 92)))
+    else record { reading = Unhandled; wanted = Any }
+
+-- a colour in one group: 2 and three parts, or 5 and an index
+unfoldable pub rgb_read : Layer → ℕ → ℕ → ℕ → GroupRead
+rgb_read layer r g b = if nat_lt r 256 && (nat_lt g 256 && nat_lt b 256) then set (colored layer (Rgb r g b)) else silent Stopped
+
+unfoldable pub index_read : Layer → ℕ → GroupRead
+index_read layer i = if nat_lt i 256 then set (colored layer (Idx i)) else silent Stopped
+
+abbrev pub unknown : GroupRead
+unknown = record { reading = Unhandled; wanted = Any }
+
+abbrev pub three_read : Layer → ℕ → ℕ → GroupRead
+three_read layer form i = if form == 5 then index_read layer i else unknown
+
+abbrev pub five_read : Layer → ℕ → ℕ → ℕ → ℕ → GroupRead
+five_read layer form r g b = if form == 2 then rgb_read layer r g b else unknown
+
+-- a group where a setting is wanted
+unfoldable pub setting_read : List ℕ → GroupRead
+setting_read (n ∷ []) = number_read n
+setting_read (n ∷ form ∷ i ∷ []) = if n == 38 then three_read Front form i else if n == 48 then three_read Back form i else unknown
+setting_read (n ∷ form ∷ r ∷ g ∷ b ∷ []) = if n == 38 then five_read Front form r g b else if n == 48 then five_read Back form r g b else unknown
+setting_read _ = unknown
+
+-- the form of a long colour: 2 or 5 alone; any other group is reported and ends the reading
+unfoldable pub form_read : Layer → List ℕ → GroupRead
+form_read layer (n ∷ []) =
+    if n == 2 then silent (Red layer)
+    else if n == 5 then silent (Index layer)
+    else record { reading = Unhandled; wanted = Stopped }
+form_read layer _ = record { reading = Unhandled; wanted = Stopped }
+
+-- a part of a colour is one number up to 255; anything else ends the reading
+abbrev pub part_read : List ℕ → (ℕ → GroupRead) → GroupRead
+part_read (n ∷ []) next = if nat_lt n 256 then next n else silent Stopped
+part_read _ next = silent Stopped
+
+unfoldable pub group_read : Wanted → List ℕ → GroupRead
+group_read Any group = setting_read group
+group_read (Form layer) group = form_read layer group
+group_read (Index layer) group = part_read group (λ i. set (colored layer (Idx i)))
+group_read (Red layer) group = part_read group (λ r. silent (Green layer r))
+group_read (Green layer r) group = part_read group (λ g. silent (Blue layer r g))
+group_read (Blue layer r g) group = part_read group (λ b. set (colored layer (Rgb r g b)))
+group_read Stopped group = silent Stopped

@@ -1,0 +1,301 @@
+-- The elementary steps of an event, and what each makes of the screen.
+use Rattle.std.specs.Prelude.{ℕ, ◌-◌, ◌==◌, ◌&&◌, ◌||◌, not, nat_lt, nat_le, Bool, true, false, List, [], ◌∷◌, ◌++◌, length, replicate, slice_index_or, slice_get, Option, Some, None, codes, if◌then◌else◌}
+use Rattle.std.specs.List.{list_all, list_any}
+use Rattle.vt_cells.specs.Glyph.{columns_of}
+use Rattle.vt_cells.specs.declared.modes.MouseProtocolMode.{MouseProtocolMode}
+use Rattle.vt_cells.specs.declared.modes.MouseProtocolMode.TheVariants as mouse
+use Rattle.vt_cells.specs.declared.modes.MouseProtocolEncoding.{MouseProtocolEncoding}
+use Rattle.vt_cells.specs.declared.modes.MouseProtocolEncoding.TheVariants as encoding
+use Rattle.vt_cells.specs.declared.modes.CursorStyle.{CursorStyle}
+use Rattle.vt_cells.specs.declared.modes.CursorStyle.TheVariants as style
+use Rattle.vt_grid.specs.Moves.{carriage_return, moved_right, moved_to, line_feed}
+use Rattle.vt_grid.specs.Erasing.{erased_below, erased_rest, erased_chars}
+use Rattle.vt_grid.specs.Printing.{printed}
+use Rattle.vt_scan.specs.Automaton.{Event, Character, Executed, EscDispatch, CsiDispatch, OscDispatch}
+use Rattle.vt_screen.specs.Calls.{CallValue, AudibleBell, VisualBell, Resize, SetWindowIconName, SetWindowTitle, CopyToClipboard, PasteFromClipboard, UnhandledChar, UnhandledControl, UnhandledEscape, UnhandledCsi, UnhandledOsc}
+use Rattle.vt_screen.specs.Sgr.{group_read, rendered}
+use Rattle.vt_screen.specs.Screen.{ScreenValue, with_page}
+use Rattle.vt_screen.specs.declared.modes.Modes.{Modes}
+use Rattle.vt_screen.specs.declared.sgr.Setting.{Setting}
+use Rattle.vt_screen.specs.declared.sgr.Wanted.{Wanted}
+use Rattle.vt_screen.specs.declared.sgr.Wanted.TheVariants.{Any}
+use Rattle.vt_screen.specs.declared.sgr.Reading.{Reading}
+use Rattle.vt_screen.specs.declared.sgr.Reading.TheVariants.{Silent, Set, Unhandled}
+
+pub data Step : Type 0 where
+  Print : (c : ℕ) → Step
+  CarriageReturn : Step
+  LineFeed : Step
+  MoveRight : (count : ℕ) → Step
+  MoveTo : (row col : ℕ) → Step
+  EraseBelow : Step
+  EraseRest : Step
+  EraseChars : (count : ℕ) → Step
+  Render : Setting → Step
+  HideCursor : (hidden : Bool) → Step
+  UseApplicationCursor : (on : Bool) → Step
+  UseBracketedPaste : (on : Bool) → Step
+  SetMouseMode : MouseProtocolMode → Step
+  -- back to none, if this mode is set
+  ClearMouseMode : MouseProtocolMode → Step
+  SetMouseEncoding : MouseProtocolEncoding → Step
+  -- back to the default, if this encoding is set
+  ClearMouseEncoding : MouseProtocolEncoding → Step
+  SetCursorStyle : CursorStyle → Step
+  -- a callback
+  Tell : CallValue → Step
+
+-- ---- what a step makes of the screen
+
+-- a character that takes columns, and fits the page, is the last one from now on
+abbrev pub is_kept : ScreenValue → Option ℕ → Bool
+is_kept screen None = false
+is_kept screen (Some columns) = nat_lt 0 columns && nat_le columns screen.page.width
+
+abbrev pub last_after : ℕ → ScreenValue → Option ℕ
+last_after c screen = if is_kept screen (columns_of c) then Some c else screen.last
+
+abbrev pub same_mouse_mode : MouseProtocolMode → MouseProtocolMode → Bool
+same_mouse_mode mouse.None mouse.None = true
+same_mouse_mode mouse.Press mouse.Press = true
+same_mouse_mode mouse.PressRelease mouse.PressRelease = true
+same_mouse_mode mouse.ButtonMotion mouse.ButtonMotion = true
+same_mouse_mode mouse.AnyMotion mouse.AnyMotion = true
+same_mouse_mode _ _ = false
+
+abbrev pub same_mouse_encoding : MouseProtocolEncoding → MouseProtocolEncoding → Bool
+same_mouse_encoding encoding.Default encoding.Default = true
+same_mouse_encoding encoding.Utf8 encoding.Utf8 = true
+same_mouse_encoding encoding.Sgr encoding.Sgr = true
+same_mouse_encoding _ _ = false
+
+-- the mode that is left where one is cleared: none, if it was that one
+abbrev pub mouse_mode_without : MouseProtocolMode → MouseProtocolMode → MouseProtocolMode
+mouse_mode_without was mode = if same_mouse_mode was mode then mouse.None else was
+
+abbrev pub mouse_encoding_without : MouseProtocolEncoding → MouseProtocolEncoding → MouseProtocolEncoding
+mouse_encoding_without was form = if same_mouse_encoding was form then encoding.Default else was
+
+abbrev pub with_modes : (Modes → Modes) → ScreenValue → ScreenValue
+with_modes f screen = record screen { modes = f (screen.modes) }
+
+-- a step that is no callback
+abbrev pub stepped : Step → ScreenValue → ScreenValue
+stepped (Print c) screen = record screen { page = printed c screen.attrs screen.page; last = last_after c screen }
+stepped CarriageReturn screen = with_page (carriage_return screen.page) screen
+stepped LineFeed screen = with_page (line_feed screen.page) screen
+stepped (MoveRight count) screen = with_page (moved_right count screen.page) screen
+stepped (MoveTo row col) screen = with_page (moved_to row col screen.page) screen
+stepped EraseBelow screen = with_page (erased_below screen.attrs screen.page) screen
+stepped EraseRest screen = with_page (erased_rest screen.attrs screen.page) screen
+stepped (EraseChars count) screen = with_page (erased_chars count screen.attrs screen.page) screen
+stepped (Render setting) screen = record screen { attrs = rendered setting screen.attrs }
+stepped (HideCursor hidden) screen = record screen { hidden = hidden }
+stepped (UseApplicationCursor on) screen = with_modes (λ modes. record modes { application_cursor = on }) screen
+stepped (UseBracketedPaste on) screen = with_modes (λ modes. record modes { bracketed_paste = on }) screen
+stepped (SetMouseMode mode) screen = with_modes (λ modes. record modes { mouse_mode = mode }) screen
+stepped (ClearMouseMode mode) screen = with_modes (λ modes. record modes { mouse_mode = mouse_mode_without modes.mouse_mode mode }) screen
+stepped (SetMouseEncoding form) screen = with_modes (λ modes. record modes { mouse_encoding = form }) screen
+stepped (ClearMouseEncoding form) screen = with_modes (λ modes. record modes { mouse_encoding = mouse_encoding_without modes.mouse_encoding form }) screen
+stepped (SetCursorStyle look) screen = with_modes (λ modes. record modes { cursor_style = look }) screen
+stepped (Tell call) screen = screen
+
+-- ---- numbers
+
+-- the first number of a group, 0 where there is none
+abbrev pub number_at : ℕ → List (List ℕ) → ℕ
+number_at i groups = slice_index_or (slice_index_or groups i []) 0 0
+
+-- the same, with a default for 0
+abbrev pub number_or : ℕ → ℕ → List (List ℕ) → ℕ
+number_or default i groups = if number_at i groups == 0 then default else number_at i groups
+
+abbrev pub mark_at : ℕ → List ℕ → Option ℕ
+mark_at i marks = slice_get marks i
+
+-- ---- the steps of each kind of event
+
+-- U+0080 to U+009F and U+FFFD are reported, all others are printed
+unfoldable pub character_steps : ℕ → List Step
+character_steps c =
+    if (c == 0xFFFD) || (nat_le 0x80 c && nat_le c 0x9F) then Tell (UnhandledChar c) ∷ [] else Print c ∷ []
+
+-- BEL, LF, VT, FF, CR; SO and SI do nothing; BS and TAB not yet
+unfoldable pub control_steps : ℕ → List Step
+control_steps b =
+    if b == 0x07 then Tell AudibleBell ∷ []
+    else if nat_le 0x0A b && nat_le b 0x0C then LineFeed ∷ []
+    else if b == 0x0D then CarriageReturn ∷ []
+    else if (b == 0x08) || ((b == 0x09) || ((b == 0x0E) || (b == 0x0F))) then []
+    else Tell (UnhandledControl b) ∷ []
+
+-- escape sequences without intermediates that are not there yet
+abbrev pub is_coming : ℕ → Bool
+is_coming b = list_any (λ c. c == b) (codes "78=>Mc")
+
+unfoldable pub escape_steps : List ℕ → ℕ → List Step
+escape_steps [] b =
+    if b == 0x67 then Tell VisualBell ∷ []
+    else if is_coming b then []
+    else Tell (UnhandledEscape None None b) ∷ []
+escape_steps (mark ∷ marks) b = Tell (UnhandledEscape (Some mark) (mark_at 0 marks) b) ∷ []
+
+-- SGR, each group with what the one before made of it
+abbrev pub reading_steps : List (List ℕ) → Reading → List Step
+reading_steps groups Silent = []
+reading_steps groups (Set setting) = Render setting ∷ []
+reading_steps groups Unhandled = Tell (UnhandledCsi None None groups 0x6D) ∷ []
+
+abbrev pub sgr_from : List (List ℕ) → Wanted → List (List ℕ) → List Step
+sgr_from groups wanted [] = []
+sgr_from groups wanted (group ∷ rest) =
+    let read = group_read wanted group in reading_steps groups read.reading ++ sgr_from groups read.wanted rest
+
+abbrev pub sgr_steps : List (List ℕ) → List Step
+sgr_steps groups = sgr_from groups Any groups
+
+-- ED and EL: 0 is there, other known numbers are not yet, and unknown ones are reported
+abbrev pub erase_steps : Step → ℕ → CallValue → ℕ → List Step
+erase_steps step known report n = if n == 0 then step ∷ [] else if nat_le n known then [] else Tell report ∷ []
+
+-- a size that a program asks for; the screen's own where a group is missing
+abbrev pub size_or : ℕ → ℕ → List (List ℕ) → ℕ
+size_or own i groups = if nat_lt i (length groups) then number_at i groups else own
+
+unfoldable pub window_steps : List (List ℕ) → ScreenValue → List Step
+window_steps groups screen =
+    if number_at 0 groups == 8
+    then Tell (Resize (size_or (length screen.page.rows) 1 groups) (size_or screen.page.width 2 groups)) ∷ []
+    else Tell (UnhandledCsi None None groups 0x74) ∷ []
+
+abbrev pub repeated : ℕ → Option ℕ → List Step
+repeated n (Some c) = replicate n (Print c)
+repeated n None = []
+
+-- moves, shifts and scrolls that are not there yet
+abbrev pub is_coming_csi : ℕ → Bool
+is_coming_csi b = list_any (λ c. c == b) (codes "@ABDEFGLMPST`dr")
+
+-- control sequences without a marker or an intermediate
+unfoldable pub plain_steps : List (List ℕ) → ℕ → ScreenValue → List Step
+plain_steps groups b screen =
+    if b == 0x43 then MoveRight (number_or 1 0 groups) ∷ []
+    else if (b == 0x48) || (b == 0x66) then MoveTo (number_or 1 0 groups - 1) (number_or 1 1 groups - 1) ∷ []
+    else if b == 0x4A then erase_steps EraseBelow 3 (UnhandledCsi None None groups b) (number_at 0 groups)
+    else if b == 0x4B then erase_steps EraseRest 2 (UnhandledCsi None None groups b) (number_at 0 groups)
+    else if b == 0x58 then EraseChars (number_or 1 0 groups) ∷ []
+    else if b == 0x62 then repeated (number_or 1 0 groups) screen.last
+    else if b == 0x6D then sgr_steps groups
+    else if b == 0x74 then window_steps groups screen
+    else if is_coming_csi b then []
+    else Tell (UnhandledCsi None None groups b) ∷ []
+
+-- DECSCUSR's numbers
+unfoldable pub style_of : ℕ → Option CursorStyle
+style_of n =
+    if n == 0 then Some style.Default
+    else if n == 1 then Some style.BlinkBlock
+    else if n == 2 then Some style.SteadyBlock
+    else if n == 3 then Some style.BlinkUnderline
+    else if n == 4 then Some style.SteadyUnderline
+    else if n == 5 then Some style.BlinkVerticalBar
+    else if n == 6 then Some style.SteadyVerticalBar
+    else None
+
+abbrev pub style_steps : CallValue → Option CursorStyle → List Step
+style_steps report (Some look) = SetCursorStyle look ∷ []
+style_steps report None = Tell report ∷ []
+
+abbrev pub mouse_step : Bool → MouseProtocolMode → Step
+mouse_step on mode = if on then SetMouseMode mode else ClearMouseMode mode
+
+abbrev pub encoding_step : Bool → MouseProtocolEncoding → Step
+encoding_step on form = if on then SetMouseEncoding form else ClearMouseEncoding form
+
+-- a private mode of one number: known, not there yet, or unknown
+unfoldable pub mode_step : Bool → CallValue → ℕ → List Step
+mode_step on report n =
+    if n == 1 then UseApplicationCursor on ∷ []
+    else if n == 9 then mouse_step on mouse.Press ∷ []
+    else if n == 25 then HideCursor (not on) ∷ []
+    else if n == 1000 then mouse_step on mouse.PressRelease ∷ []
+    else if n == 1002 then mouse_step on mouse.ButtonMotion ∷ []
+    else if n == 1003 then mouse_step on mouse.AnyMotion ∷ []
+    else if n == 1005 then encoding_step on encoding.Utf8 ∷ []
+    else if n == 1006 then encoding_step on encoding.Sgr ∷ []
+    else if n == 2004 then UseBracketedPaste on ∷ []
+    else if (n == 6) || ((n == 47) || (n == 1049)) then []
+    else Tell report ∷ []
+
+abbrev pub mode_steps : Bool → CallValue → List (List ℕ) → List Step
+mode_steps on report [] = []
+mode_steps on report ((n ∷ []) ∷ groups) = mode_step on report n ++ mode_steps on report groups
+mode_steps on report (_ ∷ groups) = Tell report ∷ mode_steps on report groups
+
+-- control sequences behind `?`
+unfoldable pub private_steps : Option ℕ → List (List ℕ) → ℕ → List Step
+private_steps second groups b =
+    let report = UnhandledCsi (Some 0x3F) second groups b in
+    if b == 0x4A then erase_steps EraseBelow 3 report (number_at 0 groups)
+    else if b == 0x4B then erase_steps EraseRest 2 report (number_at 0 groups)
+    else if b == 0x68 then mode_steps true report groups
+    else if b == 0x6C then mode_steps false report groups
+    else Tell report ∷ []
+
+-- control sequences behind a space
+unfoldable pub space_steps : Option ℕ → List (List ℕ) → ℕ → List Step
+space_steps second groups b =
+    if b == 0x71 then style_steps (UnhandledCsi (Some 0x20) second groups b) (style_of (number_at 0 groups))
+    else Tell (UnhandledCsi None None groups b) ∷ []
+
+unfoldable pub marked_steps : ℕ → Option ℕ → List (List ℕ) → ℕ → List Step
+marked_steps mark second groups b =
+    if mark == 0x3F then private_steps second groups b
+    else if mark == 0x20 then space_steps second groups b
+    else Tell (UnhandledCsi (Some mark) second groups b) ∷ []
+
+abbrev pub csi_steps : List (List ℕ) → List ℕ → ℕ → ScreenValue → List Step
+csi_steps groups [] b screen = plain_steps groups b screen
+csi_steps groups (mark ∷ marks) b screen = marked_steps mark (mark_at 0 marks) groups b
+
+-- operating system commands: titles, and the clipboard (xterm's 0, 1, 2 and 52)
+abbrev pub is_clipboard_kind : List ℕ → Bool
+is_clipboard_kind kind = list_all (λ b. list_any (λ c. c == b) (codes "cpqs01234567")) kind
+
+abbrev pub is_base64 : ℕ → Bool
+is_base64 b =
+    (nat_le 0x41 b && nat_le b 0x5A) || ((nat_le 0x61 b && nat_le b 0x7A) || ((nat_le 0x30 b && nat_le b 0x39)
+    || ((b == 0x2B) || ((b == 0x2F) || (b == 0x3D)))))
+
+abbrev pub is_text : List ℕ → List ℕ → Bool
+is_text [] [] = true
+is_text (b ∷ bs) (c ∷ cs) = (b == c) && is_text bs cs
+is_text _ _ = false
+
+unfoldable pub named_steps : List ℕ → List ℕ → List Step
+named_steps name text =
+    if is_text name (codes "0") then Tell (SetWindowIconName text) ∷ Tell (SetWindowTitle text) ∷ []
+    else if is_text name (codes "1") then Tell (SetWindowIconName text) ∷ []
+    else if is_text name (codes "2") then Tell (SetWindowTitle text) ∷ []
+    else Tell (UnhandledOsc (name ∷ text ∷ [])) ∷ []
+
+unfoldable pub clipboard_steps : List ℕ → List ℕ → List ℕ → List Step
+clipboard_steps name kind text =
+    if is_text name (codes "52") && is_clipboard_kind kind
+    then (if is_text text (codes "?") then Tell (PasteFromClipboard kind) ∷ []
+    else if list_all is_base64 text then Tell (CopyToClipboard kind text) ∷ []
+    else Tell (UnhandledOsc (name ∷ kind ∷ text ∷ [])) ∷ [])
+    else Tell (UnhandledOsc (name ∷ kind ∷ text ∷ [])) ∷ []
+
+abbrev pub osc_steps : List (List ℕ) → List Step
+osc_steps (name ∷ text ∷ []) = named_steps name text
+osc_steps (name ∷ kind ∷ text ∷ []) = clipboard_steps name kind text
+osc_steps parts = Tell (UnhandledOsc parts) ∷ []
+
+-- the steps of an event; of the screen they see its size and its last character
+abbrev pub steps_of : Event → ScreenValue → List Step
+steps_of (Character c) screen = character_steps c
+steps_of (Executed b) screen = control_steps b
+steps_of (EscDispatch marks b) screen = escape_steps marks b
+steps_of (CsiDispatch groups marks b) screen = csi_steps groups marks b screen
+steps_of (OscDispatch parts) screen = osc_steps parts

@@ -1,0 +1,517 @@
+//! The screen of a terminal.
+
+ghost use Rattle.std.specs.Prelude.{◌≡◌, ◌≢◌, ◌<◌, ◌↔◌, ◌++◌, IfErr, IfOk, IfSome, IsSome, OnOk, Some, length, string_bytes};
+ghost use Rattle.vt_cells.specs.Attrs.{is_bold, is_dim};
+ghost use Rattle.vt_cells.specs.Op.{bytes_of_all};
+ghost use Rattle.vt_grid.specs.Fits.{IsColored};
+ghost use Rattle.vt_grid.specs.Page.{IsPage, cell_at, row_at};
+ghost use Rattle.vt_grid.specs.Script.{redraw};
+ghost use Rattle.vt_grid.specs.Simple.{IsSimple};
+ghost use Rattle.vt_screen.specs.Reading.{Redraws};
+ghost use Rattle.vt_screen.specs.Screen.{canvas_of, fresh_screen};
+ghost use Rattle.vt_screen.specs.Steps as step;
+ghost use Rattle.vt_screen.specs.Steps.{last_after, stepped};
+
+use crate::modes::{self, Modes};
+use crate::sgr::Setting;
+use std::alloc::Global;
+use std::marker::Model;
+use std::num::NonZeroU16;
+use vt_cells::{
+    Attrs, Cell, Color, CursorStyle, Error, MouseProtocolEncoding, MouseProtocolMode, Pos, Sink,
+    columns,
+};
+use vt_grid::redraw::write_contents_formatted;
+use vt_grid::{Grid, Size};
+
+/// A terminal's screen: a page of cells with its cursor, the attributes that
+/// new text is drawn with, and the modes that a program set.
+#[derive(Drop)]
+pub struct Screen {
+    alloc: Global,
+    grid: Grid,
+    attrs: Attrs,
+    saved_attrs: Attrs,
+    hidden: bool,
+    modes: Modes,
+    last: Option<char>,
+    capacity: usize,
+    alternate: bool,
+}
+
+impl Model for Screen {
+    ghost use Rattle.std.specs.Prelude.{None};
+    ghost use Rattle.vt_screen.specs.Keeping.{IsKept};
+    ghost use Rattle.vt_screen.specs.Screen.{ScreenValue, no_scrollback};
+
+    ghost Value = { ScreenValue };
+
+    ghost view = { λ s. record {
+      page = s.grid;
+      other = None;
+      is_alternate = s.alternate;
+      scrollback = no_scrollback s.capacity;
+      attrs = s.attrs;
+      saved_attrs = s.saved_attrs;
+      hidden = s.hidden;
+      modes = s.modes;
+      last = s.last;
+    } };
+
+    ghost invariant = { λ s. IsKept s.grid s.last };
+}
+
+impl Screen {
+    /// A fresh screen: default blanks, the cursor in the corner, default
+    /// attributes, each mode off or its default. Its scrollback may keep
+    /// `scrollback_capacity` rows.
+    ///
+    /// Fails where memory for its rows is refused.
+    #[tactic(auto, using(crate::proofs::Kept::kept_blank))]
+    pub fn new(
+        alloc: Global,
+        rows: NonZeroU16,
+        cols: NonZeroU16,
+        scrollback_capacity: usize,
+    ) -> Result<Screen, Error>
+        ensures fresh { IfOk result (λ screen. screen ≡ fresh_screen rows.value cols.value scrollback_capacity) }
+        ensures memory { IfErr result (λ error. error ≡ Error.OutOfMemory) }
+    {
+        let size = Size {
+            rows: rows.get(),
+            cols: cols.get(),
+        };
+        let grid = Grid::new(alloc, size)?;
+        Ok(Screen {
+            alloc,
+            grid,
+            attrs: Attrs::new(),
+            saved_attrs: Attrs::new(),
+            hidden: false,
+            modes: Modes::new(),
+            last: None,
+            capacity: scrollback_capacity,
+            alternate: false,
+        })
+    }
+}
+
+// What a program's controls do.
+impl Screen {
+    /// Prints a character.
+    ///
+    /// A character of one or two columns becomes a glyph in the current
+    /// attributes, after a wrap where there is no room for it. One without
+    /// columns of its own is put on the glyph before the cursor. A control,
+    /// and a character wider than the screen, draws nothing.
+    #[inline]
+    pub fn text(&mut self, c: char)
+        requires { c ≢ 0xFFFD }
+        ensures { self.new ≡ stepped (step.Print c) self.old }
+    {
+        let last = self.last_after(c);
+        self.grid.print(c, self.attrs);
+        self.last = last;
+    }
+
+    /// The last character that REP repeats, once this one is printed.
+    #[inline]
+    fn last_after(&self, c: char) -> Option<char>
+        requires { c ≢ 0xFFFD }
+        ensures value { result ≡ last_after c self.now }
+        ensures reported { result ≢ Some 0xFFFD }
+    {
+        let Some(columns) = columns(c) else {
+            return self.last;
+        };
+        if columns == 0 || u16::from(columns) > self.grid.size().cols {
+            return self.last;
+        }
+        Some(c)
+    }
+
+    /// Moves the cursor to the first column (CR).
+    #[inline]
+    pub fn cr(&mut self)
+        ensures { self.new ≡ stepped step.CarriageReturn self.old }
+    {
+        self.grid.cr();
+    }
+
+    /// Moves the cursor down by one row, its column as it is; at the scroll
+    /// region's bottom the region scrolls up instead (LF, VT and FF).
+    #[inline]
+    pub fn lf(&mut self)
+        ensures { self.new ≡ stepped step.LineFeed self.old }
+    {
+        self.grid.line_feed();
+    }
+
+    /// Moves the cursor to the right, at most to the last column (CUF).
+    pub fn cuf(&mut self, count: u16)
+        ensures { self.new ≡ stepped (step.MoveRight count) self.old }
+    {
+        self.grid.col_inc_clamp(count);
+    }
+
+    /// Moves the cursor to a row and a column, counted from 0, each at most
+    /// the last one (CUP). In origin mode the row counts from the scroll
+    /// region's top and stays in the region.
+    pub fn cup(&mut self, row: u16, col: u16)
+        ensures { self.new ≡ stepped (step.MoveTo row col) self.old }
+    {
+        self.grid.move_to(row, col);
+    }
+
+    /// Makes the screen blank from the cursor on (ED 0); at a pending wrap the
+    /// cursor's row stays.
+    pub fn erase_below(&mut self)
+        ensures { self.new ≡ stepped step.EraseBelow self.old }
+    {
+        self.grid.erase_all_forward(self.attrs);
+    }
+
+    /// Makes the cursor's row blank from the cursor on (EL 0); at a pending
+    /// wrap nothing happens.
+    pub fn erase_rest(&mut self)
+        ensures { self.new ≡ stepped step.EraseRest self.old }
+    {
+        self.grid.erase_row_forward(self.attrs);
+    }
+
+    /// Makes this many columns from the cursor on blank, at least one, at most
+    /// to the end of the row (ECH); at a pending wrap none.
+    pub fn ech(&mut self, count: u16)
+        requires { 0 < count }
+        ensures { self.new ≡ stepped (step.EraseChars count) self.old }
+    {
+        self.grid.erase_cells(count, self.attrs);
+    }
+
+    /// Makes one setting of SGR: what is drawn from now on has it.
+    pub fn render(&mut self, setting: Setting)
+        ensures { self.new ≡ stepped (step.Render setting) self.old }
+    {
+        self.attrs = setting.applied_to(self.attrs);
+    }
+
+    /// Hides the cursor, or shows it (DECTCEM).
+    pub fn set_hidden(&mut self, hidden: bool)
+        ensures { self.new ≡ stepped (step.HideCursor hidden) self.old }
+    {
+        self.hidden = hidden;
+    }
+
+    /// Turns the application sequences of the cursor keys on or off (DECCKM).
+    pub fn set_application_cursor(&mut self, on: bool)
+        ensures { self.new ≡ stepped (step.UseApplicationCursor on) self.old }
+    {
+        self.modes.application_cursor = on;
+    }
+
+    /// Turns brackets around pasted text on or off (xterm's private mode 2004).
+    pub fn set_bracketed_paste(&mut self, on: bool)
+        ensures { self.new ≡ stepped (step.UseBracketedPaste on) self.old }
+    {
+        self.modes.bracketed_paste = on;
+    }
+
+    /// Chooses which mouse events are reported.
+    pub fn set_mouse_mode(&mut self, mode: MouseProtocolMode)
+        ensures { self.new ≡ stepped (step.SetMouseMode mode) self.old }
+    {
+        self.modes.mouse_mode = mode;
+    }
+
+    /// Ends the reports of mouse events, if they are in this mode.
+    pub fn clear_mouse_mode(&mut self, mode: MouseProtocolMode)
+        ensures { self.new ≡ stepped (step.ClearMouseMode mode) self.old }
+    {
+        self.modes.mouse_mode = modes::clear_mode(self.modes.mouse_mode, mode);
+    }
+
+    /// Chooses how mouse events are encoded.
+    pub fn set_mouse_encoding(&mut self, encoding: MouseProtocolEncoding)
+        ensures { self.new ≡ stepped (step.SetMouseEncoding encoding) self.old }
+    {
+        self.modes.mouse_encoding = encoding;
+    }
+
+    /// Goes back to the default encoding, if this one is set.
+    pub fn clear_mouse_encoding(&mut self, encoding: MouseProtocolEncoding)
+        ensures { self.new ≡ stepped (step.ClearMouseEncoding encoding) self.old }
+    {
+        self.modes.mouse_encoding = modes::clear_encoding(self.modes.mouse_encoding, encoding);
+    }
+
+    /// Sets the look of the cursor (DECSCUSR).
+    pub fn set_cursor_style(&mut self, style: CursorStyle)
+        ensures { self.new ≡ stepped (step.SetCursorStyle style) self.old }
+    {
+        self.modes.cursor_style = style;
+    }
+}
+
+// What is known of the screen.
+impl Screen {
+    /// How many rows and columns the screen has.
+    pub fn size(&self) -> (NonZeroU16, NonZeroU16)
+        ensures rows { result.0.value ≡ length self.now.page.rows }
+        ensures cols { result.1.value ≡ self.now.page.width }
+    {
+        let size = self.grid.size();
+        (non_zero(size.rows), non_zero(size.cols))
+    }
+
+    /// The cell at a row and a column, counted from 0, if the screen has it.
+    #[inline]
+    pub fn cell(&self, row: u16, col: u16) -> Option<&Cell>
+        ensures inside { IsSome result ↔ ((row < length self.now.page.rows) × (col < self.now.page.width)) }
+        ensures value { IfSome result (λ cell. cell.now ≡ cell_at self.now.page row col) }
+    {
+        self.grid.drawing_cell(Pos { row, col })
+    }
+
+    /// Whether the text of a row goes on in the row below it; false past the
+    /// last row.
+    pub fn row_wrapped(&self, row: u16) -> bool
+        ensures { result ≡ (row_at self.now.page row).wrapped }
+    {
+        self.grid.row_wrapped(row)
+    }
+
+    /// The cursor's row and column, counted from 0. A column that is the
+    /// number of columns is a pending wrap: the next character goes on in the
+    /// row below.
+    pub fn cursor_position(&self) -> (u16, u16)
+        ensures row { result.0 ≡ self.now.page.row }
+        ensures column { result.1 ≡ self.now.page.column }
+    {
+        let pos = self.grid.pos();
+        (pos.row, pos.col)
+    }
+
+    /// Whether the alternate page is the active one.
+    pub fn alternate_screen(&self) -> bool
+        ensures { result ≡ self.now.is_alternate }
+    {
+        self.alternate
+    }
+
+    /// The last character that was printed in columns of its own, which REP
+    /// repeats.
+    pub fn last_char(&self) -> Option<char>
+        ensures value { result ≡ self.now.last }
+        ensures reported { result ≢ Some 0xFFFD }
+    {
+        self.last
+    }
+
+    /// Whether the keypad sends application sequences (DECKPAM).
+    pub fn application_keypad(&self) -> bool
+        ensures { result ≡ self.now.modes.application_keypad }
+    {
+        self.modes.application_keypad
+    }
+
+    /// Whether the cursor keys send application sequences (DECCKM).
+    pub fn application_cursor(&self) -> bool
+        ensures { result ≡ self.now.modes.application_cursor }
+    {
+        self.modes.application_cursor
+    }
+
+    /// Whether the cursor is hidden (DECTCEM).
+    pub fn hide_cursor(&self) -> bool
+        ensures { result ≡ self.now.hidden }
+    {
+        self.hidden
+    }
+
+    /// Whether pasted text comes between brackets (xterm's private mode 2004).
+    pub fn bracketed_paste(&self) -> bool
+        ensures { result ≡ self.now.modes.bracketed_paste }
+    {
+        self.modes.bracketed_paste
+    }
+
+    /// Which mouse events are reported.
+    pub fn mouse_protocol_mode(&self) -> MouseProtocolMode
+        ensures { result ≡ self.now.modes.mouse_mode }
+    {
+        self.modes.mouse_mode
+    }
+
+    /// How mouse events are encoded.
+    pub fn mouse_protocol_encoding(&self) -> MouseProtocolEncoding
+        ensures { result ≡ self.now.modes.mouse_encoding }
+    {
+        self.modes.mouse_encoding
+    }
+
+    /// The look of the cursor.
+    pub fn cursor_style(&self) -> CursorStyle
+        ensures { result ≡ self.now.modes.cursor_style }
+    {
+        self.modes.cursor_style
+    }
+
+    /// The foreground colour that is drawn with.
+    pub fn fgcolor(&self) -> Color
+        ensures { result ≡ self.now.attrs.fgcolor }
+    {
+        self.attrs.fgcolor
+    }
+
+    /// The background colour that is drawn with.
+    pub fn bgcolor(&self) -> Color
+        ensures { result ≡ self.now.attrs.bgcolor }
+    {
+        self.attrs.bgcolor
+    }
+
+    /// Whether new text is bold.
+    pub fn bold(&self) -> bool
+        ensures { result ≡ is_bold self.now.attrs }
+    {
+        self.attrs.bold()
+    }
+
+    /// Whether new text is dim.
+    pub fn dim(&self) -> bool
+        ensures { result ≡ is_dim self.now.attrs }
+    {
+        self.attrs.dim()
+    }
+
+    /// Whether new text is in italics.
+    pub fn italic(&self) -> bool
+        ensures { result ≡ self.now.attrs.italic }
+    {
+        self.attrs.italic
+    }
+
+    /// Whether new text is underlined.
+    pub fn underline(&self) -> bool
+        ensures { result ≡ self.now.attrs.underline }
+    {
+        self.attrs.underline
+    }
+
+    /// Whether new text has foreground and background exchanged.
+    pub fn inverse(&self) -> bool
+        ensures { result ≡ self.now.attrs.inverse }
+    {
+        self.attrs.inverse
+    }
+}
+
+// Texts that redraw the screen.
+impl Screen {
+    /// A text that makes a terminal of the same size show what this screen
+    /// shows, whatever that showed before: the cells, the cursor, the current
+    /// attributes, and whether the cursor is hidden. Flags of rows are not in
+    /// it, and a pending wrap is the last column.
+    ///
+    /// The terminal is to have its scroll region on all of its page and origin
+    /// mode off, and to be in the midst of no sequence. Fails where memory for
+    /// the text is refused.
+    pub fn contents_formatted(&self) -> Result<String, Error>
+        ensures text { IfOk result (λ text. string_bytes text ≡ bytes_of_all (redraw (canvas_of self.now))) }
+        ensures redraws { IfOk result (λ text. IsSimple self.now.page → Redraws self.now (string_bytes text)) }
+        ensures memory { IfErr result (λ error. error ≡ Error.OutOfMemory) }
+    {
+        let mut text = String::new(self.alloc);
+        match self.write_contents_formatted(&mut text) {
+            Ok(()) => Ok(text),
+            Err(_) => Err(Error::OutOfMemory),
+        }
+    }
+
+    /// Writes the text of [`Screen::contents_formatted`].
+    fn write_contents_formatted<S: Sink>(&self, sink: &mut S) -> Result<(), S::Error>
+        ensures sound { IsPage self.now.page }
+        ensures colored { IsColored (canvas_of self.now) }
+        ensures text { OnOk result (S.text sink.new ≡ S.text sink.old ++ bytes_of_all (redraw (canvas_of self.now))) }
+    {
+        let size = self.grid.size();
+        let attrs = self.attrs();
+        write_contents_formatted(
+            sink,
+            self.grid.rows(),
+            size.cols,
+            self.grid.pos(),
+            attrs,
+            self.hidden,
+        )
+    }
+
+    /// The current attributes.
+    fn attrs(&self) -> Attrs
+        ensures { result ≡ self.now.attrs }
+    {
+        self.attrs
+    }
+}
+
+fn non_zero(number: u16) -> NonZeroU16
+    requires { 0 < number }
+    ensures { result.value ≡ number }
+{
+    NonZeroU16::new(number).unwrap()
+}
+
+#[cfg(test)]
+mod tests {
+    use super::*;
+    use std::test::Fail;
+
+    // Prints characters one by one.
+    fn print(screen: &mut Screen, text: &str) {
+        for c in text.chars() {
+            if c != '\u{FFFD}' {
+                screen.text(c);
+            }
+        }
+    }
+
+    #[test]
+    fn prints_and_wraps(rt: HostRuntime) -> Result<(), Fail> {
+        for (rows, cols, text, row, col, wrapped) in [
+            (2, 4, "abcd", 0, 4, false),
+            (2, 4, "abcdx", 1, 1, true),
+            (2, 1, "中", 0, 0, false),
+            (2, 4, "abc中", 1, 2, false),
+            (1, 4, "e\u{301}", 0, 1, false),
+            (1, 4, "\u{301}", 0, 0, false),
+        ] {
+            let mut screen = Screen::new(rt.alloc(), non_zero(rows), non_zero(cols), 0)?;
+            print(&mut screen, text);
+            assert!(rt; screen.cursor_position() == (row, col), "after {text}");
+            assert!(rt; screen.row_wrapped(0) == wrapped, "after {text}");
+        }
+        Ok(())
+    }
+
+    #[test]
+    fn redraws(rt: HostRuntime) -> Result<(), Fail> {
+        let mut screen = Screen::new(rt.alloc(), non_zero(24), non_zero(80), 0)?;
+        let fresh = screen.contents_formatted()?;
+        assert_eq!(rt; fresh.as_str(), "\x1b[?25h\x1b[m\x1b[H\x1b[J");
+        print(&mut screen, "this text is ");
+        screen.render(Setting::Foreground(Color::Idx(1)));
+        print(&mut screen, "RED");
+        screen.render(Setting::Reset);
+        let red = screen.cell(0, 13).ok_or("no cell")?.fgcolor();
+        assert!(rt; red == Color::Idx(1));
+        screen.cup(0, 13);
+        screen.render(Setting::Foreground(Color::Idx(2)));
+        print(&mut screen, "GREEN");
+        let green = screen.contents_formatted()?;
+        assert_eq!(rt;
+            green.as_str(),
+            "\x1b[?25h\x1b[m\x1b[H\x1b[Jthis text is \x1b[32mGREEN"
+        );
+        Ok(())
+    }
+}

@@ -1,0 +1,469 @@
+//! Select Graphic Rendition: what the groups of numbers of an SGR sequence set.
+
+ghost use Rattle.std.specs.Prelude.{◌≡◌, ℕ, ◌<◌, MatchOption};
+ghost use Rattle.vt_screen.specs.Sgr.{rendered, colored, silent, set, unknown, number_read, three_read, five_read, rgb_read, index_read, setting_read, form_read, part_read, group_read};
+ghost use Rattle.vt_screen.specs.declared.sgr.GroupRead.{GroupRead};
+
+use vt_cells::attrs::{Attrs, Intensity};
+use vt_cells::color::Color;
+
+/// One change of the current attributes.
+#[derive(Clone, Copy, PartialEq, Eq, Debug)]
+pub enum Setting {
+    /// All attributes become the default ones.
+    Reset,
+
+    /// The foreground colour.
+    Foreground(Color),
+
+    /// The background colour.
+    Background(Color),
+
+    /// Normal, bold or dim.
+    Strength(Intensity),
+
+    /// Italics on or off.
+    Italic(bool),
+
+    /// Underline on or off.
+    Underline(bool),
+
+    /// Inverse on or off.
+    Inverse(bool),
+}
+
+/// What a long colour is for.
+#[derive(Clone, Copy, PartialEq, Eq, Debug)]
+pub enum Layer {
+    /// The foreground (38).
+    Front,
+
+    /// The background (48).
+    Back,
+}
+
+/// What the next group of an SGR sequence is read as.
+#[derive(Clone, Copy, PartialEq, Eq, Debug)]
+pub enum Wanted {
+    /// A setting.
+    Any,
+
+    /// The form of a long colour, 2 or 5.
+    Form(Layer),
+
+    /// A colour's index.
+    Index(Layer),
+
+    /// A colour's red part.
+    Red(Layer),
+
+    /// A colour's green part, behind its red one.
+    Green(Layer, u8),
+
+    /// A colour's blue part, behind its red and green ones.
+    Blue(Layer, u8, u8),
+
+    /// Nothing: the rest of the sequence is not read.
+    Stopped,
+}
+
+/// What a group of an SGR sequence gives.
+#[derive(Clone, Copy, PartialEq, Eq, Debug)]
+pub enum Reading {
+    /// Nothing yet, or nothing at all.
+    Silent,
+
+    /// A change of the attributes.
+    Set(Setting),
+
+    /// A group that is not known.
+    Unhandled,
+}
+
+/// A group's reading, and what the next group is read as.
+#[derive(Clone, Copy, PartialEq, Eq, Debug)]
+pub struct GroupRead {
+    /// What the group gives.
+    pub reading: Reading,
+
+    /// What the group after it is read as.
+    pub wanted: Wanted,
+}
+
+impl Setting {
+    /// These attributes with the setting made.
+    pub fn applied_to(self, attrs: Attrs) -> Attrs
+        ensures { result ≡ rendered self attrs }
+    {
+        match self {
+            Setting::Reset => Attrs::new(),
+            Setting::Foreground(fgcolor) => Attrs { fgcolor, ..attrs },
+            Setting::Background(bgcolor) => Attrs { bgcolor, ..attrs },
+            Setting::Strength(intensity) => Attrs { intensity, ..attrs },
+            Setting::Italic(italic) => Attrs { italic, ..attrs },
+            Setting::Underline(underline) => Attrs { underline, ..attrs },
+            Setting::Inverse(inverse) => Attrs { inverse, ..attrs },
+        }
+    }
+}
+
+impl Layer {
+    /// The setting of this layer's colour.
+    fn colored(self, color: Color) -> Setting
+        ensures { result ≡ colored self color }
+    {
+        match self {
+            Layer::Front => Setting::Foreground(color),
+            Layer::Back => Setting::Background(color),
+        }
+    }
+}
+
+impl GroupRead {
+    /// Nothing is set, and the next group is read as this.
+    fn silent(wanted: Wanted) -> Self
+        ensures { result ≡ silent wanted }
+    {
+        GroupRead {
+            reading: Reading::Silent,
+            wanted,
+        }
+    }
+
+    /// A setting is made, and another may follow.
+    fn set(setting: Setting) -> Self
+        ensures { result ≡ set setting }
+    {
+        GroupRead {
+            reading: Reading::Set(setting),
+            wanted: Wanted::Any,
+        }
+    }
+
+    /// The group is not known, and a setting may follow.
+    fn unknown() -> Self
+        ensures { result ≡ unknown }
+    {
+        GroupRead {
+            reading: Reading::Unhandled,
+            wanted: Wanted::Any,
+        }
+    }
+}
+
+impl Wanted {
+    /// Reads a group of an SGR sequence, where this is wanted.
+    ///
+    /// After a colour that is cut short or has a part above 255 the rest of
+    /// the sequence is not read, and after a long colour of a form that is
+    /// neither 2 nor 5 neither. The first group of a sequence is read as
+    /// [`Wanted::Any`]. (ECMA-48, and xterm's control sequences.)
+    #[tactic(auto, unfolding(crate::specs::Sgr::group_read))]
+    pub fn read(self, group: &[u16]) -> GroupRead
+        ensures { result ≡ group_read self group.now }
+    {
+        match self {
+            Wanted::Any => read_setting(group),
+            Wanted::Form(layer) => read_form(layer, group),
+            Wanted::Index(layer) => read_index(layer, group),
+            Wanted::Red(layer) => read_red(layer, group),
+            Wanted::Green(layer, red) => read_green(layer, red, group),
+            Wanted::Blue(layer, red, green) => read_blue(layer, red, green, group),
+            Wanted::Stopped => GroupRead::silent(Wanted::Stopped),
+        }
+    }
+}
+
+// A group where a setting is wanted.
+#[tactic(auto, unfolding(crate::specs::Sgr::setting_read))]
+fn read_setting(group: &[u16]) -> GroupRead
+    ensures { result ≡ setting_read group.now }
+{
+    match group {
+        [number] => read_number(*number),
+        [38, form, index] => read_three(Layer::Front, *form, *index),
+        [48, form, index] => read_three(Layer::Back, *form, *index),
+        [38, form, red, green, blue] => read_five(Layer::Front, *form, *red, *green, *blue),
+        [48, form, red, green, blue] => read_five(Layer::Back, *form, *red, *green, *blue),
+        _ => GroupRead::unknown(),
+    }
+}
+
+// A group of one number where a setting is wanted.
+#[tactic(auto, using(std::proofs::lemmas::Bool::Decides::nat_tests), unfolding(crate::specs::Sgr::number_read))]
+fn read_number(number: u16) -> GroupRead
+    ensures { result ≡ number_read number }
+{
+    match number {
+        0 => GroupRead::set(Setting::Reset),
+        1 => GroupRead::set(Setting::Strength(Intensity::Bold)),
+        2 => GroupRead::set(Setting::Strength(Intensity::Dim)),
+        22 => GroupRead::set(Setting::Strength(Intensity::Normal)),
+        3 => GroupRead::set(Setting::Italic(true)),
+        23 => GroupRead::set(Setting::Italic(false)),
+        4 => GroupRead::set(Setting::Underline(true)),
+        24 => GroupRead::set(Setting::Underline(false)),
+        7 => GroupRead::set(Setting::Inverse(true)),
+        27 => GroupRead::set(Setting::Inverse(false)),
+        30..=37 => GroupRead::set(Setting::Foreground(Color::Idx((number - 30) as u8))),
+        38 => GroupRead::silent(Wanted::Form(Layer::Front)),
+        39 => GroupRead::set(Setting::Foreground(Color::Default)),
+        40..=47 => GroupRead::set(Setting::Background(Color::Idx((number - 40) as u8))),
+        48 => GroupRead::silent(Wanted::Form(Layer::Back)),
+        49 => GroupRead::set(Setting::Background(Color::Default)),
+        90..=97 => GroupRead::set(Setting::Foreground(Color::Idx((number - 82) as u8))),
+        100..=107 => GroupRead::set(Setting::Background(Color::Idx((number - 92) as u8))),
+        _ => GroupRead::unknown(),
+    }
+}
+
+// A long colour in one group of three numbers.
+fn read_three(layer: Layer, form: u16, index: u16) -> GroupRead
+    ensures { result ≡ three_read layer form index }
+{
+    if form != 5 {
+        return GroupRead::unknown();
+    }
+    index_colored(layer, index)
+}
+
+// A long colour in one group of five numbers.
+fn read_five(layer: Layer, form: u16, red: u16, green: u16, blue: u16) -> GroupRead
+    ensures { result ≡ five_read layer form red green blue }
+{
+    if form != 2 {
+        return GroupRead::unknown();
+    }
+    rgb_colored(layer, red, green, blue)
+}
+
+#[tactic(auto, using(std::proofs::lemmas::Bool::Decides::nat_tests), unfolding(crate::specs::Sgr::index_read))]
+fn index_colored(layer: Layer, index: u16) -> GroupRead
+    ensures { result ≡ index_read layer index }
+{
+    if index > 255 {
+        return GroupRead::silent(Wanted::Stopped);
+    }
+    GroupRead::set(layer.colored(Color::Idx(index as u8)))
+}
+
+#[tactic(auto, using(std::proofs::lemmas::Bool::Decides::nat_tests), unfolding(crate::specs::Sgr::rgb_read))]
+fn rgb_colored(layer: Layer, red: u16, green: u16, blue: u16) -> GroupRead
+    ensures { result ≡ rgb_read layer red green blue }
+{
+    if red > 255 || green > 255 || blue > 255 {
+        return GroupRead::silent(Wanted::Stopped);
+    }
+    GroupRead::set(layer.colored(Color::Rgb(red as u8, green as u8, blue as u8)))
+}
+
+// The form of a long colour.
+#[tactic(auto, using(std::proofs::lemmas::Bool::Decides::nat_tests), unfolding(crate::specs::Sgr::form_read))]
+fn read_form(layer: Layer, group: &[u16]) -> GroupRead
+    ensures { result ≡ form_read layer group.now }
+{
+    match group {
+        [2] => GroupRead::silent(Wanted::Red(layer)),
+        [5] => GroupRead::silent(Wanted::Index(layer)),
+        _ => GroupRead {
+            reading: Reading::Unhandled,
+            wanted: Wanted::Stopped,
+        },
+    }
+}
+
+// A part of a colour, or a colour's index: one number, up to 255.
+#[tactic(auto, using(std::proofs::lemmas::Bool::Decides::nat_tests))]
+fn part_of(group: &[u16]) -> Option<u8>
+    ensures { MatchOption result ((next : ℕ → GroupRead) → part_read group.now next ≡ silent Wanted.Stopped) (λ part. (next : ℕ → GroupRead) → part_read group.now next ≡ next part) }
+{
+    match group {
+        [part] if *part < 256 => Some(*part as u8),
+        _ => None,
+    }
+}
+
+fn read_index(layer: Layer, group: &[u16]) -> GroupRead
+    ensures { result ≡ part_read group.now (λ i. set (colored layer (Color.Idx i))) }
+{
+    match part_of(group) {
+        Some(index) => GroupRead::set(layer.colored(Color::Idx(index))),
+        None => GroupRead::silent(Wanted::Stopped),
+    }
+}
+
+fn read_red(layer: Layer, group: &[u16]) -> GroupRead
+    ensures { result ≡ part_read group.now (λ r. silent (Wanted.Green layer r)) }
+{
+    match part_of(group) {
+        Some(red) => GroupRead::silent(Wanted::Green(layer, red)),
+        None => GroupRead::silent(Wanted::Stopped),
+    }
+}
+
+fn read_green(layer: Layer, red: u8, group: &[u16]) -> GroupRead
+    ensures { result ≡ part_read group.now (λ g. silent (Wanted.Blue layer red g)) }
+{
+    match part_of(group) {
+        Some(green) => GroupRead::silent(Wanted::Blue(layer, red, green)),
+        None => GroupRead::silent(Wanted::Stopped),
+    }
+}
+
+fn read_blue(layer: Layer, red: u8, green: u8, group: &[u16]) -> GroupRead
+    ensures { result ≡ part_read group.now (λ b. set (colored layer (Color.Rgb red green b))) }
+{
+    match part_of(group) {
+        Some(blue) => GroupRead::set(layer.colored(Color::Rgb(red, green, blue))),
+        None => GroupRead::silent(Wanted::Stopped),
+    }
+}
+
+#[cfg(test)]
+mod tests {
+    use super::*;
+
+    // The attributes after these groups, and how many of them were unknown.
+    fn read(groups: &[&[u16]]) -> (Attrs, usize) {
+        let mut attrs = Attrs::new();
+        let mut wanted = Wanted::Any;
+        let mut unknown = 0usize;
+        for group in groups {
+            let read = wanted.read(group);
+            wanted = read.wanted;
+            match read.reading {
+                Reading::Silent => {}
+                Reading::Set(setting) => attrs = setting.applied_to(attrs),
+                Reading::Unhandled => unknown = unknown.saturating_add(1),
+            }
+        }
+        (attrs, unknown)
+    }
+
+    fn colored(fgcolor: Color, bgcolor: Color) -> Attrs {
+        Attrs {
+            fgcolor,
+            bgcolor,
+            ..Attrs::new()
+        }
+    }
+
+    fn front(fgcolor: Color) -> Attrs {
+        colored(fgcolor, Color::Default)
+    }
+
+    fn back(bgcolor: Color) -> Attrs {
+        colored(Color::Default, bgcolor)
+    }
+
+    fn strong(intensity: Intensity) -> Attrs {
+        Attrs {
+            intensity,
+            ..Attrs::new()
+        }
+    }
+
+    #[test]
+    fn reads_single_numbers(rt: HostRuntime) {
+        let none = Attrs::new();
+        let plain: [(&[&[u16]], Attrs); 18] = [
+            (&[&[31], &[0]], none),
+            (&[&[1]], strong(Intensity::Bold)),
+            (&[&[1], &[2]], strong(Intensity::Dim)),
+            (&[&[1], &[22]], none),
+            (&[&[2], &[22]], none),
+            (
+                &[&[3]],
+                Attrs {
+                    italic: true,
+                    ..none
+                },
+            ),
+            (&[&[3], &[23]], none),
+            (
+                &[&[4]],
+                Attrs {
+                    underline: true,
+                    ..none
+                },
+            ),
+            (&[&[4], &[24]], none),
+            (
+                &[&[7]],
+                Attrs {
+                    inverse: true,
+                    ..none
+                },
+            ),
+            (&[&[7], &[27]], none),
+            (&[&[30]], front(Color::Idx(0))),
+            (&[&[37], &[47]], colored(Color::Idx(7), Color::Idx(7))),
+            (&[&[90]], front(Color::Idx(8))),
+            (&[&[97], &[107]], colored(Color::Idx(15), Color::Idx(15))),
+            (&[&[31], &[42], &[39]], back(Color::Idx(2))),
+            (&[&[31], &[42], &[49]], front(Color::Idx(1))),
+            (&[&[100]], back(Color::Idx(8))),
+        ];
+        for (groups, attrs) in plain {
+            let found = read(groups);
+            assert!(rt; found.0 == attrs && found.1 == 0);
+        }
+    }
+
+    #[test]
+    fn reads_long_colours(rt: HostRuntime) {
+        let long: [(&[&[u16]], Attrs); 9] = [
+            (&[&[38, 5, 9]], front(Color::Idx(9))),
+            (&[&[48, 5, 255]], back(Color::Idx(255))),
+            (&[&[38, 2, 1, 2, 3]], front(Color::Rgb(1, 2, 3))),
+            (&[&[48, 2, 255, 0, 9]], back(Color::Rgb(255, 0, 9))),
+            (&[&[38], &[5], &[9]], front(Color::Idx(9))),
+            (
+                &[&[48], &[5], &[9], &[31]],
+                colored(Color::Idx(1), Color::Idx(9)),
+            ),
+            (&[&[38], &[2], &[1], &[2], &[3]], front(Color::Rgb(1, 2, 3))),
+            (&[&[48], &[2], &[1], &[2], &[3]], back(Color::Rgb(1, 2, 3))),
+            (
+                &[&[38], &[5], &[1], &[38], &[5], &[2]],
+                front(Color::Idx(2)),
+            ),
+        ];
+        for (groups, attrs) in long {
+            let found = read(groups);
+            assert!(rt; found.0 == attrs && found.1 == 0);
+        }
+    }
+
+    #[test]
+    fn stops_or_goes_on(rt: HostRuntime) {
+        let none = Attrs::new();
+        let cut: [(&[&[u16]], Attrs, usize); 14] = [
+            (&[&[38], &[5], &[300]], none, 0),
+            (&[&[31], &[38, 5, 256], &[1]], front(Color::Idx(1)), 0),
+            (&[&[38, 2, 0, 256, 0], &[1]], none, 0),
+            (&[&[38], &[2], &[1], &[2]], none, 0),
+            (&[&[38], &[2], &[1], &[2], &[256], &[1]], none, 0),
+            (&[&[38], &[5], &[9, 9], &[1]], none, 0),
+            (&[&[38]], none, 0),
+            (&[&[38], &[7], &[1]], none, 1),
+            (&[&[48], &[5, 1], &[1]], none, 1),
+            (&[&[38, 5], &[9]], none, 2),
+            (&[&[38, 2, 0, 1, 2, 3], &[1]], strong(Intensity::Bold), 1),
+            (&[&[38, 7, 1], &[1]], strong(Intensity::Bold), 1),
+            (
+                &[&[21], &[1, 1], &[4]],
+                Attrs {
+                    underline: true,
+                    ..none
+                },
+                2,
+            ),
+            (&[&[108], &[98], &[29]], none, 3),
+        ];
+        for (groups, attrs, unknown) in cut {
+            let found = read(groups);
+            assert!(rt; found.0 == attrs && found.1 == unknown);
+        }
+    }
+}
