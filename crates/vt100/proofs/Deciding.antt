@@ -1,0 +1,46 @@
+-- Which steps there are, from the tests that the code makes.
+use Rattle.std.proofs.Common.{◌≡◌, ◌≢◌, ℕ, ◌<◌, ◌≤◌, ◌==◌, ◌&&◌, ◌||◌, nat_le, Bool, true, List, [], ◌∷◌, length, None, Some, codes, refl, arith, rules}
+use Rattle.std.proofs.lemmas.Bool.Decides.{nat_tests}
+use Rattle.vt_screen.specs.Calls.{CallValue, SetWindowIconName, SetWindowTitle, UnhandledChar, UnhandledControl, UnhandledEscape, UnhandledOsc}
+use Rattle.vt_screen.specs.Screen.{ScreenValue}
+use Rattle.vt_screen.specs.Steps.{Tell, character_steps, control_steps, escape_steps, csi_steps, plain_steps, marked_steps, mark_at, mode_steps, named_steps, osc_steps, is_text}
+
+pub reported_steps : (c : ℕ) → ((c == 0xFFFD) || (nat_le 0x80 c && nat_le c 0x9F)) ≡ true → character_steps c ≡ Tell (UnhandledChar c) ∷ []
+unfolding character_steps
+reported_steps c e = rw e refl
+
+pub control_low : (b : ℕ) → b < 7 → control_steps b ≡ Tell (UnhandledControl b) ∷ []
+unfolding control_steps
+control_low b h = grind (arith, nat_tests)
+
+pub control_high : (b : ℕ) → 16 ≤ b → control_steps b ≡ Tell (UnhandledControl b) ∷ []
+unfolding control_steps
+control_high b h = grind (arith, nat_tests)
+
+pub escape_marked : (marks : List ℕ) (b : ℕ) → 0 < length marks → escape_steps marks b ≡ Tell (UnhandledEscape (mark_at 0 marks) (mark_at 1 marks) b) ∷ []
+unfolding escape_steps
+escape_marked [] b h = absurd (omega (arith, h))
+escape_marked (mark ∷ marks) b h = refl
+
+pub csi_unmarked : (groups : List (List ℕ)) (b : ℕ) (screen : ScreenValue) → csi_steps groups [] b screen ≡ plain_steps groups b screen
+csi_unmarked groups b screen = refl
+
+pub csi_marked : (groups : List (List ℕ)) (marks : List ℕ) (b mark : ℕ) (screen : ScreenValue) → mark_at 0 marks ≡ Some mark → csi_steps groups marks b screen ≡ marked_steps mark (mark_at 1 marks) groups b
+csi_marked groups [] b mark screen e = search rules
+csi_marked groups (m ∷ marks) b mark screen e = search rules
+
+pub named_both : (name text : List ℕ) → is_text name (codes "0") ≡ true → named_steps name text ≡ Tell (SetWindowIconName text) ∷ Tell (SetWindowTitle text) ∷ []
+unfolding named_steps
+named_both name text e = rw e refl
+
+pub other_group : (on : Bool) (report : CallValue) (group : List ℕ) → length group ≢ 1 → mode_steps on report (group ∷ []) ≡ Tell report ∷ []
+other_group on report [] h = refl
+other_group on report (x ∷ []) h = absurd (h refl)
+other_group on report (x ∷ y ∷ zs) h = refl
+
+pub other_parts : (parts : List (List ℕ)) → length parts ≢ 2 → length parts ≢ 3 → osc_steps parts ≡ Tell (UnhandledOsc parts) ∷ []
+other_parts [] h k = refl
+other_parts (a ∷ []) h k = refl
+other_parts (a ∷ b ∷ []) h k = absurd (h refl)
+other_parts (a ∷ b ∷ c ∷ []) h k = absurd (k refl)
+other_parts (a ∷ b ∷ c ∷ d ∷ rest) h k = refl

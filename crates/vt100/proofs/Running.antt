@@ -1,0 +1,48 @@
+-- Runs, one after the other.
+use Rattle.std.proofs.Common.{◌≡◌, ℕ, ◌<◌, List, [], ◌∷◌, ◌++◌, take, slice_index_or, refl, sym, subst, ap, ◌∙◌}
+use Rattle.std.proofs.lemmas.List.{append-nil}
+use Rattle.std.specs.List.{FoldsTo}
+use Rattle.vt_scan.specs.Automaton.{State, Event, step_in}
+use Rattle.vt_scan.specs.Run.{run}
+use Rattle.vt_scan.specs.Scanner.{Feeds, Held, StandsFor, events_in}
+use Rattle.vt_scan.specs.Table.{class_of, turn_of}
+use Rattle.vt_scan.specs.declared.event.Events.{Events}
+use Rattle.vt_scan.specs.declared.table.Kind.{Kind}
+use Rattle.vt_scan.specs.declared.table.Kind.TheVariants.{OscString}
+use Rattle.vt_scan.specs.declared.table.Turn.TheVariants.{Collect}
+use Rattle.vt_scan.proofs.Running.{behind, run-append}
+use Rattle.vt_screen.specs.Calls.{CallValue}
+use Rattle.vt_screen.specs.Screen.{ScreenValue}
+use Rattle.vt_screen.specs.Run.{Performs}
+use Rattle.vt100.specs.Parser.{Parsing, Ran, Collects, joined, stage}
+
+pub folds_then : {P A : Type 0} (R : P → A → P → Type 0) (xs ys : List A) (p q r : P) → FoldsTo R p xs q → FoldsTo R q ys r → FoldsTo R p (xs ++ ys) r
+folds_then R [] ys p q r e t = subst (λ z. FoldsTo R z ys r) (sym e) t
+folds_then R (x ∷ xs) ys p q r s t = (s.0, s.1, folds_then R xs ys s.0 q r s.2 t)
+
+pub folds_parted : {P A : Type 0} (R : P → A → P → Type 0) (xs ys : List A) (p r : P) → FoldsTo R p (xs ++ ys) r → (q : P) × FoldsTo R p xs q × FoldsTo R q ys r
+folds_parted R [] ys p r t = (p, refl, t)
+folds_parted R (x ∷ xs) ys p r t = let rest = folds_parted R xs ys t.0 r t.2 in (rest.0, (t.0, t.1, rest.1), rest.2)
+
+pub ran_then : {S : Type 0} (does : CallValue → S → ScreenValue → S → ScreenValue → Type 0) (p q r : Parsing S) (a b : List ℕ) → Ran does p a q → Ran does q b r → Ran does p (a ++ b) r
+ran_then does p q r a b first second = λ s stands.
+    let one = first s stands in
+    let two = second (run s a).state one.0 in
+    rw (run-append s a b) (two.0, folds_then (Performs does) (run s a).events (run (run s a).state b).events (stage p) (stage q) (stage r) one.1 two.1)
+
+pub byte_ran : {S : Type 0} (does : CallValue → S → ScreenValue → S → ScreenValue → Type 0) (p q : Parsing S) (b : ℕ) (answer : Events) → Feeds p.scanner b q.scanner answer → FoldsTo (Performs does) (stage p) (events_in q.scanner answer) (stage q) → Ran does p (b ∷ []) q
+byte_ran does p q b answer feeds folds = λ s stands.
+    let follows = feeds s stands in
+    (follows.stands, subst (λ events. FoldsTo (Performs does) (stage p) events (stage q)) (follows.means ∙ sym (append-nil (step_in s.kind s.collected b).events)) folds)
+
+-- the byte that was refused is one of a command's text
+pub refused_at : {S : Type 0} (does : CallValue → S → ScreenValue → S → ScreenValue → Type 0) (p q : Parsing S) (bytes : List ℕ) (k : ℕ) → Ran does p (take k bytes) q → turn_of q.scanner.kind (class_of (slice_index_or bytes k 0)) ≡ Collect OscString → (state : State) → StandsFor p.scanner state → Collects state bytes k
+refused_at does p q bytes k ran turn = λ s stands.
+    subst (λ (kind : Kind). turn_of kind (class_of (slice_index_or bytes k 0)) ≡ Collect OscString) (ran s stands).0.kind turn
+
+ran_nothing : {S : Type 0} (does : CallValue → S → ScreenValue → S → ScreenValue → Type 0) (p q : Parsing S) → p ≡ q → Ran does p [] q
+ran_nothing does p q same = subst (λ z. Ran does p [] z) same (λ s stands. (stands, refl))
+
+pub ran_joined : {S : Type 0} (does : CallValue → S → ScreenValue → S → ScreenValue → Type 0) (p q : Parsing S) (pieces : List (List ℕ)) → FoldsTo (Ran does) p pieces q → Ran does p (joined pieces) q
+ran_joined does p q [] same = ran_nothing does p q same
+ran_joined does p q (piece ∷ pieces) runs = ran_then does p runs.0 q piece (joined pieces) runs.1 (ran_joined does runs.0 q pieces runs.2)

@@ -1,0 +1,9 @@
+-- Runs over bytes in pieces.
+use Rattle.vt100.proofs.Running.{ran_then, ran_joined}
+use Rattle.vt100.proofs.laws.pieces.Goals as goal
+
+pub returns : goal.returns
+returns g c = record {
+  two = λ p q r a b. ran_then g.CB.Callbacks.does p q r a b;
+  list = λ p q pieces. ran_joined g.CB.Callbacks.does p q pieces;
+}

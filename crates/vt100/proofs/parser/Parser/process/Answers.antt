@@ -1,0 +1,14 @@
+use Rattle.std.proofs.Common.{refl}
+use Rattle.vt100.specs.Parser.{parsing}
+use Rattle.vt100.proofs.Quiet.{quietly_here, never_refused}
+use Rattle.vt100.proofs.parser.Parser.process.Goals as goal
+
+pub returns-in-Err-clause-quiet : goal.returns-in-Err-clause-quiet
+returns-in-Err-clause-quiet g c state after ready stands told =
+    let stopped = c.in-Err.ensures.stopped refl in
+    absurd (never_refused _ c.args.self.now c.args.bytes.now state after stopped.count c.self.view_is stopped.inside stopped.refused stands told)
+
+pub returns-in-Ok-clause-quiet : goal.returns-in-Ok-clause-quiet
+returns-in-Ok-clause-quiet g c state after ready stands told =
+    let quiet = quietly_here g.CB.Callbacks.does _ c.args.self.now (parsing c.process.new.scanner c.process.new.screen c.process.new.callbacks) c.args.bytes.now state after c.self.view_is c.in-Ok.ensures.ran stands told in
+    (refl, quiet.0, quiet.1, quiet.2)

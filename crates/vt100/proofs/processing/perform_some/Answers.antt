@@ -1,0 +1,6 @@
+use Rattle.std.proofs.Common.{refl}
+use Rattle.vt_screen.specs.Run.{state}
+use Rattle.vt100.proofs.processing.perform_some.Goals as goal
+
+pub returns : goal.returns
+returns g c = rw c.in-Some.is (state c.perform.new.callbacks c.perform.new.screen, c.perform.ensures, refl)

@@ -1,0 +1,15 @@
+use Rattle.std.proofs.Common.{ℕ, ◌+◌, List, [], ◌∷◌, get_or, take, subst, sym}
+use Rattle.std.proofs.lemmas.List.{take_more}
+use Rattle.vt100.specs.Parser.{Ran, parsing}
+use Rattle.vt100.proofs.Running.{byte_ran, ran_then}
+use Rattle.vt100.proofs.processing.process.Goals as goal
+
+pub loop-byte-preserved : goal.loop-byte-preserved
+loop-byte-preserved g c =
+    subst (λ (bytes : List ℕ). Ran g.CB.Callbacks.does (parsing c.args.scanner.now c.args.screen.now c.args.callbacks.now) bytes (parsing c.feed.new.self c.perform_each.new.screen c.perform_each.new.callbacks))
+    (sym (take_more c.args.bytes.now c.loop-byte.byte-index 0 c.loop-byte-test.true))
+    (ran_then g.CB.Callbacks.does (parsing c.args.scanner.now c.args.screen.now c.args.callbacks.now) (parsing c.loop-byte.scanner c.loop-byte.screen c.loop-byte.callbacks)
+    (parsing c.feed.new.self c.perform_each.new.screen c.perform_each.new.callbacks) (take c.loop-byte.byte-index c.args.bytes.now) (get_or c.args.bytes.now c.loop-byte.byte-index 0 ∷ [])
+    c.loop-byte.invariant
+    (byte_ran g.CB.Callbacks.does (parsing c.loop-byte.scanner c.loop-byte.screen c.loop-byte.callbacks) (parsing c.feed.new.self c.perform_each.new.screen c.perform_each.new.callbacks)
+    (get_or c.args.bytes.now c.loop-byte.byte-index 0) c.in_ok-events.events c.in_ok-events.ensures.fed c.perform_each.ensures))

@@ -1,0 +1,55 @@
+-- What `process` does: a run over bytes, in full or up to a byte that takes memory.
+use Rattle.std.specs.Prelude.{◌≡◌, ℕ, ◌<◌, Bool, false, List, [], ◌∷◌, ◌++◌, length, take, slice_index_or}
+use Rattle.std.specs.List.{FoldsTo}
+use Rattle.vt_scan.specs.Automaton.{State}
+use Rattle.vt_scan.specs.Run as scan
+use Rattle.vt_scan.specs.Scanner.{Held, StandsFor}
+use Rattle.vt_scan.specs.Table.{class_of, turn_of}
+use Rattle.vt_scan.specs.declared.table.Kind.TheVariants.{OscString}
+use Rattle.vt_scan.specs.declared.table.Turn.TheVariants.{Collect}
+use Rattle.vt_screen.specs.Calls.{CallValue}
+use Rattle.vt_screen.specs.Screen.{ScreenValue}
+use Rattle.vt_screen.specs.Run as screen
+use Rattle.vt_screen.specs.Run.{Performs}
+
+-- what a parser is: what its scanner holds, its screen, its callbacks, and whether it ran out of memory
+pub record Parsing (S : Type 0) : Type 0 where
+  pub scanner : Held
+  pub screen : ScreenValue
+  pub callbacks : S
+  pub is_failed : Bool
+
+-- a parser that didn't run out of memory
+abbrev pub parsing : {S : Type 0} → Held → ScreenValue → S → Parsing S
+parsing scanner screen callbacks = record { scanner = scanner; screen = screen; callbacks = callbacks; is_failed = false }
+
+-- what the steps of events act on
+abbrev pub stage : {S : Type 0} → Parsing S → screen.State S
+stage parser = screen.state parser.callbacks parser.screen
+
+-- a run over bytes: from each state that the scanner stood for, it then stands for the one after these bytes, and callbacks and
+-- screen have taken the steps of all events on the way, one after the other
+abbrev pub Ran : {S : Type 0} → (CallValue → S → ScreenValue → S → ScreenValue → Type 0) → Parsing S → List ℕ → Parsing S → Type 0
+Ran does old bytes new =
+    (state : State) → StandsFor old.scanner state
+    → StandsFor new.scanner (scan.run state bytes).state × FoldsTo (Performs does) (stage old) (scan.run state bytes).events (stage new)
+
+-- the byte at k is one that is collected into the text of an operating system command, and so may take memory
+abbrev pub Collects : State → List ℕ → ℕ → Type 0
+Collects state bytes k = turn_of (scan.run state (take k bytes)).state.kind (class_of (slice_index_or bytes k 0)) ≡ Collect OscString
+
+-- no byte takes memory
+abbrev pub IsHarmless : State → List ℕ → Type 0
+IsHarmless state bytes = (k : ℕ) → k < length bytes → Collects state bytes k → ⊥
+
+-- a run that ended before a byte that may take memory: all bytes before it were read, and nothing else was done
+pub record Stopped {S : Type 0} (does : CallValue → S → ScreenValue → S → ScreenValue → Type 0) (old : Parsing S) (bytes : List ℕ) (new : Parsing S) : Type 0 where
+  pub count : ℕ
+  pub inside : count < length bytes
+  pub ran : Ran does old (take count bytes) new
+  pub refused : (state : State) → StandsFor old.scanner state → Collects state bytes count
+
+-- pieces put together
+abbrev pub joined : List (List ℕ) → List ℕ
+joined [] = []
+joined (piece ∷ pieces) = piece ++ joined pieces

@@ -1,0 +1,102 @@
+//! Operating system commands: titles and the clipboard.
+
+ghost use Rattle.std.specs.Prelude.{◌≡◌, [], ◌∷◌, map};
+ghost use Rattle.std.specs.List.{list_all};
+ghost use Rattle.vt100.specs.Keeping.{Does};
+ghost use Rattle.vt_screen.specs.Steps.{clipboard_steps, is_base64, is_clipboard_kind, is_text, named_steps, osc_steps};
+
+use vt_screen::{Callbacks, Screen};
+
+/// Calls what an operating system command says.
+#[tactic(auto, using(crate::proofs::Stepping::told, crate::proofs::Groups2::two_parts, crate::proofs::Groups2::three_parts, crate::proofs::Groups2::more_parts))]
+pub fn perform<CB: Callbacks>(screen: &mut Screen, callbacks: &mut CB, parts: &[&[u8]])
+    ensures { Does CB.does callbacks.old screen.old (osc_steps (map (λ part. part.now) parts.now)) callbacks.new screen.new }
+{
+    if parts.len() == 2 {
+        title(screen, callbacks, parts, parts[0], parts[1]);
+        return;
+    }
+    if parts.len() == 3 {
+        clipboard(screen, callbacks, parts, parts[0], parts[1], parts[2]);
+        return;
+    }
+    callbacks.unhandled_osc(screen, parts);
+}
+
+// A command of two parts: a title.
+#[tactic(auto, using(crate::proofs::Stepping::told, crate::proofs::Stepping::told_two, crate::proofs::Stepping::stepping), unfolding(vt_screen::specs::Steps::named_steps))]
+fn title<CB: Callbacks>(
+    screen: &mut Screen,
+    callbacks: &mut CB,
+    parts: &[&[u8]],
+    name: &[u8],
+    text: &[u8],
+)
+    requires { map (λ part. part.now) parts.now ≡ name.now ∷ text.now ∷ [] }
+    ensures { Does CB.does callbacks.old screen.old (named_steps name.now text.now) callbacks.new screen.new }
+{
+    if is_text(name, b"0") {
+        callbacks.set_window_icon_name(screen, text);
+        callbacks.set_window_title(screen, text);
+        return;
+    }
+    if is_text(name, b"1") {
+        callbacks.set_window_icon_name(screen, text);
+        return;
+    }
+    if is_text(name, b"2") {
+        callbacks.set_window_title(screen, text);
+        return;
+    }
+    callbacks.unhandled_osc(screen, parts);
+}
+
+// A command of three parts: a clipboard, and what it should hold.
+#[tactic(auto, using(crate::proofs::Stepping::told, crate::proofs::Stepping::told_two, crate::proofs::Stepping::stepping), unfolding(vt_screen::specs::Steps::clipboard_steps))]
+fn clipboard<CB: Callbacks>(
+    screen: &mut Screen,
+    callbacks: &mut CB,
+    parts: &[&[u8]],
+    name: &[u8],
+    kind: &[u8],
+    text: &[u8],
+)
+    requires { map (λ part. part.now) parts.now ≡ name.now ∷ kind.now ∷ text.now ∷ [] }
+    ensures { Does CB.does callbacks.old screen.old (clipboard_steps name.now kind.now text.now) callbacks.new screen.new }
+{
+    if !is_text(name, b"52") || !all_clipboards(kind) {
+        callbacks.unhandled_osc(screen, parts);
+        return;
+    }
+    if is_text(text, b"?") {
+        callbacks.paste_from_clipboard(screen, kind);
+        return;
+    }
+    if all_base64(text) {
+        callbacks.copy_to_clipboard(screen, kind, text);
+        return;
+    }
+    callbacks.unhandled_osc(screen, parts);
+}
+
+fn is_text(text: &[u8], word: &[u8]) -> bool
+    ensures { result ≡ is_text text.now word.now }
+{
+    text == word
+}
+
+// Whether each byte names a clipboard.
+fn all_clipboards(kind: &[u8]) -> bool
+    ensures { result ≡ is_clipboard_kind kind.now }
+{
+    kind.iter().all(|byte| matches!(byte, b'c' | b'p' | b'q' | b's' | b'0'..=b'7'))
+}
+
+// Whether each byte is one of Base64.
+fn all_base64(text: &[u8]) -> bool
+    ensures { result ≡ list_all is_base64 text.now }
+{
+    text.iter().all(
+        |byte| matches!(byte, b'A'..=b'Z' | b'a'..=b'z' | b'0'..=b'9' | b'+' | b'/' | b'='),
+    )
+}

@@ -1,0 +1,181 @@
+//! The parser: bytes in, a screen and callbacks out.
+
+ghost use Rattle.std.specs.Borrow.{sem, Lends};
+ghost use Rattle.std.specs.Prelude.{◌≡◌, ◌↔◌, Err, IfErr, IfOk, IsErr, Ok, Some, false, true};
+ghost use Rattle.vt100.specs.Parser.{IsHarmless, Ran, Stopped, parsing};
+ghost use Rattle.vt100.specs.contracts.parser.Parser.{the_row as parser_row};
+ghost use Rattle.vt_scan.specs.Automaton.{State, start};
+ghost use Rattle.vt_scan.specs.Scanner.{StandsFor};
+ghost use Rattle.vt_screen.specs.Reading.{Terminal, read, terminal};
+ghost use Rattle.vt_screen.specs.Screen.{fresh_screen};
+ghost use Rattle.vt_screen.specs.contracts.screen.Screen.{the_row as screen_row};
+
+use crate::processing;
+use std::alloc::Global;
+use std::marker::Model;
+use std::num::NonZeroU16;
+use vt_cells::Error;
+use vt_scan::Scanner;
+use vt_screen::{Callbacks, Screen};
+
+/// A terminal in memory: it reads what a program writes, keeps the screen that
+/// a person would see, and calls `callbacks` for all that isn't shown.
+#[derive(Drop)]
+pub struct Parser<CB: Callbacks = ()> {
+    scanner: Scanner,
+    screen: Screen,
+    callbacks: CB,
+    is_failed: bool,
+}
+
+impl<CB: Callbacks> Model for Parser<CB> {
+    ghost use Rattle.vt100.specs.Parser.{Parsing};
+
+    ghost Value = { Parsing CB };
+
+    ghost view = { λ p. record { scanner = p.scanner; screen = p.screen; callbacks = p.callbacks; is_failed = p.is_failed } };
+}
+
+impl Parser {
+    /// How many rows the default screen has.
+    pub const DEFAULT_ROWS: u16 = 24;
+
+    /// How many columns the default screen has.
+    pub const DEFAULT_COLS: u16 = 80;
+
+    /// A parser with a fresh screen and no callbacks. `scrollback_capacity`
+    /// is how many rows that leave the page are kept.
+    ///
+    /// Fails where memory for the screen is refused.
+    pub fn new(
+        alloc: Global,
+        rows: NonZeroU16,
+        cols: NonZeroU16,
+        scrollback_capacity: usize,
+    ) -> Result<Parser, Error>
+        ensures begun { IfOk result (λ parser. StandsFor parser.scanner start) }
+        ensures memory { IfErr result (λ error. error ≡ Error.OutOfMemory) }
+        ensures shown { IfOk result (λ parser. parser ≡ parsing parser.scanner (fresh_screen rows.value cols.value scrollback_capacity) parser.callbacks) }
+    {
+        Parser::new_with_callbacks(alloc, rows, cols, scrollback_capacity, ())
+    }
+
+    /// A parser of 24 rows and 80 columns, without scrollback and callbacks.
+    ///
+    /// Fails where memory for the screen is refused.
+    pub fn default(alloc: Global) -> Result<Parser, Error>
+        ensures begun { IfOk result (λ parser. StandsFor parser.scanner start) }
+        ensures memory { IfErr result (λ error. error ≡ Error.OutOfMemory) }
+        ensures shown { IfOk result (λ parser. parser ≡ parsing parser.scanner (fresh_screen 24 80 0) parser.callbacks) }
+    {
+        let rows = NonZeroU16::new(Parser::DEFAULT_ROWS).unwrap();
+        let cols = NonZeroU16::new(Parser::DEFAULT_COLS).unwrap();
+        Parser::new(alloc, rows, cols, 0)
+    }
+}
+
+impl<CB: Callbacks> Parser<CB> {
+    /// A parser with a fresh screen and these callbacks. `scrollback_capacity`
+    /// is how many rows that leave the page are kept.
+    ///
+    /// Fails where memory for the screen is refused.
+    pub fn new_with_callbacks(
+        alloc: Global,
+        rows: NonZeroU16,
+        cols: NonZeroU16,
+        scrollback_capacity: usize,
+        callbacks: CB,
+    ) -> Result<Parser<CB>, Error>
+    where
+        CB: Drop,
+        ensures begun { IfOk result (λ parser. StandsFor parser.scanner start) }
+        ensures memory { IfErr result (λ error. error ≡ Error.OutOfMemory) }
+        ensures shown { IfOk result (λ parser. parser ≡ parsing parser.scanner (fresh_screen rows.value cols.value scrollback_capacity) callbacks) }
+    {
+        let scanner = Scanner::new(alloc);
+        let screen = Screen::new(alloc, rows, cols, scrollback_capacity)?;
+        Ok(Parser {
+            scanner,
+            screen,
+            callbacks,
+            is_failed: false,
+        })
+    }
+
+    /// Reads bytes: each changes the screen and calls callbacks as far as it
+    /// ends something. Bytes may come in any pieces; what a piece leaves
+    /// unfinished goes on with the next one.
+    ///
+    /// Memory is taken only for the text of operating system commands. Where
+    /// it is refused, the answer is `OutOfMemory`: the bytes before were read,
+    /// and from then on the parser reads nothing and answers `Failed`. Its
+    /// screen can still be read.
+    pub fn process(&mut self, bytes: &[u8]) -> Result<(), Error>
+        ensures ran { IfOk result (λ _. Ran CB.does self.old bytes.now self.new) }
+        ensures memory { result ≡ Err Error.OutOfMemory → Stopped CB.does self.old bytes.now self.new }
+        ensures failed { self.old.is_failed ≡ true → (result ≡ Err Error.Failed) × (self.new ≡ self.old) }
+        ensures only { result ≡ Err Error.Failed → self.old.is_failed ≡ true }
+        ensures for_good { self.new.is_failed ≡ true ↔ IsErr result }
+        ensures harmless { (state : State) → self.old.is_failed ≡ false → StandsFor self.old.scanner state → IsHarmless state bytes.now → result ≡ Ok tt }
+        ensures quiet { (state : State) (after : Terminal) → self.old.is_failed ≡ false → StandsFor self.old.scanner state → read (terminal state self.old.screen) bytes.now ≡ Some after → (result ≡ Ok tt) × StandsFor self.new.scanner after.scan × (self.new.screen ≡ after.screen) × (self.new.callbacks ≡ self.old.callbacks) }
+    {
+        if self.is_failed {
+            return Err(Error::Failed);
+        }
+        match processing::process(
+            &mut self.scanner,
+            &mut self.screen,
+            &mut self.callbacks,
+            bytes,
+        ) {
+            Ok(()) => Ok(()),
+            Err(_) => {
+                self.is_failed = true;
+                Err(Error::OutOfMemory)
+            }
+        }
+    }
+
+    /// The screen.
+    #[inline]
+    pub fn screen(&self) -> &Screen
+        ensures { result.now ≡ self.now.screen }
+    {
+        &self.screen
+    }
+
+    /// The screen, to change it.
+    #[inline]
+    pub fn screen_mut(&mut self) -> &mut Screen
+        ensures* writes_back { sem 𝓛 (Lends (parser_row CB.row ⟦<CB as Callbacks>⟧) screen_row self.entry result (λ w. record self.old { screen = w })) }
+        ensures value { result.now ≡ self.old.screen }
+    {
+        &mut self.screen
+    }
+
+    /// The callbacks.
+    #[inline]
+    pub fn callbacks(&self) -> &CB
+        ensures { result.now ≡ self.now.callbacks }
+    {
+        &self.callbacks
+    }
+
+    /// The callbacks, to change them.
+    #[inline]
+    pub fn callbacks_mut(&mut self) -> &mut CB
+        ensures* writes_back { sem 𝓛 (Lends (parser_row CB.row ⟦<CB as Callbacks>⟧) CB.row self.entry result (λ w. record self.old { callbacks = w })) }
+        ensures value { result.now ≡ self.old.callbacks }
+    {
+        &mut self.callbacks
+    }
+
+    /// The screen and the callbacks, to change both.
+    #[inline]
+    pub fn screen_and_callbacks_mut(&mut self) -> (&mut Screen, &mut CB)
+        ensures screen { result.0.now ≡ self.old.screen }
+        ensures callbacks { result.1.now ≡ self.old.callbacks }
+    {
+        (&mut self.screen, &mut self.callbacks)
+    }
+}

@@ -1,0 +1,60 @@
+//! The loop over bytes.
+
+ghost use Rattle.std.specs.List.{FoldsTo};
+ghost use Rattle.std.specs.Prelude.{map, option_to_list, IfOk, IsErr};
+ghost use Rattle.vt100.specs.Parser.{Ran, Stopped, parsing};
+ghost use Rattle.vt_scan.specs.Scanner.{event_of, events_in};
+ghost use Rattle.vt_screen.specs.Run.{Performs, state};
+
+use crate::perform::perform;
+use vt_cells::Error;
+use vt_scan::{Event, Events, Scanner};
+use vt_screen::{Callbacks, Screen};
+
+/// Reads bytes one by one, and does what their events say, up to a byte whose
+/// memory is refused.
+pub fn process<CB: Callbacks>(
+    scanner: &mut Scanner,
+    screen: &mut Screen,
+    callbacks: &mut CB,
+    bytes: &[u8],
+) -> Result<(), Error>
+    ensures ran { IfOk result (λ _. Ran CB.does (parsing scanner.old screen.old callbacks.old) bytes.now (parsing scanner.new screen.new callbacks.new)) }
+    ensures stopped { IsErr result → Stopped CB.does (parsing scanner.old screen.old callbacks.old) bytes.now (parsing scanner.new screen.new callbacks.new) }
+{
+    for byte in bytes {
+        let events = scanner.feed(*byte)?;
+        perform_each(screen, callbacks, scanner, events);
+    }
+    Ok(())
+}
+
+// The events of one byte.
+#[inline]
+fn perform_each<CB: Callbacks>(
+    screen: &mut Screen,
+    callbacks: &mut CB,
+    scanner: &Scanner,
+    events: Events,
+)
+    ensures { FoldsTo (Performs CB.does) (state callbacks.old screen.old) (events_in scanner.now events) (state callbacks.new screen.new) }
+{
+    perform_some(screen, callbacks, scanner, events.first);
+    perform_some(screen, callbacks, scanner, events.second);
+}
+
+// An event, if there is one.
+#[inline]
+fn perform_some<CB: Callbacks>(
+    screen: &mut Screen,
+    callbacks: &mut CB,
+    scanner: &Scanner,
+    event: Option<Event>,
+)
+    ensures { FoldsTo (Performs CB.does) (state callbacks.old screen.old) (map (event_of scanner.now) (option_to_list event)) (state callbacks.new screen.new) }
+{
+    let Some(event) = event else {
+        return;
+    };
+    perform(screen, callbacks, scanner, event);
+}

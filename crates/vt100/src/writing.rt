@@ -1,0 +1,34 @@
+//! A parser as a writer of bytes.
+
+ghost use Rattle.std.specs.Io.{WritesAtMost};
+ghost use Rattle.std.specs.Io.KnownBytes.{WriteAppends};
+ghost use Rattle.std.specs.Prelude.{◌≡◌, IfOk, None, length};
+
+use crate::parser::Parser;
+use std::io;
+use std::io::Write;
+use vt_cells::Error;
+
+impl Write for Parser<()> {
+    /// Reads all the bytes, as [`Parser::process`] does, and answers how many
+    /// they are.
+    ///
+    /// Its errors are of the kind `OutOfMemory` where memory is refused, and
+    /// of the kind `Other` from then on.
+    fn write(&mut self, buf: &[u8]) -> io::Result<usize>
+        ensures bound { WritesAtMost result buf.now }
+        ensures bytes { WriteAppends None None result buf.now }
+        ensures whole { IfOk result (λ count. count ≡ length buf.now) }
+    {
+        match self.process(buf) {
+            Ok(()) => Ok(buf.len()),
+            Err(Error::OutOfMemory) => Err(io::Error::from(io::ErrorKind::OutOfMemory)),
+            Err(Error::Failed) => Err(io::Error::from(io::ErrorKind::Other)),
+        }
+    }
+
+    /// Nothing is kept back.
+    fn flush(&mut self) -> io::Result<()> {
+        Ok(())
+    }
+}
