@@ -1,0 +1,32 @@
+-- What is written for an input: the text, by the mode, of the screen that a fresh terminal shows after reading it.
+use Rattle.std.specs.Prelude.{◌≡◌, ℕ, List}
+use Rattle.std.specs.List.{FoldsTo}
+use Rattle.std.specs.Io.KnownBytes.{Appends}
+use Rattle.std.specs.declared.option.Option.{Option}
+use Rattle.vt_cells.specs.Op.{bytes_of_all}
+use Rattle.vt_grid.specs.Script.{redraw}
+use Rattle.vt_scan.specs.Automaton.{start}
+use Rattle.vt_scan.specs.Run as scan
+use Rattle.vt_screen.specs.Calls.{CallValue}
+use Rattle.vt_screen.specs.Run.{Performs, state}
+use Rattle.vt_screen.specs.Screen.{ScreenValue, canvas_of, fresh_screen}
+use Rattle.vt_show.specs.declared.mode.Mode.{Mode}
+use Rattle.vt_show.specs.declared.mode.Mode.TheVariants.{Formatted}
+
+-- callbacks that do nothing
+abbrev pub Silent : CallValue → Unit {0} → ScreenValue → Unit {0} → ScreenValue → Type 0
+Silent call old before new after = (new ≡ old) × (after ≡ before)
+
+-- the screen of a run over the input, from a fresh terminal of this size without scrollback
+abbrev pub ShowsAfter : ℕ → ℕ → List ℕ → ScreenValue → Type 0
+ShowsAfter rows cols input screen =
+    FoldsTo (Performs Silent) (state tt (fresh_screen rows cols 0)) (scan.run start input).events (state tt screen)
+
+abbrev pub text_of : Mode → ScreenValue → List ℕ
+text_of Formatted screen = bytes_of_all (redraw (canvas_of screen))
+
+-- what is written grew by the text for the input, and by nothing else
+pub record Writes (mode : Mode) (rows cols : ℕ) (input : List ℕ) (old new : Option (List ℕ)) : Type 0 where
+  pub screen : ScreenValue
+  pub shows : ShowsAfter rows cols input screen
+  pub appends : Appends old new (text_of mode screen)

@@ -1,0 +1,93 @@
+//! From an input to the text of what a terminal shows after it.
+
+ghost use Rattle.std.specs.Int.NonZero.{non_zero_u16_get};
+ghost use Rattle.std.specs.Io.KnownBytes.{Appends, Consumes, IsAtEnd, Keeps};
+ghost use Rattle.std.specs.Prelude.{◌≡◌, ◌≢◌, IfOk, IfSome, IsErr, OnErr, OnOk, Err, string_bytes};
+ghost use Rattle.vt100.specs.Parser.{Ran};
+ghost use Rattle.vt_show.specs.Shown.{Silent, Writes, text_of};
+ghost use Rattle.vt_show.specs.declared.faults.Fault.{Fault};
+
+use crate::faults::Fault;
+use crate::mode::Mode;
+use std::alloc::Global;
+use std::io::{Read, Write};
+use std::num::NonZeroU16;
+use vt100::{Parser, Screen};
+
+/// How many bytes are read at once.
+const BUFFER_SIZE: usize = 8192;
+
+/// Reads the input to its end into a fresh terminal of this size without
+/// scrollback, and writes the text that the mode names, and nothing else.
+///
+/// Any error of a read is `Read`, any error of a write, and of the flush at
+/// the end, is `Write`; after `Memory` and `Read` nothing was written, after
+/// `Write` it is not said how much.
+pub fn run<R: Read, W: Write>(
+    alloc: Global,
+    reader: &mut R,
+    writer: &mut W,
+    rows: NonZeroU16,
+    cols: NonZeroU16,
+    mode: Mode,
+) -> Result<(), Fault>
+    ensures end { OnOk result (IsAtEnd (R.remaining reader.new)) }
+    ensures text { OnOk result (IfSome (R.remaining reader.old) (λ input.
+        Writes mode (non_zero_u16_get rows) (non_zero_u16_get cols) input (W.contents writer.old) (W.contents writer.new))) }
+    ensures nothing { IsErr result → result ≢ Err Fault.Write → Keeps (W.contents writer.old) (W.contents writer.new) }
+{
+    let Ok(mut parser) = Parser::new(alloc, rows, cols, 0) else {
+        return Err(Fault::Memory);
+    };
+    read_all(&mut parser, reader)?;
+    let text = text(parser.screen(), mode)?;
+    write_text(writer, text.as_str())
+}
+
+/// Reads the input to its end into the parser.
+fn read_all<R: Read>(parser: &mut Parser, reader: &mut R) -> Result<(), Fault>
+    ensures end { OnOk result (IsAtEnd (R.remaining reader.new)) }
+    ensures ran { OnOk result (IfSome (R.remaining reader.old) (λ input. Ran Silent parser.old input parser.new)) }
+    ensures whole { OnErr result (result ≢ Err Fault.Write) }
+{
+    let mut buffer = [0; BUFFER_SIZE];
+    for _ in 0..u64::MAX {
+        let Ok(count) = reader.read(&mut buffer) else {
+            return Err(Fault::Read);
+        };
+        if count == 0 {
+            return Ok(());
+        }
+        if parser.process(&buffer[..count]).is_err() {
+            return Err(Fault::Memory);
+        }
+    }
+    Err(Fault::Read)
+}
+
+/// The text that the mode names.
+fn text(screen: &Screen, mode: Mode) -> Result<String, Fault>
+    ensures text { IfOk result (λ text. string_bytes text ≡ text_of mode screen.now) }
+    ensures memory { IsErr result → result ≡ Err Fault.Memory }
+{
+    match mode {
+        Mode::Formatted => match screen.contents_formatted() {
+            Ok(text) => Ok(text),
+            Err(_) => Err(Fault::Memory),
+        },
+    }
+}
+
+/// Writes the text, and flushes it.
+fn write_text<W: Write>(writer: &mut W, text: &str) -> Result<(), Fault>
+    ensures text { OnOk result (Appends (W.contents writer.old) (W.contents writer.new) text.now) }
+    ensures write { IsErr result → result ≡ Err Fault.Write }
+{
+    if writer.write_all(text.as_bytes()).is_err() {
+        return Err(Fault::Write);
+    }
+    if writer.flush().is_err() {
+        return Err(Fault::Write);
+    }
+    Ok(())
+}

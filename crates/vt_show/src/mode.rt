@@ -1,0 +1,8 @@
+//! What the program writes.
+
+/// The text that is written of the screen.
+#[derive(Clone, Copy, PartialEq, Eq, Debug)]
+pub enum Mode {
+    /// The redraw, which shows the screen on any terminal of its size.
+    Formatted,
+}

@@ -1,0 +1,67 @@
+//! What the words after the program's name ask for.
+
+ghost use Rattle.std.specs.Int.NonZero.{non_zero_u16_get};
+ghost use Rattle.std.specs.Prelude.{◌≡◌, ◌==◌, ℕ, map, slice_index, IfNone, IfSome};
+ghost use Rattle.vt_show.specs.Arguments.{Asks, IsSize, name_of};
+ghost use Rattle.vt_show.specs.declared.mode.Mode.{Mode};
+
+use crate::mode::Mode;
+use std::num::NonZeroU16;
+
+/// Rows, columns and mode, from exactly three words; `None` for other words.
+///
+/// Rows and columns are decimal digits with a value from 1 to 65535, leading
+/// zeros allowed.
+///
+/// ```text
+/// assert_eq!(arguments(&["0", "80", "formatted"]), None);
+/// ```
+pub fn arguments(words: &[&str]) -> Option<(NonZeroU16, NonZeroU16, Mode)>
+    ensures some { IfSome result (λ a.
+        Asks (map (λ word. word.now) words.now) (non_zero_u16_get a.0) (non_zero_u16_get a.1) a.2) }
+    ensures none { IfNone result ((rows cols : ℕ) (mode : Mode) →
+        Asks (map (λ word. word.now) words.now) rows cols mode → ⊥) }
+{
+    let [rows, cols, mode] = words else {
+        return None;
+    };
+    let rows = size(rows)?;
+    let cols = size(cols)?;
+    let mode = mode_named(mode)?;
+    Some((rows, cols, mode))
+}
+
+/// A number of rows or columns.
+fn size(word: &str) -> Option<NonZeroU16>
+    ensures some { IfSome result (λ n. IsSize word.now (non_zero_u16_get n)) }
+    ensures none { IfNone result ((n : ℕ) → IsSize word.now n → ⊥) }
+{
+    if has_sign(word) {
+        return None;
+    }
+    match word.parse::<u16>() {
+        Ok(number) => NonZeroU16::new(number),
+        Err(_) => None,
+    }
+}
+
+/// Whether the word begins with a sign, which `parse` would take.
+fn has_sign(word: &str) -> bool
+    ensures { result ≡ (slice_index word.now 0 == 43) }
+{
+    match word.as_bytes() {
+        [b'+', ..] => true,
+        _ => false,
+    }
+}
+
+/// The mode of this name.
+fn mode_named(word: &str) -> Option<Mode>
+    ensures some { IfSome result (λ mode. word.now ≡ name_of mode) }
+    ensures none { IfNone result ((mode : Mode) → word.now ≡ name_of mode → ⊥) }
+{
+    if word == "formatted" {
+        return Some(Mode::Formatted);
+    }
+    None
+}
