@@ -1,0 +1,77 @@
+//! The words that case files use for bytes, numbers, colours and attributes.
+
+use std::fmt;
+use vt100::Color;
+
+/// Bytes in hexadecimal, or a dot for none.
+#[derive(Clone, Copy)]
+pub struct Hex<'a>(pub &'a [u8]);
+
+impl fmt::Display for Hex<'_> {
+    fn fmt<W: fmt::Write>(&self, f: &mut fmt::Formatter<W>) -> fmt::Result {
+        if self.0.is_empty() {
+            return write!(f, ".");
+        }
+        for byte in self.0 {
+            write!(f, "{byte:02x}")?;
+        }
+        Ok(())
+    }
+}
+
+/// A colour.
+#[derive(Clone, Copy)]
+pub struct ColorWord(pub Color);
+
+impl fmt::Display for ColorWord {
+    fn fmt<W: fmt::Write>(&self, f: &mut fmt::Formatter<W>) -> fmt::Result {
+        match self.0 {
+            Color::Default => write!(f, "default"),
+            Color::Idx(index) => write!(f, "{index}"),
+            Color::Rgb(red, green, blue) => write!(f, "rgb:{red}:{green}:{blue}"),
+        }
+    }
+}
+
+/// Attributes: a letter for each that is on, or a dash.
+#[derive(Clone, Copy)]
+pub struct AttrsWord {
+    pub bold: bool,
+    pub dim: bool,
+    pub italic: bool,
+    pub underline: bool,
+    pub inverse: bool,
+}
+
+impl AttrsWord {
+    /// Whether all are off.
+    pub fn is_default(self) -> bool {
+        !(self.bold || self.dim || self.italic || self.underline || self.inverse)
+    }
+}
+
+impl fmt::Display for AttrsWord {
+    fn fmt<W: fmt::Write>(&self, f: &mut fmt::Formatter<W>) -> fmt::Result {
+        if self.is_default() {
+            return write!(f, "-");
+        }
+        let letters = [
+            (self.bold, 'b'),
+            (self.dim, 'd'),
+            (self.italic, 'i'),
+            (self.underline, 'u'),
+            (self.inverse, 'v'),
+        ];
+        for (on, letter) in letters {
+            if on {
+                write!(f, "{letter}")?;
+            }
+        }
+        Ok(())
+    }
+}
+
+/// A truth as a digit.
+pub fn digit(on: bool) -> u8 {
+    if on { 1 } else { 0 }
+}
