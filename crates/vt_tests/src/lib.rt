@@ -1,0 +1,8 @@
+//! Tests of the terminal through its public surface: worked examples, each also with its bytes cut
+//! at every place.
+#![tactic(auto)]
+
+#[cfg(test)]
+mod seen;
+#[cfg(test)]
+mod tests;

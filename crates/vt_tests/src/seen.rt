@@ -1,0 +1,110 @@
+//! What a parser shows and called, as one text.
+
+use std::alloc::{AllocError, Global};
+use std::num::NonZeroU16;
+use std::test::Fail;
+use vt_notes::Notes;
+use vt100::{Cell, Color, CursorStyle, Parser, Screen};
+
+/// What a fresh parser of this size shows after these pieces, and the lines of its calls.
+///
+/// Each row that shows something is its number, a colon and its cells: a dot for a blank, brackets
+/// around a wide glyph, a slash at the end of a row that goes on in the next one; blanks at the end
+/// are left out. Then come the cursor, and of attributes and modes what isn't the default.
+pub(crate) fn seen(alloc: Global, size: (u16, u16), pieces: &[&[u8]]) -> Result<String, Fail> {
+    let parser = read(alloc, size, pieces)?;
+    let screen = parser.screen();
+    let (rows, _cols) = screen.size();
+    let mut text = String::new(alloc);
+    for row in 0..rows.get() {
+        write_row(&mut text, screen, row)?;
+    }
+    let (row, col) = screen.cursor_position();
+    write!(text, "@{row},{col}")?;
+    write_state(&mut text, screen)?;
+    text.push('\n')?;
+    text.push_str(parser.callbacks().lines()?)?;
+    Ok(text)
+}
+
+/// A fresh parser of this size after these pieces.
+pub(crate) fn read(
+    alloc: Global,
+    size: (u16, u16),
+    pieces: &[&[u8]],
+) -> Result<Parser<Notes>, Fail> {
+    let rows = NonZeroU16::new(size.0).ok_or("no rows")?;
+    let cols = NonZeroU16::new(size.1).ok_or("no columns")?;
+    let mut parser = Parser::new_with_callbacks(alloc, rows, cols, 0, Notes::new(alloc))?;
+    for piece in pieces {
+        parser.process(piece)?;
+    }
+    Ok(parser)
+}
+
+fn write_row(text: &mut String, screen: &Screen, row: u16) -> Result<(), AllocError> {
+    let (_rows, cols) = screen.size();
+    let mut next = 0;
+    for col in 0..cols.get() {
+        let Some(cell) = screen.cell(row, col) else {
+            break;
+        };
+        if !cell.has_contents() && !cell.is_wide_continuation() {
+            continue;
+        }
+        if next == 0 {
+            write!(text, "{row}:")?;
+        }
+        for _ in next..col {
+            text.push('.')?;
+        }
+        next = col + 1;
+        write_cell(text, cell)?;
+    }
+    if screen.row_wrapped(row) {
+        text.push('/')?;
+    }
+    if next > 0 {
+        text.push(' ')?;
+    }
+    Ok(())
+}
+
+fn write_cell(text: &mut String, cell: &Cell) -> Result<(), AllocError> {
+    if cell.is_wide_continuation() {
+        return text.push(']');
+    }
+    if cell.is_wide() {
+        text.push('[')?;
+    }
+    text.push_str(cell.contents())
+}
+
+fn write_state(text: &mut String, screen: &Screen) -> Result<(), AllocError> {
+    let foreground = screen.fgcolor();
+    if foreground != Color::Default {
+        write!(text, " foreground {foreground:?}")?;
+    }
+    let background = screen.bgcolor();
+    if background != Color::Default {
+        write!(text, " background {background:?}")?;
+    }
+    let words = [
+        (screen.bold(), " bold"),
+        (screen.dim(), " dim"),
+        (screen.italic(), " italic"),
+        (screen.underline(), " underline"),
+        (screen.inverse(), " inverse"),
+        (screen.hide_cursor(), " hidden"),
+    ];
+    for (on, word) in words {
+        if on {
+            text.push_str(word)?;
+        }
+    }
+    let style = screen.cursor_style();
+    if style != CursorStyle::Default {
+        write!(text, " {style:?}")?;
+    }
+    Ok(())
+}
