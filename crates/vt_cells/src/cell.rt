@@ -108,6 +108,20 @@ impl Cell {
         Cell::glyph(' ', false, attrs)
     }
 
+    /// A copy of the cell; it takes no memory.
+    #[inline]
+    pub fn copied(&self) -> Self
+        ensures { result ≡ self.now }
+    {
+        Cell {
+            attrs: self.attrs,
+            contents: self.contents,
+            len: self.len,
+            wide: self.wide,
+            right_half: self.right_half,
+        }
+    }
+
     /// Makes the cell a blank with these attributes.
     #[inline]
     pub fn clear(&mut self, attrs: Attrs)

@@ -3,7 +3,7 @@
 use std::alloc::AllocError;
 use std::fmt;
 
-/// Why a call did nothing.
+/// Why a call was refused.
 #[derive(Clone, Copy, PartialEq, Eq, Debug)]
 pub enum Error {
     /// A growth was refused by the allocator.
