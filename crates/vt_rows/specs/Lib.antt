@@ -1,3 +1,4 @@
 pub mod Row
 pub mod Cells
+pub mod Basic
 pub mod Keeping

@@ -55,7 +55,7 @@ pub fn blank_end(cells: &mut [Cell])
 }
 
 /// Whether the cell is a default blank.
-fn is_default(cell: &Cell) -> bool
+pub(crate) fn is_default(cell: &Cell) -> bool
     ensures { result ≡ is_default_blank cell.now }
 {
     cell.is_blank() && cell.attrs() == Attrs::new()

@@ -1,9 +1,11 @@
 //! Rows of cells, and what happens within a row.
 #![tactic(auto)]
 
+pub mod capture;
 pub mod cells;
 pub mod cuts;
 pub mod row;
 pub mod shifts;
 
+pub use capture::{BasicFormattedCaptureState, Leaving, RowContents};
 pub use row::Row;

@@ -1,6 +1,6 @@
 //! One row of a screen.
 
-ghost use Rattle.std.specs.Prelude.{◌≡◌, ◌≢◌, ◌&&◌, ◌<◌, ◌≤◌, ◌+◌, ◌-◌, ◌↔◌, ◌++◌, false, true, IfErr, IfOk, IfSome, IsSome, OnErr, OnOk, Some, encode_utf8, length, vec_capacity, vec_len};
+ghost use Rattle.std.specs.Prelude.{◌≡◌, ◌≢◌, ◌&&◌, ◌<◌, ◌≤◌, ◌+◌, ◌-◌, ◌↔◌, ◌++◌, false, true, IfErr, IfOk, IfSome, IsSome, OnErr, OnOk, Some, encode_utf8, length, slice_set, vec_capacity, vec_len};
 ghost use Rattle.vt_cells.specs.Attrs.{default_attrs};
 ghost use Rattle.vt_cells.specs.Cell.{IsCell, attrs_of, is_blank, is_right_half, is_wide, text_of, widened};
 ghost use Rattle.vt_cells.specs.Glyph.{columns_of};
@@ -164,6 +164,16 @@ impl Row {
         let cell = cells::lift(&mut self.cells, column, attrs);
         self.wrapped = cells::flag_left(&self.cells, self.wrapped);
         cell
+    }
+
+    /// Puts a cell at a column, as it was before it was taken out of there,
+    /// and the row's flag; the cells beside it stay.
+    pub fn put_back(&mut self, column: usize, cell: Cell, goes_on: bool)
+        requires { column < length self.old.cells }
+        ensures { self.new ≡ record { cells = slice_set self.old.cells column cell; wrapped = goes_on } }
+    {
+        self.cells[column] = cell;
+        self.wrapped = goes_on;
     }
 
     /// Puts a mark on the cell at a column; see `cells::append`.

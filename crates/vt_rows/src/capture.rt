@@ -1,0 +1,220 @@
+//! Rows that are lent to be read, and their texts.
+
+ghost use Rattle.std.specs.Prelude.{◌≡◌, [], ◌∷◌, ◌++◌, if◌then◌else◌, IfOk, OnErr, OnOk};
+ghost use Rattle.vt_cells.specs.Op.{change_text};
+ghost use Rattle.vt_rows.specs.Basic.{attrs_after, attrs_after_all, basic_text, cells_text, shown_text, unwritten, written_after};
+ghost use Rattle.vt_rows.specs.Row.{trimmed_row};
+
+use crate::cuts;
+use crate::row::Row;
+use std::marker::Model;
+use vt_cells::term::{BufWrite, ChangeAttrs, LineFeed};
+use vt_cells::{Attrs, Cell, Sink};
+
+#[cfg(test)]
+mod tests;
+
+/// The contents of a row: its cells, and whether its text goes on in the row
+/// below.
+#[derive(Drop)]
+pub struct RowContents<'a> {
+    cells: &'a [Cell],
+    wrapped: bool,
+}
+
+impl<'a> Model for RowContents<'a> {
+    ghost use Rattle.vt_rows.specs.Row.{RowValue};
+
+    ghost Value = { RowValue };
+
+    ghost view = { λ r. record { cells = r.cells.now; wrapped = r.wrapped } };
+}
+
+impl<'a> RowContents<'a> {
+    ghost use Rattle.std.specs.Prelude.{◌≡◌};
+
+    /// The cells, from left to right.
+    #[inline]
+    pub fn cells(&self) -> &[Cell]
+        ensures { result.now ≡ self.now.cells }
+    {
+        self.cells
+    }
+
+    /// Whether its text goes on in the row that was below it.
+    #[inline]
+    pub fn wrapped(&self) -> bool
+        ensures { result ≡ self.now.wrapped }
+    {
+        self.wrapped
+    }
+}
+
+/// What the basic text of rows says before the next row: the attributes that
+/// were written last, and whether a line end is due.
+#[derive(Clone, Debug, Drop)]
+pub struct BasicFormattedCaptureState {
+    attrs: Attrs,
+    is_due: bool,
+}
+
+impl Model for BasicFormattedCaptureState {
+    ghost use Rattle.vt_rows.specs.Basic.{Written};
+
+    ghost Value = { Written };
+
+    ghost view = { λ s. record { attrs = s.attrs; is_due = s.is_due } };
+}
+
+impl BasicFormattedCaptureState {
+    /// The state before the first row: default attributes, no line end due.
+    pub fn new() -> Self
+        ensures { result ≡ unwritten }
+    {
+        BasicFormattedCaptureState {
+            attrs: Attrs::new(),
+            is_due: false,
+        }
+    }
+}
+
+impl Default for BasicFormattedCaptureState {
+    ghost use Rattle.std.specs.Prelude.{◌≡◌};
+    ghost use Rattle.vt_rows.specs.Basic.{unwritten};
+
+    fn default() -> Self
+        ensures { result ≡ unwritten }
+    {
+        BasicFormattedCaptureState::new()
+    }
+}
+
+impl RowContents<'_> {
+    /// Writes the row's basic text: its text and SGR, and nothing else.
+    ///
+    /// A row begins with `\n`, unless it is the first one or the row before
+    /// goes on in it. Default blanks at its end are dropped; any other is a
+    /// space in the attributes of the text before. A blank with attributes of
+    /// its own is a space in them.
+    ///
+    /// `state` is that of the rows written before. An error is the sink's own;
+    /// then part of the text may have been appended, and the state is as it
+    /// was.
+    pub fn write_formatted_basic<S: Sink>(
+        &self,
+        sink: &mut S,
+        state: &mut BasicFormattedCaptureState,
+    ) -> Result<(), S::Error>
+        ensures ok { OnOk result (S.text sink.new ≡ S.text sink.old ++ basic_text state.old self.now) }
+        ensures state { OnOk result (state.new ≡ written_after state.old self.now) }
+        ensures err { OnErr result (state.new ≡ state.old) }
+    {
+        write_line_end(sink, state.is_due)?;
+        let cells = &self.cells[..cuts::trimmed_len(self.cells)];
+        state.attrs = write_cells(sink, cells, state.attrs)?;
+        state.is_due = !self.wrapped;
+        Ok(())
+    }
+}
+
+/// Writes the line end that is due, if any.
+fn write_line_end<S: Sink>(sink: &mut S, is_due: bool) -> Result<(), S::Error>
+    ensures { OnOk result (S.text sink.new ≡ S.text sink.old ++ (if is_due then 0x0A ∷ [] else [])) }
+{
+    if is_due {
+        LineFeed.write_buf(sink)
+    } else {
+        Ok(())
+    }
+}
+
+/// Writes cells behind a text in `attrs`, and answers the attributes of the
+/// last text.
+fn write_cells<S: Sink>(sink: &mut S, cells: &[Cell], attrs: Attrs) -> Result<Attrs, S::Error>
+    ensures text { OnOk result (S.text sink.new ≡ S.text sink.old ++ cells_text attrs cells.now) }
+    ensures attrs { IfOk result (λ last. last ≡ attrs_after_all attrs cells.now) }
+{
+    let mut last = attrs;
+    for cell in cells {
+        last = write_cell(sink, cell, last)?;
+    }
+    Ok(last)
+}
+
+/// Writes a cell behind a text in `attrs`, and answers the attributes then.
+fn write_cell<S: Sink>(sink: &mut S, cell: &Cell, attrs: Attrs) -> Result<Attrs, S::Error>
+    ensures text { OnOk result (S.text sink.new ≡ S.text sink.old ++ (change_text attrs (attrs_after attrs cell.now) ++ shown_text cell.now)) }
+    ensures attrs { IfOk result (λ new. new ≡ attrs_after attrs cell.now) }
+{
+    let new = attrs_after(attrs, cell);
+    ChangeAttrs { was: attrs, new }.write_buf(sink)?;
+    sink.write_str(shown_text(cell))?;
+    Ok(new)
+}
+
+/// The attributes of the text that ends in the cell, where it was in `attrs`
+/// before: a default blank and a right half leave them.
+fn attrs_after(attrs: Attrs, cell: &Cell) -> Attrs
+    ensures { result ≡ attrs_after attrs cell.now }
+{
+    if cell.is_wide_continuation() || cuts::is_default(cell) {
+        attrs
+    } else {
+        cell.attrs()
+    }
+}
+
+/// The text of a cell, where a blank is a space.
+fn shown_text(cell: &Cell) -> &str
+    ensures { result.now ≡ shown_text cell.now }
+{
+    if cell.is_blank() {
+        " "
+    } else {
+        cell.contents()
+    }
+}
+
+impl Row {
+    /// The row as it stands.
+    #[inline]
+    pub fn contents(&self) -> RowContents<'_>
+        ensures { result ≡ self.now }
+    {
+        RowContents {
+            cells: self.cells(),
+            wrapped: self.wrapped(),
+        }
+    }
+
+    /// The row without the default blanks at its end.
+    pub fn trimmed_contents(&self) -> RowContents<'_>
+        ensures { result ≡ trimmed_row self.now }
+    {
+        let cells = self.cells();
+        RowContents {
+            cells: &cells[..cuts::trimmed_len(cells)],
+            wrapped: self.wrapped(),
+        }
+    }
+}
+
+/// Where rows go that leave a page at its top and aren't kept.
+pub trait Leaving {
+    ghost use Rattle.vt_rows.specs.Row.{RowValue};
+
+    ghost leaves: { Self → RowValue → Self → Type 0 };
+
+    /// Called with a row that leaves, older rows first.
+    fn leave(&mut self, row: RowContents<'_>)
+        ensures { leaves self.old row.entry self.new };
+}
+
+/// Rows that leave are forgotten.
+impl Leaving for () {
+    ghost use Rattle.std.specs.Prelude.{◌≡◌};
+
+    ghost leaves = { λ old _ new. new ≡ old };
+
+    fn leave(&mut self, _row: RowContents<'_>) {}
+}
