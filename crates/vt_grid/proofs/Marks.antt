@@ -116,7 +116,7 @@ selected_text text was wide mark old is_mark selector room = record {
   width = λ none. absurd (any_push old.marks mark selector none);
 }
 
-selected_cell : (mark : ℕ) (wide : Bool) (x : CellValue) → IsMark mark → is_selector mark ≡ true → takes_mark x ≡ true → IsCell x → IsCell (widened wide (marked mark x))
+pub selected_cell : (mark : ℕ) (wide : Bool) (x : CellValue) → IsMark mark → is_selector mark ≡ true → takes_mark x ≡ true → IsCell x → IsCell (widened wide (marked mark x))
 selected_cell mark wide (blank attrs) m s t h = selected_text (0x20 ∷ []) false wide mark (IsCell-space attrs) m s refl
 selected_cell mark wide (glyph text was attrs) m s t h = rw t (selected_text text was wide mark h m s t)
 selected_cell mark wide right_half m s t h = tt
@@ -130,12 +130,7 @@ pub and_right : (a b : Bool) → (a && b) ≡ true → b ≡ true
 and_right true b h = h
 and_right false b h = cc
 
--- a glyph lifted out, in other attributes and wide
-pub lifted_is : (attrs : Attrs) (x : CellValue) → is_blank x ≡ false → is_right_half x ≡ false → widened true (redrawn attrs x) ≡ glyph (text_of x) true attrs
-lifted_is attrs (blank was) b r = cc
-lifted_is attrs (glyph text wide was) b r = refl
-lifted_is attrs right_half b r = cc
-
+-- a glyph in other attributes and wide
 pub lifted_cell : (attrs : Attrs) (x : CellValue) → IsCell (widened true x) → IsCell (widened true (redrawn attrs x))
 lifted_cell attrs (blank was) h = tt
 lifted_cell attrs (glyph text wide was) h = h

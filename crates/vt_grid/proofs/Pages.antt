@@ -1,6 +1,6 @@
 -- Every operation on a page leaves a page.
 use Rattle.std.proofs.Common.{◌≡◌, ℕ, ◌+◌, ◌-◌, ◌<◌, ◌≤◌, ◌^◌, ◌==◌, ◌&&◌, ◌⊎◌, nat_lt, min, not, Bool, true, false, List, ◌++◌, length, take, get_or, set, replicate, refl, inl, inr, sym, ap, subst, ◌∙◌, arith}
-use Rattle.std.specs.Prelude.{if◌then◌else◌, All}
+use Rattle.std.specs.Prelude.{◌||◌, if◌then◌else◌, All}
 use Rattle.std.proofs.lemmas.Bool.{cases_lt, cases_eq, ltb-true}
 use Rattle.std.proofs.lemmas.Bool.Decides.{nat_tests}
 use Rattle.std.proofs.lemmas.Grind.{get_or-set_at}
@@ -136,18 +136,21 @@ up_last height top bottom n h = elim (cases_eq (up_source height top bottom n (h
   | inr ne ↦ inr (grind (arith, nat_tests))
 ]
 
-pub page_scrolled_up : (n : ℕ) (page : Page) → IsPage page → IsPage (scrolled_up n page)
-page_scrolled_up n page p =
+pub page_rows_up : (top bottom n : ℕ) (page : Page) → bottom < length page.rows → IsPage page → IsPage (record page { rows = rows_up page.width top bottom n page.rows })
+page_rows_up top bottom n page h p =
     let height = length page.rows in
-    let source = up_source height page.top page.bottom n in
+    let source = up_source height top bottom n in
     let lt : height - 1 < height = omega (arith, p.cursor_row) in
     let moved = row_or-moved_rows page.width source page.rows (height - 1) lt in
-    let last : (row_or page.width page.rows (source (height - 1))).wrapped ≡ false = elim (up_last height page.top page.bottom n p.region_end) [
+    let last : (row_or page.width page.rows (source (height - 1))).wrapped ≡ false = elim (up_last height top bottom n h) [
       | inl e ↦ ap (λ (r : ℕ). (row_or page.width page.rows r).wrapped) e ∙ p.last
       | inr e ↦ ap (λ (r : ℕ). (row_or page.width page.rows r).wrapped) e ∙ ap (λ (row : RowValue). row.wrapped) (get_or_past page.rows height (blank_row default_attrs page.width) (omega arith))
     ] in
-    page_of_rows (rows_up page.width page.top page.bottom n page.rows) page (length-moved_rows page.width source page.rows) (All-moved_rows page.width source page.rows p.rows)
+    page_of_rows (rows_up page.width top bottom n page.rows) page (length-moved_rows page.width source page.rows) (All-moved_rows page.width source page.rows p.rows)
     (ap (λ (row : RowValue). row.wrapped) moved ∙ last) p
+
+pub page_scrolled_up : (n : ℕ) (page : Page) → IsPage page → IsPage (scrolled_up n page)
+page_scrolled_up n page p = page_rows_up page.top page.bottom n page p.region_end p
 
 pub page_line_feed : (page : Page) → IsPage page → IsPage (line_feed page)
 unfolding line_feed
@@ -157,14 +160,14 @@ page_line_feed page p =
 
 -- ---- erasing
 
-page_erased_columns : (c n : ℕ) (attrs : Attrs) (page : Page) → c + n ≤ page.width → IsPage page → IsPage (erased_columns c n attrs page)
+pub page_erased_columns : (c n : ℕ) (attrs : Attrs) (page : Page) → c + n ≤ page.width → IsPage page → IsPage (erased_columns c n attrs page)
 page_erased_columns c n attrs page h p = page_cursor_cells _ page p (IsRow-erased page.width (cursor_row page) c n attrs h (IsRow-cursor_row page p))
 
 pub page_erased_chars : (n : ℕ) (attrs : Attrs) (page : Page) → IsPage page → IsPage (erased_chars n attrs page)
 unfolding erased_chars
 page_erased_chars n attrs page p =
     let h = p.cursor_column in
-    page_if (page.column == page.width) page (erased_columns page.column (min n (page.width - page.column)) attrs page) (λ e. p) (λ e. page_erased_columns page.column (min n (page.width - page.column)) attrs page (omega arith) p)
+    page_if ((n == 0) || (page.column == page.width)) page (erased_columns page.column (min n (page.width - page.column)) attrs page) (λ e. p) (λ e. page_erased_columns page.column (min n (page.width - page.column)) attrs page (omega arith) p)
 
 pub page_erased_rest : (attrs : Attrs) (page : Page) → IsPage page → IsPage (erased_rest attrs page)
 unfolding erased_rest

@@ -16,7 +16,7 @@ use Rattle.vt_grid.specs.Moves.{at_bottom, line_feed}
 use Rattle.vt_grid.specs.Printing.{with_cursor_cells, glyph_put, mark_put, made_narrow, flagged_left, left_row, goes_down}
 use Rattle.vt_grid.specs.Sheet.{SheetValue, sheet_flagged}
 use Rattle.vt_grid.proofs.Prints.{page_glyph_put, page_left, width_flagged_left, height_line_feed, height_flagged_left}
-use Rattle.vt_grid.proofs.Marks.{page_mark_put, page_widened, page_made_narrow, page_erased_at}
+use Rattle.vt_grid.proofs.Marks.{page_mark_put, page_widened, page_made_narrow}
 use Rattle.vt_grid.proofs.Pages.{page_at, page_cursor_cells, page_scrolled_up, page_blanked_below, length-moved_rows, IsRow-cursor_row}
 
 pub sized : (rows cols : ℕ) (page new : Page) → IsSized rows cols page → length new.rows ≡ length page.rows → new.width ≡ page.width → IsPage new → IsSized rows cols new
@@ -97,8 +97,3 @@ pub sized_widened : (rows cols k : ℕ) (attrs : Attrs) (page : Page) → IsSele
 sized_widened rows cols k attrs page h before room s =
     sized rows cols page (record (with_cursor_cells (widened_at k attrs (cursor_row page).cells) page) { column = page.column + 1 }) s
     (length-set page.rows page.row (with_cells (cursor_row page) (widened_at k attrs (cursor_row page).cells))) refl (page_widened k attrs page h before room s.sound)
-
-pub sized_erased_at : (rows cols k : ℕ) (attrs : Attrs) (page : Page) → IsSelected page k → IsSized rows cols page → IsSized rows cols (with_cursor_cells (erased k 1 attrs (cursor_row page).cells) page)
-sized_erased_at rows cols k attrs page h s =
-    sized rows cols page (with_cursor_cells (erased k 1 attrs (cursor_row page).cells) page) s (length-set page.rows page.row (with_cells (cursor_row page) (erased k 1 attrs (cursor_row page).cells))) refl
-    (page_erased_at k attrs page h s.sound)

@@ -158,8 +158,9 @@ unfolding erased_chars
 chars_erased base done below pre old rest r c n attrs e f g l p q =
     let start = at_pen base (among done (pre ++ (old ++ rest)) below) (pen_at r c attrs) in
     let s : (c == base.page.width) ≡ false = ne_eqb c base.page.width (λ same. omega arith) in
+    let some : (suc n == 0) ≡ false = ne_eqb (suc n) 0 (λ same. omega arith) in
     let m : min (suc n) (base.page.width - c) ≡ suc n = omega arith in
-    rw (s, m) (ap (λ (z : Page). Some (with_page z start)) (columns_erased base done below pre old rest r c (suc n) attrs e f g p q))
+    rw (some, s, m) (ap (λ (z : Page). Some (with_page z start)) (columns_erased base done below pre old rest r c (suc n) attrs e f g p q))
 
 rest_erased : (base : Canvas) (done below : List RowValue) (pre old : List CellValue) (r c n : ℕ) (attrs : Attrs) →
     length done ≡ r → length pre ≡ c → length old ≡ n → 0 < n → c + n ≡ base.page.width → IsFlat pre →

@@ -1,5 +1,10 @@
 pub mod Page
 pub mod Moves
+pub mod Regions
+pub mod Shifts
+pub mod Scrollback
+pub mod Spare
+pub mod Outgoing
 pub mod Erasing
 pub mod Printing
 pub mod Canvas

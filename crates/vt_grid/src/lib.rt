@@ -5,9 +5,11 @@ pub mod grid;
 pub mod laws;
 pub mod pen;
 pub mod redraw;
+pub mod scrollback;
 pub mod sheet;
 pub mod size;
 
 pub use grid::Grid;
+pub use scrollback::Scrollback;
 pub use sheet::Sheet;
 pub use size::Size;

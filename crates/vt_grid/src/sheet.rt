@@ -1,19 +1,22 @@
 //! The rows of a page, without its cursor.
 
-ghost use Rattle.std.specs.Prelude.{◌≡◌, ◌≢◌, ◌+◌, ◌-◌, ◌&&◌, ◌++◌, ◌<◌, ◌≤◌, ◌↔◌, ℕ, IfErr, IfOk, IfSome, IsSome, Some, All, true, false, encode_utf8, if◌then◌else◌, length, nat_le, nat_lt, replicate, slice_index_or, take};
+ghost use Rattle.std.specs.Prelude.{◌≡◌, ◌≢◌, ◌+◌, ◌-◌, ◌&&◌, ◌++◌, ◌<◌, ◌≤◌, ◌↔◌, ℕ, IfErr, IfOk, IfSome, IsErr, IsSome, OnErr, OnOk, Some, All, true, false, encode_utf8, if◌then◌else◌, length, min, nat_le, nat_lt, replicate, slice_index_or, slice_set, take, drop};
 ghost use Rattle.vt_cells.specs.Cell.{IsCell, attrs_of, is_blank, is_right_half, is_wide, text_of, widened};
 ghost use Rattle.vt_cells.specs.Glyph.{columns_of};
 ghost use Rattle.vt_rows.specs.Cells.{IsPaired, at, ends_blank, erased, marked_at, narrowed_at, put_narrow, put_wide, widened_at};
-ghost use Rattle.vt_rows.specs.Row.{RowValue, IsRow, blank_row, with_cells};
+ghost use Rattle.vt_rows.specs.Row.{RowValue, IsRow, blank_row, deleted_row, inserted_row, with_cells};
 ghost use Rattle.vt_grid.specs.Keeping.{cleared_row, turn_source};
 ghost use Rattle.vt_grid.specs.Page.{rows_up};
+ghost use Rattle.vt_grid.specs.Shifts.{rows_down};
+ghost use Rattle.vt_grid.specs.Scrollback.{Sends, Takes};
 ghost use Rattle.vt_grid.specs.Sheet.{blank_sheet, sheet_flagged, sheet_row, with_sheet_row, with_row_cells};
 
+use crate::scrollback::Scrollback;
 use crate::size::Size;
 use std::alloc::Global;
 use std::marker::Model;
 use vt_cells::{Attrs, Cell, Error};
-use vt_rows::{Row, cells};
+use vt_rows::{Leaving, Row, cells};
 
 /// Rows of one width, changed one at a time or put in another order.
 #[derive(Debug, Drop)]
@@ -183,6 +186,16 @@ impl Sheet {
         self.rows[usize::from(row)].lift(usize::from(col), attrs)
     }
 
+    /// Puts a cell that was taken out back at a column of a row, and the row's
+    /// flag; see `Row::put_back`.
+    pub fn put_back(&mut self, row: u16, col: u16, cell: Cell, goes_on: bool)
+        requires inside { row < length self.old.rows }
+        requires column { col < length (sheet_row self.old row).cells }
+        ensures { self.new ≡ with_sheet_row row (record { cells = slice_set (sheet_row self.old row).cells col cell; wrapped = goes_on }) self.old }
+    {
+        self.rows[usize::from(row)].put_back(usize::from(col), cell, goes_on);
+    }
+
     /// Puts a wide cell at a column of a row and the next; see `Row::put_wide_cell`.
     pub fn put_wide_cell(&mut self, row: u16, col: u16, cell: Cell)
         requires inside { row < length self.old.rows }
@@ -203,6 +216,52 @@ impl Sheet {
         ensures { self.new ≡ with_row_cells row (erased start (end - start) attrs (sheet_row self.old row).cells) self.old }
     {
         self.rows[usize::from(row)].erase(usize::from(start), usize::from(end), attrs);
+    }
+
+    /// Inserts default blanks at a column of a row; see `Row::insert`.
+    pub fn insert(&mut self, row: u16, col: u16, count: u16)
+        requires inside { row < length self.old.rows }
+        requires paired { IsPaired (sheet_row self.old row).cells }
+        requires column { col ≤ length (sheet_row self.old row).cells }
+        ensures { self.new ≡ with_sheet_row row (inserted_row col count (sheet_row self.old row)) self.old }
+    {
+        self.rows[usize::from(row)].insert(usize::from(col), usize::from(count));
+    }
+
+    /// Deletes columns of a row; see `Row::delete`.
+    pub fn delete(&mut self, row: u16, col: u16, count: u16)
+        requires inside { row < length self.old.rows }
+        requires paired { IsPaired (sheet_row self.old row).cells }
+        requires column { col ≤ length (sheet_row self.old row).cells }
+        ensures { self.new ≡ with_sheet_row row (deleted_row col count (sheet_row self.old row)) self.old }
+    {
+        self.rows[usize::from(row)].delete(usize::from(col), usize::from(count));
+    }
+
+    /// Makes a row blank.
+    pub fn clear_row(&mut self, row: u16, attrs: Attrs)
+        requires inside { row < length self.old.rows }
+        requires columns { length (sheet_row self.old row).cells ≡ self.old.width }
+        ensures { self.new ≡ with_sheet_row row (blank_row attrs self.old.width) self.old }
+    {
+        self.rows[usize::from(row)].clear(attrs);
+    }
+
+    /// Makes all rows blank.
+    pub fn clear_all(&mut self, attrs: Attrs)
+        requires sound { All (IsRow self.old.width) self.old.rows }
+        ensures { self.new ≡ record self.old { rows = replicate (length self.old.rows) (blank_row attrs self.old.width) } }
+    {
+        clear_from(&mut self.rows, 0, attrs);
+    }
+
+    /// Makes the rows above a row blank.
+    pub fn clear_above(&mut self, row: u16, attrs: Attrs)
+        requires inside { row < length self.old.rows }
+        requires sound { All (IsRow self.old.width) self.old.rows }
+        ensures { self.new ≡ record self.old { rows = replicate row (blank_row attrs self.old.width) ++ drop row self.old.rows } }
+    {
+        clear_before(&mut self.rows, usize::from(row), attrs);
     }
 
     /// Makes the rows below a row blank.
@@ -231,6 +290,83 @@ impl Sheet {
             usize::from(count),
         );
     }
+
+    /// Moves the rows from `top` to `bottom` down by `count`; blank rows come
+    /// in above, and what passes `bottom` is dropped. The row at `bottom` goes
+    /// on no more.
+    ///
+    /// No cell of a row that stays is moved.
+    pub fn scroll_down(&mut self, top: u16, bottom: u16, count: u16)
+        requires in_order { top ≤ bottom }
+        requires inside { bottom < length self.old.rows }
+        requires sound { All (IsRow self.old.width) self.old.rows }
+        ensures { self.new ≡ record self.old { rows = rows_down self.old.width top bottom count self.old.rows } }
+    {
+        scroll_rows_down(
+            &mut self.rows,
+            usize::from(top),
+            usize::from(bottom),
+            usize::from(count),
+        );
+    }
+
+    /// Moves the rows from the first to `bottom` up by `count`, as `scroll_up`
+    /// does, and hands those that leave to scrollback. The size is the
+    /// sheet's own.
+    ///
+    /// Fails where memory for scrollback is refused, and then nothing has
+    /// changed and nothing was reported.
+    pub fn send_up<L: Leaving>(
+        &mut self,
+        bottom: u16,
+        count: u16,
+        size: Size,
+        above: &mut Scrollback,
+        leaving: &mut L,
+    ) -> Result<(), Error>
+        requires inside { bottom < length self.old.rows }
+        requires width { size.cols ≡ self.old.width }
+        requires sound { All (IsRow self.old.width) self.old.rows }
+        ensures rows { OnOk result (self.new ≡ record self.old { rows = rows_up self.old.width 0 bottom count self.old.rows }) }
+        ensures sent { OnOk result (Sends L.leaves size.rows size.cols (take (min count (bottom + 1)) self.old.rows) above.old leaving.old above.new leaving.new) }
+        ensures err { OnErr result ((self.new ≡ self.old) × ((above.new ≡ above.old) × (leaving.new ≡ leaving.old))) }
+        ensures grows { IsErr result → Takes (take (min count (bottom + 1)) self.old.rows) above.old }
+        ensures memory { IfErr result (λ error. error ≡ Error.OutOfMemory) }
+    {
+        send_rows(
+            &mut self.rows,
+            usize::from(bottom),
+            usize::from(count),
+            size,
+            above,
+            leaving,
+        )?;
+        Ok(())
+    }
+}
+
+/// Moves rows up by `count` and hands those that leave to scrollback; see
+/// `Sheet::send_up`.
+fn send_rows<L: Leaving>(
+    rows: &mut [Row],
+    bottom: usize,
+    count: usize,
+    size: Size,
+    above: &mut Scrollback,
+    leaving: &mut L,
+) -> Result<(), Error>
+    requires inside { bottom < length rows.old }
+    requires sound { All (IsRow size.cols) rows.old }
+    ensures rows { OnOk result (rows.new ≡ rows_up size.cols 0 bottom count rows.old) }
+    ensures sent { OnOk result (Sends L.leaves size.rows size.cols (take (min count (bottom + 1)) rows.old) above.old leaving.old above.new leaving.new) }
+    ensures err { OnErr result ((rows.new ≡ rows.old) × ((above.new ≡ above.old) × (leaving.new ≡ leaving.old))) }
+    ensures grows { IsErr result → Takes (take (min count (bottom + 1)) rows.old) above.old }
+    ensures memory { IfErr result (λ error. error ≡ Error.OutOfMemory) }
+{
+    let count = count.min(bottom + 1);
+    above.push(&mut rows[..count], size, leaving)?;
+    scroll_rows(rows, 0, bottom, count);
+    Ok(())
 }
 
 /// Moves rows up by `count`; see `Sheet::scroll_up`.
@@ -243,6 +379,27 @@ fn scroll_rows(rows: &mut [Row], top: usize, bottom: usize, count: usize)
     let count = count.min(end - top);
     turn(rows, top, end, count);
     clear_rows(rows, end - count, end, Attrs::new());
+}
+
+/// Moves rows down by `count`; see `Sheet::scroll_down`.
+fn scroll_rows_down(rows: &mut [Row], top: usize, bottom: usize, count: usize)
+    requires in_order { top ≤ bottom }
+    requires inside { bottom < length rows.old }
+    ensures { (width : ℕ) → All (IsRow width) rows.old → rows.new ≡ rows_down width top bottom count rows.old }
+{
+    let end = bottom + 1;
+    let count = count.min(end - top);
+    turn(rows, top, end, end - top - count);
+    clear_rows(rows, top, top + count, Attrs::new());
+    rows[bottom].wrap(false);
+}
+
+/// Makes the rows before `to` blank; see `Sheet::clear_above`.
+fn clear_before(rows: &mut [Row], to: usize, attrs: Attrs)
+    requires { to ≤ length rows.old }
+    ensures { (width : ℕ) → All (IsRow width) rows.old → rows.new ≡ replicate to (blank_row attrs width) ++ drop to rows.old }
+{
+    clear_rows(rows, 0, to, attrs);
 }
 
 /// Makes the rows from `from` on blank; see `Sheet::clear_below`.

@@ -12,4 +12,4 @@ returns c =
     ≡ (if nat_le (c.args.bottom + 1 - c.min-count.result) k && nat_lt k (c.args.bottom + 1) then cleared_row attrs (get_or c.turn.new.items k d) else get_or c.turn.new.items k d)) c.new.ensures c.clear_rows.ensures.by_index in
     λ width sound.
     scrolled_is width c.args.top c.args.bottom c.args.count c.min-count.result c.args.rows.now c.turn.new.items c.clear_rows.new.rows c.min-count.ensures c.requires.in_order c.requires.inside
-    c.turn.ensures.len (c.clear_rows.ensures.len ∙ c.turn.ensures.len) c.turn.ensures.by_index by_index sound
+    (c.clear_rows.ensures.len ∙ c.turn.ensures.len) c.turn.ensures.by_index by_index sound

@@ -4,9 +4,9 @@ use Rattle.vt_grid.proofs.Prints.{has_room_made, width_room_made}
 use Rattle.vt_grid.proofs.grid.Grid.print_wide.Goals as goal
 
 pub put_wide-requires-clause-room : goal.put_wide-requires-clause-room
-put_wide-requires-clause-room c =
+put_wide-requires-clause-room g c =
     let page = c.args.self.now in
-    let e = c.make_room.ensures.value in
+    let e = c.in_ok-make_room.ensures.page in
     let i = c.self.invariant in
     let cols = i.width ∙ ap (λ (q : Page). q.width) c.self.view_is in
     let w = width_room_made 2 page in

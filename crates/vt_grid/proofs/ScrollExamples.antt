@@ -1,0 +1,81 @@
+-- The definitions of scrollback, computed on a few rows.
+use Rattle.std.proofs.Common.{◌≡◌, ℕ, Bool, true, false, List, [], ◌∷◌, refl}
+use Rattle.vt_cells.specs.Attrs.{default_attrs, same_attrs, same_color}
+use Rattle.vt_cells.specs.Cell.{CellValue, glyph, right_half, default_blank}
+use Rattle.vt_rows.specs.Cells.{moved, resized}
+use Rattle.vt_rows.specs.Row.{RowValue}
+use Rattle.vt_grid.specs.Scrollback.{Scrollback, kept_after, grown_in_view, pushed, reported, viewed, visible}
+
+-- a row of a letter, and of that many blanks behind it
+abbrev n : ℕ → CellValue
+n c = glyph (c ∷ []) false default_attrs
+
+abbrev w : ℕ → CellValue
+w c = glyph (c ∷ []) true default_attrs
+
+abbrev row : List CellValue → Bool → RowValue
+row cells wrapped = record { cells = cells; wrapped = wrapped }
+
+abbrev one : ℕ → RowValue
+one c = row (n c ∷ []) false
+
+abbrev two : ℕ → RowValue
+two c = row (n c ∷ default_blank ∷ []) false
+
+abbrev above : List RowValue → (capacity theoretical offset : ℕ) → Scrollback
+above rows capacity theoretical offset = record { rows = rows; capacity = capacity; theoretical = theoretical; offset = offset }
+
+-- the row before and the first of two rows are too many
+one_is_kept : pushed 5 2 (two 1 ∷ two 2 ∷ []) (above (one 26 ∷ []) 1 1 0) ≡ above (one 2 ∷ []) 1 3 0
+unfolding kept_after grown_in_view same_attrs same_color
+one_is_kept = refl
+
+older_first : reported (two 1 ∷ two 2 ∷ []) (above (one 26 ∷ []) 1 1 0) ≡ one 26 ∷ one 1 ∷ []
+unfolding same_attrs same_color
+older_first = refl
+
+-- nothing is kept, all are reported, and they count
+none_is_kept : pushed 5 2 (two 1 ∷ two 2 ∷ []) (above [] 0 7 0) ≡ above [] 0 9 0
+unfolding kept_after grown_in_view
+none_is_kept = refl
+
+all_are_reported : reported (two 1 ∷ two 2 ∷ []) (above [] 0 7 0) ≡ one 1 ∷ one 2 ∷ []
+unfolding same_attrs same_color
+all_are_reported = refl
+
+-- no row leaves: nothing happens
+nothing_left : pushed 5 3 [] (above (one 26 ∷ []) 1 1 1) ≡ above (one 26 ∷ []) 1 1 1
+nothing_left = refl
+
+-- what is in view stays in view, and is as long as the page is wide
+view_follows : pushed 5 2 (two 1 ∷ []) (above (two 26 ∷ []) 10 1 1) ≡ above (two 26 ∷ two 1 ∷ []) 10 2 2
+unfolding kept_after grown_in_view resized moved same_attrs same_color
+view_follows = refl
+
+-- in a page of one row the new row is below what is shown, and is kept without its blanks
+below_the_view : pushed 1 2 (two 1 ∷ []) (above (one 26 ∷ []) 10 1 1) ≡ above (two 26 ∷ one 1 ∷ []) 10 2 2
+unfolding kept_after grown_in_view resized moved same_attrs same_color
+below_the_view = refl
+
+-- at the greatest offset of a full scrollback the oldest row in view leaves
+view_at_its_end : pushed 5 2 (two 1 ∷ []) (above (two 26 ∷ two 27 ∷ []) 2 2 2) ≡ above (two 27 ∷ two 1 ∷ []) 2 3 2
+unfolding kept_after grown_in_view resized moved same_attrs same_color
+view_at_its_end = refl
+
+-- a row that goes on is as long as the page was wide; grown, it goes on no more
+goes_on_no_more : viewed 5 3 1 (above (row (n 1 ∷ n 2 ∷ []) true ∷ []) 4 1 0) ≡ above (row (n 1 ∷ n 2 ∷ default_blank ∷ []) false ∷ []) 4 1 1
+unfolding viewed grown_in_view resized moved
+goes_on_no_more = refl
+
+-- no more rows than there are come into view, and none of them is cut
+at_most_all : viewed 5 1 9 (above (one 1 ∷ row (w 2 ∷ right_half ∷ []) false ∷ []) 4 2 0) ≡ above (one 1 ∷ row (w 2 ∷ right_half ∷ []) false ∷ []) 4 2 2
+unfolding viewed grown_in_view
+at_most_all = refl
+
+-- above the page stand the newest rows, as many as are in view
+shown_above : visible (above (one 1 ∷ one 2 ∷ one 3 ∷ []) 4 3 2) (two 7 ∷ two 8 ∷ two 9 ∷ []) ≡ one 2 ∷ one 3 ∷ two 7 ∷ []
+shown_above = refl
+
+-- of more rows than the page has the upper ones
+shown_far_above : visible (above (one 1 ∷ one 2 ∷ one 3 ∷ []) 4 3 3) (two 7 ∷ two 8 ∷ []) ≡ one 1 ∷ one 2 ∷ []
+shown_far_above = refl

@@ -1,0 +1,72 @@
+-- Rows put below those that are kept: all at once is one after the other.
+use Rattle.std.proofs.Common.{◌≡◌, ℕ, suc, ◌+◌, ◌-◌, ◌≤◌, ◌==◌, min, List, [], ◌∷◌, ◌++◌, length, take, drop, map, sym, ap, subst, ◌∙◌, append_assoc, arith}
+use Rattle.std.proofs.Math.Seq.{take-add}
+use Rattle.std.proofs.lemmas.List.{drop-append-le, take-append-le, drop-drop, length-append, length-drop, length-map}
+use Rattle.std.proofs.lemmas.List.Elements.{All-append, All-drop, All-map, All-weaker}
+use Rattle.std.specs.Prelude.{All, if◌then◌else◌}
+use Rattle.std.specs.List.{FoldsTo}
+use Rattle.vt_rows.specs.Row.{RowValue, IsRow, trimmed_row}
+use Rattle.vt_rows.proofs.Trims.{IsRow-trimmed_row}
+use Rattle.vt_grid.specs.Scrollback.{Scrollback, IsScrollback, last_of, before_last, stacked, kept_after}
+
+last_then : {X : Type 0} (c : ℕ) (xs ys : List X) → last_of c (last_of c xs ++ ys) ≡ last_of c (xs ++ ys)
+last_then c xs ys =
+    let m = length xs - c in
+    let whole : last_of c xs ++ ys ≡ drop m (xs ++ ys) = sym (drop-append-le m xs ys (omega arith)) in
+    ap (last_of c) whole ∙ (drop-drop (length (drop m (xs ++ ys)) - c) m (xs ++ ys)
+    ∙ ap (λ (n : ℕ). drop n (xs ++ ys)) (omega (arith, length-drop m (xs ++ ys), length-append xs ys)))
+
+before_then : {X : Type 0} (c : ℕ) (xs ys : List X) → before_last c (xs ++ ys) ≡ before_last c xs ++ before_last c (last_of c xs ++ ys)
+before_then c xs ys =
+    let m = length xs - c in
+    let whole : last_of c xs ++ ys ≡ drop m (xs ++ ys) = sym (drop-append-le m xs ys (omega arith)) in
+    let n = length (drop m (xs ++ ys)) - c in
+    let sum : length (xs ++ ys) - c ≡ m + n = omega (arith, length-drop m (xs ++ ys), length-append xs ys) in
+    ap (λ (k : ℕ). take k (xs ++ ys)) sum ∙ (take-add m n (xs ++ ys)
+    ∙ (ap (λ (zs : List _). zs ++ take n (drop m (xs ++ ys))) (take-append-le m xs ys (omega arith))
+    ∙ ap (λ (zs : List _). before_last c xs ++ before_last c zs) (sym whole)))
+
+folds_then : {P A : Type 0} (R : P → A → P → Type 0) (p q r : P) (xs ys : List A) → FoldsTo R p xs q → FoldsTo R q ys r → FoldsTo R p (xs ++ ys) r
+folds_then R p q r [] ys a b = subst (λ (z : _). FoldsTo R z ys r) (sym a) b
+folds_then R p q r (x ∷ xs) ys a b = (a.0, a.1, folds_then R a.0 q r xs ys a.2 b)
+
+-- one row was pushed, and the rest is to come
+pub row_kept : (c : ℕ) (kept next rest : List RowValue) (row : RowValue) → next ≡ last_of c (kept ++ row ∷ []) → last_of c (next ++ rest) ≡ last_of c (kept ++ (row ∷ rest))
+row_kept c kept next rest row e =
+    ap (λ (zs : List RowValue). last_of c (zs ++ rest)) e ∙ (last_then c (kept ++ row ∷ []) rest ∙ ap (last_of c) (append_assoc kept (row ∷ []) rest))
+
+pub row_sent : {S : Type 0} (leaves : S → RowValue → S → Type 0) (c : ℕ) (kept next rest : List RowValue) (row : RowValue) (p q r : S) →
+    next ≡ last_of c (kept ++ row ∷ []) → FoldsTo leaves p (before_last c (kept ++ row ∷ [])) q → FoldsTo leaves q (before_last c (next ++ rest)) r →
+    FoldsTo leaves p (before_last c (kept ++ (row ∷ rest))) r
+row_sent leaves c kept next rest row p q r e a b =
+    let two = folds_then leaves p q r (before_last c (kept ++ row ∷ [])) (before_last c (last_of c (kept ++ row ∷ []) ++ rest)) a (subst (λ (zs : List RowValue). FoldsTo leaves q (before_last c (zs ++ rest)) r) e b) in
+    let all = sym (before_then c (kept ++ row ∷ []) rest) ∙ ap (before_last c) (append_assoc kept (row ∷ []) rest) in
+    subst (λ (zs : List RowValue). FoldsTo leaves p zs r) all two
+
+pub length-last_of : {X : Type 0} (c : ℕ) (xs : List X) → length (last_of c xs) ≡ min (length xs) c
+length-last_of c xs = omega (arith, length-drop (length xs - c) xs)
+
+pub row_counted : (c : ℕ) (kept next : List RowValue) (row : RowValue) → next ≡ last_of c (kept ++ row ∷ []) → length next ≡ min (length kept + 1) c
+row_counted c kept next row e = ap length e ∙ (length-last_of c (kept ++ row ∷ []) ∙ ap (λ (n : ℕ). min n c) (length-append kept (row ∷ [])))
+
+pub room_left : (c n m rest more room : ℕ) → m ≡ min (n + 1) c → more ≡ suc rest → n ≤ c → n + min more (c - n) ≤ room → m + min rest (c - m) ≤ room
+room_left c n m rest more room e f i r = omega arith
+
+pub length-stacked : (gone : List RowValue) (above : Scrollback) → length (stacked gone above) ≡ length above.rows + length gone
+length-stacked gone above = length-append above.rows (map trimmed_row gone) ∙ ap (λ (n : ℕ). length above.rows + n) (length-map gone trimmed_row)
+
+-- the rows are sound, each in its own width
+pub All-stacked : (w : ℕ) (gone rows : List RowValue) → All (IsRow w) gone → All (λ row. IsRow (length row.cells) row) rows → All (λ row. IsRow (length row.cells) row) (rows ++ map trimmed_row gone)
+All-stacked w gone rows g r =
+    let t : All (λ row. IsRow (length (trimmed_row row).cells) (trimmed_row row)) gone = All-weaker (IsRow w) (λ row. IsRow (length (trimmed_row row).cells) (trimmed_row row)) (IsRow-trimmed_row w) gone g in
+    All-append (λ row. IsRow (length row.cells) row) rows (map trimmed_row gone) r (All-map (λ row. IsRow (length row.cells) row) trimmed_row gone t)
+
+pub IsScrollback-kept_after : (w : ℕ) (gone : List RowValue) (above : Scrollback) → All (IsRow w) gone → IsScrollback above → IsScrollback (kept_after gone above)
+unfolding kept_after
+IsScrollback-kept_after w gone above g a = record {
+  kept = omega (arith, length-last_of above.capacity (stacked gone above));
+  in_view = at_most (above.offset == 0);
+  sound = All-drop (λ row. IsRow (length row.cells) row) (length (stacked gone above) - above.capacity) (stacked gone above) (All-stacked w gone above.rows g a.sound);
+} where
+  at_most : (b : _) → (if b then 0 else min (above.offset + length gone) (length (last_of above.capacity (stacked gone above)))) ≤ length (last_of above.capacity (stacked gone above))
+  at_most b = grind arith

@@ -1,0 +1,17 @@
+use Rattle.std.proofs.Common.{refl, sym, subst}
+use Rattle.vt_grid.specs.Keeping.{IsSized, page_of}
+use Rattle.std.proofs.lemmas.List.{length-set}
+use Rattle.vt_rows.specs.Row.{blank_row}
+use Rattle.vt_grid.specs.Erasing.{erased_row}
+use Rattle.vt_grid.specs.Sheet.{SheetValue}
+use Rattle.vt_grid.proofs.Blanking.{page_erased_row}
+use Rattle.vt_grid.proofs.Sized.{sized}
+use Rattle.vt_grid.proofs.grid.Grid.erase_row.Goals as goal
+
+pub invariant_of-self : goal.invariant_of-self
+invariant_of-self c =
+    let s = c.self.inside in
+    let i = c.self.invariant in
+    let page = page_of s.sheet s.pos s.saved_pos s.scroll_top s.scroll_bottom s.origin_mode s.saved_origin_mode in
+    subst (λ (sheet : SheetValue). IsSized s.size.rows s.size.cols (page_of sheet s.pos s.saved_pos s.scroll_top s.scroll_bottom s.origin_mode s.saved_origin_mode)) (sym c.clear_row.ensures)
+    (sized s.size.rows s.size.cols page (erased_row c.args.attrs page) i (length-set page.rows page.row (blank_row c.args.attrs page.width)) refl (page_erased_row c.args.attrs page i.sound))

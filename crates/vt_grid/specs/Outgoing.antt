@@ -1,0 +1,27 @@
+-- The rows that leave a page at its top: only a region that begins there and scrolls up lets rows go.
+use Rattle.std.specs.Prelude.{ℕ, ◌+◌, ◌==◌, List, [], take, min, Option, Some, zero, if◌then◌else◌}
+use Rattle.vt_cells.specs.declared.attrs.Attrs.{Attrs}
+use Rattle.vt_cells.specs.Glyph.{columns_of}
+use Rattle.vt_rows.specs.Cells.{erased}
+use Rattle.vt_rows.specs.Row.{RowValue}
+use Rattle.vt_grid.specs.Page.{Page, cursor_row}
+use Rattle.vt_grid.specs.Moves.{feeds_out}
+use Rattle.vt_grid.specs.Printing.{mark_column, with_cursor_cells}
+use Rattle.vt_grid.specs.Canvas.{pushes}
+
+-- the region scrolls up by n rows, at most by all it has
+abbrev pub scrolled_out : ℕ → Page → List RowValue
+scrolled_out n page = if page.top == 0 then take (min n (page.bottom + 1)) page.rows else []
+
+-- a line feed
+abbrev pub fed_out : Page → List RowValue
+fed_out page = if feeds_out page then take 1 page.rows else []
+
+-- what a character that goes on in the next row leaves behind: U+FE0F takes the glyph before it along
+abbrev pub left_by : Option ℕ → Attrs → Page → Page
+left_by (Some zero) attrs page = with_cursor_cells (erased (mark_column page) 1 attrs (cursor_row page).cells) page
+left_by _ attrs page = page
+
+-- a character is printed
+abbrev pub printed_out : ℕ → Attrs → Page → List RowValue
+printed_out c attrs page = if pushes c page then take 1 (left_by (columns_of c) attrs page).rows else []

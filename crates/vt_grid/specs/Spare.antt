@@ -1,0 +1,27 @@
+-- How scrollback makes the memory for what is to grow before it changes anything; for its private contracts only.
+use Rattle.std.specs.Prelude.{◌≡◌, ℕ, ◌+◌, ◌-◌, ◌≤◌, nat_lt, List, [], ◌∷◌, ◌++◌, length, All, take, drop, map, if◌then◌else◌}
+use Rattle.vt_cells.specs.Attrs.{default_attrs}
+use Rattle.vt_rows.specs.Row.{RowValue, blank_row}
+use Rattle.vt_grid.specs.Scrollback.{Scrollback, grown_row}
+
+-- how many rows have fewer columns
+abbrev pub narrow_rows : ℕ → List RowValue → ℕ
+narrow_rows width [] = 0
+narrow_rows width (row ∷ rows) = (if nat_lt (length row.cells) width then 1 else 0) + narrow_rows width rows
+
+-- the rows from `first` on, as many as a screen of this height shows
+abbrev pub window_from : (first height : ℕ) → List RowValue → List RowValue
+window_from first height rows = take height (drop first rows)
+
+-- these rows are grown
+abbrev pub grown_from : (first height width : ℕ) → List RowValue → List RowValue
+grown_from first height width rows = take first rows ++ (map (grown_row width) (window_from first height rows) ++ drop (first + height) rows)
+
+-- the rows in view
+abbrev pub in_view : ℕ → Scrollback → List RowValue
+in_view height above = window_from (length above.rows - above.offset) height above.rows
+
+-- blank rows of this width, enough to take over the rows that have fewer columns
+pub record AreSpare (width : ℕ) (rows spare : List RowValue) : Type 0 where
+  pub blank : All (λ row. row ≡ blank_row default_attrs width) spare
+  pub enough : narrow_rows width rows ≤ length spare

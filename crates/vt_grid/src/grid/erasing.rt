@@ -1,0 +1,77 @@
+//! Erasing: positions become blank in given attributes.
+
+ghost use Rattle.std.specs.Prelude.{◌≡◌};
+ghost use Rattle.vt_grid.specs.Erasing.{erased_above, erased_below, erased_chars, erased_page, erased_rest, erased_row, erased_start};
+
+use super::Grid;
+use vt_cells::Attrs;
+
+impl Grid {
+    /// Makes a number of columns from the cursor on blank, at most to the end
+    /// of the row (ECH); at a pending wrap none.
+    #[tactic(auto, using(crate::proofs::Pages::page_erased_chars, crate::proofs::Pages::cursor_paired, crate::proofs::Pages::cursor_columns), unfolding(crate::specs::Erasing::erased_chars))]
+    pub fn erase_cells(&mut self, count: u16, attrs: Attrs)
+        ensures { self.new ≡ erased_chars count attrs self.old }
+    {
+        let end = self.pos.col.saturating_add(count).min(self.size.cols);
+        if self.pos.col < end {
+            self.sheet.erase(self.pos.row, self.pos.col, end, attrs);
+        }
+    }
+
+    /// Makes the row blank from the cursor on (EL 0); at a pending wrap nothing happens.
+    #[tactic(auto, using(crate::proofs::Pages::page_erased_rest, crate::proofs::Pages::cursor_paired, crate::proofs::Pages::cursor_columns), unfolding(crate::specs::Erasing::erased_rest))]
+    pub fn erase_row_forward(&mut self, attrs: Attrs)
+        ensures { self.new ≡ erased_rest attrs self.old }
+    {
+        if self.pos.col < self.size.cols {
+            self.sheet
+                .erase(self.pos.row, self.pos.col, self.size.cols, attrs);
+        }
+    }
+
+    /// Makes the row blank from the first column through the cursor's, or
+    /// through the last one at a pending wrap (EL 1).
+    #[tactic(auto, using(crate::proofs::Pages::cursor_paired, crate::proofs::Pages::cursor_columns), unfolding(crate::specs::Erasing::erased_start))]
+    pub fn erase_row_backward(&mut self, attrs: Attrs)
+        ensures { self.new ≡ erased_start attrs self.old }
+    {
+        let end = self.pos.col.saturating_add(1).min(self.size.cols);
+        self.sheet.erase(self.pos.row, 0, end, attrs);
+    }
+
+    /// Makes the cursor's row blank (EL 2).
+    #[tactic(auto, using(crate::proofs::Pages::cursor_columns))]
+    pub fn erase_row(&mut self, attrs: Attrs)
+        ensures { self.new ≡ erased_row attrs self.old }
+    {
+        self.sheet.clear_row(self.pos.row, attrs);
+    }
+
+    /// Makes the page blank from the cursor on (ED 0); at a pending wrap the
+    /// cursor's row stays.
+    #[tactic(auto, using(crate::proofs::Pages::page_erased_below), unfolding(crate::specs::Erasing::erased_below))]
+    pub fn erase_all_forward(&mut self, attrs: Attrs)
+        ensures { self.new ≡ erased_below attrs self.old }
+    {
+        self.erase_row_forward(attrs);
+        self.sheet.clear_below(self.pos.row, attrs);
+    }
+
+    /// Makes the page blank from its begin through the cursor, or through the
+    /// last column of the cursor's row at a pending wrap (ED 1).
+    #[tactic(auto, using(crate::proofs::Blanking::page_erased_above), unfolding(crate::specs::Erasing::erased_above))]
+    pub fn erase_all_backward(&mut self, attrs: Attrs)
+        ensures { self.new ≡ erased_above attrs self.old }
+    {
+        self.erase_row_backward(attrs);
+        self.sheet.clear_above(self.pos.row, attrs);
+    }
+
+    /// Makes the whole page blank (ED 2).
+    pub fn erase_all(&mut self, attrs: Attrs)
+        ensures { self.new ≡ erased_page attrs self.old }
+    {
+        self.sheet.clear_all(attrs);
+    }
+}

@@ -1,0 +1,204 @@
+//! Moves of the cursor, the scroll region and origin mode.
+
+ghost use Rattle.std.specs.Prelude.{◌≡◌, ◌+◌, ◌-◌, ◌<◌, ◌⊎◌, if◌then◌else◌, length};
+ghost use Rattle.vt_grid.specs.Moves.{carriage_return, moved_left, moved_right, moved_to, target_row};
+ghost use Rattle.vt_grid.specs.Regions.{in_region, last_row, moved_down, moved_to_column, moved_to_row, moved_up, next_line, origin_set, previous_line, region_set, tabbed};
+
+use super::Grid;
+use vt_cells::Pos;
+
+impl Grid {
+    /// Moves the cursor to the first column (CR).
+    #[inline]
+    pub fn cr(&mut self)
+        ensures { self.new ≡ carriage_return self.old }
+    {
+        self.pos.col = 0;
+    }
+
+    /// Moves the cursor to the left, from the column as it is, down to the first (CUB, BS).
+    #[inline]
+    pub fn col_dec(&mut self, count: u16)
+        ensures { self.new ≡ moved_left count self.old }
+    {
+        self.pos.col = self.pos.col.saturating_sub(count);
+    }
+
+    /// Moves the cursor to the right, at most to the last column, also from a
+    /// pending wrap (CUF).
+    #[inline]
+    pub fn col_inc_clamp(&mut self, count: u16)
+        ensures { self.new ≡ moved_right count self.old }
+    {
+        self.pos.col = self.pos.col.saturating_add(count).min(self.size.cols - 1);
+    }
+
+    /// Moves the cursor to a column, counted from 0, at most the last one
+    /// (CHA, HPA).
+    #[inline]
+    pub fn col_set(&mut self, col: u16)
+        ensures { self.new ≡ moved_to_column col self.old }
+    {
+        self.pos.col = col.min(self.size.cols - 1);
+    }
+
+    /// Moves the cursor to the next column that is a multiple of 8, at most to
+    /// the last one, also from a pending wrap (HT).
+    #[inline]
+    pub fn tab(&mut self)
+        ensures { self.new ≡ tabbed self.old }
+    {
+        let ahead = 8 - self.pos.col % 8;
+        self.pos.col = self.pos.col.saturating_add(ahead).min(self.size.cols - 1);
+    }
+
+    /// Moves the cursor up, its column as it is (CUU).
+    ///
+    /// From within the scroll region it goes at most to the region's top, else
+    /// to the first row.
+    #[tactic(auto, unfolding(crate::specs::Regions::moved_up))]
+    #[inline]
+    pub fn row_dec(&mut self, count: u16)
+        ensures { self.new ≡ moved_up count self.old }
+    {
+        self.pos.row = self.pos.row.saturating_sub(count).max(self.upper_edge());
+    }
+
+    /// Moves the cursor down, its column as it is (CUD).
+    ///
+    /// From within the scroll region it goes at most to the region's bottom,
+    /// else to the last row.
+    #[tactic(auto, unfolding(crate::specs::Regions::moved_down))]
+    #[inline]
+    pub fn row_inc(&mut self, count: u16)
+        ensures { self.new ≡ moved_down count self.old }
+    {
+        self.pos.row = self.pos.row.saturating_add(count).min(self.lower_edge());
+    }
+
+    /// Moves the cursor to a row, counted from 0, at most the last one, its
+    /// column as it is (VPA).
+    #[inline]
+    pub fn row_set(&mut self, row: u16)
+        ensures { self.new ≡ moved_to_row row self.old }
+    {
+        self.pos.row = row.min(self.size.rows - 1);
+    }
+
+    /// Moves the cursor down, as `row_inc` does, and to the first column (CNL).
+    #[inline]
+    pub fn next_line(&mut self, count: u16)
+        ensures { self.new ≡ next_line count self.old }
+    {
+        self.row_inc(count);
+        self.cr();
+    }
+
+    /// Moves the cursor up, as `row_dec` does, and to the first column (CPL).
+    #[inline]
+    pub fn previous_line(&mut self, count: u16)
+        ensures { self.new ≡ previous_line count self.old }
+    {
+        self.row_dec(count);
+        self.cr();
+    }
+
+    /// Moves the cursor to a row and a column, counted from 0, each at most
+    /// the last one (CUP).
+    ///
+    /// In origin mode the row counts from the scroll region's top and stays in
+    /// the region.
+    #[inline]
+    pub fn move_to(&mut self, row: u16, col: u16)
+        ensures { self.new ≡ moved_to row col self.old }
+    {
+        let row = self.target_row(row);
+        self.pos = Pos {
+            row,
+            col: col.min(self.size.cols - 1),
+        };
+    }
+
+    /// Makes the rows from `top` to `bottom`, counted from 0, the scroll
+    /// region, and moves the cursor to its first place (DECSTBM).
+    ///
+    /// `bottom` is at most the last row; where the two are not at least two
+    /// rows, the whole page becomes the region.
+    #[tactic(auto, unfolding(crate::specs::Regions::region_set))]
+    pub fn set_scroll_region(&mut self, top: u16, bottom: u16)
+        ensures { self.new ≡ region_set top bottom self.old }
+    {
+        let last = self.size.rows - 1;
+        let bottom = bottom.min(last);
+        if top < bottom {
+            self.enter_region(top, bottom);
+        } else {
+            self.enter_region(0, last);
+        }
+    }
+
+    /// Turns origin mode on or off, and moves the cursor to the first place
+    /// that it then has (DECOM).
+    #[tactic(auto, using(crate::proofs::Regions::page_origin))]
+    pub fn set_origin_mode(&mut self, on: bool)
+        ensures { self.new ≡ origin_set on self.old }
+    {
+        self.origin_mode = on;
+        self.move_to(0, 0);
+    }
+
+    /// Makes rows the scroll region, and moves the cursor to its first place.
+    fn enter_region(&mut self, top: u16, bottom: u16)
+        requires inside { bottom < length self.old.rows }
+        requires region { (top < bottom) ⊎ ((top ≡ 0) × (bottom + 1 ≡ length self.old.rows)) }
+        ensures { self.new ≡ record self.old { top = top; bottom = bottom; row = top; column = 0 } }
+    {
+        self.scroll_top = top;
+        self.scroll_bottom = bottom;
+        self.pos = Pos { row: top, col: 0 };
+    }
+
+    /// Whether the cursor is in the scroll region.
+    #[inline]
+    pub(super) fn is_in_region(&self) -> bool
+        ensures { result ≡ in_region self.now }
+    {
+        self.scroll_top <= self.pos.row && self.pos.row <= self.scroll_bottom
+    }
+
+    /// The first row that the cursor can move up to.
+    #[inline]
+    fn upper_edge(&self) -> u16
+        ensures { result ≡ (if in_region self.now then self.now.top else 0) }
+    {
+        if self.is_in_region() {
+            self.scroll_top
+        } else {
+            0
+        }
+    }
+
+    /// The last row that the cursor can move down to.
+    #[inline]
+    fn lower_edge(&self) -> u16
+        ensures { result ≡ (if in_region self.now then self.now.bottom else last_row self.now) }
+    {
+        if self.is_in_region() {
+            self.scroll_bottom
+        } else {
+            self.size.rows - 1
+        }
+    }
+
+    /// The row that a row of CUP means.
+    #[inline]
+    fn target_row(&self, row: u16) -> u16
+        ensures { result ≡ target_row row self.now }
+    {
+        if self.origin_mode {
+            self.scroll_top.saturating_add(row).min(self.scroll_bottom)
+        } else {
+            row.min(self.size.rows - 1)
+        }
+    }
+}

@@ -1,0 +1,397 @@
+//! Printing: glyphs, marks, and glyphs whose width follows U+FE0F.
+
+ghost use Rattle.std.specs.Prelude.{◌≡◌, ◌≢◌, ◌+◌, ◌&&◌, ◌==◌, ◌<◌, ◌≤◌, [], IfErr, IsErr, OnErr, OnOk, Some, encode_utf8, false, if◌then◌else◌, length, nat_lt, not, slice_set, true};
+ghost use Rattle.vt_cells.specs.Cell.{IsCell, attrs_of, glyph, is_right_half, is_wide, marked, text_of};
+ghost use Rattle.vt_cells.specs.Glyph.{IsGlyphText, columns_of, is_selector, is_wide_text};
+ghost use Rattle.vt_rows.specs.Cells.{at, widened_at};
+ghost use Rattle.vt_grid.specs.Canvas.{carries};
+ghost use Rattle.vt_grid.specs.Keeping.{IsSelected, lifted_page, mark_out, room_out};
+ghost use Rattle.vt_grid.specs.Outgoing.{printed_out};
+ghost use Rattle.vt_grid.specs.Page.{IsPage, cursor_row, with_row};
+ghost use Rattle.vt_grid.specs.Printing.{glyph_put, made_narrow, mark_column, mark_printed, mark_put, printed, room_made, takes_mark, width_followed, with_cursor_cells};
+ghost use Rattle.vt_grid.specs.Scrollback.{Sends, Takes};
+
+use super::Grid;
+use crate::scrollback::Scrollback;
+use vt_cells::width::columns;
+use vt_cells::{Attrs, Cell, Error};
+use vt_rows::Leaving;
+
+impl Grid {
+    /// Prints a character at the cursor (VT510 manual: DECAWM set).
+    ///
+    /// A character of one or two columns becomes a glyph, after a wrap where
+    /// there is no room for it; one that is wider than the page draws nothing.
+    /// A character without columns of its own is put on the glyph before the
+    /// cursor, and after U+FE0F the width of that glyph follows its text. A
+    /// control draws nothing.
+    ///
+    /// A wrap at the bottom of the scroll region scrolls it; see
+    /// [`Grid::scroll_up`]. Fails where memory for scrollback is refused, and
+    /// then nothing has changed and nothing was reported.
+    #[tactic(auto, using(crate::proofs::Dispatch::printed_none, crate::proofs::Dispatch::printed_narrow, crate::proofs::Dispatch::printed_wide, crate::proofs::Outgoing::out_none, crate::proofs::Outgoing::out_narrow, crate::proofs::Outgoing::out_wide))]
+    #[inline]
+    pub fn print<L: Leaving>(
+        &mut self,
+        c: char,
+        attrs: Attrs,
+        above: &mut Scrollback,
+        leaving: &mut L,
+    ) -> Result<(), Error>
+        requires { c ≢ 0xFFFD }
+        ensures page { OnOk result (self.new ≡ printed c attrs self.old) }
+        ensures sent { OnOk result (Sends L.leaves (length self.old.rows) self.old.width (printed_out c attrs self.old) above.old leaving.old above.new leaving.new) }
+        ensures err { OnErr result ((self.new ≡ self.old) × ((above.new ≡ above.old) × (leaving.new ≡ leaving.old))) }
+        ensures grows { IsErr result → Takes (printed_out c attrs self.old) above.old }
+        ensures memory { IfErr result (λ error. error ≡ Error.OutOfMemory) }
+    {
+        let Some(width) = columns(c) else {
+            return Ok(());
+        };
+        if width == 1 {
+            self.print_narrow(c, attrs, above, leaving)
+        } else if width == 2 {
+            self.print_wide(c, attrs, above, leaving)
+        } else {
+            self.print_mark(c, attrs, above, leaving)
+        }
+    }
+
+    /// Prints a character of one column.
+    #[inline]
+    fn print_narrow<L: Leaving>(
+        &mut self,
+        c: char,
+        attrs: Attrs,
+        above: &mut Scrollback,
+        leaving: &mut L,
+    ) -> Result<(), Error>
+        requires reported { c ≢ 0xFFFD }
+        requires columns { columns_of c ≡ Some 1 }
+        ensures page { OnOk result (self.new ≡ glyph_put (encode_utf8 c) false attrs (room_made 1 self.old)) }
+        ensures sent { OnOk result (Sends L.leaves (length self.old.rows) self.old.width (room_out 1 self.old) above.old leaving.old above.new leaving.new) }
+        ensures err { OnErr result ((self.new ≡ self.old) × ((above.new ≡ above.old) × (leaving.new ≡ leaving.old))) }
+        ensures grows { IsErr result → Takes (room_out 1 self.old) above.old }
+        ensures memory { IfErr result (λ error. error ≡ Error.OutOfMemory) }
+    {
+        self.make_room(1, above, leaving)?;
+        self.put_narrow(c, attrs);
+        Ok(())
+    }
+
+    /// Wraps where there is no room for this many columns.
+    #[tactic(auto, unfolding(crate::specs::Printing::room_made))]
+    #[inline]
+    fn make_room<L: Leaving>(
+        &mut self,
+        columns: u16,
+        above: &mut Scrollback,
+        leaving: &mut L,
+    ) -> Result<(), Error>
+        ensures page { OnOk result (self.new ≡ room_made columns self.old) }
+        ensures sent { OnOk result (Sends L.leaves (length self.old.rows) self.old.width (room_out columns self.old) above.old leaving.old above.new leaving.new) }
+        ensures err { OnErr result ((self.new ≡ self.old) × ((above.new ≡ above.old) × (leaving.new ≡ leaving.old))) }
+        ensures grows { IsErr result → Takes (room_out columns self.old) above.old }
+        ensures memory { IfErr result (λ error. error ≡ Error.OutOfMemory) }
+        ensures some { 0 < self.old.width }
+    {
+        if self.pos.col > self.size.cols.saturating_sub(columns) {
+            self.wrap(above, leaving)?;
+            return Ok(());
+        }
+        Ok(())
+    }
+
+    /// Prints a character without columns of its own: it goes to the glyph
+    /// before the cursor.
+    fn print_mark<L: Leaving>(
+        &mut self,
+        mark: char,
+        attrs: Attrs,
+        above: &mut Scrollback,
+        leaving: &mut L,
+    ) -> Result<(), Error>
+        requires { columns_of mark ≡ Some 0 }
+        ensures page { OnOk result (self.new ≡ (if self.old.column == 0 then self.old else mark_printed mark attrs self.old)) }
+        ensures sent { OnOk result (Sends L.leaves (length self.old.rows) self.old.width (if self.old.column == 0 then [] else mark_out mark attrs self.old) above.old leaving.old above.new leaving.new) }
+        ensures err { OnErr result ((self.new ≡ self.old) × ((above.new ≡ above.old) × (leaving.new ≡ leaving.old))) }
+        ensures grows { IsErr result → Takes (if self.old.column == 0 then [] else mark_out mark attrs self.old) above.old }
+        ensures memory { IfErr result (λ error. error ≡ Error.OutOfMemory) }
+    {
+        if self.pos.col == 0 {
+            return Ok(());
+        }
+        if self.carries(mark) {
+            return self.carry(mark, attrs, above, leaving);
+        }
+        self.mark_cell(mark, attrs);
+        Ok(())
+    }
+
+    /// Whether U+FE0F makes the narrow glyph before a pending wrap wide, so
+    /// that it goes on in the next row.
+    #[tactic(auto, unfolding(crate::specs::Canvas::carries))]
+    fn carries(&self, mark: char) -> bool
+        requires mark { columns_of mark ≡ Some 0 }
+        requires some { 0 < self.now.column }
+        ensures { result ≡ carries mark self.now }
+    {
+        mark == '\u{FE0F}'
+            && self.pos.col == self.size.cols
+            && self.size.cols > 1
+            && self.grows_wide(mark)
+    }
+
+    /// Whether the glyph before the cursor is narrow, has room for a mark, and
+    /// has with it a text of more than one column.
+    fn grows_wide(&self, mark: char) -> bool
+        requires mark { columns_of mark ≡ Some 0 }
+        requires some { 0 < self.now.column }
+        ensures { result ≡ ((takes_mark (at (cursor_row self.now).cells (mark_column self.now)) && not (is_wide (at (cursor_row self.now).cells (mark_column self.now)))) && is_wide_text (text_of (marked mark (at (cursor_row self.now).cells (mark_column self.now))))) }
+    {
+        let col = self.mark_col();
+        self.takes_mark(col) && !self.is_wide(col) && self.is_wide_with(col, mark)
+    }
+
+    /// Whether the cell at a column of the cursor's row has with a mark more
+    /// a text of more than one column.
+    fn is_wide_with(&self, col: u16, mark: char) -> bool
+        requires mark { columns_of mark ≡ Some 0 }
+        requires inside { col < length (cursor_row self.now).cells }
+        requires shown { is_right_half (at (cursor_row self.now).cells col) ≡ false }
+        ensures { result ≡ is_wide_text (text_of (marked mark (at (cursor_row self.now).cells col))) }
+    {
+        let mut cell = self.sheet.cell(self.pos.row, col).copied();
+        cell.append(mark);
+        cell.is_wide_text()
+    }
+
+    /// Puts a mark on the glyph before the cursor, if that has room for it;
+    /// after U+FE0F the width of the glyph follows its text.
+    #[tactic(auto, unfolding(crate::specs::Printing::mark_printed))]
+    fn mark_cell(&mut self, mark: char, attrs: Attrs)
+        requires mark { columns_of mark ≡ Some 0 }
+        requires some { 0 < self.old.column }
+        requires stays { carries mark self.old ≡ false }
+        ensures { self.new ≡ mark_printed mark attrs self.old }
+    {
+        let col = self.mark_col();
+        if self.takes_mark(col) {
+            self.put_mark(col, mark);
+            if mark == '\u{FE0F}' {
+                self.follow_width(col, attrs);
+            }
+        }
+    }
+
+    /// The column of the glyph before the cursor: of its left half, where it
+    /// is wide.
+    fn mark_col(&self) -> u16
+        requires { 0 < self.now.column }
+        ensures value { result ≡ mark_column self.now }
+        ensures page { IsPage self.now }
+    {
+        let before = self.pos.col - 1;
+        if self.sheet.cell(self.pos.row, before).is_wide_continuation() {
+            before - 1
+        } else {
+            before
+        }
+    }
+
+    /// Whether the cell at a column of the cursor's row, a blank as a space,
+    /// has room for a mark.
+    fn takes_mark(&self, col: u16) -> bool
+        requires { col < length (cursor_row self.now).cells }
+        ensures { result ≡ takes_mark (at (cursor_row self.now).cells col) }
+    {
+        self.sheet.cell(self.pos.row, col).contents().len() < 18
+    }
+
+    /// Puts a mark on the cell at a column of the cursor's row.
+    fn put_mark(&mut self, col: u16, mark: char)
+        requires mark { columns_of mark ≡ Some 0 }
+        requires inside { col < length (cursor_row self.old).cells }
+        requires shown { is_right_half (at (cursor_row self.old).cells col) ≡ false }
+        ensures { self.new ≡ mark_put col mark self.old }
+    {
+        self.sheet.append(self.pos.row, col, mark);
+    }
+
+    /// Whether the glyph at a column of the cursor's row has a text of more
+    /// than one column, and the page room for that.
+    fn wants_wide(&self, col: u16) -> bool
+        requires { col < length (cursor_row self.now).cells }
+        ensures { result ≡ (is_wide_text (text_of (at (cursor_row self.now).cells col)) && nat_lt 1 self.now.width) }
+    {
+        self.sheet.cell(self.pos.row, col).is_wide_text() && self.size.cols > 1
+    }
+
+    /// Whether the cell at a column of the cursor's row is a wide glyph.
+    fn is_wide(&self, col: u16) -> bool
+        requires { col < length (cursor_row self.now).cells }
+        ensures { result ≡ is_wide (at (cursor_row self.now).cells col) }
+    {
+        self.sheet.cell(self.pos.row, col).is_wide()
+    }
+
+    /// Makes the glyph at a column as wide as its text; on a page of one
+    /// column it stays narrow.
+    #[tactic(auto, unfolding(crate::specs::Printing::width_followed, crate::specs::Printing::made_wide))]
+    fn follow_width(&mut self, col: u16, attrs: Attrs)
+        requires selected { IsSelected self.old col }
+        requires room { is_wide (at (cursor_row self.old).cells col) ≡ false → (is_wide_text (text_of (at (cursor_row self.old).cells col)) && nat_lt 1 self.old.width) ≡ true → self.old.column < self.old.width }
+        ensures { self.new ≡ width_followed col attrs self.old }
+    {
+        let wide = self.wants_wide(col);
+        if self.is_wide(col) {
+            if !wide {
+                self.make_narrow(col, attrs);
+            }
+        } else if wide {
+            self.widen(col, attrs);
+        }
+    }
+
+    /// Takes the glyph before a pending wrap away, puts U+FE0F on it, and puts
+    /// it as a wide one at the beginning of the next row.
+    ///
+    /// The glyph is taken out before the wrap, since on a page of one row that
+    /// row leaves without it; it is put back where the wrap fails.
+    fn carry<L: Leaving>(
+        &mut self,
+        mark: char,
+        attrs: Attrs,
+        above: &mut Scrollback,
+        leaving: &mut L,
+    ) -> Result<(), Error>
+        requires mark { columns_of mark ≡ Some 0 }
+        requires carried { carries mark self.old ≡ true }
+        ensures page { OnOk result (self.new ≡ mark_printed mark attrs self.old) }
+        ensures sent { OnOk result (Sends L.leaves (length self.old.rows) self.old.width (mark_out mark attrs self.old) above.old leaving.old above.new leaving.new) }
+        ensures err { OnErr result ((self.new ≡ self.old) × ((above.new ≡ above.old) × (leaving.new ≡ leaving.old))) }
+        ensures grows { IsErr result → Takes (mark_out mark attrs self.old) above.old }
+        ensures memory { IfErr result (λ error. error ≡ Error.OutOfMemory) }
+    {
+        let col = self.mark_col();
+        let goes_on = self.row_wrapped(self.pos.row);
+        let cell = self.lift(col, attrs);
+        if let Err(error) = self.wrap(above, leaving) {
+            self.put_back(col, cell, goes_on);
+            return Err(error);
+        }
+        self.put_wide_cell(widened(cell, mark, attrs));
+        Ok(())
+    }
+
+    /// Takes the cell at a column of the cursor's row out, and leaves a blank.
+    fn lift(&mut self, col: u16, attrs: Attrs) -> Cell
+        requires { col < length (cursor_row self.old).cells }
+        ensures lifted { result ≡ at (cursor_row self.old).cells col }
+        ensures value { self.new ≡ lifted_page col attrs self.old }
+    {
+        self.sheet.lift(self.pos.row, col, attrs)
+    }
+
+    /// Puts a cell that was taken out back at a column of the cursor's row,
+    /// and the row's flag.
+    fn put_back(&mut self, col: u16, cell: Cell, goes_on: bool)
+        requires inside { col < length (cursor_row self.old).cells }
+        requires page { IsPage (with_row self.old.row (record { cells = slice_set (cursor_row self.old).cells col cell; wrapped = goes_on }) self.old) }
+        ensures { self.new ≡ with_row self.old.row (record { cells = slice_set (cursor_row self.old).cells col cell; wrapped = goes_on }) self.old }
+    {
+        self.sheet.put_back(self.pos.row, col, cell, goes_on);
+    }
+
+    /// Puts a wide glyph at the cursor, which moves behind it.
+    fn put_wide_cell(&mut self, cell: Cell)
+        requires wide { is_wide cell ≡ true }
+        requires sound { IsGlyphText (text_of cell) true }
+        requires room { self.old.column + 2 ≤ self.old.width }
+        ensures { self.new ≡ glyph_put (text_of cell) true (attrs_of cell) self.old }
+    {
+        self.sheet.put_wide_cell(self.pos.row, self.pos.col, cell);
+        self.pos.col += 2;
+    }
+
+    /// Makes the glyph at a column narrow, and leaves the cursor.
+    fn make_narrow(&mut self, col: u16, attrs: Attrs)
+        requires { IsSelected self.old col }
+        ensures { self.new ≡ made_narrow col attrs self.old }
+    {
+        self.sheet.narrow(self.pos.row, col, attrs);
+    }
+
+    /// Makes the glyph before the cursor wide, and moves the cursor on.
+    fn widen(&mut self, col: u16, attrs: Attrs)
+        requires selected { IsSelected self.old col }
+        requires before { col + 1 ≡ self.old.column }
+        requires room { self.old.column < self.old.width }
+        ensures { self.new ≡ record (with_cursor_cells (widened_at col attrs (cursor_row self.old).cells) self.old) { column = self.old.column + 1 } }
+    {
+        self.sheet.widen(self.pos.row, col, attrs);
+        self.pos.col += 1;
+    }
+
+    /// Puts a glyph of one column at the cursor, which moves behind it.
+    #[inline]
+    fn put_narrow(&mut self, c: char, attrs: Attrs)
+        requires reported { c ≢ 0xFFFD }
+        requires columns { columns_of c ≡ Some 1 }
+        requires room { self.old.column < self.old.width }
+        ensures { self.new ≡ glyph_put (encode_utf8 c) false attrs self.old }
+    {
+        self.sheet.put_narrow(self.pos.row, self.pos.col, c, attrs);
+        self.pos.col += 1;
+    }
+
+    /// Prints a character of two columns; on a page of one column nothing.
+    fn print_wide<L: Leaving>(
+        &mut self,
+        c: char,
+        attrs: Attrs,
+        above: &mut Scrollback,
+        leaving: &mut L,
+    ) -> Result<(), Error>
+        requires reported { c ≢ 0xFFFD }
+        requires columns { columns_of c ≡ Some 2 }
+        ensures page { OnOk result (self.new ≡ (if nat_lt 1 self.old.width then glyph_put (encode_utf8 c) true attrs (room_made 2 self.old) else self.old)) }
+        ensures sent { OnOk result (Sends L.leaves (length self.old.rows) self.old.width (if nat_lt 1 self.old.width then room_out 2 self.old else []) above.old leaving.old above.new leaving.new) }
+        ensures err { OnErr result ((self.new ≡ self.old) × ((above.new ≡ above.old) × (leaving.new ≡ leaving.old))) }
+        ensures grows { IsErr result → Takes (if nat_lt 1 self.old.width then room_out 2 self.old else []) above.old }
+        ensures memory { IfErr result (λ error. error ≡ Error.OutOfMemory) }
+    {
+        if self.size.cols == 1 {
+            return Ok(());
+        }
+        self.make_room(2, above, leaving)?;
+        self.put_wide(c, attrs);
+        Ok(())
+    }
+
+    /// Puts a glyph of two columns at the cursor, which moves behind it.
+    fn put_wide(&mut self, c: char, attrs: Attrs)
+        requires reported { c ≢ 0xFFFD }
+        requires columns { columns_of c ≡ Some 2 }
+        requires room { self.old.column + 2 ≤ self.old.width }
+        ensures { self.new ≡ glyph_put (encode_utf8 c) true attrs self.old }
+    {
+        self.sheet.put_wide(self.pos.row, self.pos.col, c, attrs);
+        self.pos.col += 2;
+    }
+}
+
+/// A glyph with a mark more, as a wide one in other attributes.
+fn widened(mut cell: Cell, mark: char, attrs: Attrs) -> Cell
+    requires mark { columns_of mark ≡ Some 0 }
+    requires selector { is_selector mark ≡ true }
+    requires sound { IsCell cell }
+    requires room { takes_mark cell ≡ true }
+    requires shown { is_right_half cell ≡ false }
+    ensures { result ≡ glyph (text_of (marked mark cell)) true attrs }
+{
+    cell.append(mark);
+    cell.set_attrs(attrs);
+    cell.set_wide(true);
+    cell
+}

@@ -1,0 +1,455 @@
+//! The rows that left a page at its top, as far as they are kept (xterm's
+//! saved lines).
+
+ghost use Rattle.std.specs.Prelude.{◌≡◌, ◌+◌, ◌-◌, ◌^◌, ◌==◌, ◌<◌, ◌≤◌, ◌↔◌, ◌++◌, ◌∷◌, [], ℕ, List, All, IfErr, IfOk, IfSome, IsErr, IsSome, OnErr, OnOk, if◌then◌else◌, length, map, min, nat_lt, replicate, slice_index_or};
+ghost use Rattle.std.specs.List.{FoldsTo};
+ghost use Rattle.std.specs.VecDeque.{deque_capacity, deque_len};
+ghost use Rattle.vt_cells.specs.Attrs.{default_attrs};
+ghost use Rattle.vt_rows.specs.Row.{RowValue, IsRow, blank_row, trimmed_row};
+ghost use Rattle.vt_grid.specs.Scrollback.{Sends, Takes, before_last, cleared, grown_row, kept_after, last_of, no_scrollback, viewed, visible};
+ghost use Rattle.vt_grid.specs.Spare.{AreSpare, grown_from, in_view, narrow_rows, window_from};
+
+use crate::size::Size;
+use std::alloc::Global;
+use std::collections::VecDeque;
+use std::marker::Model;
+use std::mem;
+use vt_cells::Error;
+use vt_rows::{Leaving, Row};
+
+/// The rows that left a page at its top, at most as many as its capacity, and
+/// how many of them are in view (the offset).
+#[derive(Debug, Drop)]
+pub struct Scrollback {
+    alloc: Global,
+    rows: VecDeque<Row>,
+    capacity: usize,
+    theoretical: usize,
+    offset: usize,
+}
+
+impl Model for Scrollback {
+    ghost use Rattle.vt_grid.specs.Scrollback.{IsScrollback, Scrollback};
+
+    ghost Value = { Scrollback };
+
+    ghost view = { λ s. record { rows = s.rows.items; capacity = s.capacity; theoretical = s.theoretical; offset = s.offset } };
+
+    ghost invariant = { λ s. IsScrollback (record { rows = s.rows.items; capacity = s.capacity; theoretical = s.theoretical; offset = s.offset }) };
+}
+
+impl Scrollback {
+    /// Scrollback without rows. It takes no memory yet.
+    pub fn new(alloc: Global, capacity: usize) -> Scrollback
+        ensures { result ≡ no_scrollback capacity }
+    {
+        Scrollback {
+            alloc,
+            rows: VecDeque::new(alloc),
+            capacity,
+            theoretical: 0,
+            offset: 0,
+        }
+    }
+
+    /// How many rows are kept.
+    #[inline]
+    pub fn len(&self) -> usize
+        ensures { result ≡ length self.now.rows }
+    {
+        self.rows.len()
+    }
+
+    /// How many rows are kept at most.
+    #[inline]
+    pub fn capacity(&self) -> usize
+        ensures { result ≡ self.now.capacity }
+    {
+        self.capacity
+    }
+
+    /// How many rows are in view.
+    #[inline]
+    pub fn offset(&self) -> usize
+        ensures { result ≡ self.now.offset }
+    {
+        self.offset
+    }
+
+    /// Takes over the rows that leave a page of this size at its top, older
+    /// first, without the default blanks at their ends; in their places rows
+    /// of the page's width stand.
+    ///
+    /// The rows that are too many are reported, older first. Rows in view stay
+    /// in view as long as they are kept, and are at least as long as the page
+    /// is wide.
+    ///
+    /// Fails where memory is refused, and then nothing has changed and nothing
+    /// was reported. No row, or a capacity of 0, takes no memory.
+    pub fn push<L: Leaving>(
+        &mut self,
+        rows: &mut [Row],
+        size: Size,
+        leaving: &mut L,
+    ) -> Result<(), Error>
+        requires sound { All (IsRow size.cols) rows.old }
+        ensures sent { OnOk result (Sends L.leaves size.rows size.cols rows.old self.old leaving.old self.new leaving.new) }
+        ensures len { OnOk result (length rows.new ≡ length rows.old) }
+        ensures rows { OnOk result (All (IsRow size.cols) rows.new) }
+        ensures err { OnErr result ((self.new ≡ self.old) × ((rows.new ≡ rows.old) × (leaving.new ≡ leaving.old))) }
+        ensures grows { IsErr result → Takes rows.old self.old }
+        ensures memory { IfErr result (λ error. error ≡ Error.OutOfMemory) }
+    {
+        if rows.is_empty() {
+            return Ok(());
+        }
+        if self.capacity == 0 {
+            self.pass(rows, leaving);
+            return Ok(());
+        }
+        self.keep(rows, size, leaving)
+    }
+
+    /// Reports rows that leave, where no row is kept; see `push`.
+    fn pass<L: Leaving>(&mut self, rows: &[Row], leaving: &mut L)
+        requires none { self.old.capacity ≡ 0 }
+        requires some { 0 < length rows.now }
+        ensures { (height width : ℕ) → Sends L.leaves height width rows.now self.old leaving.old self.new leaving.new }
+    {
+        report_trimmed(rows, leaving);
+        self.theoretical = self.theoretical.saturating_add(rows.len());
+    }
+
+    /// Takes over rows that leave, where some are kept; see `push`.
+    fn keep<L: Leaving>(
+        &mut self,
+        rows: &mut [Row],
+        size: Size,
+        leaving: &mut L,
+    ) -> Result<(), Error>
+        requires sound { All (IsRow size.cols) rows.old }
+        requires some { 0 < length rows.old }
+        requires kept { 0 < self.old.capacity }
+        ensures sent { OnOk result (Sends L.leaves size.rows size.cols rows.old self.old leaving.old self.new leaving.new) }
+        ensures len { OnOk result (length rows.new ≡ length rows.old) }
+        ensures rows { OnOk result (All (IsRow size.cols) rows.new) }
+        ensures err { OnErr result ((self.new ≡ self.old) × ((rows.new ≡ rows.old) × (leaving.new ≡ leaving.old))) }
+        ensures memory { IfErr result (λ error. error ≡ Error.OutOfMemory) }
+    {
+        let count = rows.len();
+        let blanks = blank_rows(self.alloc, usize::from(size.cols), count)?;
+        let spare = blank_rows(
+            self.alloc,
+            usize::from(size.cols),
+            self.growths(count, size),
+        )?;
+        self.rows
+            .reserve(count.min(self.capacity - self.rows.len()))?;
+        take_over(rows, blanks, &mut self.rows, self.capacity, leaving);
+        self.theoretical = self.theoretical.saturating_add(count);
+        self.offset = followed(self.offset, count, self.rows.len());
+        grow_in_view(&mut self.rows, self.offset, size, spare);
+        Ok(())
+    }
+
+    /// At most how many rows in view are too short once `count` rows have
+    /// been taken over.
+    fn growths(&self, count: usize, size: Size) -> usize
+        requires { count < 2 ^ 63 }
+        ensures { (gone : List RowValue) → length gone ≡ count → narrow_rows size.cols (in_view size.rows (kept_after gone self.now)) ≤ result }
+    {
+        if self.offset == 0 {
+            return 0;
+        }
+        let len = self.rows.len();
+        let end = len + count;
+        let first = end - (self.offset + count).min(self.capacity);
+        let below = first + usize::from(size.rows);
+        narrow_rows(&self.rows, first, size) + below.min(end).saturating_sub(len)
+    }
+
+    /// Brings the newest `n` rows into view, at most all. Rows in view are at
+    /// least as long as the page, which has this size, is wide.
+    ///
+    /// Fails where memory is refused, and then nothing has changed.
+    pub fn set_offset(&mut self, n: usize, size: Size) -> Result<(), Error>
+        ensures ok { OnOk result (self.new ≡ viewed size.rows size.cols n self.old) }
+        ensures err { OnErr result (self.new ≡ self.old) }
+        ensures memory { IfErr result (λ error. error ≡ Error.OutOfMemory) }
+    {
+        let offset = n.min(self.rows.len());
+        let narrow = narrow_rows(&self.rows, self.rows.len() - offset, size);
+        let spare = blank_rows(self.alloc, usize::from(size.cols), narrow)?;
+        self.offset = offset;
+        grow_in_view(&mut self.rows, offset, size, spare);
+        Ok(())
+    }
+
+    /// Gives up and reports all rows, older first, and forgets how many there
+    /// were.
+    pub fn clear<L: Leaving>(&mut self, leaving: &mut L)
+        ensures rows { self.new ≡ cleared self.old }
+        ensures reported { FoldsTo L.leaves leaving.old self.old.rows leaving.new }
+    {
+        report_all(&mut self.rows, leaving);
+        self.theoretical = 0;
+        self.offset = 0;
+    }
+
+    /// The row that is shown at a place, if there is one: above are the rows
+    /// in view, and below them `rows`, those of the page.
+    pub fn visible_row<'a>(&'a self, rows: &'a [Row], row: u16) -> Option<&'a Row>
+        ensures inside { IsSome result ↔ (row < length rows.now) }
+        ensures value { (d : RowValue) → IfSome result (λ found. found.now ≡ slice_index_or (visible self.now rows.now) row d) }
+    {
+        let row = usize::from(row);
+        if row >= rows.len() {
+            return None;
+        }
+        if row < self.offset {
+            return self.rows.get(self.rows.len() - self.offset + row);
+        }
+        rows.get(row - self.offset)
+    }
+}
+
+/// Rows of default blanks.
+fn blank_rows(alloc: Global, columns: usize, count: usize) -> Result<Vec<Row>, Error>
+    ensures ok { IfOk result (λ rows. rows.items ≡ replicate count (blank_row default_attrs columns)) }
+    ensures memory { IfErr result (λ error. error ≡ Error.OutOfMemory) }
+{
+    let Ok(mut rows) = Vec::with_capacity(alloc, count) else {
+        return Err(Error::OutOfMemory);
+    };
+    for _row in 0..count {
+        rows.push_reserved(Row::new(alloc, columns)?);
+    }
+    Ok(rows)
+}
+
+/// Gives up and reports all rows, older first.
+fn report_all<L: Leaving>(rows: &mut VecDeque<Row>, leaving: &mut L)
+    ensures rows { rows.new.items ≡ [] }
+    ensures reported { FoldsTo L.leaves leaving.old rows.old.items leaving.new }
+{
+    while let Some(row) = rows.pop_front() {
+        leaving.leave(row.contents());
+    }
+}
+
+/// Reports rows without the default blanks at their ends.
+fn report_trimmed<L: Leaving>(rows: &[Row], leaving: &mut L)
+    ensures { FoldsTo L.leaves leaving.old (map trimmed_row rows.now) leaving.new }
+{
+    for row in rows {
+        leaving.leave(row.trimmed_contents());
+    }
+}
+
+/// Puts rows below those that are kept, and blank ones in their places; see
+/// `push_row`.
+fn take_over<L: Leaving>(
+    rows: &mut [Row],
+    mut blanks: Vec<Row>,
+    kept: &mut VecDeque<Row>,
+    capacity: usize,
+    leaving: &mut L,
+)
+    requires some { 0 < capacity }
+    requires inside { length kept.old.items ≤ capacity }
+    requires room { length kept.old.items + min (length rows.old) (capacity - length kept.old.items) ≤ deque_capacity kept.old }
+    requires as_many { length blanks.items ≡ length rows.old }
+    ensures rows { rows.new ≡ blanks.items }
+    ensures kept { kept.new.items ≡ last_of capacity (kept.old.items ++ map trimmed_row rows.old) }
+    ensures reported { FoldsTo L.leaves leaving.old (before_last capacity (kept.old.items ++ map trimmed_row rows.old)) leaving.new }
+{
+    rows.swap_with_slice(&mut blanks);
+    push_rows(blanks, kept, capacity, leaving);
+}
+
+/// Puts rows below those that are kept, one after the other; see `push_row`.
+fn push_rows<L: Leaving>(gone: Vec<Row>, kept: &mut VecDeque<Row>, capacity: usize, leaving: &mut L)
+    requires some { 0 < capacity }
+    requires inside { length kept.old.items ≤ capacity }
+    requires room { length kept.old.items + min (length gone.items) (capacity - length kept.old.items) ≤ deque_capacity kept.old }
+    ensures rows { kept.new.items ≡ last_of capacity (kept.old.items ++ map trimmed_row gone.items) }
+    ensures reported { FoldsTo L.leaves leaving.old (before_last capacity (kept.old.items ++ map trimmed_row gone.items)) leaving.new }
+{
+    for row in gone {
+        push_row(row, kept, capacity, leaving);
+    }
+}
+
+/// Puts a row below those that are kept, without the default blanks at its
+/// end. Where they are as many as can be, the oldest is reported.
+fn push_row<L: Leaving>(mut row: Row, kept: &mut VecDeque<Row>, capacity: usize, leaving: &mut L)
+    requires some { 0 < capacity }
+    requires inside { length kept.old.items ≤ capacity }
+    requires room { length kept.old.items < capacity → deque_len kept.old < deque_capacity kept.old }
+    ensures rows { kept.new.items ≡ last_of capacity (kept.old.items ++ trimmed_row row ∷ []) }
+    ensures reported { FoldsTo L.leaves leaving.old (before_last capacity (kept.old.items ++ trimmed_row row ∷ [])) leaving.new }
+    ensures capacity { deque_capacity kept.new ≡ deque_capacity kept.old }
+{
+    row.trim();
+    if kept.len() < capacity {
+        kept.push_back_reserved(row);
+        return;
+    }
+    if let Some(oldest) = kept.pop_front() {
+        leaving.leave(oldest.contents());
+    }
+    kept.push_back_reserved(row);
+}
+
+/// The offset after rows were taken over: what was in view stays in view.
+fn followed(offset: usize, count: usize, len: usize) -> usize
+    ensures { result ≡ (if offset == 0 then 0 else min (offset + count) len) }
+{
+    if offset == 0 {
+        0
+    } else {
+        offset.saturating_add(count).min(len)
+    }
+}
+
+/// How many of the rows from `first` on that a screen of this size shows are
+/// shorter than it is wide.
+fn narrow_rows(rows: &VecDeque<Row>, first: usize, size: Size) -> usize
+    requires { first < 2 ^ 64 - 2 ^ 16 }
+    ensures value { result ≡ narrow_rows size.cols (window_from first size.rows rows.now.items) }
+    ensures few { result ≤ size.rows }
+{
+    let end = rows.len().min(first + usize::from(size.rows));
+    let mut count = 0;
+    for k in first..end {
+        count += narrow(&rows[k], usize::from(size.cols));
+    }
+    count
+}
+
+/// 1 for a row of fewer columns, else 0.
+fn narrow(row: &Row, columns: usize) -> usize
+    ensures { result ≡ (if nat_lt (length row.now.cells) columns then 1 else 0) }
+{
+    if row.cols() < columns { 1 } else { 0 }
+}
+
+/// Grows the rows in view that are shorter than the screen is wide. The spare
+/// rows are blank, and as wide as the screen.
+fn grow_in_view(rows: &mut VecDeque<Row>, offset: usize, size: Size, mut spare: Vec<Row>)
+    requires inside { offset ≤ length rows.old.items }
+    requires sound { All (λ row. IsRow (length row.cells) row) rows.old.items }
+    requires spare { AreSpare size.cols (window_from (length rows.old.items - offset) size.rows rows.old.items) spare.items }
+    ensures { rows.new.items ≡ grown_from (length rows.old.items - offset) size.rows size.cols rows.old.items }
+{
+    let len = rows.len();
+    let first = len - offset;
+    let end = len.min(first + usize::from(size.rows));
+    for k in first..end {
+        grow_row(&mut rows[k], usize::from(size.cols), &mut spare);
+    }
+}
+
+/// Grows a row that has fewer columns: a spare row takes over its cells.
+fn grow_row(row: &mut Row, columns: usize, spare: &mut Vec<Row>)
+    requires sound { IsRow (length row.old.cells) row.old }
+    requires spare { AreSpare columns (row.old ∷ []) spare.old.items }
+    ensures row { row.new ≡ grown_row columns row.old }
+    ensures spare { (rows : List RowValue) → AreSpare columns (row.old ∷ rows) spare.old.items → AreSpare columns rows spare.new.items }
+{
+    if row.cols() >= columns {
+        return;
+    }
+    if let Some(blank) = spare.pop() {
+        let from = mem::replace(row, blank);
+        row.refit(from);
+    }
+}
+
+#[cfg(test)]
+mod tests {
+    use super::*;
+    use vt_cells::{Attrs, Color};
+    use vt_rows::RowContents;
+
+    // How many rows have left.
+    #[derive(Drop)]
+    struct Counter {
+        rows: u32,
+    }
+
+    impl Leaving for Counter {
+        ghost use Rattle.std.specs.Prelude.{◌≡◌, ◌+◌, min};
+
+        ghost leaves = { λ old _ new. new.rows ≡ min (old.rows + 1) 4294967295 };
+
+        fn leave(&mut self, _row: RowContents<'_>) {
+            self.rows = self.rows.saturating_add(1);
+        }
+    }
+
+    const SIZE: Size = Size { rows: 3, cols: 2 };
+
+    // A row of blanks in a colour.
+    #[tactic(auto, using(crate::proofs::Scrolling::sound_blanks))]
+    fn row_in(alloc: Global, color: u8) -> Result<Row, Error>
+        ensures { IfOk result (λ row. IsRow 2 row) }
+    {
+        let mut row = Row::new(alloc, 2)?;
+        let mut attrs = Attrs::new();
+        attrs.bgcolor = Color::Idx(color);
+        row.clear(attrs);
+        Ok(row)
+    }
+
+    // The colour of the last column of a row of two; 0 for a default one.
+    fn color_of(row: Option<&Row>) -> u8 {
+        match row.and_then(|row| row.get(1)).map(|cell| cell.bgcolor()) {
+            Some(Color::Idx(color)) => color,
+            _ => 0,
+        }
+    }
+
+    #[test]
+    fn rows_are_kept_reported_and_shown(rt: HostRuntime) {
+        let mut counter = Counter { rows: 0 };
+        let mut above = Scrollback::new(rt.alloc(), 3);
+        let page = [
+            row_in(rt.alloc(), 91).expect(&rt, "memory"),
+            row_in(rt.alloc(), 92).expect(&rt, "memory"),
+            row_in(rt.alloc(), 93).expect(&rt, "memory"),
+        ];
+        for (color, followed, wanted, shown, reported) in [
+            (1, 0, 0, [91, 92, 93], 0),
+            (2, 0, 1, [2, 91, 92], 0),
+            (3, 2, 2, [2, 3, 91], 0),
+            (4, 3, 9, [2, 3, 4], 1),
+        ] {
+            let mut rows = [row_in(rt.alloc(), color).expect(&rt, "memory")];
+            let pushed = above.push(&mut rows, SIZE, &mut counter);
+            assert!(rt; pushed.is_ok(), "memory for {color}");
+            assert_eq!(rt; above.offset(), followed, "offset after {color}");
+            let set = above.set_offset(wanted, SIZE);
+            assert!(rt; set.is_ok(), "memory for an offset after {color}");
+            assert_eq!(rt;
+                color_of(above.visible_row(&page, 0)),
+                shown[0],
+                "first row after {color}"
+            );
+            assert_eq!(rt;
+                color_of(above.visible_row(&page, 1)),
+                shown[1],
+                "second row after {color}"
+            );
+            assert_eq!(rt;
+                color_of(above.visible_row(&page, 2)),
+                shown[2],
+                "third row after {color}"
+            );
+            assert_eq!(rt; counter.rows, reported, "reported after {color}");
+        }
+        above.clear(&mut counter);
+        assert_eq!(rt; counter.rows, 4, "reported when given up");
+        assert_eq!(rt; above.len() + above.offset(), 0, "what is left");
+    }
+}
