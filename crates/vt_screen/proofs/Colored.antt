@@ -1,6 +1,6 @@
 -- Every step keeps the colours of a page to numbers that are bytes.
 use Rattle.std.proofs.Common.{ℕ, zero, suc, ◌+◌, ◌-◌, ◌<◌, ◌==◌, ◌&&◌, nat_lt, min, not, Bool, true, false, List, [], ◌∷◌, length, take, drop, sym, subst, inl, inr, arith}
-use Rattle.std.specs.Prelude.{if◌then◌else◌, All, Option, Some, None, replicate}
+use Rattle.std.specs.Prelude.{◌||◌, if◌then◌else◌, All, Option, Some, None, replicate}
 use Rattle.std.specs.Char.{encode_utf8}
 use Rattle.std.proofs.lemmas.Bool.{cases_lt}
 use Rattle.std.proofs.lemmas.List.{get_or_past}
@@ -21,7 +21,7 @@ use Rattle.vt_screen.specs.Keeping.{IsColoredCell, IsColoredRow, AreColored}
 
 -- ---- cells
 
-plain : FitsAttrs default_attrs
+pub plain : FitsAttrs default_attrs
 plain = (tt, tt)
 
 colored_mended : (x : CellValue) → IsColoredCell x → IsColoredCell (mended x)
@@ -54,7 +54,7 @@ colored_one x h = All-cons IsColoredCell x [] h (All-nil IsColoredCell)
 colored_two : (x : CellValue) → IsColoredCell x → All IsColoredCell (x ∷ right_half ∷ [])
 colored_two x h = All-cons IsColoredCell x (right_half ∷ []) h (colored_one right_half plain)
 
-colored_at : (cells : List CellValue) (k : ℕ) → All IsColoredCell cells → IsColoredCell (at cells k)
+pub colored_at : (cells : List CellValue) (k : ℕ) → All IsColoredCell cells → IsColoredCell (at cells k)
 colored_at cells k all = elim (cases_lt k (length cells)) [
   | inl lt ↦ All-get_or IsColoredCell cells k default_blank lt all
   | inr past ↦ subst IsColoredCell (sym (get_or_past cells k default_blank past)) plain
@@ -72,29 +72,29 @@ colored_widened wide right_half h = h
 
 -- ---- rows
 
-colored_blank_row : (attrs : Attrs) (width : ℕ) → FitsAttrs attrs → IsColoredRow (blank_row attrs width)
+pub colored_blank_row : (attrs : Attrs) (width : ℕ) → FitsAttrs attrs → IsColoredRow (blank_row attrs width)
 colored_blank_row attrs width h = All-replicate IsColoredCell width (blank attrs) h
 
-colored_row_or : (width : ℕ) (rows : List RowValue) (r : ℕ) → AreColored rows → IsColoredRow (row_or width rows r)
+pub colored_row_or : (width : ℕ) (rows : List RowValue) (r : ℕ) → AreColored rows → IsColoredRow (row_or width rows r)
 colored_row_or width rows r all = elim (cases_lt r (length rows)) [
   | inl lt ↦ All-get_or IsColoredRow rows r (blank_row default_attrs width) lt all
   | inr past ↦ subst IsColoredRow (sym (get_or_past rows r (blank_row default_attrs width) past)) (colored_blank_row default_attrs width plain)
 ]
 
-colored_cursor_row : (page : Page) → AreColored page.rows → All IsColoredCell (cursor_row page).cells
+pub colored_cursor_row : (page : Page) → AreColored page.rows → All IsColoredCell (cursor_row page).cells
 colored_cursor_row page all = colored_row_or page.width page.rows page.row all
 
-colored_with_row : (r : ℕ) (row : RowValue) (page : Page) → IsColoredRow row → AreColored page.rows → AreColored (with_row r row page).rows
+pub colored_with_row : (r : ℕ) (row : RowValue) (page : Page) → IsColoredRow row → AreColored page.rows → AreColored (with_row r row page).rows
 colored_with_row r row page h all = All-set IsColoredRow page.rows r row h all
 
 colored_cursor_cells : (cells : List CellValue) (page : Page) → All IsColoredCell cells → AreColored page.rows → AreColored (with_cursor_cells cells page).rows
 colored_cursor_cells cells page h all = colored_with_row page.row (with_cells (cursor_row page) cells) page h all
 
-colored_if : (b : Bool) (x y : Page) → AreColored x.rows → AreColored y.rows → AreColored (if b then x else y).rows
+pub colored_if : (b : Bool) (x y : Page) → AreColored x.rows → AreColored y.rows → AreColored (if b then x else y).rows
 colored_if true x y p q = p
 colored_if false x y p q = q
 
-colored_scrolled_up : (n : ℕ) (page : Page) → AreColored page.rows → AreColored (scrolled_up n page).rows
+pub colored_scrolled_up : (n : ℕ) (page : Page) → AreColored page.rows → AreColored (scrolled_up n page).rows
 colored_scrolled_up n page all =
     let source = up_source (length page.rows) page.top page.bottom n in
     All-from_get_or IsColoredRow (moved_rows page.width source page.rows) (blank_row default_attrs page.width) (λ r lt.
@@ -115,7 +115,7 @@ colored_blank height width = All-replicate IsColoredRow height (blank_row defaul
 colored_erased : (c n : ℕ) (attrs : Attrs) (cells : List CellValue) → FitsAttrs attrs → All IsColoredCell cells → All IsColoredCell (erased c n attrs cells)
 colored_erased c n attrs cells h all = colored_put_cells c n default_blank (blanks attrs n) cells plain (All-replicate IsColoredCell n (blank attrs) h) all
 
-colored_erased_columns : (c n : ℕ) (attrs : Attrs) (page : Page) → FitsAttrs attrs → AreColored page.rows → AreColored (erased_columns c n attrs page).rows
+pub colored_erased_columns : (c n : ℕ) (attrs : Attrs) (page : Page) → FitsAttrs attrs → AreColored page.rows → AreColored (erased_columns c n attrs page).rows
 colored_erased_columns c n attrs page h all =
     colored_cursor_cells (erased c n attrs (cursor_row page).cells) page (colored_erased c n attrs (cursor_row page).cells h (colored_cursor_row page all)) all
 
@@ -123,7 +123,7 @@ pub colored_erased_chars : (n : ℕ) (attrs : Attrs) (page : Page) → FitsAttrs
 unfolding erased_chars
 colored_erased_chars n attrs page h all =
     let count = min n (page.width - page.column) in
-    colored_if (page.column == page.width) page (erased_columns page.column count attrs page) all (colored_erased_columns page.column count attrs page h all)
+    colored_if ((n == 0) || (page.column == page.width)) page (erased_columns page.column count attrs page) all (colored_erased_columns page.column count attrs page h all)
 
 pub colored_erased_rest : (attrs : Attrs) (page : Page) → FitsAttrs attrs → AreColored page.rows → AreColored (erased_rest attrs page).rows
 unfolding erased_rest

@@ -5,4 +5,7 @@ pub mod ReadbackCharacters
 pub mod Readback
 pub mod Redrawing
 pub mod Colored
-pub mod Kept
+pub mod ColoredMoves
+mod Reporting
+mod Kept
+mod KeptMoves

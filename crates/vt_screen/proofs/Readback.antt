@@ -15,7 +15,7 @@ use Rattle.vt_scan.specs.Automaton.{Executed, start, fresh_step}
 use Rattle.vt_scan.specs.Parameters.{table_of, groups_of, numbers_of, number_of}
 use Rattle.vt_scan.specs.Table.{class_of}
 use Rattle.vt_screen.specs.Screen.{ScreenValue, canvas_of, with_canvas, with_page}
-use Rattle.vt_screen.specs.Steps.{plain_steps, control_steps, marked_steps, private_steps, mode_step, number_or, stepped}
+use Rattle.vt_screen.specs.Steps.{plain_steps, counted_step, scrolling_steps, other_steps, page_erasing, row_erasing, control_steps, marked_steps, private_steps, mode_step, number_or, stepped}
 use Rattle.vt_screen.specs.Steps as steps
 use Rattle.vt_screen.specs.Reading.{quiet_steps, quiet_events, terminal, read_byte, read}
 use Rattle.vt_screen.proofs.ReadbackSgr.{IsColor, FewBytes, IsByte, groups_alone, sgr_change, sgr_clear, few_changes, some_changes}
@@ -31,7 +31,7 @@ Fits (MoveTo row col) = (row < 65535) × (col < 65535)
 Fits (MoveRight count) = count ≤ 65535
 Fits NextRow = Unit {0}
 Fits LineFeed = Unit {0}
-Fits Backspace = ⊥
+Fits Backspace = Unit {0}
 Fits EraseBelow = Unit {0}
 Fits EraseRest = Unit {0}
 Fits (EraseChars count) = count ≤ 65535
@@ -83,15 +83,15 @@ numbered n ns final screen after few small is_final quiet =
     csi_read (joined (n ∷ ns)) final (groups_alone (n ∷ ns)) screen after (parameters_joined (n ∷ ns) small) is_final (table_of-joined n ns few small) quiet
 
 cleared_read : (screen : ScreenValue) → read (terminal start screen) (csi [] 0x6D) ≡ Some (terminal start (record screen { attrs = default_attrs }))
-unfolding class_of plain_steps
+unfolding class_of counted_step scrolling_steps other_steps page_erasing row_erasing
 cleared_read screen = bare 0x6D screen (record screen { attrs = default_attrs }) (record { entered = refl; behind = refl }) (sgr_clear screen)
 
 erased_below_read : (screen : ScreenValue) → read (terminal start screen) (csi [] 0x4A) ≡ Some (terminal start (stepped steps.EraseBelow screen))
-unfolding class_of plain_steps
+unfolding class_of counted_step scrolling_steps other_steps page_erasing row_erasing
 erased_below_read screen = bare 0x4A screen (stepped steps.EraseBelow screen) (record { entered = refl; behind = refl }) refl
 
 erased_rest_read : (screen : ScreenValue) → read (terminal start screen) (csi [] 0x4B) ≡ Some (terminal start (stepped steps.EraseRest screen))
-unfolding class_of plain_steps
+unfolding class_of counted_step scrolling_steps other_steps page_erasing row_erasing
 erased_rest_read screen = bare 0x4B screen (stepped steps.EraseRest screen) (record { entered = refl; behind = refl }) refl
 
 -- a count that isn't 0 is itself
@@ -100,7 +100,7 @@ count_read n rest h = let t : (n == 0) ≡ false = grind (arith, nat_tests) in r
 
 moved_right_read : (n : ℕ) (screen : ScreenValue) → suc n ≤ 65535
     → read (terminal start screen) (counted (suc n) 0x43) ≡ Some (terminal start (stepped (steps.MoveRight (suc n)) screen))
-unfolding class_of plain_steps
+unfolding class_of counted_step scrolling_steps other_steps page_erasing row_erasing
 moved_right_read zero screen h = bare 0x43 screen (stepped (steps.MoveRight 1) screen) (record { entered = refl; behind = refl }) refl
 moved_right_read (suc n) screen h =
     numbered (suc (suc n)) [] 0x43 screen (stepped (steps.MoveRight (suc (suc n))) screen) (omega arith) (h, tt) (record { entered = refl; behind = refl })
@@ -108,7 +108,7 @@ moved_right_read (suc n) screen h =
 
 erased_chars_read : (n : ℕ) (screen : ScreenValue) → suc n ≤ 65535
     → read (terminal start screen) (counted (suc n) 0x58) ≡ Some (terminal start (stepped (steps.EraseChars (suc n)) screen))
-unfolding class_of plain_steps
+unfolding class_of counted_step scrolling_steps other_steps page_erasing row_erasing
 erased_chars_read zero screen h = bare 0x58 screen (stepped (steps.EraseChars 1) screen) (record { entered = refl; behind = refl }) refl
 erased_chars_read (suc n) screen h =
     numbered (suc (suc n)) [] 0x58 screen (stepped (steps.EraseChars (suc (suc n))) screen) (omega arith) (h, tt) (record { entered = refl; behind = refl })
@@ -120,7 +120,7 @@ ordinal_read n = let t : ((n + 1) == 0) ≡ false = grind (arith, nat_tests) in 
 
 placed : (row col : ℕ) (screen : ScreenValue) → row < 65535 → col < 65535
     → read (terminal start screen) (csi (joined ((row + 1) ∷ (col + 1) ∷ [])) 0x48) ≡ Some (terminal start (stepped (steps.MoveTo row col) screen))
-unfolding class_of plain_steps
+unfolding class_of counted_step scrolling_steps other_steps page_erasing row_erasing
 placed row col screen low narrow =
     numbered (row + 1) ((col + 1) ∷ []) 0x48 screen (stepped (steps.MoveTo row col) screen) (omega arith) (omega arith, (omega arith, tt)) (record { entered = refl; behind = refl })
     (ap (λ (r : ℕ). Some (stepped (steps.MoveTo r ((if (col + 1) == 0 then 1 else col + 1) - 1)) screen)) (ordinal_read row)
@@ -128,7 +128,7 @@ placed row col screen low narrow =
 
 moved_to_read : (row col : ℕ) (screen : ScreenValue) → row < 65535 → col < 65535
     → read (terminal start screen) (csi (place row col) 0x48) ≡ Some (terminal start (stepped (steps.MoveTo row col) screen))
-unfolding class_of plain_steps
+unfolding class_of counted_step scrolling_steps other_steps page_erasing row_erasing
 moved_to_read zero zero screen low narrow = bare 0x48 screen (stepped (steps.MoveTo 0 0) screen) (record { entered = refl; behind = refl }) refl
 moved_to_read zero (suc col) screen low narrow = placed zero (suc col) screen low narrow
 moved_to_read (suc row) zero screen low narrow = placed (suc row) zero screen low narrow
@@ -171,7 +171,7 @@ attrs_plain was new attrs e f = rw (e, f) refl
 
 parts_read : (was new : Attrs) (screen : ScreenValue) → IsColor new.fgcolor → IsColor new.bgcolor → same_attrs was new ≡ false → same_attrs new default_attrs ≡ false
     → read (terminal start screen) (csi (joined (change_numbers was new)) 0x6D) ≡ Some (terminal start (record screen { attrs = changed_attrs was new (screen.attrs) }))
-unfolding plain_steps
+unfolding counted_step scrolling_steps other_steps
 parts_read was new screen fg bg e f =
     some_numbered (change_numbers was new) screen (record screen { attrs = changed_attrs was new (screen.attrs) }) (some_changes was new e) (few_changes was new fg bg)
     (sgr_change was new fg bg e f screen)
@@ -205,6 +205,10 @@ returned_read : (screen : ScreenValue) (rest : List ℕ) → read (terminal star
 unfolding read_byte fresh_step class_of control_steps
 returned_read screen rest = refl
 
+left_read : (screen : ScreenValue) → read (terminal start screen) (0x08 ∷ []) ≡ Some (terminal start (stepped (steps.MoveLeft 1) screen))
+unfolding read_byte fresh_step class_of control_steps
+left_read screen = refl
+
 -- ---- texts
 
 unpushed : (b : Bool) (cs : List ℕ) (e d : Canvas) → and_then (drawn_text cs) (if b then None else Some e) ≡ Some d → (b ≡ false) × (drawn_text cs e ≡ Some d)
@@ -236,7 +240,7 @@ reads_op NextRow screen d f h =
     let next : ScreenValue = with_page (carriage_return screen.page) screen in
     (screen.last, returned_read screen (0x0A ∷ []) ∙ fed_read next d h)
 reads_op LineFeed screen d f h = (screen.last, fed_read screen d h)
-reads_op Backspace screen d f h = absurd f
+reads_op Backspace screen d f h = known (bytes_of Backspace) screen (canvas_of (stepped (steps.MoveLeft 1) screen)) d h (left_read screen)
 reads_op EraseBelow screen d f h = known (bytes_of EraseBelow) screen (canvas_of (stepped steps.EraseBelow screen)) d h (erased_below_read screen)
 reads_op EraseRest screen d f h = known (bytes_of EraseRest) screen (canvas_of (stepped steps.EraseRest screen)) d h (erased_rest_read screen)
 reads_op (EraseChars zero) screen d f h = known [] screen (canvas_of screen) d h refl

@@ -5,4 +5,6 @@ pub mod Screen
 pub mod Steps
 pub mod Run
 pub mod Reading
+pub mod Reports
 pub mod Keeping
+pub mod Telling

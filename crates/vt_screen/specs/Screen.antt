@@ -1,24 +1,18 @@
 -- A screen: the active page and the other one, scrollback, attributes and modes.
-use Rattle.std.specs.Prelude.{ℕ, ◌≤◌, Bool, false, List, [], length, Option, None}
+use Rattle.std.specs.Prelude.{ℕ, Bool, false, List, Option, None, if◌then◌else◌}
 use Rattle.vt_cells.specs.Attrs.{default_attrs}
 use Rattle.vt_cells.specs.declared.attrs.Attrs.{Attrs}
 use Rattle.vt_cells.specs.declared.modes.MouseProtocolMode.TheVariants as mouse
 use Rattle.vt_cells.specs.declared.modes.MouseProtocolEncoding.TheVariants as encoding
 use Rattle.vt_cells.specs.declared.modes.CursorStyle.TheVariants as style
 use Rattle.vt_rows.specs.Row.{RowValue}
-use Rattle.vt_grid.specs.Page.{Page, IsPage, blank_page}
+use Rattle.vt_grid.specs.Page.{Page, IsPage, blank_page, row_or}
 use Rattle.vt_grid.specs.Canvas.{Canvas}
+use Rattle.vt_grid.specs.Scrollback.{Scrollback, IsScrollback, no_scrollback, cleared, visible}
 pub use Rattle.vt_screen.specs.declared.modes.Modes.{Modes}
 
--- rows that left the main page at its top, how many are kept at most, how many there would be without that limit, and how many are in view
-pub record Scrollback : Type 0 where
-  pub rows : List RowValue
-  pub capacity : ℕ
-  pub theoretical : ℕ
-  pub offset : ℕ
-
 pub record ScreenValue : Type 0 where
-  -- the active page, and the other one if it was ever entered
+  -- the active page, and the other one if it was ever entered; scrollback is above the main one
   pub page : Page
   pub other : Option Page
   pub is_alternate : Bool
@@ -39,9 +33,6 @@ no_modes = record {
   mouse_encoding = encoding.Default;
   cursor_style = style.Default;
 }
-
-abbrev pub no_scrollback : ℕ → Scrollback
-no_scrollback capacity = record { rows = []; capacity = capacity; theoretical = 0; offset = 0 }
 
 -- a fresh screen
 abbrev pub fresh_screen : (rows cols capacity : ℕ) → ScreenValue
@@ -67,8 +58,19 @@ canvas_of screen = record { page = screen.page; attrs = screen.attrs; saved_attr
 abbrev pub with_canvas : Canvas → ScreenValue → ScreenValue
 with_canvas canvas screen = record screen { page = canvas.page; attrs = canvas.attrs; saved_attrs = canvas.saved_attrs; hidden = canvas.hidden }
 
+-- scrollback above the active page; the alternate page has none
+abbrev pub above_page : ScreenValue → Scrollback
+above_page screen = if screen.is_alternate then no_scrollback 0 else screen.scrollback
+
+-- the rows that are shown
+abbrev pub visible_rows : ScreenValue → List RowValue
+visible_rows screen = visible (above_page screen) screen.page.rows
+
+-- the row that is shown at a place; past the end a blank row
+abbrev pub visible_row : ScreenValue → ℕ → RowValue
+visible_row screen r = row_or screen.page.width (visible_rows screen) r
+
 -- what every screen is
 pub record IsScreen (screen : ScreenValue) : Type 0 where
   pub page : IsPage screen.page
-  pub kept : length screen.scrollback.rows ≤ screen.scrollback.capacity
-  pub in_view : screen.scrollback.offset ≤ length screen.scrollback.rows
+  pub scrollback : IsScrollback screen.scrollback

@@ -8,13 +8,19 @@ use Rattle.vt_cells.specs.declared.modes.MouseProtocolEncoding.{MouseProtocolEnc
 use Rattle.vt_cells.specs.declared.modes.MouseProtocolEncoding.TheVariants as encoding
 use Rattle.vt_cells.specs.declared.modes.CursorStyle.{CursorStyle}
 use Rattle.vt_cells.specs.declared.modes.CursorStyle.TheVariants as style
-use Rattle.vt_grid.specs.Moves.{carriage_return, moved_right, moved_to, line_feed}
-use Rattle.vt_grid.specs.Erasing.{erased_below, erased_rest, erased_chars}
+use Rattle.vt_grid.specs.Page.{scrolled_up}
+use Rattle.vt_grid.specs.Moves.{carriage_return, moved_left, moved_right, moved_to, line_feed}
+use Rattle.vt_grid.specs.Regions.{moved_up, moved_down, next_line, previous_line, tabbed, moved_to_column, moved_to_row, region_set, origin_set}
+use Rattle.vt_grid.specs.Shifts.{reverse_index, scrolled_down, lines_inserted, lines_deleted, chars_inserted, chars_deleted}
+use Rattle.vt_grid.specs.Erasing.{erased_below, erased_above, erased_page, erased_rest, erased_start, erased_row, erased_chars}
 use Rattle.vt_grid.specs.Printing.{printed}
+use Rattle.vt_grid.specs.Outgoing.{printed_out, fed_out, scrolled_out}
+use Rattle.vt_grid.specs.Scrollback.{Takes, pushed, reported, cleared}
+use Rattle.vt_rows.specs.Row.{RowValue}
 use Rattle.vt_scan.specs.Automaton.{Event, Character, Executed, EscDispatch, CsiDispatch, OscDispatch}
 use Rattle.vt_screen.specs.Calls.{CallValue, AudibleBell, VisualBell, Resize, SetWindowIconName, SetWindowTitle, CopyToClipboard, PasteFromClipboard, UnhandledChar, UnhandledControl, UnhandledEscape, UnhandledCsi, UnhandledOsc}
 use Rattle.vt_screen.specs.Sgr.{group_read, rendered}
-use Rattle.vt_screen.specs.Screen.{ScreenValue, with_page}
+use Rattle.vt_screen.specs.Screen.{ScreenValue, with_page, above_page}
 use Rattle.vt_screen.specs.declared.modes.Modes.{Modes}
 use Rattle.vt_screen.specs.declared.sgr.Setting.{Setting}
 use Rattle.vt_screen.specs.declared.sgr.Wanted.{Wanted}
@@ -26,11 +32,33 @@ pub data Step : Type 0 where
   Print : (c : ℕ) → Step
   CarriageReturn : Step
   LineFeed : Step
+  ReverseIndex : Step
+  MoveUp : (count : ℕ) → Step
+  MoveDown : (count : ℕ) → Step
   MoveRight : (count : ℕ) → Step
+  MoveLeft : (count : ℕ) → Step
+  NextLine : (count : ℕ) → Step
+  PreviousLine : (count : ℕ) → Step
+  Tab : Step
   MoveTo : (row col : ℕ) → Step
+  MoveToColumn : (col : ℕ) → Step
+  MoveToRow : (row : ℕ) → Step
+  SetRegion : (top bottom : ℕ) → Step
+  UseOrigin : (on : Bool) → Step
   EraseBelow : Step
+  EraseAbove : Step
+  ErasePage : Step
+  EraseScrollback : Step
   EraseRest : Step
+  EraseStart : Step
+  EraseRow : Step
   EraseChars : (count : ℕ) → Step
+  InsertChars : (count : ℕ) → Step
+  DeleteChars : (count : ℕ) → Step
+  InsertLines : (count : ℕ) → Step
+  DeleteLines : (count : ℕ) → Step
+  ScrollUp : (count : ℕ) → Step
+  ScrollDown : (count : ℕ) → Step
   Render : Setting → Step
   HideCursor : (hidden : Bool) → Step
   UseApplicationCursor : (on : Bool) → Step
@@ -84,11 +112,33 @@ abbrev pub stepped : Step → ScreenValue → ScreenValue
 stepped (Print c) screen = record screen { page = printed c screen.attrs screen.page; last = last_after c screen }
 stepped CarriageReturn screen = with_page (carriage_return screen.page) screen
 stepped LineFeed screen = with_page (line_feed screen.page) screen
+stepped ReverseIndex screen = with_page (reverse_index screen.page) screen
+stepped (MoveUp count) screen = with_page (moved_up count screen.page) screen
+stepped (MoveDown count) screen = with_page (moved_down count screen.page) screen
 stepped (MoveRight count) screen = with_page (moved_right count screen.page) screen
+stepped (MoveLeft count) screen = with_page (moved_left count screen.page) screen
+stepped (NextLine count) screen = with_page (next_line count screen.page) screen
+stepped (PreviousLine count) screen = with_page (previous_line count screen.page) screen
+stepped Tab screen = with_page (tabbed screen.page) screen
 stepped (MoveTo row col) screen = with_page (moved_to row col screen.page) screen
+stepped (MoveToColumn col) screen = with_page (moved_to_column col screen.page) screen
+stepped (MoveToRow row) screen = with_page (moved_to_row row screen.page) screen
+stepped (SetRegion top bottom) screen = with_page (region_set top bottom screen.page) screen
+stepped (UseOrigin on) screen = with_page (origin_set on screen.page) screen
 stepped EraseBelow screen = with_page (erased_below screen.attrs screen.page) screen
+stepped EraseAbove screen = with_page (erased_above screen.attrs screen.page) screen
+stepped ErasePage screen = with_page (erased_page screen.attrs screen.page) screen
+stepped EraseScrollback screen = screen
 stepped EraseRest screen = with_page (erased_rest screen.attrs screen.page) screen
+stepped EraseStart screen = with_page (erased_start screen.attrs screen.page) screen
+stepped EraseRow screen = with_page (erased_row screen.attrs screen.page) screen
 stepped (EraseChars count) screen = with_page (erased_chars count screen.attrs screen.page) screen
+stepped (InsertChars count) screen = with_page (chars_inserted count screen.page) screen
+stepped (DeleteChars count) screen = with_page (chars_deleted count screen.page) screen
+stepped (InsertLines count) screen = with_page (lines_inserted count screen.page) screen
+stepped (DeleteLines count) screen = with_page (lines_deleted count screen.page) screen
+stepped (ScrollUp count) screen = with_page (scrolled_up count screen.page) screen
+stepped (ScrollDown count) screen = with_page (scrolled_down count screen.page) screen
 stepped (Render setting) screen = record screen { attrs = rendered setting screen.attrs }
 stepped (HideCursor hidden) screen = record screen { hidden = hidden }
 stepped (UseApplicationCursor on) screen = with_modes (λ modes. record modes { application_cursor = on }) screen
@@ -99,6 +149,31 @@ stepped (SetMouseEncoding form) screen = with_modes (λ modes. record modes { mo
 stepped (ClearMouseEncoding form) screen = with_modes (λ modes. record modes { mouse_encoding = mouse_encoding_without modes.mouse_encoding form }) screen
 stepped (SetCursorStyle look) screen = with_modes (λ modes. record modes { cursor_style = look }) screen
 stepped (Tell call) screen = screen
+
+-- ---- the rows that a step sends off the page
+
+-- of the active page, at its top
+abbrev pub outgoing : Step → ScreenValue → List RowValue
+outgoing (Print c) screen = printed_out c screen.attrs screen.page
+outgoing LineFeed screen = fed_out screen.page
+outgoing (ScrollUp count) screen = scrolled_out count screen.page
+outgoing _ screen = []
+
+-- the screen after a step, with the rows that left in scrollback, or with scrollback given up
+abbrev pub scrolled : Step → ScreenValue → ScreenValue
+scrolled EraseScrollback screen = if screen.is_alternate then screen else record screen { scrollback = cleared screen.scrollback }
+scrolled step screen =
+    if screen.is_alternate then stepped step screen
+    else record (stepped step screen) { scrollback = pushed (length screen.page.rows) screen.page.width (outgoing step screen) screen.scrollback }
+
+-- the rows that are reported, older first: those that aren't kept
+abbrev pub reports : Step → ScreenValue → List RowValue
+reports EraseScrollback screen = (above_page screen).rows
+reports step screen = reported (outgoing step screen) (above_page screen)
+
+-- a row is moved into scrollback, which takes memory
+abbrev pub Grows : Step → ScreenValue → Type 0
+Grows step screen = Takes (outgoing step screen) (above_page screen)
 
 -- ---- numbers
 
@@ -120,22 +195,25 @@ unfoldable pub character_steps : ℕ → List Step
 character_steps c =
     if (c == 0xFFFD) || (nat_le 0x80 c && nat_le c 0x9F) then Tell (UnhandledChar c) ∷ [] else Print c ∷ []
 
--- BEL, LF, VT, FF, CR; SO and SI do nothing; BS and TAB not yet
+-- BEL, BS, HT, LF, VT, FF, CR; SO and SI do nothing
 unfoldable pub control_steps : ℕ → List Step
 control_steps b =
     if b == 0x07 then Tell AudibleBell ∷ []
+    else if b == 0x08 then MoveLeft 1 ∷ []
+    else if b == 0x09 then Tab ∷ []
     else if nat_le 0x0A b && nat_le b 0x0C then LineFeed ∷ []
     else if b == 0x0D then CarriageReturn ∷ []
-    else if (b == 0x08) || ((b == 0x09) || ((b == 0x0E) || (b == 0x0F))) then []
+    else if (b == 0x0E) || (b == 0x0F) then []
     else Tell (UnhandledControl b) ∷ []
 
 -- escape sequences without intermediates that are not there yet
 abbrev pub is_coming : ℕ → Bool
-is_coming b = list_any (λ c. c == b) (codes "78=>Mc")
+is_coming b = list_any (λ c. c == b) (codes "78=>c")
 
 unfoldable pub escape_steps : List ℕ → ℕ → List Step
 escape_steps [] b =
     if b == 0x67 then Tell VisualBell ∷ []
+    else if b == 0x4D then ReverseIndex ∷ []
     else if is_coming b then []
     else Tell (UnhandledEscape None None b) ∷ []
 escape_steps (mark ∷ marks) b = Tell (UnhandledEscape (Some mark) (mark_at 0 marks) b) ∷ []
@@ -154,9 +232,21 @@ sgr_from groups wanted (group ∷ rest) =
 abbrev pub sgr_steps : List (List ℕ) → List Step
 sgr_steps groups = sgr_from groups Any groups
 
--- ED and EL: 0 is there, other known numbers are not yet, and unknown ones are reported
-abbrev pub erase_steps : Step → ℕ → CallValue → ℕ → List Step
-erase_steps step known report n = if n == 0 then step ∷ [] else if nat_le n known then [] else Tell report ∷ []
+-- ED and EL; a number that they don't have is reported
+unfoldable pub page_erasing : CallValue → ℕ → List Step
+page_erasing report n =
+    if n == 0 then EraseBelow ∷ []
+    else if n == 1 then EraseAbove ∷ []
+    else if n == 2 then ErasePage ∷ []
+    else if n == 3 then EraseScrollback ∷ []
+    else Tell report ∷ []
+
+unfoldable pub row_erasing : CallValue → ℕ → List Step
+row_erasing report n =
+    if n == 0 then EraseRest ∷ []
+    else if n == 1 then EraseStart ∷ []
+    else if n == 2 then EraseRow ∷ []
+    else Tell report ∷ []
 
 -- a size that a program asks for; the screen's own where a group is missing
 abbrev pub size_or : ℕ → ℕ → List (List ℕ) → ℕ
@@ -172,23 +262,50 @@ abbrev pub repeated : ℕ → Option ℕ → List Step
 repeated n (Some c) = replicate n (Print c)
 repeated n None = []
 
--- moves, shifts and scrolls that are not there yet
-abbrev pub is_coming_csi : ℕ → Bool
-is_coming_csi b = list_any (λ c. c == b) (codes "@ABDEFGLMPST`dr")
+-- the step of a control sequence with one count, at least 1
+unfoldable pub counted_step : ℕ → ℕ → Option Step
+counted_step b n =
+    if b == 0x40 then Some (InsertChars n)
+    else if b == 0x41 then Some (MoveUp n)
+    else if b == 0x42 then Some (MoveDown n)
+    else if b == 0x43 then Some (MoveRight n)
+    else if b == 0x44 then Some (MoveLeft n)
+    else if b == 0x45 then Some (NextLine n)
+    else if b == 0x46 then Some (PreviousLine n)
+    else if (b == 0x47) || (b == 0x60) then Some (MoveToColumn (n - 1))
+    else if b == 0x4C then Some (InsertLines n)
+    else if b == 0x4D then Some (DeleteLines n)
+    else if b == 0x50 then Some (DeleteChars n)
+    else if b == 0x54 then Some (ScrollDown n)
+    else if b == 0x58 then Some (EraseChars n)
+    else if b == 0x64 then Some (MoveToRow (n - 1))
+    else None
+
+-- other control sequences without a marker or an intermediate; rows and columns are counted from 1
+unfoldable pub other_steps : List (List ℕ) → ℕ → ScreenValue → List Step
+other_steps groups b screen =
+    if (b == 0x48) || (b == 0x66) then MoveTo (number_or 1 0 groups - 1) (number_or 1 1 groups - 1) ∷ []
+    else if b == 0x4A then page_erasing (UnhandledCsi None None groups b) (number_at 0 groups)
+    else if b == 0x4B then row_erasing (UnhandledCsi None None groups b) (number_at 0 groups)
+    else if b == 0x6D then sgr_steps groups
+    else if b == 0x72 then SetRegion (number_or 1 0 groups - 1) (number_or (length screen.page.rows) 1 groups - 1) ∷ []
+    else if b == 0x74 then window_steps groups screen
+    else Tell (UnhandledCsi None None groups b) ∷ []
+
+-- those that may scroll rows off the page
+unfoldable pub scrolling_steps : List (List ℕ) → ℕ → ScreenValue → List Step
+scrolling_steps groups b screen =
+    if b == 0x53 then ScrollUp (number_or 1 0 groups) ∷ []
+    else if b == 0x62 then repeated (number_or 1 0 groups) screen.last
+    else other_steps groups b screen
+
+abbrev pub one_or : Option Step → List Step → List Step
+one_or (Some step) others = step ∷ []
+one_or None others = others
 
 -- control sequences without a marker or an intermediate
-unfoldable pub plain_steps : List (List ℕ) → ℕ → ScreenValue → List Step
-plain_steps groups b screen =
-    if b == 0x43 then MoveRight (number_or 1 0 groups) ∷ []
-    else if (b == 0x48) || (b == 0x66) then MoveTo (number_or 1 0 groups - 1) (number_or 1 1 groups - 1) ∷ []
-    else if b == 0x4A then erase_steps EraseBelow 3 (UnhandledCsi None None groups b) (number_at 0 groups)
-    else if b == 0x4B then erase_steps EraseRest 2 (UnhandledCsi None None groups b) (number_at 0 groups)
-    else if b == 0x58 then EraseChars (number_or 1 0 groups) ∷ []
-    else if b == 0x62 then repeated (number_or 1 0 groups) screen.last
-    else if b == 0x6D then sgr_steps groups
-    else if b == 0x74 then window_steps groups screen
-    else if is_coming_csi b then []
-    else Tell (UnhandledCsi None None groups b) ∷ []
+abbrev pub plain_steps : List (List ℕ) → ℕ → ScreenValue → List Step
+plain_steps groups b screen = one_or (counted_step b (number_or 1 0 groups)) (scrolling_steps groups b screen)
 
 -- DECSCUSR's numbers
 unfoldable pub style_of : ℕ → Option CursorStyle
@@ -216,6 +333,7 @@ encoding_step on form = if on then SetMouseEncoding form else ClearMouseEncoding
 unfoldable pub mode_step : Bool → CallValue → ℕ → List Step
 mode_step on report n =
     if n == 1 then UseApplicationCursor on ∷ []
+    else if n == 6 then UseOrigin on ∷ []
     else if n == 9 then mouse_step on mouse.Press ∷ []
     else if n == 25 then HideCursor (not on) ∷ []
     else if n == 1000 then mouse_step on mouse.PressRelease ∷ []
@@ -224,7 +342,7 @@ mode_step on report n =
     else if n == 1005 then encoding_step on encoding.Utf8 ∷ []
     else if n == 1006 then encoding_step on encoding.Sgr ∷ []
     else if n == 2004 then UseBracketedPaste on ∷ []
-    else if (n == 6) || ((n == 47) || (n == 1049)) then []
+    else if (n == 47) || (n == 1049) then []
     else Tell report ∷ []
 
 abbrev pub mode_steps : Bool → CallValue → List (List ℕ) → List Step
@@ -236,8 +354,8 @@ mode_steps on report (_ ∷ groups) = Tell report ∷ mode_steps on report group
 unfoldable pub private_steps : Option ℕ → List (List ℕ) → ℕ → List Step
 private_steps second groups b =
     let report = UnhandledCsi (Some 0x3F) second groups b in
-    if b == 0x4A then erase_steps EraseBelow 3 report (number_at 0 groups)
-    else if b == 0x4B then erase_steps EraseRest 2 report (number_at 0 groups)
+    if b == 0x4A then page_erasing report (number_at 0 groups)
+    else if b == 0x4B then row_erasing report (number_at 0 groups)
     else if b == 0x68 then mode_steps true report groups
     else if b == 0x6C then mode_steps false report groups
     else Tell report ∷ []

@@ -1,7 +1,7 @@
 //! What a terminal tells the program around it.
 
-use crate::row_contents::RowContents;
 use crate::screen::Screen;
+use vt_rows::RowContents;
 
 /// A call of one of [`Callbacks`]' functions, with what it lends.
 #[derive(Clone, Copy)]

@@ -4,10 +4,10 @@
 
 pub mod callbacks;
 pub mod modes;
-pub mod row_contents;
+mod reporter;
 pub mod screen;
 pub mod sgr;
 
 pub use callbacks::{Call, Callbacks};
-pub use row_contents::RowContents;
 pub use screen::Screen;
+pub use vt_rows::RowContents;

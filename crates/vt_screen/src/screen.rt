@@ -1,28 +1,30 @@
 //! The screen of a terminal.
 
-ghost use Rattle.std.specs.Prelude.{◌≡◌, ◌≢◌, ◌<◌, ◌↔◌, ◌++◌, IfErr, IfOk, IfSome, IsSome, OnOk, Some, length, string_bytes};
+ghost use Rattle.std.specs.Prelude.{◌≡◌, ◌≢◌, ◌<◌, ◌↔◌, ◌++◌, IfErr, IfOk, IfSome, IsSome, None, OnOk, Some, false, length, string_bytes};
 ghost use Rattle.vt_cells.specs.Attrs.{is_bold, is_dim};
 ghost use Rattle.vt_cells.specs.Op.{bytes_of_all};
 ghost use Rattle.vt_grid.specs.Fits.{IsColored};
-ghost use Rattle.vt_grid.specs.Page.{IsPage, cell_at, row_at};
+ghost use Rattle.vt_grid.specs.Page.{IsPage};
+ghost use Rattle.vt_rows.specs.Cells.{at};
 ghost use Rattle.vt_grid.specs.Script.{redraw};
 ghost use Rattle.vt_grid.specs.Simple.{IsSimple};
 ghost use Rattle.vt_screen.specs.Reading.{Redraws};
-ghost use Rattle.vt_screen.specs.Screen.{canvas_of, fresh_screen};
-ghost use Rattle.vt_screen.specs.Steps as step;
-ghost use Rattle.vt_screen.specs.Steps.{last_after, stepped};
+ghost use Rattle.vt_screen.specs.Screen.{canvas_of, fresh_screen, visible_row};
 
-use crate::modes::{self, Modes};
+mod controls;
+mod scrolling;
+
+use crate::modes::Modes;
 use crate::sgr::Setting;
 use std::alloc::Global;
 use std::marker::Model;
 use std::num::NonZeroU16;
 use vt_cells::{
     Attrs, Cell, Color, CursorStyle, Error, MouseProtocolEncoding, MouseProtocolMode, Pos, Sink,
-    columns,
 };
 use vt_grid::redraw::write_contents_formatted;
-use vt_grid::{Grid, Size};
+use vt_grid::{Grid, Scrollback, Size};
+use vt_rows::Row;
 
 /// A terminal's screen: a page of cells with its cursor, the attributes that
 /// new text is drawn with, and the modes that a program set.
@@ -35,22 +37,21 @@ pub struct Screen {
     hidden: bool,
     modes: Modes,
     last: Option<char>,
-    capacity: usize,
-    alternate: bool,
+    scrollback: Scrollback,
 }
 
 impl Model for Screen {
-    ghost use Rattle.std.specs.Prelude.{None};
+    ghost use Rattle.std.specs.Prelude.{None, false};
     ghost use Rattle.vt_screen.specs.Keeping.{IsKept};
-    ghost use Rattle.vt_screen.specs.Screen.{ScreenValue, no_scrollback};
+    ghost use Rattle.vt_screen.specs.Screen.{ScreenValue};
 
     ghost Value = { ScreenValue };
 
     ghost view = { λ s. record {
       page = s.grid;
       other = None;
-      is_alternate = s.alternate;
-      scrollback = no_scrollback s.capacity;
+      is_alternate = false;
+      scrollback = s.scrollback;
       attrs = s.attrs;
       saved_attrs = s.saved_attrs;
       hidden = s.hidden;
@@ -90,165 +91,8 @@ impl Screen {
             hidden: false,
             modes: Modes::new(),
             last: None,
-            capacity: scrollback_capacity,
-            alternate: false,
+            scrollback: Scrollback::new(alloc, scrollback_capacity),
         })
-    }
-}
-
-// What a program's controls do.
-impl Screen {
-    /// Prints a character.
-    ///
-    /// A character of one or two columns becomes a glyph in the current
-    /// attributes, after a wrap where there is no room for it. One without
-    /// columns of its own is put on the glyph before the cursor. A control,
-    /// and a character wider than the screen, draws nothing.
-    #[inline]
-    pub fn text(&mut self, c: char)
-        requires { c ≢ 0xFFFD }
-        ensures { self.new ≡ stepped (step.Print c) self.old }
-    {
-        let last = self.last_after(c);
-        self.grid.print(c, self.attrs);
-        self.last = last;
-    }
-
-    /// The last character that REP repeats, once this one is printed.
-    #[inline]
-    fn last_after(&self, c: char) -> Option<char>
-        requires { c ≢ 0xFFFD }
-        ensures value { result ≡ last_after c self.now }
-        ensures reported { result ≢ Some 0xFFFD }
-    {
-        let Some(columns) = columns(c) else {
-            return self.last;
-        };
-        if columns == 0 || u16::from(columns) > self.grid.size().cols {
-            return self.last;
-        }
-        Some(c)
-    }
-
-    /// Moves the cursor to the first column (CR).
-    #[inline]
-    pub fn cr(&mut self)
-        ensures { self.new ≡ stepped step.CarriageReturn self.old }
-    {
-        self.grid.cr();
-    }
-
-    /// Moves the cursor down by one row, its column as it is; at the scroll
-    /// region's bottom the region scrolls up instead (LF, VT and FF).
-    #[inline]
-    pub fn lf(&mut self)
-        ensures { self.new ≡ stepped step.LineFeed self.old }
-    {
-        self.grid.line_feed();
-    }
-
-    /// Moves the cursor to the right, at most to the last column (CUF).
-    pub fn cuf(&mut self, count: u16)
-        ensures { self.new ≡ stepped (step.MoveRight count) self.old }
-    {
-        self.grid.col_inc_clamp(count);
-    }
-
-    /// Moves the cursor to a row and a column, counted from 0, each at most
-    /// the last one (CUP). In origin mode the row counts from the scroll
-    /// region's top and stays in the region.
-    pub fn cup(&mut self, row: u16, col: u16)
-        ensures { self.new ≡ stepped (step.MoveTo row col) self.old }
-    {
-        self.grid.move_to(row, col);
-    }
-
-    /// Makes the screen blank from the cursor on (ED 0); at a pending wrap the
-    /// cursor's row stays.
-    pub fn erase_below(&mut self)
-        ensures { self.new ≡ stepped step.EraseBelow self.old }
-    {
-        self.grid.erase_all_forward(self.attrs);
-    }
-
-    /// Makes the cursor's row blank from the cursor on (EL 0); at a pending
-    /// wrap nothing happens.
-    pub fn erase_rest(&mut self)
-        ensures { self.new ≡ stepped step.EraseRest self.old }
-    {
-        self.grid.erase_row_forward(self.attrs);
-    }
-
-    /// Makes this many columns from the cursor on blank, at least one, at most
-    /// to the end of the row (ECH); at a pending wrap none.
-    pub fn ech(&mut self, count: u16)
-        requires { 0 < count }
-        ensures { self.new ≡ stepped (step.EraseChars count) self.old }
-    {
-        self.grid.erase_cells(count, self.attrs);
-    }
-
-    /// Makes one setting of SGR: what is drawn from now on has it.
-    pub fn render(&mut self, setting: Setting)
-        ensures { self.new ≡ stepped (step.Render setting) self.old }
-    {
-        self.attrs = setting.applied_to(self.attrs);
-    }
-
-    /// Hides the cursor, or shows it (DECTCEM).
-    pub fn set_hidden(&mut self, hidden: bool)
-        ensures { self.new ≡ stepped (step.HideCursor hidden) self.old }
-    {
-        self.hidden = hidden;
-    }
-
-    /// Turns the application sequences of the cursor keys on or off (DECCKM).
-    pub fn set_application_cursor(&mut self, on: bool)
-        ensures { self.new ≡ stepped (step.UseApplicationCursor on) self.old }
-    {
-        self.modes.application_cursor = on;
-    }
-
-    /// Turns brackets around pasted text on or off (xterm's private mode 2004).
-    pub fn set_bracketed_paste(&mut self, on: bool)
-        ensures { self.new ≡ stepped (step.UseBracketedPaste on) self.old }
-    {
-        self.modes.bracketed_paste = on;
-    }
-
-    /// Chooses which mouse events are reported.
-    pub fn set_mouse_mode(&mut self, mode: MouseProtocolMode)
-        ensures { self.new ≡ stepped (step.SetMouseMode mode) self.old }
-    {
-        self.modes.mouse_mode = mode;
-    }
-
-    /// Ends the reports of mouse events, if they are in this mode.
-    pub fn clear_mouse_mode(&mut self, mode: MouseProtocolMode)
-        ensures { self.new ≡ stepped (step.ClearMouseMode mode) self.old }
-    {
-        self.modes.mouse_mode = modes::clear_mode(self.modes.mouse_mode, mode);
-    }
-
-    /// Chooses how mouse events are encoded.
-    pub fn set_mouse_encoding(&mut self, encoding: MouseProtocolEncoding)
-        ensures { self.new ≡ stepped (step.SetMouseEncoding encoding) self.old }
-    {
-        self.modes.mouse_encoding = encoding;
-    }
-
-    /// Goes back to the default encoding, if this one is set.
-    pub fn clear_mouse_encoding(&mut self, encoding: MouseProtocolEncoding)
-        ensures { self.new ≡ stepped (step.ClearMouseEncoding encoding) self.old }
-    {
-        self.modes.mouse_encoding = modes::clear_encoding(self.modes.mouse_encoding, encoding);
-    }
-
-    /// Sets the look of the cursor (DECSCUSR).
-    pub fn set_cursor_style(&mut self, style: CursorStyle)
-        ensures { self.new ≡ stepped (step.SetCursorStyle style) self.old }
-    {
-        self.modes.cursor_style = style;
     }
 }
 
@@ -263,21 +107,35 @@ impl Screen {
         (non_zero(size.rows), non_zero(size.cols))
     }
 
-    /// The cell at a row and a column, counted from 0, if the screen has it.
+    /// The cell at a row and a column of what is shown, counted from 0. A row
+    /// of scrollback may have more columns than the screen.
     #[inline]
     pub fn cell(&self, row: u16, col: u16) -> Option<&Cell>
-        ensures inside { IsSome result ↔ ((row < length self.now.page.rows) × (col < self.now.page.width)) }
-        ensures value { IfSome result (λ cell. cell.now ≡ cell_at self.now.page row col) }
+        ensures inside { IsSome result ↔ ((row < length self.now.page.rows) × (col < length (visible_row self.now row).cells)) }
+        ensures value { IfSome result (λ cell. cell.now ≡ at (visible_row self.now row).cells col) }
     {
-        self.grid.drawing_cell(Pos { row, col })
+        self.visible_row(row)?.get(usize::from(col))
     }
 
-    /// Whether the text of a row goes on in the row below it; false past the
-    /// last row.
+    /// Whether the text of a row of what is shown goes on in the row below it;
+    /// false past the last row.
     pub fn row_wrapped(&self, row: u16) -> bool
-        ensures { result ≡ (row_at self.now.page row).wrapped }
+        ensures { result ≡ (visible_row self.now row).wrapped }
     {
-        self.grid.row_wrapped(row)
+        match self.visible_row(row) {
+            Some(found) => found.wrapped(),
+            None => false,
+        }
+    }
+
+    /// A row of what is shown: scrollback that is in view, and the page below.
+    #[inline]
+    fn visible_row(&self, row: u16) -> Option<&Row>
+        ensures inside { IsSome result ↔ (row < length self.now.page.rows) }
+        ensures value { IfSome result (λ found. found.now ≡ visible_row self.now row) }
+        ensures past { result ≡ None → (visible_row self.now row).wrapped ≡ false }
+    {
+        self.scrollback.visible_row(self.grid.rows(), row)
     }
 
     /// The cursor's row and column, counted from 0. A column that is the
@@ -291,11 +149,12 @@ impl Screen {
         (pos.row, pos.col)
     }
 
-    /// Whether the alternate page is the active one.
+    /// Whether the alternate page is the active one. It never is yet.
     pub fn alternate_screen(&self) -> bool
         ensures { result ≡ self.now.is_alternate }
     {
-        self.alternate
+        let _hidden = self.hidden;
+        false
     }
 
     /// The last character that was printed in columns of its own, which REP
@@ -467,12 +326,13 @@ mod tests {
     use std::test::Fail;
 
     // Prints characters one by one.
-    fn print(screen: &mut Screen, text: &str) {
+    fn print(screen: &mut Screen, text: &str) -> Result<(), Error> {
         for c in text.chars() {
             if c != '\u{FFFD}' {
-                screen.text(c);
+                screen.text(c, &mut ())?;
             }
         }
+        Ok(())
     }
 
     #[test]
@@ -486,7 +346,7 @@ mod tests {
             (1, 4, "\u{301}", 0, 0, false),
         ] {
             let mut screen = Screen::new(rt.alloc(), non_zero(rows), non_zero(cols), 0)?;
-            print(&mut screen, text);
+            print(&mut screen, text)?;
             assert!(rt; screen.cursor_position() == (row, col), "after {text}");
             assert!(rt; screen.row_wrapped(0) == wrapped, "after {text}");
         }
@@ -498,15 +358,15 @@ mod tests {
         let mut screen = Screen::new(rt.alloc(), non_zero(24), non_zero(80), 0)?;
         let fresh = screen.contents_formatted()?;
         assert_eq!(rt; fresh.as_str(), "\x1b[?25h\x1b[m\x1b[H\x1b[J");
-        print(&mut screen, "this text is ");
+        print(&mut screen, "this text is ")?;
         screen.render(Setting::Foreground(Color::Idx(1)));
-        print(&mut screen, "RED");
+        print(&mut screen, "RED")?;
         screen.render(Setting::Reset);
         let red = screen.cell(0, 13).ok_or("no cell")?.fgcolor();
         assert!(rt; red == Color::Idx(1));
         screen.cup(0, 13);
         screen.render(Setting::Foreground(Color::Idx(2)));
-        print(&mut screen, "GREEN");
+        print(&mut screen, "GREEN")?;
         let green = screen.contents_formatted()?;
         assert_eq!(rt;
             green.as_str(),

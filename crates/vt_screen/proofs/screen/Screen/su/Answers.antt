@@ -1,0 +1,23 @@
+-- The region scrolls up, and the callbacks hear of the rows that left.
+use Rattle.std.proofs.Common.{refl, subst, false, rules}
+use Rattle.std.specs.List.{FoldsTo}
+use Rattle.vt_grid.specs.Outgoing.{scrolled_out}
+use Rattle.vt_grid.specs.Scrollback.{reported}
+use Rattle.vt_screen.specs.Run.{Hears}
+use Rattle.vt_screen.specs.contracts.screen.Screen.{the_view}
+use Rattle.vt_screen.proofs.KeptMoves.{kept_scrolled_up}
+use Rattle.vt_screen.proofs.Reporting.{same_callbacks, reported_to, scrolled_up_by}
+use Rattle.vt_screen.proofs.screen.Screen.su.Goals as goal
+
+pub invariant_of-self-2 : goal.invariant_of-self-2
+invariant_of-self-2 g c = rw c.in_ok-scroll_up.ensures.page (kept_scrolled_up c.args.count c.self.inside.grid c.self.inside.last c.self.invariant)
+
+pub returns-clause-done : goal.returns-clause-done
+returns-clause-done g c =
+    let s = the_view c.self.inside in
+    let rows = reported (scrolled_out c.args.count s.page) s.scrollback in
+    let sent = c.in_ok-scroll_up.ensures.sent in
+    let same = same_callbacks g.CB.Callbacks.does rows _ c.scroll_up.new.leaving sent.1 in
+    let all = reported_to g.CB.Callbacks.does false rows _ c.scroll_up.new.leaving refl sent.1 in
+    scrolled_up_by g.CB.Callbacks.does c.args.count s c.args.self.now c.scroll_up.new.self c.scroll_up.new.above c.args.callbacks.now _ c.self.view_is refl c.in_ok-scroll_up.ensures.page sent.0
+    (subst (λ z. FoldsTo (Hears g.CB.Callbacks.does false) c.args.callbacks.now rows z) (search rules) all)

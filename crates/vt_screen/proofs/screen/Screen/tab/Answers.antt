@@ -1,0 +1,5 @@
+use Rattle.vt_screen.proofs.KeptMoves.{kept_tabbed}
+use Rattle.vt_screen.proofs.screen.Screen.tab.Goals as goal
+
+pub invariant_of-self : goal.invariant_of-self
+invariant_of-self c = rw c.tab.ensures (kept_tabbed c.self.inside.grid c.self.inside.last c.self.invariant)

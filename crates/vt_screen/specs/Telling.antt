@@ -1,0 +1,40 @@
+-- What a run tells callbacks that leave the screen alone: a function of where the scanner stands, the screen and the bytes.
+use Rattle.std.specs.Prelude.{ℕ, List, [], ◌∷◌, ◌++◌, map}
+use Rattle.vt_scan.specs.Automaton.{State, Event}
+use Rattle.vt_scan.specs.Run.{run}
+use Rattle.vt_screen.specs.Calls.{CallValue, OnScroll}
+use Rattle.vt_screen.specs.Screen.{ScreenValue}
+use Rattle.vt_screen.specs.Steps.{Step, Tell, reports, scrolled, steps_of}
+
+-- the calls that a step makes, in order: its own, or a report of each row that leaves and isn't kept
+abbrev pub calls_of : Step → ScreenValue → List CallValue
+calls_of (Tell call) screen = call ∷ []
+calls_of step screen = map (λ row. OnScroll row screen.is_alternate) (reports step screen)
+
+-- the calls that steps make, one after the other
+abbrev pub calls_of_all : List Step → ScreenValue → List CallValue
+calls_of_all [] screen = []
+calls_of_all (step ∷ steps) screen = calls_of step screen ++ calls_of_all steps (scrolled step screen)
+
+-- the screen after steps
+abbrev pub stepped_all : List Step → ScreenValue → ScreenValue
+stepped_all [] screen = screen
+stepped_all (step ∷ steps) screen = stepped_all steps (scrolled step screen)
+
+-- the steps of events, each event as it meets the screen
+abbrev pub steps_of_all : List Event → ScreenValue → List Step
+steps_of_all [] screen = []
+steps_of_all (event ∷ events) screen =
+    let steps = steps_of event screen in steps ++ steps_of_all events (stepped_all steps screen)
+
+-- the steps of a run over bytes
+abbrev pub steps_in : State → ScreenValue → List ℕ → List Step
+steps_in scan screen bytes = steps_of_all (run scan bytes).events screen
+
+-- its calls
+abbrev pub calls_in : State → ScreenValue → List ℕ → List CallValue
+calls_in scan screen bytes = calls_of_all (steps_in scan screen bytes) screen
+
+-- the screen after it
+abbrev pub screen_in : State → ScreenValue → List ℕ → ScreenValue
+screen_in scan screen bytes = stepped_all (steps_in scan screen bytes) screen

@@ -1,0 +1,147 @@
+//! Controls that may scroll rows off the page, and scrollback.
+
+ghost use Rattle.std.specs.Prelude.{◌≡◌, ◌≢◌, IfErr, OnErr, OnOk, Some, length};
+ghost use Rattle.vt_grid.specs.Scrollback.{cleared, viewed};
+ghost use Rattle.vt_screen.specs.Run.{Refuses, Takes, state};
+ghost use Rattle.vt_screen.specs.Screen.{above_page};
+ghost use Rattle.vt_screen.specs.Steps as step;
+ghost use Rattle.vt_screen.specs.Steps.{last_after};
+
+use super::Screen;
+use crate::callbacks::Callbacks;
+use crate::reporter::Reporter;
+use vt_cells::{Error, columns};
+
+impl Screen {
+    /// Prints a character.
+    ///
+    /// A character of one or two columns becomes a glyph in the current
+    /// attributes, after a wrap where there is no room for it. One without
+    /// columns of its own is put on the glyph before the cursor. A control,
+    /// and a character wider than the screen, draws nothing.
+    ///
+    /// A wrap at the bottom may scroll a row off the page, as in
+    /// [`Screen::lf`].
+    #[inline]
+    pub fn text<CB: Callbacks>(&mut self, c: char, callbacks: &mut CB) -> Result<(), Error>
+        requires { c ≢ 0xFFFD }
+        ensures done { OnOk result (Takes CB.does (state callbacks.old self.old) (step.Print c) (state callbacks.new self.new)) }
+        ensures refused { OnErr result (Refuses (state callbacks.old self.old) (step.Print c) (state callbacks.new self.new)) }
+        ensures memory { IfErr result (λ error. error ≡ Error.OutOfMemory) }
+    {
+        let last = self.last_after(c);
+        let mut reporter = Reporter {
+            callbacks,
+            alternate: false,
+        };
+        self.grid
+            .print(c, self.attrs, &mut self.scrollback, &mut reporter)?;
+        self.last = last;
+        Ok(())
+    }
+
+    /// The last character that REP repeats, once this one is printed.
+    #[inline]
+    fn last_after(&self, c: char) -> Option<char>
+        requires { c ≢ 0xFFFD }
+        ensures value { result ≡ last_after c self.now }
+        ensures reported { result ≢ Some 0xFFFD }
+    {
+        let Some(columns) = columns(c) else {
+            return self.last;
+        };
+        if columns == 0 || u16::from(columns) > self.grid.size().cols {
+            return self.last;
+        }
+        Some(c)
+    }
+
+    /// Moves the cursor down by one row, its column as it is; at the scroll
+    /// region's bottom the region scrolls up instead (LF, VT and FF).
+    ///
+    /// A row that leaves the page at its top goes to scrollback; the callbacks
+    /// are told of each row that isn't kept there. Fails where memory for
+    /// scrollback is refused; then nothing has changed, and nothing was told.
+    #[inline]
+    pub fn lf<CB: Callbacks>(&mut self, callbacks: &mut CB) -> Result<(), Error>
+        ensures done { OnOk result (Takes CB.does (state callbacks.old self.old) step.LineFeed (state callbacks.new self.new)) }
+        ensures refused { OnErr result (Refuses (state callbacks.old self.old) step.LineFeed (state callbacks.new self.new)) }
+        ensures memory { IfErr result (λ error. error ≡ Error.OutOfMemory) }
+    {
+        let mut reporter = Reporter {
+            callbacks,
+            alternate: false,
+        };
+        self.grid.line_feed(&mut self.scrollback, &mut reporter)?;
+        Ok(())
+    }
+
+    /// Scrolls the scroll region up (SU), with rows that leave the page as in
+    /// [`Screen::lf`].
+    pub fn su<CB: Callbacks>(&mut self, count: u16, callbacks: &mut CB) -> Result<(), Error>
+        ensures done { OnOk result (Takes CB.does (state callbacks.old self.old) (step.ScrollUp count) (state callbacks.new self.new)) }
+        ensures refused { OnErr result (Refuses (state callbacks.old self.old) (step.ScrollUp count) (state callbacks.new self.new)) }
+        ensures memory { IfErr result (λ error. error ≡ Error.OutOfMemory) }
+    {
+        let mut reporter = Reporter {
+            callbacks,
+            alternate: false,
+        };
+        self.grid
+            .scroll_up(count, &mut self.scrollback, &mut reporter)?;
+        Ok(())
+    }
+
+    /// Gives up scrollback, and tells the callbacks of each of its rows, older
+    /// ones first (ED 3).
+    pub fn erase_scrollback<CB: Callbacks>(&mut self, callbacks: &mut CB)
+        ensures { Takes CB.does (state callbacks.old self.old) step.EraseScrollback (state callbacks.new self.new) }
+    {
+        let mut reporter = Reporter {
+            callbacks,
+            alternate: false,
+        };
+        self.scrollback.clear(&mut reporter);
+    }
+
+    /// Brings the newest `rows` rows of scrollback into view, at most all; 0
+    /// is the page alone.
+    ///
+    /// Rows that come into view are grown to the screen's columns. Fails where
+    /// memory for that is refused; then nothing has changed.
+    pub fn set_scrollback(&mut self, rows: usize) -> Result<(), Error>
+        ensures ok { OnOk result (self.new ≡ record self.old { scrollback = viewed (length self.old.page.rows) self.old.page.width rows self.old.scrollback }) }
+        ensures err { OnErr result (self.new ≡ self.old) }
+        ensures memory { IfErr result (λ error. error ≡ Error.OutOfMemory) }
+    {
+        self.scrollback.set_offset(rows, self.grid.size())
+    }
+
+    /// Gives up scrollback; nobody is told of its rows.
+    pub fn clear_scrollback(&mut self)
+        ensures { self.new ≡ record self.old { scrollback = cleared self.old.scrollback } }
+    {
+        self.scrollback.clear(&mut ());
+    }
+
+    /// How many rows of scrollback are in view.
+    pub fn scrollback(&self) -> usize
+        ensures { result ≡ (above_page self.now).offset }
+    {
+        self.scrollback.offset()
+    }
+
+    /// How many rows scrollback has.
+    pub fn scrollback_len(&self) -> usize
+        ensures { result ≡ length (above_page self.now).rows }
+    {
+        self.scrollback.len()
+    }
+
+    /// How many rows scrollback keeps at most.
+    pub fn scrollback_capacity(&self) -> usize
+        ensures { result ≡ (above_page self.now).capacity }
+    {
+        self.scrollback.capacity()
+    }
+}
