@@ -1,33 +1,33 @@
 -- Which steps there are, from the tests that the code makes.
-use Rattle.std.proofs.Common.{◌≡◌, ◌≢◌, ℕ, ◌<◌, ◌≤◌, ◌==◌, ◌&&◌, ◌||◌, nat_le, Bool, true, List, [], ◌∷◌, length, None, Some, codes, refl, arith, rules}
+use Rattle.std.proofs.Common.{◌≡◌, ◌≢◌, ℕ, ◌<◌, ◌≤◌, ◌==◌, ◌&&◌, ◌||◌, nat_le, Bool, true, false, List, [], ◌∷◌, length, codes, refl, arith}
 use Rattle.std.proofs.lemmas.Bool.Decides.{nat_tests}
 use Rattle.vt_screen.specs.Calls.{CallValue, SetWindowIconName, SetWindowTitle, UnhandledChar, UnhandledControl, UnhandledEscape, UnhandledOsc}
-use Rattle.vt_screen.specs.Screen.{ScreenValue}
-use Rattle.vt_screen.specs.Steps.{Tell, character_steps, control_steps, escape_steps, csi_steps, plain_steps, marked_steps, mark_at, mode_steps, named_steps, osc_steps, is_text}
+use Rattle.vt_screen.specs.Steps.{Tell, LineFeed, Print, character_steps, control_steps, escape_steps, mark_at, mode_steps, named_steps, osc_steps, is_text}
 
 pub reported_steps : (c : ℕ) → ((c == 0xFFFD) || (nat_le 0x80 c && nat_le c 0x9F)) ≡ true → character_steps c ≡ Tell (UnhandledChar c) ∷ []
 unfolding character_steps
 reported_steps c e = rw e refl
 
-pub control_low : (b : ℕ) → b < 7 → control_steps b ≡ Tell (UnhandledControl b) ∷ []
+pub printed_steps : (c : ℕ) → ((c == 0xFFFD) || (nat_le 0x80 c && nat_le c 0x9F)) ≡ false → character_steps c ≡ Print c ∷ []
+unfolding character_steps
+printed_steps c e = rw e refl
+
+pub control_low : (b : ℕ) → b < 13 → b ≢ 7 → b ≢ 8 → b ≢ 9 → (nat_le 0x0A b && nat_le b 0x0C) ≡ false → control_steps b ≡ Tell (UnhandledControl b) ∷ []
 unfolding control_steps
-control_low b h = grind (arith, nat_tests)
+control_low b h x y z w = grind (arith, nat_tests)
 
 pub control_high : (b : ℕ) → 16 ≤ b → control_steps b ≡ Tell (UnhandledControl b) ∷ []
 unfolding control_steps
 control_high b h = grind (arith, nat_tests)
 
+pub control_feeds : (b : ℕ) → (nat_le 0x0A b && nat_le b 0x0C) ≡ true → control_steps b ≡ LineFeed ∷ []
+unfolding control_steps
+control_feeds b h = grind (arith, nat_tests)
+
 pub escape_marked : (marks : List ℕ) (b : ℕ) → 0 < length marks → escape_steps marks b ≡ Tell (UnhandledEscape (mark_at 0 marks) (mark_at 1 marks) b) ∷ []
 unfolding escape_steps
 escape_marked [] b h = absurd (omega (arith, h))
 escape_marked (mark ∷ marks) b h = refl
-
-pub csi_unmarked : (groups : List (List ℕ)) (b : ℕ) (screen : ScreenValue) → csi_steps groups [] b screen ≡ plain_steps groups b screen
-csi_unmarked groups b screen = refl
-
-pub csi_marked : (groups : List (List ℕ)) (marks : List ℕ) (b mark : ℕ) (screen : ScreenValue) → mark_at 0 marks ≡ Some mark → csi_steps groups marks b screen ≡ marked_steps mark (mark_at 1 marks) groups b
-csi_marked groups [] b mark screen e = search rules
-csi_marked groups (m ∷ marks) b mark screen e = search rules
 
 pub named_both : (name text : List ℕ) → is_text name (codes "0") ≡ true → named_steps name text ≡ Tell (SetWindowIconName text) ∷ Tell (SetWindowTitle text) ∷ []
 unfolding named_steps

@@ -1,23 +1,36 @@
 -- What a control sequence does, from the tests that the code makes.
-use Rattle.std.proofs.Common.{◌≡◌, ℕ, ◌-◌, ◌==◌, ◌||◌, Bool, true, false, List, [], ◌∷◌, Option, None, Some, codes, refl, arith, rules}
-use Rattle.std.proofs.lemmas.Bool.Decides.{nat_tests}
-use Rattle.std.specs.List.{list_any}
-use Rattle.vt_screen.specs.Calls.{CallValue, UnhandledCsi}
+use Rattle.std.proofs.Common.{◌≡◌, ℕ, Bool, true, false, List, [], ◌∷◌, Option, None, Some, subst, rules}
+use Rattle.vt_screen.specs.Calls.{CallValue}
 use Rattle.vt_screen.specs.Screen.{ScreenValue}
-use Rattle.vt_screen.specs.Steps.{MoveTo, Tell, csi_steps, is_coming_csi, mark_at, marked_steps, number_or, plain_steps}
-use Rattle.vt100.specs.Keeping.{Does}
+use Rattle.vt_screen.specs.Steps.{Step, counted_step, csi_steps, mark_at, marked_steps, number_or, one_or, plain_steps, scrolling_steps}
+use Rattle.vt100.specs.Keeping.{Does, MadeIf, Stops}
+use Rattle.vt100.proofs.Stepping.{stepping}
 
-pub plain_to : (groups : List (List ℕ)) (b : ℕ) (screen : ScreenValue) → ((b == 0x48) || (b == 0x66)) ≡ true → plain_steps groups b screen ≡ MoveTo (number_or 1 0 groups - 1) (number_or 1 1 groups - 1) ∷ []
-unfolding plain_steps
-plain_to groups b screen h = grind (arith, nat_tests)
+made_one : {S : Type 0} (does : CallValue → S → ScreenValue → S → ScreenValue → Type 0) (made : Option Step) (others : List Step) (s : S) (d e : ScreenValue) → MadeIf made true d e → Does does s d (one_or made others) s e
+made_one does (Some step) others s d e (h, (own, same)) = stepping does step s d e own same
+made_one does None others s d e h = absurd cc
 
--- the final bytes that are read
-abbrev pub is_read : ℕ → Bool
-is_read b = list_any (λ c. c == b) (codes "CHfJKXbmt")
+made_none : {S : Type 0} (does : CallValue → S → ScreenValue → S → ScreenValue → Type 0) (made : Option Step) (others : ScreenValue → List Step) (s t : S) (d e f : ScreenValue) → MadeIf made false d e → Does does s e (others e) t f → Does does s d (one_or made (others d)) t f
+made_none does (Some step) others s t d e f h k = absurd cc
+made_none does None others s t d e f (h, same) k = subst (λ (x : ScreenValue). Does does s x (others x) t f) same k
 
-pub plain_unknown : (groups : List (List ℕ)) (b : ℕ) (screen : ScreenValue) → is_read b ≡ false → is_coming_csi b ≡ false → plain_steps groups b screen ≡ Tell (UnhandledCsi None None groups b) ∷ []
-unfolding plain_steps
-plain_unknown groups b screen h k = grind (arith, nat_tests)
+made_none_stops : {S : Type 0} (does : CallValue → S → ScreenValue → S → ScreenValue → Type 0) (made : Option Step) (others : ScreenValue → List Step) (s t : S) (d e f : ScreenValue) → MadeIf made false d e → Stops does s e (others e) t f → Stops does s d (one_or made (others d)) t f
+made_none_stops does (Some step) others s t d e f h k = absurd cc
+made_none_stops does None others s t d e f (h, same) k = subst (λ (x : ScreenValue). Stops does s x (others x) t f) same k
+
+-- the sequences with one count, and the others
+pub plain_counted : {S : Type 0} (does : CallValue → S → ScreenValue → S → ScreenValue → Type 0) (groups : List (List ℕ)) (b : ℕ) (s : S) (d e : ScreenValue) → MadeIf (counted_step b (number_or 1 0 groups)) true d e → Does does s d (plain_steps groups b d) s e
+plain_counted does groups b s d e h = made_one does (counted_step b (number_or 1 0 groups)) (scrolling_steps groups b d) s d e h
+
+pub plain_other : {S : Type 0} (does : CallValue → S → ScreenValue → S → ScreenValue → Type 0) (groups : List (List ℕ)) (b : ℕ) (s t : S) (d e f : ScreenValue) → MadeIf (counted_step b (number_or 1 0 groups)) false d e → Does does s e (scrolling_steps groups b e) t f → Does does s d (plain_steps groups b d) t f
+plain_other does groups b s t d e f h k = made_none does (counted_step b (number_or 1 0 groups)) (scrolling_steps groups b) s t d e f h k
+
+pub plain_other_stops : {S : Type 0} (does : CallValue → S → ScreenValue → S → ScreenValue → Type 0) (groups : List (List ℕ)) (b : ℕ) (s t : S) (d e f : ScreenValue) → MadeIf (counted_step b (number_or 1 0 groups)) false d e → Stops does s e (scrolling_steps groups b e) t f → Stops does s d (plain_steps groups b d) t f
+plain_other_stops does groups b s t d e f h k = made_none_stops does (counted_step b (number_or 1 0 groups)) (scrolling_steps groups b) s t d e f h k
+
+pub plain_stops : {S : Type 0} (does : CallValue → S → ScreenValue → S → ScreenValue → Type 0) (groups : List (List ℕ)) (marks : List ℕ) (b : ℕ) (s t : S) (d e : ScreenValue) → mark_at 0 marks ≡ None → Stops does s d (plain_steps groups b d) t e → Stops does s d (csi_steps groups marks b d) t e
+plain_stops does groups [] b s t d e h k = k
+plain_stops does groups (m ∷ marks) b s t d e h k = search rules
 
 pub plain_does : {S : Type 0} (does : CallValue → S → ScreenValue → S → ScreenValue → Type 0) (groups : List (List ℕ)) (marks : List ℕ) (b : ℕ) (s t : S) (d e : ScreenValue) → mark_at 0 marks ≡ None → Does does s d (plain_steps groups b d) t e → Does does s d (csi_steps groups marks b d) t e
 plain_does does groups [] b s t d e h k = k

@@ -1,15 +1,15 @@
 -- Groups, parts and prints: what is left after one more, and what a count of parts says.
-use Rattle.std.proofs.Common.{◌≡◌, ◌≢◌, ℕ, suc, ◌+◌, ◌-◌, ◌<◌, Bool, List, [], ◌∷◌, ◌++◌, Bor, length, map, drop, get_or, replicate, refl, sym, subst, ap, ◌∙◌, arith}
+use Rattle.std.proofs.Common.{◌≡◌, ◌≢◌, ℕ, ◌+◌, ◌<◌, Bool, List, [], ◌∷◌, ◌++◌, Bor, length, map, drop, get_or, refl, sym, subst, ap, ◌∙◌, arith}
 use Rattle.std.proofs.lemmas.List.{append-nil, drop_more, length-map}
 use Rattle.vt_screen.specs.Calls.{CallValue, UnhandledOsc}
 use Rattle.vt_screen.specs.Screen.{ScreenValue}
 use Rattle.vt_screen.specs.Sgr.{group_read}
 use Rattle.vt_screen.specs.declared.sgr.Wanted.{Wanted}
 use Rattle.vt_screen.specs.declared.sgr.GroupRead.{GroupRead}
-use Rattle.vt_screen.specs.Steps.{Step, Print, Tell, mode_step, mode_steps, osc_steps, reading_steps, sgr_from, stepped}
+use Rattle.vt_screen.specs.Steps.{Step, Tell, mode_step, mode_steps, osc_steps, reading_steps, sgr_from}
 use Rattle.vt100.specs.Keeping.{Does}
 use Rattle.vt100.proofs.Deciding.{other_parts}
-use Rattle.vt100.proofs.Stepping.{Rest, rest_on, stepping}
+use Rattle.vt100.proofs.Stepping.{Rest, rest_on}
 
 -- the item that indexing falls back on
 abbrev pub nothing : Bor (List ℕ)
@@ -43,14 +43,6 @@ settings_left {S} does s t u d e f all whole wanted groups i none read h is rest
     ∙ ap left (sym is) in
     rest_on does s t u d e f all (reading_steps whole read.reading) (sgr_from whole read.wanted (map (λ (group : Bor (List ℕ)). group.now) (drop (i + 1) groups)))
     (subst (λ (steps : List Step). Rest does s d all t e steps) next rest) done
-
--- one more print is done
-pub prints_left : {S : Type 0} (does : CallValue → S → ScreenValue → S → ScreenValue → Type 0) (s t : S) (d e f : ScreenValue) (all : List Step) (c n k : ℕ) → k < n → Rest does s d all t e (replicate (n - k) (Print c)) → f ≡ stepped (Print c) e → Rest does s d all t f (replicate (n - (k + 1)) (Print c))
-prints_left {S} does s t d e f all c n k h rest is =
-    let gap : n - k ≡ suc (n - (k + 1)) = omega (arith, h) in
-    rest_on does s t t d e f all (Print c ∷ []) (replicate (n - (k + 1)) (Print c))
-    (subst (λ (steps : List Step). Rest does s d all t e steps) (ap (λ (m : ℕ). replicate m (Print c)) gap) rest)
-    (stepping does (Print c) t e f refl is)
 
 -- ---- parts by their count
 

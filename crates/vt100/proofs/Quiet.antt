@@ -1,20 +1,25 @@
 -- What is read quietly happens in every run.
-use Rattle.std.proofs.Common.{◌≡◌, ℕ, zero, suc, ◌<◌, Bool, true, false, List, [], ◌∷◌, ◌++◌, length, take, slice_index_or, Option, Some, None, cond, refl, sym, subst, ap, ◌∙◌, arith}
+use Rattle.std.specs.Prelude.{if◌then◌else◌}
+use Rattle.std.proofs.Common.{◌≡◌, ◌==◌, ◌⊎◌, ℕ, zero, suc, ◌+◌, ◌<◌, min, inl, inr, Bool, true, false, List, [], ◌∷◌, ◌++◌, length, take, Option, Some, None, cond, refl, sym, subst, ap, ◌∙◌, arith}
 use Rattle.std.specs.List.{FoldsTo}
 use Rattle.std.proofs.lemmas.Bool.{false≢true}
 use Rattle.vt_grid.specs.Canvas.{and_then, pushes}
 use Rattle.vt_grid.specs.Moves.{feeds_out}
+use Rattle.vt_grid.specs.Outgoing.{left_by}
+use Rattle.vt_grid.specs.Scrollback.{Scrollback, pushed, reported}
+use Rattle.vt_rows.specs.Row.{RowValue}
+use Rattle.vt_cells.specs.Glyph.{columns_of}
 use Rattle.vt_scan.specs.Automaton.{State, Event, step_in}
 use Rattle.vt_scan.specs.Run.{run}
-use Rattle.vt_scan.specs.Scanner.{StandsFor}
+use Rattle.vt_scan.specs.Scanner.{Held, StandsFor}
 use Rattle.vt_scan.specs.Table.{class_of, turn_of}
 use Rattle.vt_screen.specs.Calls.{CallValue}
-use Rattle.vt_screen.specs.Screen.{ScreenValue}
+use Rattle.vt_screen.specs.Screen.{ScreenValue, above_page}
 use Rattle.vt_screen.specs.Run as act
-use Rattle.vt_screen.specs.Run.{Performs, Takes, state}
-use Rattle.vt_screen.specs.Steps.{Step, Print, CarriageReturn, LineFeed, MoveRight, MoveTo, EraseBelow, EraseRest, EraseChars, Render, HideCursor, UseApplicationCursor, UseBracketedPaste, SetMouseMode, ClearMouseMode, SetMouseEncoding, ClearMouseEncoding, SetCursorStyle, Tell, stepped, steps_of}
+use Rattle.vt_screen.specs.Run.{Performs, Breaks, Hears, Refuses, StopsIn, Takes, state}
+use Rattle.vt_screen.specs.Steps.{Step, Print, CarriageReturn, LineFeed, ReverseIndex, MoveUp, MoveDown, MoveLeft, NextLine, PreviousLine, Tab, MoveToColumn, MoveToRow, SetRegion, UseOrigin, EraseAbove, ErasePage, EraseScrollback, EraseStart, EraseRow, InsertChars, DeleteChars, InsertLines, DeleteLines, ScrollDown, ScrollUp, MoveRight, MoveTo, EraseBelow, EraseRest, EraseChars, Render, HideCursor, UseApplicationCursor, UseBracketedPaste, SetMouseMode, ClearMouseMode, SetMouseEncoding, ClearMouseEncoding, SetCursorStyle, Tell, Grows, outgoing, stepped, steps_of}
 use Rattle.vt_screen.specs.Reading.{Terminal, terminal, grows, quiet_step, quiet_steps, quiet_events, read, read_byte}
-use Rattle.vt100.specs.Parser.{Parsing, Ran, Collects, stage}
+use Rattle.vt100.specs.Parser.{Parsing, Ran, Stopped, Collects, stage}
 use Rattle.vt100.proofs.Running.{folds_parted}
 
 abbrev IsNone : {A : Type 0} → Option A → Type 0
@@ -38,11 +43,61 @@ and_then-some f (Some a) y e = (a, refl, e)
 
 -- ---- steps and events
 
+calm_of : {A : Type 0} (b : Bool) (o : Option A) (y : A) → cond b None o ≡ Some y → (b ≡ false) × (o ≡ Some y)
+calm_of true o y e = absurd (subst IsNone e tt)
+calm_of false o y e = (refl, e)
+
+same_screen : (alternate : Bool) (x y z : ScreenValue) → y ≡ x → z ≡ x → (if alternate then y else z) ≡ x
+same_screen true x y z p q = p
+same_screen false x y z p q = q
+
+-- no row left: the screen is as the step alone makes it, and nobody was told
+unsent : {S : Type 0} (does : CallValue → S → ScreenValue → S → ScreenValue → Type 0) (held : S) (screen after : ScreenValue) (gone : List RowValue) (b : act.State S) → gone ≡ [] → after.scrollback ≡ screen.scrollback
+    → b.screen ≡ (if screen.is_alternate then after else record after { scrollback = pushed (length screen.page.rows) screen.page.width gone screen.scrollback })
+    → FoldsTo (Hears does screen.is_alternate) held (reported gone (above_page screen)) b.callbacks → b ≡ state held after
+unsent {S} does held screen after gone b none kept is heard =
+    let shown : b.screen ≡ after = is ∙ same_screen screen.is_alternate after after _ refl
+    (ap (λ (rows : List RowValue). record after { scrollback = pushed (length screen.page.rows) screen.page.width rows screen.scrollback }) none
+    ∙ ap (λ (above : Scrollback). record after { scrollback = above }) (sym kept)) in
+    let told : held ≡ b.callbacks = subst (λ (rows : List RowValue). FoldsTo (Hears does screen.is_alternate) held (reported rows (above_page screen)) b.callbacks) none heard in
+    ap (λ (s : S). act.state s b.screen) (sym told) ∙ ap (act.state held) shown
+
 quiet_takes : {S : Type 0} (does : CallValue → S → ScreenValue → S → ScreenValue → Type 0) (x : Step) (held : S) (screen after : ScreenValue) (b : act.State S) → quiet_step x screen ≡ Some after → Takes does (state held screen) x b → b ≡ state held after
-quiet_takes does (Print c) held screen after b e t = t ∙ ap (state held) (some_of_cond (pushes c screen.page) (stepped (Print c) screen) after e)
-quiet_takes does LineFeed held screen after b e t = t ∙ ap (state held) (some_of_cond (feeds_out screen.page) (stepped LineFeed screen) after e)
+quiet_takes does (Print c) held screen after b e t =
+    let calm = calm_of (pushes c screen.page) (Some (stepped (Print c) screen)) after e in
+    let none : outgoing (Print c) screen ≡ [] = ap (λ (pushed : Bool). if pushed then take 1 (left_by (columns_of c) screen.attrs screen.page).rows else []) calm.0 in
+    unsent does held screen (stepped (Print c) screen) (outgoing (Print c) screen) b none refl t.screen t.heard ∙ ap (state held) (same_some (stepped (Print c) screen) after calm.1)
+quiet_takes does LineFeed held screen after b e t =
+    let calm = calm_of (feeds_out screen.page) (Some (stepped LineFeed screen)) after e in
+    let none : outgoing LineFeed screen ≡ [] = ap (λ (fed : Bool). if fed then take 1 screen.page.rows else []) calm.0 in
+    unsent does held screen (stepped LineFeed screen) (outgoing LineFeed screen) b none refl t.screen t.heard ∙ ap (state held) (same_some (stepped LineFeed screen) after calm.1)
 quiet_takes does (Tell call) held screen after b e t = absurd (subst IsNone e tt)
 quiet_takes does CarriageReturn held screen after b e t = t ∙ ap (state held) (same_some (stepped CarriageReturn screen) after e)
+quiet_takes does ReverseIndex held screen after b e t = t ∙ ap (state held) (same_some (stepped ReverseIndex screen) after e)
+quiet_takes does (MoveUp count) held screen after b e t = t ∙ ap (state held) (same_some (stepped (MoveUp count) screen) after e)
+quiet_takes does (MoveDown count) held screen after b e t = t ∙ ap (state held) (same_some (stepped (MoveDown count) screen) after e)
+quiet_takes does (MoveLeft count) held screen after b e t = t ∙ ap (state held) (same_some (stepped (MoveLeft count) screen) after e)
+quiet_takes does (NextLine count) held screen after b e t = t ∙ ap (state held) (same_some (stepped (NextLine count) screen) after e)
+quiet_takes does (PreviousLine count) held screen after b e t = t ∙ ap (state held) (same_some (stepped (PreviousLine count) screen) after e)
+quiet_takes does Tab held screen after b e t = t ∙ ap (state held) (same_some (stepped Tab screen) after e)
+quiet_takes does (MoveToColumn col) held screen after b e t = t ∙ ap (state held) (same_some (stepped (MoveToColumn col) screen) after e)
+quiet_takes does (MoveToRow row) held screen after b e t = t ∙ ap (state held) (same_some (stepped (MoveToRow row) screen) after e)
+quiet_takes does (SetRegion top bottom) held screen after b e t = t ∙ ap (state held) (same_some (stepped (SetRegion top bottom) screen) after e)
+quiet_takes does (UseOrigin on) held screen after b e t = t ∙ ap (state held) (same_some (stepped (UseOrigin on) screen) after e)
+quiet_takes does EraseAbove held screen after b e t = t ∙ ap (state held) (same_some (stepped EraseAbove screen) after e)
+quiet_takes does ErasePage held screen after b e t = t ∙ ap (state held) (same_some (stepped ErasePage screen) after e)
+quiet_takes does EraseStart held screen after b e t = t ∙ ap (state held) (same_some (stepped EraseStart screen) after e)
+quiet_takes does EraseRow held screen after b e t = t ∙ ap (state held) (same_some (stepped EraseRow screen) after e)
+quiet_takes does (InsertChars count) held screen after b e t = t ∙ ap (state held) (same_some (stepped (InsertChars count) screen) after e)
+quiet_takes does (DeleteChars count) held screen after b e t = t ∙ ap (state held) (same_some (stepped (DeleteChars count) screen) after e)
+quiet_takes does (InsertLines count) held screen after b e t = t ∙ ap (state held) (same_some (stepped (InsertLines count) screen) after e)
+quiet_takes does (DeleteLines count) held screen after b e t = t ∙ ap (state held) (same_some (stepped (DeleteLines count) screen) after e)
+quiet_takes does (ScrollDown count) held screen after b e t = t ∙ ap (state held) (same_some (stepped (ScrollDown count) screen) after e)
+quiet_takes does (ScrollUp count) held screen after b e t =
+    let calm = calm_of (screen.page.top == 0) (Some (stepped (ScrollUp count) screen)) after e in
+    let none : outgoing (ScrollUp count) screen ≡ [] = ap (λ (whole : Bool). if whole then take (min count (screen.page.bottom + 1)) screen.page.rows else []) calm.0 in
+    unsent does held screen (stepped (ScrollUp count) screen) (outgoing (ScrollUp count) screen) b none refl t.screen t.heard ∙ ap (state held) (same_some (stepped (ScrollUp count) screen) after calm.1)
+quiet_takes does EraseScrollback held screen after b e t = absurd (subst IsNone e tt)
 quiet_takes does (MoveRight count) held screen after b e t = t ∙ ap (state held) (same_some (stepped (MoveRight count) screen) after e)
 quiet_takes does (MoveTo row col) held screen after b e t = t ∙ ap (state held) (same_some (stepped (MoveTo row col) screen) after e)
 quiet_takes does EraseBelow held screen after b e t = t ∙ ap (state held) (same_some (stepped EraseBelow screen) after e)
@@ -72,6 +127,92 @@ quiet_performs does (event ∷ events) held screen after b e t =
     let there = quiet_folds does (steps_of event screen) held screen mid.0 t.0 mid.1 t.1 in
     quiet_performs does events held mid.0 after b mid.2 (subst (λ j. FoldsTo (Performs does) j events b) there t.2)
 
+-- ---- nothing is refused
+
+never_grows : (step : Step) (screen : ScreenValue) → outgoing step screen ≡ [] → Grows step screen → ⊥
+never_grows step screen none grows = let n : length (outgoing step screen) ≡ 0 = ap length none in absurd (omega (arith, grows.0, n))
+
+quiet_holds : (x : Step) (screen after : ScreenValue) → quiet_step x screen ≡ Some after → Grows x screen → ⊥
+quiet_holds (Print c) screen after e g =
+    let calm = calm_of (pushes c screen.page) (Some (stepped (Print c) screen)) after e in
+    never_grows (Print c) screen (ap (λ (pushed : Bool). if pushed then take 1 (left_by (columns_of c) screen.attrs screen.page).rows else []) calm.0) g
+quiet_holds LineFeed screen after e g =
+    let calm = calm_of (feeds_out screen.page) (Some (stepped LineFeed screen)) after e in
+    never_grows LineFeed screen (ap (λ (fed : Bool). if fed then take 1 screen.page.rows else []) calm.0) g
+quiet_holds (ScrollUp count) screen after e g =
+    let calm = calm_of (screen.page.top == 0) (Some (stepped (ScrollUp count) screen)) after e in
+    never_grows (ScrollUp count) screen (ap (λ (whole : Bool). if whole then take (min count (screen.page.bottom + 1)) screen.page.rows else []) calm.0) g
+quiet_holds (Tell call) screen after e g = never_grows (Tell call) screen refl g
+quiet_holds CarriageReturn screen after e g = never_grows CarriageReturn screen refl g
+quiet_holds ReverseIndex screen after e g = never_grows ReverseIndex screen refl g
+quiet_holds (MoveUp count) screen after e g = never_grows (MoveUp count) screen refl g
+quiet_holds (MoveDown count) screen after e g = never_grows (MoveDown count) screen refl g
+quiet_holds (MoveRight count) screen after e g = never_grows (MoveRight count) screen refl g
+quiet_holds (MoveLeft count) screen after e g = never_grows (MoveLeft count) screen refl g
+quiet_holds (NextLine count) screen after e g = never_grows (NextLine count) screen refl g
+quiet_holds (PreviousLine count) screen after e g = never_grows (PreviousLine count) screen refl g
+quiet_holds Tab screen after e g = never_grows Tab screen refl g
+quiet_holds (MoveTo row col) screen after e g = never_grows (MoveTo row col) screen refl g
+quiet_holds (MoveToColumn col) screen after e g = never_grows (MoveToColumn col) screen refl g
+quiet_holds (MoveToRow row) screen after e g = never_grows (MoveToRow row) screen refl g
+quiet_holds (SetRegion top bottom) screen after e g = never_grows (SetRegion top bottom) screen refl g
+quiet_holds (UseOrigin on) screen after e g = never_grows (UseOrigin on) screen refl g
+quiet_holds EraseBelow screen after e g = never_grows EraseBelow screen refl g
+quiet_holds EraseAbove screen after e g = never_grows EraseAbove screen refl g
+quiet_holds ErasePage screen after e g = never_grows ErasePage screen refl g
+quiet_holds EraseScrollback screen after e g = never_grows EraseScrollback screen refl g
+quiet_holds EraseRest screen after e g = never_grows EraseRest screen refl g
+quiet_holds EraseStart screen after e g = never_grows EraseStart screen refl g
+quiet_holds EraseRow screen after e g = never_grows EraseRow screen refl g
+quiet_holds (EraseChars count) screen after e g = never_grows (EraseChars count) screen refl g
+quiet_holds (InsertChars count) screen after e g = never_grows (InsertChars count) screen refl g
+quiet_holds (DeleteChars count) screen after e g = never_grows (DeleteChars count) screen refl g
+quiet_holds (InsertLines count) screen after e g = never_grows (InsertLines count) screen refl g
+quiet_holds (DeleteLines count) screen after e g = never_grows (DeleteLines count) screen refl g
+quiet_holds (ScrollDown count) screen after e g = never_grows (ScrollDown count) screen refl g
+quiet_holds (Render setting) screen after e g = never_grows (Render setting) screen refl g
+quiet_holds (HideCursor hidden) screen after e g = never_grows (HideCursor hidden) screen refl g
+quiet_holds (UseApplicationCursor on) screen after e g = never_grows (UseApplicationCursor on) screen refl g
+quiet_holds (UseBracketedPaste on) screen after e g = never_grows (UseBracketedPaste on) screen refl g
+quiet_holds (SetMouseMode mode) screen after e g = never_grows (SetMouseMode mode) screen refl g
+quiet_holds (ClearMouseMode mode) screen after e g = never_grows (ClearMouseMode mode) screen refl g
+quiet_holds (SetMouseEncoding form) screen after e g = never_grows (SetMouseEncoding form) screen refl g
+quiet_holds (ClearMouseEncoding form) screen after e g = never_grows (ClearMouseEncoding form) screen refl g
+quiet_holds (SetCursorStyle look) screen after e g = never_grows (SetCursorStyle look) screen refl g
+
+quiet_stays : {S : Type 0} (does : CallValue → S → ScreenValue → S → ScreenValue → Type 0) (steps : List Step) (held : S) (screen after : ScreenValue) (b : act.State S) → quiet_steps steps screen ≡ Some after → StopsIn (Takes does) Refuses (state held screen) steps b → ⊥
+quiet_stays does [] held screen after b e t = t
+quiet_stays does (x ∷ steps) held screen after b e t =
+    let mid = and_then-some (quiet_steps steps) (quiet_step x screen) after e in
+    elim t [
+      | inl refusal ↦ quiet_holds x screen mid.0 mid.1 refusal.0
+      | inr (j, first, more) ↦
+          let there = quiet_takes does x held screen mid.0 j mid.1 first in
+          quiet_stays does steps held mid.0 after b mid.2 (subst (λ i. StopsIn (Takes does) Refuses i steps b) there more)
+    ]
+
+quiet_unbroken : {S : Type 0} (does : CallValue → S → ScreenValue → S → ScreenValue → Type 0) (events : List Event) (held : S) (screen after : ScreenValue) (b : act.State S) → quiet_events events screen ≡ Some after → StopsIn (Performs does) (Breaks does) (state held screen) events b → ⊥
+quiet_unbroken does [] held screen after b e t = t
+quiet_unbroken does (event ∷ events) held screen after b e t =
+    let mid = and_then-some (quiet_events events) (quiet_steps (steps_of event screen) screen) after e in
+    elim t [
+      | inl broken ↦ quiet_stays does (steps_of event screen) held screen mid.0 b mid.1 broken
+      | inr (j, first, more) ↦
+          let there = quiet_folds does (steps_of event screen) held screen mid.0 j mid.1 first in
+          quiet_unbroken does events held mid.0 after b mid.2 (subst (λ i. StopsIn (Performs does) (Breaks does) i events b) there more)
+    ]
+
+-- what stops in a list stops in its first part, or behind it
+stops_parted : {P A : Type 0} (R T : P → A → P → Type 0) (xs ys : List A) (p q : P) → StopsIn R T p (xs ++ ys) q → StopsIn R T p xs q ⊎ ((m : P) × FoldsTo R p xs m × StopsIn R T m ys q)
+stops_parted R T [] ys p q t = inr (p, refl, t)
+stops_parted R T (x ∷ xs) ys p q t = elim t [
+  | inl here ↦ inl (inl here)
+  | inr (j, first, more) ↦ elim (stops_parted R T xs ys j q more) [
+    | inl early ↦ inl (inr (j, first, early))
+    | inr (m, folds, late) ↦ inr (m, (j, first, folds), late)
+  ]
+]
+
 -- ---- bytes
 
 -- a byte that was read quietly: what it left, and that it takes no memory
@@ -79,10 +220,6 @@ record ReadQuietly (t : Terminal) (b : ℕ) (u : Terminal) : Type 0 where
   calm : grows (turn_of t.scan.kind (class_of b)) ≡ false
   scan : u.scan ≡ (step_in t.scan.kind t.scan.collected b).state
   events : quiet_events (step_in t.scan.kind t.scan.collected b).events t.screen ≡ Some u.screen
-
-calm_of : {A : Type 0} (b : Bool) (o : Option A) (y : A) → cond b None o ≡ Some y → (b ≡ false) × (o ≡ Some y)
-calm_of true o y e = absurd (subst IsNone e tt)
-calm_of false o y e = (refl, e)
 
 read_quietly : (t : Terminal) (b : ℕ) (u : Terminal) → read_byte t b ≡ Some u → ReadQuietly t b u
 unfolding read_byte
@@ -111,6 +248,20 @@ read_runs does (x ∷ bytes) t u held b e f =
     let again = read_runs does bytes mid.0 u held b mid.2 (subst (λ (s : State). FoldsTo (Performs does) (state held mid.0.screen) (run s bytes).events b) (sym quiet.scan) rest) in
     (again.0, ap (λ (s : State). (run s bytes).state) (sym quiet.scan) ∙ again.1)
 
+pub read_unbroken : {S : Type 0} (does : CallValue → S → ScreenValue → S → ScreenValue → Type 0) (bytes : List ℕ) (t u : Terminal) (held : S) (b : act.State S) → read t bytes ≡ Some u → StopsIn (Performs does) (Breaks does) (state held t.screen) (run t.scan bytes).events b → ⊥
+read_unbroken does [] t u held b e f = f
+read_unbroken does (x ∷ bytes) t u held b e f =
+    let step = step_in t.scan.kind t.scan.collected x in
+    let mid = and_then-some (λ v. read v bytes) (read_byte t x) u e in
+    let quiet = read_quietly t x mid.0 mid.1 in
+    elim (stops_parted (Performs does) (Breaks does) step.events (run step.state bytes).events (state held t.screen) b f) [
+      | inl early ↦ quiet_unbroken does step.events held t.screen mid.0.screen b quiet.events early
+      | inr (m, folds, late) ↦
+          let there = quiet_performs does step.events held t.screen mid.0.screen m quiet.events folds in
+          let rest = subst (λ j. StopsIn (Performs does) (Breaks does) j (run step.state bytes).events b) there late in
+          read_unbroken does bytes mid.0 u held b mid.2 (subst (λ (s : State). StopsIn (Performs does) (Breaks does) (state held mid.0.screen) (run s bytes).events b) (sym quiet.scan) rest)
+    ]
+
 pub read_calmly : (bytes : List ℕ) (t u : Terminal) (k : ℕ) → read t bytes ≡ Some u → k < length bytes → Collects t.scan bytes k → ⊥
 read_calmly [] t u k e h c = absurd (omega (arith, h))
 read_calmly (x ∷ bytes) t u zero e h c =
@@ -135,6 +286,10 @@ pub quietly_here : {S : Type 0} (does : CallValue → S → ScreenValue → S �
 quietly_here {S} does p old q bytes s t same ran stands told =
     ran_quietly does old q bytes s t (subst (λ (z : Parsing S). Ran does z bytes q) same ran) stands told
 
-pub never_refused : {S : Type 0} (p old : Parsing S) (bytes : List ℕ) (s : State) (t : Terminal) (k : ℕ) → p ≡ old → k < length bytes → ((state : State) → StandsFor p.scanner state → Collects state bytes k) → StandsFor old.scanner s → read (terminal s old.screen) bytes ≡ Some t → ⊥
-never_refused {S} p old bytes s t k same inside refused stands told =
-    read_calmly bytes (terminal s old.screen) t k told inside (refused s (subst (λ (z : Parsing S). StandsFor z.scanner s) (sym same) stands))
+pub never_refused : {S : Type 0} (does : CallValue → S → ScreenValue → S → ScreenValue → Type 0) (p old q : Parsing S) (bytes : List ℕ) (s : State) (t : Terminal) → p.scanner ≡ old.scanner → stage p ≡ stage old → Stopped does p bytes q → StandsFor old.scanner s → read (terminal s old.screen) bytes ≡ Some t → ⊥
+never_refused {S} does p old q bytes s t scanner same stopped stands told =
+    let ready : StandsFor p.scanner s = subst (λ (held : Held). StandsFor held s) (sym scanner) stands in
+    elim stopped [
+      | inl before ↦ read_calmly bytes (terminal s old.screen) t before.count told before.inside (before.refused s ready)
+      | inr within ↦ read_unbroken does bytes (terminal s old.screen) t old.callbacks (stage q) told (subst (λ (z : act.State S). StopsIn (Performs does) (Breaks does) z (run s bytes).events (stage q)) same (within s ready))
+    ]

@@ -1,8 +1,8 @@
 -- Runs, one after the other.
-use Rattle.std.proofs.Common.{◌≡◌, ℕ, ◌<◌, List, [], ◌∷◌, ◌++◌, take, slice_index_or, refl, sym, subst, ap, ◌∙◌}
-use Rattle.std.proofs.lemmas.List.{append-nil}
+use Rattle.std.proofs.Common.{◌≡◌, ℕ, List, [], ◌∷◌, ◌++◌, ◌+◌, ◌<◌, length, take, drop, slice_index_or, refl, sym, subst, ap, ◌∙◌, inl, inr}
+use Rattle.std.proofs.lemmas.List.{append-nil, drop_more, take-append-drop}
 use Rattle.std.specs.List.{FoldsTo}
-use Rattle.vt_scan.specs.Automaton.{State, Event, step_in}
+use Rattle.vt_scan.specs.Automaton.{State, step_in}
 use Rattle.vt_scan.specs.Run.{run}
 use Rattle.vt_scan.specs.Scanner.{Feeds, Held, StandsFor, events_in}
 use Rattle.vt_scan.specs.Table.{class_of, turn_of}
@@ -10,15 +10,26 @@ use Rattle.vt_scan.specs.declared.event.Events.{Events}
 use Rattle.vt_scan.specs.declared.table.Kind.{Kind}
 use Rattle.vt_scan.specs.declared.table.Kind.TheVariants.{OscString}
 use Rattle.vt_scan.specs.declared.table.Turn.TheVariants.{Collect}
-use Rattle.vt_scan.proofs.Running.{behind, run-append}
+use Rattle.vt_scan.proofs.Running.{run-append}
 use Rattle.vt_screen.specs.Calls.{CallValue}
 use Rattle.vt_screen.specs.Screen.{ScreenValue}
-use Rattle.vt_screen.specs.Run.{Performs}
-use Rattle.vt100.specs.Parser.{Parsing, Ran, Collects, joined, stage}
+use Rattle.vt_screen.specs.Run.{Performs, Breaks, StopsIn}
+use Rattle.vt100.specs.Parser.{Parsing, Ran, StoppedWithin, Collects, joined, stage}
 
 pub folds_then : {P A : Type 0} (R : P → A → P → Type 0) (xs ys : List A) (p q r : P) → FoldsTo R p xs q → FoldsTo R q ys r → FoldsTo R p (xs ++ ys) r
 folds_then R [] ys p q r e t = subst (λ z. FoldsTo R z ys r) (sym e) t
 folds_then R (x ∷ xs) ys p q r s t = (s.0, s.1, folds_then R xs ys s.0 q r s.2 t)
+
+pub stops_first : {P A : Type 0} (R T : P → A → P → Type 0) (xs ys : List A) (p q : P) → StopsIn R T p xs q → StopsIn R T p (xs ++ ys) q
+stops_first R T [] ys p q h = absurd h
+stops_first R T (x ∷ xs) ys p q h = elim h [
+  | inl here ↦ inl here
+  | inr (j, first, more) ↦ inr (j, first, stops_first R T xs ys j q more)
+]
+
+pub stops_then : {P A : Type 0} (R T : P → A → P → Type 0) (xs ys : List A) (p q r : P) → FoldsTo R p xs q → StopsIn R T q ys r → StopsIn R T p (xs ++ ys) r
+stops_then R T [] ys p q r e t = subst (λ z. StopsIn R T z ys r) (sym e) t
+stops_then R T (x ∷ xs) ys p q r s t = inr (s.0, s.1, stops_then R T xs ys s.0 q r s.2 t)
 
 pub folds_parted : {P A : Type 0} (R : P → A → P → Type 0) (xs ys : List A) (p r : P) → FoldsTo R p (xs ++ ys) r → (q : P) × FoldsTo R p xs q × FoldsTo R q ys r
 folds_parted R [] ys p r t = (p, refl, t)
@@ -46,3 +57,19 @@ ran_nothing does p q same = subst (λ z. Ran does p [] z) same (λ s stands. (st
 pub ran_joined : {S : Type 0} (does : CallValue → S → ScreenValue → S → ScreenValue → Type 0) (p q : Parsing S) (pieces : List (List ℕ)) → FoldsTo (Ran does) p pieces q → Ran does p (joined pieces) q
 ran_joined does p q [] same = ran_nothing does p q same
 ran_joined does p q (piece ∷ pieces) runs = ran_then does p runs.0 q piece (joined pieces) runs.1 (ran_joined does runs.0 q pieces runs.2)
+
+-- an event that broke, among those of one byte of many
+pub stopped_within : {S : Type 0} (does : CallValue → S → ScreenValue → S → ScreenValue → Type 0) (p m q : Parsing S) (after : Held) (bytes : List ℕ) (k : ℕ) (answer : Events) → k < length bytes → Ran does p (take k bytes) m → Feeds m.scanner (slice_index_or bytes k 0) after answer
+    → StopsIn (Performs does) (Breaks does) (stage m) (events_in after answer) (stage q) → StoppedWithin does p bytes q
+stopped_within does p m q after bytes k answer inside ran feeds stops = λ s stands.
+    let one = ran s stands in
+    let there = run s (take k bytes) in
+    let x = slice_index_or bytes k 0 in
+    let step = step_in there.state.kind there.state.collected x in
+    let rest = drop (k + 1) bytes in
+    let follows = feeds there.state one.0 in
+    let split : take k bytes ++ (x ∷ rest) ≡ bytes = ap (λ (tail : List ℕ). take k bytes ++ tail) (sym (drop_more bytes k 0 inside)) ∙ take-append-drop k bytes in
+    let here = stops_first (Performs does) (Breaks does) step.events (run step.state rest).events (stage m) (stage q) (subst (λ events. StopsIn (Performs does) (Breaks does) (stage m) events (stage q)) follows.means stops) in
+    let all = stops_then (Performs does) (Breaks does) there.events (run there.state (x ∷ rest)).events (stage p) (stage m) (stage q) one.1 here in
+    subst (λ (bs : List ℕ). StopsIn (Performs does) (Breaks does) (stage p) (run s bs).events (stage q)) split
+    (rw (run-append s (take k bytes) (x ∷ rest)) all)

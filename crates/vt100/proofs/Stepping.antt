@@ -1,17 +1,19 @@
 -- One step, and two calls.
-use Rattle.std.proofs.Common.{◌≡◌, Bool, true, false, List, [], ◌∷◌, ◌++◌, refl, ap}
+use Rattle.std.proofs.Common.{◌≡◌, ℕ, suc, ◌+◌, ◌-◌, ◌<◌, Bool, true, false, List, [], ◌∷◌, ◌++◌, replicate, refl, subst, ap, inl, inr, arith}
 use Rattle.std.specs.List.{FoldsTo}
 use Rattle.std.proofs.lemmas.Bool.{false≢true}
 use Rattle.vt_screen.specs.Calls.{CallValue}
 use Rattle.vt_screen.specs.Screen.{ScreenValue}
-use Rattle.vt_screen.specs.Run.{State, Takes, state}
-use Rattle.vt_screen.specs.Steps.{Step, Print, CarriageReturn, LineFeed, MoveRight, MoveTo, EraseBelow, EraseRest, EraseChars, Render, HideCursor, UseApplicationCursor, UseBracketedPaste, SetMouseMode, ClearMouseMode, SetMouseEncoding, ClearMouseEncoding, SetCursorStyle, Tell, stepped}
-use Rattle.vt100.specs.Keeping.{Does}
+use Rattle.vt_screen.specs.Run.{State, Takes, Refuses, StopsIn, state}
+use Rattle.vt_screen.specs.Steps.{Step, Print, CarriageReturn, LineFeed, ReverseIndex, MoveUp, MoveDown, MoveLeft, NextLine, PreviousLine, Tab, MoveToColumn, MoveToRow, SetRegion, UseOrigin, EraseAbove, ErasePage, EraseScrollback, EraseStart, EraseRow, InsertChars, DeleteChars, InsertLines, DeleteLines, ScrollDown, ScrollUp, MoveRight, MoveTo, EraseBelow, EraseRest, EraseChars, Render, HideCursor, UseApplicationCursor, UseBracketedPaste, SetMouseMode, ClearMouseMode, SetMouseEncoding, ClearMouseEncoding, SetCursorStyle, Tell, stepped}
+use Rattle.vt100.specs.Keeping.{Does, Stops, is_own}
 use Rattle.vt100.proofs.Running.{folds_then}
 
-abbrev pub is_own : Step → Bool
-is_own (Tell call) = false
-is_own _ = true
+pub taken : {S : Type 0} (does : CallValue → S → ScreenValue → S → ScreenValue → Type 0) (x : Step) (s t : S) (d e : ScreenValue) → Takes does (state s d) x (state t e) → Does does s d (x ∷ []) t e
+taken does x s t d e h = (state t e, h, refl)
+
+pub refused : {S : Type 0} (does : CallValue → S → ScreenValue → S → ScreenValue → Type 0) (x : Step) (s t : S) (d e : ScreenValue) → Refuses (state s d) x (state t e) → Stops does s d (x ∷ []) t e
+refused does x s t d e h = inl h
 
 pub told : {S : Type 0} (does : CallValue → S → ScreenValue → S → ScreenValue → Type 0) (call : CallValue) (s t : S) (d e : ScreenValue) → does call s d t e → Does does s d (Tell call ∷ []) t e
 told does call s t d e h = (state t e, h, refl)
@@ -20,9 +22,30 @@ pub told_two : {S : Type 0} (does : CallValue → S → ScreenValue → S → Sc
 told_two does one two s t u d e f h k = (state t e, h, (state u f, k, refl))
 
 takes_own : {S : Type 0} (does : CallValue → S → ScreenValue → S → ScreenValue → Type 0) (x : Step) (s : S) (d e : ScreenValue) → is_own x ≡ true → e ≡ stepped x d → Takes does (state s d) x (state s e)
-takes_own does (Print c) s d e own h = ap (state s) h
+takes_own does (Print c) s d e own h = absurd (false≢true own)
 takes_own does CarriageReturn s d e own h = ap (state s) h
-takes_own does LineFeed s d e own h = ap (state s) h
+takes_own does LineFeed s d e own h = absurd (false≢true own)
+takes_own does ReverseIndex s d e own h = ap (state s) h
+takes_own does (MoveUp count) s d e own h = ap (state s) h
+takes_own does (MoveDown count) s d e own h = ap (state s) h
+takes_own does (MoveLeft count) s d e own h = ap (state s) h
+takes_own does (NextLine count) s d e own h = ap (state s) h
+takes_own does (PreviousLine count) s d e own h = ap (state s) h
+takes_own does Tab s d e own h = ap (state s) h
+takes_own does (MoveToColumn col) s d e own h = ap (state s) h
+takes_own does (MoveToRow row) s d e own h = ap (state s) h
+takes_own does (SetRegion top bottom) s d e own h = ap (state s) h
+takes_own does (UseOrigin on) s d e own h = ap (state s) h
+takes_own does EraseAbove s d e own h = ap (state s) h
+takes_own does ErasePage s d e own h = ap (state s) h
+takes_own does EraseStart s d e own h = ap (state s) h
+takes_own does EraseRow s d e own h = ap (state s) h
+takes_own does (InsertChars count) s d e own h = ap (state s) h
+takes_own does (DeleteChars count) s d e own h = ap (state s) h
+takes_own does (InsertLines count) s d e own h = ap (state s) h
+takes_own does (DeleteLines count) s d e own h = ap (state s) h
+takes_own does (ScrollDown count) s d e own h = ap (state s) h
+takes_own does (ScrollUp count) s d e own h = absurd (false≢true own)
 takes_own does (MoveRight count) s d e own h = ap (state s) h
 takes_own does (MoveTo row col) s d e own h = ap (state s) h
 takes_own does EraseBelow s d e own h = ap (state s) h
@@ -37,6 +60,7 @@ takes_own does (ClearMouseMode mode) s d e own h = ap (state s) h
 takes_own does (SetMouseEncoding form) s d e own h = ap (state s) h
 takes_own does (ClearMouseEncoding form) s d e own h = ap (state s) h
 takes_own does (SetCursorStyle look) s d e own h = ap (state s) h
+takes_own does EraseScrollback s d e own h = absurd (false≢true own)
 takes_own does (Tell call) s d e own h = absurd (false≢true own)
 
 pub stepping : {S : Type 0} (does : CallValue → S → ScreenValue → S → ScreenValue → Type 0) (x : Step) (s : S) (d e : ScreenValue) → is_own x ≡ true → e ≡ stepped x d → Does does s d (x ∷ []) s e
@@ -56,3 +80,32 @@ rest_on does s t u d e f all one rest r h = λ v k. r v (folds_then (Takes does)
 
 pub rest_none : {S : Type 0} (does : CallValue → S → ScreenValue → S → ScreenValue → Type 0) (s t : S) (d e : ScreenValue) (all : List Step) → Rest does s d all t e [] → Does does s d all t e
 rest_none does s t d e all r = r (state t e) refl
+
+-- ---- loops that may stop
+
+-- whoever takes the steps that are left has taken all, and whoever stops in them has stopped in all
+abbrev pub Left : {S : Type 0} → (CallValue → S → ScreenValue → S → ScreenValue → Type 0) → S → ScreenValue → List Step → S → ScreenValue → List Step → Type 0
+Left {S} does s d all t e rest = Rest does s d all t e rest × ((u : State S) → StopsIn (Takes does) Refuses (state t e) rest u → StopsIn (Takes does) Refuses (state s d) all u)
+
+pub left_all : {S : Type 0} (does : CallValue → S → ScreenValue → S → ScreenValue → Type 0) (s : S) (d : ScreenValue) (all : List Step) → Left does s d all s d all
+left_all does s d all = ((λ u h. h), (λ u h. h))
+
+pub left_none : {S : Type 0} (does : CallValue → S → ScreenValue → S → ScreenValue → Type 0) (s t : S) (d e : ScreenValue) (all : List Step) → Left does s d all t e [] → Does does s d all t e
+left_none does s t d e all (r, _) = r (state t e) refl
+
+left_on : {S : Type 0} (does : CallValue → S → ScreenValue → S → ScreenValue → Type 0) (s t u : S) (d e f : ScreenValue) (all : List Step) (x : Step) (rest : List Step) → Left does s d all t e (x ∷ rest) → Takes does (state t e) x (state u f) → Left does s d all u f rest
+left_on does s t u d e f all x rest (r, q) h = ((λ v k. r v (state u f, h, k)), (λ v k. q v (inr (state u f, h, k))))
+
+left_stop : {S : Type 0} (does : CallValue → S → ScreenValue → S → ScreenValue → Type 0) (s t u : S) (d e f : ScreenValue) (all : List Step) (x : Step) (rest : List Step) → Left does s d all t e (x ∷ rest) → Refuses (state t e) x (state u f) → Stops does s d all u f
+left_stop does s t u d e f all x rest (r, q) h = q (state u f) (inl h)
+
+-- one more print is done, or refused
+pub prints_left : {S : Type 0} (does : CallValue → S → ScreenValue → S → ScreenValue → Type 0) (s t u : S) (d e f : ScreenValue) (all : List Step) (c n k : ℕ) → k < n → Left does s d all t e (replicate (n - k) (Print c)) → Takes does (state t e) (Print c) (state u f) → Left does s d all u f (replicate (n - (k + 1)) (Print c))
+prints_left {S} does s t u d e f all c n k h left done =
+    let gap : n - k ≡ suc (n - (k + 1)) = omega (arith, h) in
+    left_on does s t u d e f all (Print c) (replicate (n - (k + 1)) (Print c)) (subst (λ (steps : List Step). Left does s d all t e steps) (ap (λ (m : ℕ). replicate m (Print c)) gap) left) done
+
+pub prints_stop : {S : Type 0} (does : CallValue → S → ScreenValue → S → ScreenValue → Type 0) (s t u : S) (d e f : ScreenValue) (all : List Step) (c n k : ℕ) → k < n → Left does s d all t e (replicate (n - k) (Print c)) → Refuses (state t e) (Print c) (state u f) → Stops does s d all u f
+prints_stop {S} does s t u d e f all c n k h left refusal =
+    let gap : n - k ≡ suc (n - (k + 1)) = omega (arith, h) in
+    left_stop does s t u d e f all (Print c) (replicate (n - (k + 1)) (Print c)) (subst (λ (steps : List Step). Left does s d all t e steps) (ap (λ (m : ℕ). replicate m (Print c)) gap) left) refusal

@@ -1,5 +1,5 @@
 -- What `process` does: a run over bytes, in full or up to a byte that takes memory.
-use Rattle.std.specs.Prelude.{◌≡◌, ℕ, ◌<◌, Bool, false, List, [], ◌∷◌, ◌++◌, length, take, slice_index_or}
+use Rattle.std.specs.Prelude.{◌≡◌, ◌⊎◌, ℕ, ◌<◌, Bool, false, List, [], ◌∷◌, ◌++◌, length, take, slice_index_or}
 use Rattle.std.specs.List.{FoldsTo}
 use Rattle.vt_scan.specs.Automaton.{State}
 use Rattle.vt_scan.specs.Run as scan
@@ -10,7 +10,7 @@ use Rattle.vt_scan.specs.declared.table.Turn.TheVariants.{Collect}
 use Rattle.vt_screen.specs.Calls.{CallValue}
 use Rattle.vt_screen.specs.Screen.{ScreenValue}
 use Rattle.vt_screen.specs.Run as screen
-use Rattle.vt_screen.specs.Run.{Performs}
+use Rattle.vt_screen.specs.Run.{Performs, Breaks, StopsIn}
 
 -- what a parser is: what its scanner holds, its screen, its callbacks, and whether it ran out of memory
 pub record Parsing (S : Type 0) : Type 0 where
@@ -38,16 +38,26 @@ Ran does old bytes new =
 abbrev pub Collects : State → List ℕ → ℕ → Type 0
 Collects state bytes k = turn_of (scan.run state (take k bytes)).state.kind (class_of (slice_index_or bytes k 0)) ≡ Collect OscString
 
--- no byte takes memory
-abbrev pub IsHarmless : State → List ℕ → Type 0
-IsHarmless state bytes = (k : ℕ) → k < length bytes → Collects state bytes k → ⊥
-
 -- a run that ended before a byte that may take memory: all bytes before it were read, and nothing else was done
-pub record Stopped {S : Type 0} (does : CallValue → S → ScreenValue → S → ScreenValue → Type 0) (old : Parsing S) (bytes : List ℕ) (new : Parsing S) : Type 0 where
+pub record StoppedBefore {S : Type 0} (does : CallValue → S → ScreenValue → S → ScreenValue → Type 0) (old : Parsing S) (bytes : List ℕ) (new : Parsing S) : Type 0 where
   pub count : ℕ
   pub inside : count < length bytes
   pub ran : Ran does old (take count bytes) new
   pub refused : (state : State) → StandsFor old.scanner state → Collects state bytes count
+
+-- a run that ended within the events of its bytes, before a step that takes memory: the steps before it were taken, and nothing else
+-- was done; where the scanner stands then is open, since the parser reads no more
+abbrev pub StoppedWithin : {S : Type 0} → (CallValue → S → ScreenValue → S → ScreenValue → Type 0) → Parsing S → List ℕ → Parsing S → Type 0
+StoppedWithin does old bytes new =
+    (state : State) → StandsFor old.scanner state → StopsIn (Performs does) (Breaks does) (stage old) (scan.run state bytes).events (stage new)
+
+-- a run that ended for want of memory
+abbrev pub Stopped : {S : Type 0} → (CallValue → S → ScreenValue → S → ScreenValue → Type 0) → Parsing S → List ℕ → Parsing S → Type 0
+Stopped does old bytes new = StoppedBefore does old bytes new ⊎ StoppedWithin does old bytes new
+
+-- no run over these bytes comes to a step that takes memory
+abbrev pub IsHarmless : {S : Type 0} → (CallValue → S → ScreenValue → S → ScreenValue → Type 0) → Parsing S → List ℕ → Type 0
+IsHarmless {S} does old bytes = (new : Parsing S) → Stopped does old bytes new → ⊥
 
 -- pieces put together
 abbrev pub joined : List (List ℕ) → List ℕ

@@ -1,30 +1,30 @@
 //! Control sequences.
 
-ghost use Rattle.std.specs.Prelude.{◌≡◌, ◌-◌, None, Some, map};
-ghost use Rattle.vt100.specs.Keeping.{Does, report_of};
+ghost use Rattle.std.specs.Prelude.{◌≡◌, ◌-◌, ◌<◌, IfOk, IsErr, None, Some, length, map};
+ghost use Rattle.vt100.specs.Keeping.{Does, MadeIf, Stops, report_of};
 ghost use Rattle.vt_screen.specs.Calls.{UnhandledCsi};
-ghost use Rattle.vt_screen.specs.Steps.{csi_steps, erase_steps, is_coming_csi, marked_steps, number_at, number_or, plain_steps, private_steps, repeated, size_or, space_steps, stepped, style_of, style_steps, window_steps};
+ghost use Rattle.vt_screen.specs.Steps.{counted_step, csi_steps, marked_steps, number_at, number_or, other_steps, scrolling_steps, page_erasing, plain_steps, private_steps, repeated, row_erasing, size_or, space_steps, stepped, style_of, style_steps, window_steps};
 ghost use Rattle.vt_screen.specs.Steps as step;
 
 use crate::sequence::Sequence;
 use crate::{numbers, private_modes, sgr};
-use vt_cells::CursorStyle;
+use vt_cells::{CursorStyle, Error};
 use vt_screen::{Callbacks, Screen};
 
-/// Does what a control sequence says.
-#[tactic(auto, using(crate::proofs::Dispatching::plain_does, crate::proofs::Dispatching::marked_does))]
+/// Does what a control sequence says, up to a step whose memory is refused.
+#[tactic(auto, using(crate::proofs::Dispatching::plain_does, crate::proofs::Dispatching::plain_stops, crate::proofs::Dispatching::marked_does))]
 pub fn perform<CB: Callbacks>(
     screen: &mut Screen,
     callbacks: &mut CB,
     groups: &[&[u16]],
     marks: &[u8],
     byte: u8,
-)
-    ensures { Does CB.does callbacks.old screen.old (csi_steps (map (λ group. group.now) groups.now) marks.now byte screen.old) callbacks.new screen.new }
+) -> Result<(), Error>
+    ensures done { IfOk result (λ _. Does CB.does callbacks.old screen.old (csi_steps (map (λ group. group.now) groups.now) marks.now byte screen.old) callbacks.new screen.new) }
+    ensures stopped { IsErr result → Stops CB.does callbacks.old screen.old (csi_steps (map (λ group. group.now) groups.now) marks.now byte screen.old) callbacks.new screen.new }
 {
     let Some(mark) = numbers::mark_at(marks, 0) else {
-        plain(screen, callbacks, groups, byte);
-        return;
+        return plain(screen, callbacks, groups, byte);
     };
     let sequence = Sequence {
         first: Some(mark),
@@ -33,65 +33,98 @@ pub fn perform<CB: Callbacks>(
         byte,
     };
     marked(screen, callbacks, mark, sequence);
+    Ok(())
 }
 
 // A control sequence without a marker or an intermediate.
-#[tactic(auto, using(std::proofs::lemmas::Bool::Decides::nat_tests, crate::proofs::Stepping::told, crate::proofs::Stepping::told_two, crate::proofs::Stepping::stepping), unfolding(vt_screen::specs::Steps::plain_steps))]
-fn plain<CB: Callbacks>(screen: &mut Screen, callbacks: &mut CB, groups: &[&[u16]], byte: u8)
-    ensures { Does CB.does callbacks.old screen.old (plain_steps (map (λ group. group.now) groups.now) byte screen.old) callbacks.new screen.new }
+#[tactic(auto, using(crate::proofs::Dispatching::plain_counted, crate::proofs::Dispatching::plain_other, crate::proofs::Dispatching::plain_other_stops))]
+fn plain<CB: Callbacks>(
+    screen: &mut Screen,
+    callbacks: &mut CB,
+    groups: &[&[u16]],
+    byte: u8,
+) -> Result<(), Error>
+    ensures done { IfOk result (λ _. Does CB.does callbacks.old screen.old (plain_steps (map (λ group. group.now) groups.now) byte screen.old) callbacks.new screen.new) }
+    ensures stopped { IsErr result → Stops CB.does callbacks.old screen.old (plain_steps (map (λ group. group.now) groups.now) byte screen.old) callbacks.new screen.new }
 {
+    if counted(screen, byte, numbers::number_or(1, groups, 0)) {
+        return Ok(());
+    }
     let sequence = Sequence {
         first: None,
         second: None,
         groups,
         byte,
     };
-    match byte {
-        b'C' => move_right(screen, groups),
-        b'H' | b'f' => move_to(screen, groups),
-        b'J' => erase_page(screen, callbacks, sequence),
-        b'K' => erase_row(screen, callbacks, sequence),
-        b'X' => erase_chars(screen, groups),
-        b'b' => repeat(screen, callbacks, numbers::number_or(1, groups, 0)),
-        b'm' => sgr::perform(screen, callbacks, sequence),
-        b't' => window(screen, callbacks, sequence),
+    scrolling(screen, callbacks, sequence)
+}
+
+// One that may scroll rows off the page, or another one.
+#[tactic(auto, using(std::proofs::lemmas::Bool::Decides::nat_tests, crate::proofs::Stepping::taken, crate::proofs::Stepping::refused), unfolding(vt_screen::specs::Steps::scrolling_steps))]
+fn scrolling<CB: Callbacks>(
+    screen: &mut Screen,
+    callbacks: &mut CB,
+    sequence: Sequence<'_>,
+) -> Result<(), Error>
+    requires { report_of sequence ≡ UnhandledCsi None None (map (λ group. group.now) sequence.groups.now) sequence.byte }
+    ensures done { IfOk result (λ _. Does CB.does callbacks.old screen.old (scrolling_steps (map (λ group. group.now) sequence.entry.groups.now) sequence.entry.byte screen.old) callbacks.new screen.new) }
+    ensures stopped { IsErr result → Stops CB.does callbacks.old screen.old (scrolling_steps (map (λ group. group.now) sequence.entry.groups.now) sequence.entry.byte screen.old) callbacks.new screen.new }
+{
+    let count = numbers::number_or(1, sequence.groups, 0);
+    match sequence.byte {
+        b'S' => {
+            screen.su(count, callbacks)?;
+            Ok(())
+        }
+        b'b' => repeat(screen, callbacks, count),
         _ => {
-            if !is_coming(byte) {
-                sequence.report(screen, callbacks);
-            }
+            other(screen, callbacks, sequence);
+            Ok(())
         }
     }
 }
 
-// Moves, shifts and scrolls that are not there yet.
-#[tactic(auto, using(std::proofs::lemmas::Bool::Decides::nat_tests))]
-fn is_coming(byte: u8) -> bool
-    ensures { result ≡ is_coming_csi byte }
+// A control sequence with one count, at least 1; whether it is one of these.
+#[tactic(auto, using(std::proofs::lemmas::Bool::Decides::nat_tests), unfolding(vt_screen::specs::Steps::counted_step))]
+fn counted(screen: &mut Screen, byte: u8, count: u16) -> bool
+    requires { 0 < count }
+    ensures { MadeIf (counted_step byte count) result screen.old screen.new }
 {
-    matches!(
-        byte,
-        b'@' | b'A'
-            | b'B'
-            | b'D'
-            | b'E'
-            | b'F'
-            | b'G'
-            | b'L'
-            | b'M'
-            | b'P'
-            | b'S'
-            | b'T'
-            | b'`'
-            | b'd'
-            | b'r'
-    )
+    match byte {
+        b'@' => screen.ich(count),
+        b'A' => screen.cuu(count),
+        b'B' => screen.cud(count),
+        b'C' => screen.cuf(count),
+        b'D' => screen.cub(count),
+        b'E' => screen.cnl(count),
+        b'F' => screen.cpl(count),
+        b'G' | b'`' => screen.cha(count - 1),
+        b'L' => screen.il(count),
+        b'M' => screen.dl(count),
+        b'P' => screen.dch(count),
+        b'T' => screen.sd(count),
+        b'X' => screen.ech(count),
+        b'd' => screen.vpa(count - 1),
+        _ => return false,
+    }
+    true
 }
 
-// CUF.
-fn move_right(screen: &mut Screen, groups: &[&[u16]])
-    ensures { screen.new ≡ stepped (step.MoveRight (number_or 1 0 (map (λ group. group.now) groups.now))) screen.old }
+// The other control sequences without a marker or an intermediate.
+#[tactic(auto, using(std::proofs::lemmas::Bool::Decides::nat_tests, crate::proofs::Stepping::told, crate::proofs::Stepping::told_two, crate::proofs::Stepping::stepping), unfolding(vt_screen::specs::Steps::other_steps))]
+fn other<CB: Callbacks>(screen: &mut Screen, callbacks: &mut CB, sequence: Sequence<'_>)
+    requires { report_of sequence ≡ UnhandledCsi None None (map (λ group. group.now) sequence.groups.now) sequence.byte }
+    ensures { Does CB.does callbacks.old screen.old (other_steps (map (λ group. group.now) sequence.entry.groups.now) sequence.entry.byte screen.old) callbacks.new screen.new }
 {
-    screen.cuf(numbers::number_or(1, groups, 0));
+    match sequence.byte {
+        b'H' | b'f' => move_to(screen, sequence.groups),
+        b'J' => erase_page(screen, callbacks, sequence),
+        b'K' => erase_row(screen, callbacks, sequence),
+        b'm' => sgr::perform(screen, callbacks, sequence),
+        b'r' => set_region(screen, sequence.groups),
+        b't' => window(screen, callbacks, sequence),
+        _ => sequence.report(screen, callbacks),
+    }
 }
 
 // CUP, whose numbers count from 1.
@@ -103,48 +136,55 @@ fn move_to(screen: &mut Screen, groups: &[&[u16]])
     screen.cup(row - 1, col - 1);
 }
 
-// ECH.
-fn erase_chars(screen: &mut Screen, groups: &[&[u16]])
-    ensures { screen.new ≡ stepped (step.EraseChars (number_or 1 0 (map (λ group. group.now) groups.now))) screen.old }
+// DECSTBM, whose numbers count from 1; without the second one, to the last row.
+fn set_region(screen: &mut Screen, groups: &[&[u16]])
+    ensures { screen.new ≡ stepped (step.SetRegion (number_or 1 0 (map (λ group. group.now) groups.now) - 1) (number_or (length screen.old.page.rows) 1 (map (λ group. group.now) groups.now) - 1)) screen.old }
 {
-    screen.ech(numbers::number_or(1, groups, 0));
+    let (rows, _) = screen.size();
+    let top = numbers::number_or(1, groups, 0);
+    let bottom = numbers::number_or(rows.get(), groups, 1);
+    screen.decstbm(top - 1, bottom - 1);
 }
 
 // ED.
-#[tactic(auto, using(std::proofs::lemmas::Bool::Decides::nat_tests, crate::proofs::Stepping::told, crate::proofs::Stepping::told_two, crate::proofs::Stepping::stepping))]
+#[tactic(auto, using(std::proofs::lemmas::Bool::Decides::nat_tests, crate::proofs::Stepping::told, crate::proofs::Stepping::told_two, crate::proofs::Stepping::stepping, crate::proofs::Stepping::taken), unfolding(vt_screen::specs::Steps::page_erasing))]
 fn erase_page<CB: Callbacks>(screen: &mut Screen, callbacks: &mut CB, sequence: Sequence<'_>)
-    ensures { Does CB.does callbacks.old screen.old (erase_steps step.EraseBelow 3 (report_of sequence.entry) (number_at 0 (map (λ group. group.now) sequence.entry.groups.now))) callbacks.new screen.new }
+    ensures { Does CB.does callbacks.old screen.old (page_erasing (report_of sequence.entry) (number_at 0 (map (λ group. group.now) sequence.entry.groups.now))) callbacks.new screen.new }
 {
     match numbers::number_at(sequence.groups, 0) {
         0 => screen.erase_below(),
-        1..=3 => {}
+        1 => screen.erase_above(),
+        2 => screen.erase_page(),
+        3 => screen.erase_scrollback(callbacks),
         _ => sequence.report(screen, callbacks),
     }
 }
 
 // EL.
-#[tactic(auto, using(std::proofs::lemmas::Bool::Decides::nat_tests, crate::proofs::Stepping::told, crate::proofs::Stepping::told_two, crate::proofs::Stepping::stepping))]
+#[tactic(auto, using(std::proofs::lemmas::Bool::Decides::nat_tests, crate::proofs::Stepping::told, crate::proofs::Stepping::told_two, crate::proofs::Stepping::stepping), unfolding(vt_screen::specs::Steps::row_erasing))]
 fn erase_row<CB: Callbacks>(screen: &mut Screen, callbacks: &mut CB, sequence: Sequence<'_>)
-    ensures { Does CB.does callbacks.old screen.old (erase_steps step.EraseRest 2 (report_of sequence.entry) (number_at 0 (map (λ group. group.now) sequence.entry.groups.now))) callbacks.new screen.new }
+    ensures { Does CB.does callbacks.old screen.old (row_erasing (report_of sequence.entry) (number_at 0 (map (λ group. group.now) sequence.entry.groups.now))) callbacks.new screen.new }
 {
     match numbers::number_at(sequence.groups, 0) {
         0 => screen.erase_rest(),
-        1 | 2 => {}
+        1 => screen.erase_start(),
+        2 => screen.erase_row(),
         _ => sequence.report(screen, callbacks),
     }
 }
 
-// REP: the last character, so many times.
-fn repeat<CB: Callbacks>(screen: &mut Screen, callbacks: &mut CB, count: u16)
-    ensures { Does CB.does callbacks.old screen.old (repeated count screen.old.last) callbacks.new screen.new }
+// REP: the last character, so many times, up to one whose memory is refused.
+fn repeat<CB: Callbacks>(screen: &mut Screen, callbacks: &mut CB, count: u16) -> Result<(), Error>
+    ensures done { IfOk result (λ _. Does CB.does callbacks.old screen.old (repeated count screen.old.last) callbacks.new screen.new) }
+    ensures stopped { IsErr result → Stops CB.does callbacks.old screen.old (repeated count screen.old.last) callbacks.new screen.new }
 {
-    let _callbacks = callbacks;
     let Some(character) = screen.last_char() else {
-        return;
+        return Ok(());
     };
     for _ in 0..count {
-        screen.text(character);
+        screen.text(character, callbacks)?;
     }
+    Ok(())
 }
 
 // Window manipulation: a size that is asked for.

@@ -2,6 +2,7 @@
 //! keeps what a person would see.
 #![tactic(auto)]
 
+pub mod capture;
 mod csi;
 pub mod laws;
 mod numbers;
@@ -18,4 +19,4 @@ pub use parser::Parser;
 pub use vt_cells::{
     Cell, Color, CursorStyle, Error, MouseProtocolEncoding, MouseProtocolMode, Sink,
 };
-pub use vt_screen::{Call, Callbacks, RowContents, Screen};
+pub use vt_screen::{Call, Callbacks, Screen};

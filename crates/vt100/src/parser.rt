@@ -106,17 +106,18 @@ impl<CB: Callbacks> Parser<CB> {
     /// ends something. Bytes may come in any pieces; what a piece leaves
     /// unfinished goes on with the next one.
     ///
-    /// Memory is taken only for the text of operating system commands. Where
-    /// it is refused, the answer is `OutOfMemory`: the bytes before were read,
-    /// and from then on the parser reads nothing and answers `Failed`. Its
-    /// screen can still be read.
+    /// Memory is taken only for the text of operating system commands, and for
+    /// rows that are pushed into scrollback. Where it is refused, the answer is
+    /// `OutOfMemory`: all steps before the refused one were taken, that one
+    /// changed nothing and called nobody, and from then on the parser reads
+    /// nothing and answers `Failed`. Its screen can still be read.
     pub fn process(&mut self, bytes: &[u8]) -> Result<(), Error>
         ensures ran { IfOk result (λ _. Ran CB.does self.old bytes.now self.new) }
         ensures memory { result ≡ Err Error.OutOfMemory → Stopped CB.does self.old bytes.now self.new }
         ensures failed { self.old.is_failed ≡ true → (result ≡ Err Error.Failed) × (self.new ≡ self.old) }
         ensures only { result ≡ Err Error.Failed → self.old.is_failed ≡ true }
         ensures for_good { self.new.is_failed ≡ true ↔ IsErr result }
-        ensures harmless { (state : State) → self.old.is_failed ≡ false → StandsFor self.old.scanner state → IsHarmless state bytes.now → result ≡ Ok tt }
+        ensures harmless { self.old.is_failed ≡ false → IsHarmless CB.does self.old bytes.now → result ≡ Ok tt }
         ensures quiet { (state : State) (after : Terminal) → self.old.is_failed ≡ false → StandsFor self.old.scanner state → read (terminal state self.old.screen) bytes.now ≡ Some after → (result ≡ Ok tt) × StandsFor self.new.scanner after.scan × (self.new.screen ≡ after.screen) × (self.new.callbacks ≡ self.old.callbacks) }
     {
         if self.is_failed {

@@ -54,6 +54,7 @@ fn set_mode<CB: Callbacks>(
 {
     match number {
         1 => screen.set_application_cursor(on),
+        6 => screen.set_origin_mode(on),
         9 => set_mouse_mode(screen, on, MouseProtocolMode::Press),
         25 => screen.set_hidden(!on),
         1000 => set_mouse_mode(screen, on, MouseProtocolMode::PressRelease),
@@ -62,7 +63,7 @@ fn set_mode<CB: Callbacks>(
         1005 => set_mouse_encoding(screen, on, MouseProtocolEncoding::Utf8),
         1006 => set_mouse_encoding(screen, on, MouseProtocolEncoding::Sgr),
         2004 => screen.set_bracketed_paste(on),
-        6 | 47 | 1049 => {}
+        47 | 1049 => {}
         _ => sequence.report(screen, callbacks),
     }
 }

@@ -4,7 +4,7 @@ ghost use Rattle.std.specs.List.{FoldsTo};
 ghost use Rattle.std.specs.Prelude.{map, option_to_list, IfOk, IsErr};
 ghost use Rattle.vt100.specs.Parser.{Ran, Stopped, parsing};
 ghost use Rattle.vt_scan.specs.Scanner.{event_of, events_in};
-ghost use Rattle.vt_screen.specs.Run.{Performs, state};
+ghost use Rattle.vt_screen.specs.Run.{Breaks, Performs, StopsIn, state};
 
 use crate::perform::perform;
 use vt_cells::Error;
@@ -24,37 +24,42 @@ pub fn process<CB: Callbacks>(
 {
     for byte in bytes {
         let events = scanner.feed(*byte)?;
-        perform_each(screen, callbacks, scanner, events);
+        perform_each(screen, callbacks, scanner, events)?;
     }
     Ok(())
 }
 
-// The events of one byte.
+// The events of one byte, up to a step whose memory is refused.
 #[inline]
+#[tactic(auto, using(crate::proofs::Running::folds_then, crate::proofs::Running::stops_then, crate::proofs::Running::stops_first))]
 fn perform_each<CB: Callbacks>(
     screen: &mut Screen,
     callbacks: &mut CB,
     scanner: &Scanner,
     events: Events,
-)
-    ensures { FoldsTo (Performs CB.does) (state callbacks.old screen.old) (events_in scanner.now events) (state callbacks.new screen.new) }
+) -> Result<(), Error>
+    ensures done { IfOk result (λ _. FoldsTo (Performs CB.does) (state callbacks.old screen.old) (events_in scanner.now events) (state callbacks.new screen.new)) }
+    ensures stopped { IsErr result → StopsIn (Performs CB.does) (Breaks CB.does) (state callbacks.old screen.old) (events_in scanner.now events) (state callbacks.new screen.new) }
 {
-    perform_some(screen, callbacks, scanner, events.first);
-    perform_some(screen, callbacks, scanner, events.second);
+    perform_some(screen, callbacks, scanner, events.first)?;
+    perform_some(screen, callbacks, scanner, events.second)?;
+    Ok(())
 }
 
-// An event, if there is one.
+// An event, if there is one, up to a step whose memory is refused.
 #[inline]
 fn perform_some<CB: Callbacks>(
     screen: &mut Screen,
     callbacks: &mut CB,
     scanner: &Scanner,
     event: Option<Event>,
-)
-    ensures { FoldsTo (Performs CB.does) (state callbacks.old screen.old) (map (event_of scanner.now) (option_to_list event)) (state callbacks.new screen.new) }
+) -> Result<(), Error>
+    ensures done { IfOk result (λ _. FoldsTo (Performs CB.does) (state callbacks.old screen.old) (map (event_of scanner.now) (option_to_list event)) (state callbacks.new screen.new)) }
+    ensures stopped { IsErr result → StopsIn (Performs CB.does) (Breaks CB.does) (state callbacks.old screen.old) (map (event_of scanner.now) (option_to_list event)) (state callbacks.new screen.new) }
 {
     let Some(event) = event else {
-        return;
+        return Ok(());
     };
-    perform(screen, callbacks, scanner, event);
+    perform(screen, callbacks, scanner, event)?;
+    Ok(())
 }

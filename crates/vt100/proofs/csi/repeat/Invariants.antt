@@ -1,10 +1,10 @@
 -- The prints that are left.
 use Rattle.std.proofs.Common.{◌-◌, replicate}
 use Rattle.vt_screen.specs.Steps.{Print, repeated}
-use Rattle.vt100.proofs.Stepping.{Rest}
+use Rattle.vt100.proofs.Stepping.{Left}
 use Rattle.vt100.proofs.csi.repeat.Given as goal
 
 abbrev pub invariant-loop : goal.invariant-loop
 invariant-loop g l =
-    Rest g.CB.Callbacks.does l.fn.callbacks l.fn.screen (repeated l.fn.count l.fn.screen.last)
-    l.fn.callbacks l.screen (replicate (l.fn.count - l.counter) (Print l.character))
+    Left g.CB.Callbacks.does l.fn.callbacks l.fn.screen (repeated l.fn.count l.fn.screen.last)
+    l.callbacks l.screen (replicate (l.fn.count - l.counter) (Print l.character))

@@ -1,7 +1,7 @@
-use Rattle.std.proofs.Common.{ℕ, ◌+◌, List, [], ◌∷◌, get_or, take, subst, sym}
+use Rattle.std.proofs.Common.{ℕ, List, [], ◌∷◌, get_or, take, inr, refl, subst, sym}
 use Rattle.std.proofs.lemmas.List.{take_more}
 use Rattle.vt100.specs.Parser.{Ran, parsing}
-use Rattle.vt100.proofs.Running.{byte_ran, ran_then}
+use Rattle.vt100.proofs.Running.{byte_ran, ran_then, stopped_within}
 use Rattle.vt100.proofs.processing.process.Goals as goal
 
 pub loop-byte-preserved : goal.loop-byte-preserved
@@ -12,4 +12,10 @@ loop-byte-preserved g c =
     (parsing c.feed.new.self c.perform_each.new.screen c.perform_each.new.callbacks) (take c.loop-byte.byte-index c.args.bytes.now) (get_or c.args.bytes.now c.loop-byte.byte-index 0 ∷ [])
     c.loop-byte.invariant
     (byte_ran g.CB.Callbacks.does (parsing c.loop-byte.scanner c.loop-byte.screen c.loop-byte.callbacks) (parsing c.feed.new.self c.perform_each.new.screen c.perform_each.new.callbacks)
-    (get_or c.args.bytes.now c.loop-byte.byte-index 0) c.in_ok-events.events c.in_ok-events.ensures.fed c.perform_each.ensures))
+    (get_or c.args.bytes.now c.loop-byte.byte-index 0) c.in_ok-events.events c.in_ok-events.ensures.fed c.in_ok-perform_each.ensures.done))
+
+pub returns-in_err-perform_each-clause-stopped : goal.returns-in_err-perform_each-clause-stopped
+returns-in_err-perform_each-clause-stopped g c e =
+    inr (stopped_within g.CB.Callbacks.does (parsing c.args.scanner.now c.args.screen.now c.args.callbacks.now) (parsing c.loop-byte.scanner c.loop-byte.screen c.loop-byte.callbacks)
+    (parsing c.feed.new.self c.perform_each.new.screen c.perform_each.new.callbacks) c.feed.new.self c.args.bytes.now c.loop-byte.byte-index c.in_ok-events.events
+    c.loop-byte-test.true c.loop-byte.invariant c.in_ok-events.ensures.fed (c.in_err-perform_each.ensures.stopped refl))

@@ -1,12 +1,12 @@
-use Rattle.std.proofs.Common.{refl}
-use Rattle.vt100.specs.Parser.{parsing}
+use Rattle.std.proofs.Common.{ap, refl}
+use Rattle.vt100.specs.Parser.{parsing, stage}
 use Rattle.vt100.proofs.Quiet.{quietly_here, never_refused}
 use Rattle.vt100.proofs.parser.Parser.process.Goals as goal
 
 pub returns-in-Err-clause-quiet : goal.returns-in-Err-clause-quiet
 returns-in-Err-clause-quiet g c state after ready stands told =
-    let stopped = c.in-Err.ensures.stopped refl in
-    absurd (never_refused _ c.args.self.now c.args.bytes.now state after stopped.count c.self.view_is stopped.inside stopped.refused stands told)
+    absurd (never_refused g.CB.Callbacks.does (parsing c.self.inside.scanner c.self.inside.screen c.self.inside.callbacks) c.args.self.now (parsing c.process.new.scanner c.process.new.screen c.process.new.callbacks)
+    c.args.bytes.now state after (ap (λ p. p.scanner) c.self.view_is) (ap stage c.self.view_is) (c.in-Err.ensures.stopped refl) stands told)
 
 pub returns-in-Ok-clause-quiet : goal.returns-in-Ok-clause-quiet
 returns-in-Ok-clause-quiet g c state after ready stands told =

@@ -1,0 +1,3 @@
+//! Texts of rows with SGR alone.
+
+pub use vt_rows::{BasicFormattedCaptureState, RowContents};
