@@ -1,5 +1,5 @@
 -- Reading an input bit by bit.
-use Rattle.std.proofs.Common.{◌≡◌, ℕ, Ok, Err, Bool, false, List, [], ◌++◌, Option, Some, None, refl, sym, subst, ap, ◌∙◌, append_assoc}
+use Rattle.std.proofs.Common.{◌≡◌, ℕ, Ok, Err, false, List, [], ◌++◌, Option, Some, None, refl, sym, subst, ap, ◌∙◌, append_assoc}
 use Rattle.std.proofs.lemmas.List.{append-nil}
 use Rattle.std.specs.Prelude.{IfOk, IfSome, OnOk, is_err}
 use Rattle.std.specs.List.{FoldsTo}

@@ -1,8 +1,8 @@
 //! From an input to the text of what a terminal shows after it.
 
 ghost use Rattle.std.specs.Int.NonZero.{non_zero_u16_get};
-ghost use Rattle.std.specs.Io.KnownBytes.{Appends, Consumes, IsAtEnd, Keeps};
-ghost use Rattle.std.specs.Prelude.{◌≡◌, ◌≢◌, IfOk, IfSome, IsErr, OnErr, OnOk, Err, string_bytes};
+ghost use Rattle.std.specs.Io.KnownBytes.{Appends, IsAtEnd, Keeps};
+ghost use Rattle.std.specs.Prelude.{◌≡◌, ◌≢◌, true, IfOk, IfSome, IsErr, OnErr, OnOk, Err, string_bytes};
 ghost use Rattle.vt100.specs.Parser.{Ran};
 ghost use Rattle.vt_show.specs.Shown.{Silent, Writes, text_of};
 ghost use Rattle.vt_show.specs.declared.faults.Fault.{Fault};
@@ -22,7 +22,7 @@ const BUFFER_SIZE: usize = 8192;
 ///
 /// Any error of a read is `Read`, any error of a write, and of the flush at
 /// the end, is `Write`; after `Memory` and `Read` nothing was written, after
-/// `Write` it is not said how much.
+/// `Write` the whole input was read, and it is not said how much was written.
 pub fn run<R: Read, W: Write>(
     alloc: Global,
     reader: &mut R,
@@ -35,6 +35,7 @@ pub fn run<R: Read, W: Write>(
     ensures text { OnOk result (IfSome (R.remaining reader.old) (λ input.
         Writes mode (non_zero_u16_get rows) (non_zero_u16_get cols) input (W.contents writer.old) (W.contents writer.new))) }
     ensures nothing { IsErr result → result ≢ Err Fault.Write → Keeps (W.contents writer.old) (W.contents writer.new) }
+    ensures read_first { result ≡ Err Fault.Write → IsAtEnd (R.remaining reader.new) }
 {
     let Ok(mut parser) = Parser::new(alloc, rows, cols, 0) else {
         return Err(Fault::Memory);
@@ -44,11 +45,12 @@ pub fn run<R: Read, W: Write>(
     write_text(writer, text.as_str())
 }
 
-/// Reads the input to its end into the parser.
+/// Reads the input to its end into the parser; `Memory` only where the parser failed.
 fn read_all<R: Read>(parser: &mut Parser, reader: &mut R) -> Result<(), Fault>
     ensures end { OnOk result (IsAtEnd (R.remaining reader.new)) }
     ensures ran { OnOk result (IfSome (R.remaining reader.old) (λ input. Ran Silent parser.old input parser.new)) }
     ensures whole { OnErr result (result ≢ Err Fault.Write) }
+    ensures memory { result ≡ Err Fault.Memory → parser.new.is_failed ≡ true }
 {
     let mut buffer = [0; BUFFER_SIZE];
     for _ in 0..u64::MAX {

@@ -2,14 +2,19 @@
 //! and writes a text that shows the same on any terminal of that size.
 #![tactic(auto)]
 
+ghost use Rattle.std.specs.Prelude.{◌≡◌, IfErr, IfSome};
+ghost use Rattle.vt_show.specs.declared.faults.Fault.{Fault};
+
 use std::env::Env;
 use std::process::ExitCode;
 use std::{env, io};
 use vt_show::{Fault, arguments, ending, run};
 
 /// Copies the words after the program's name. A word that is not UTF-8 is a
-/// wrong argument.
-fn words<R: Env + AllocGlobal>(rt: &R) -> Result<Vec<String>, Option<Fault>> {
+/// wrong argument; the only fault is `Memory`.
+fn words<R: Env + AllocGlobal>(rt: &R) -> Result<Vec<String>, Option<Fault>>
+    ensures { IfErr result (λ error. IfSome error (λ fault. fault ≡ Fault.Memory)) }
+{
     let mut words = Vec::new(rt.alloc());
     let all = match env::args(rt) {
         Ok(all) => all,

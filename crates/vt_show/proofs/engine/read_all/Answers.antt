@@ -1,4 +1,4 @@
-use Rattle.std.proofs.Common.{List, ℕ, take, sym, subst, ◌∙◌}
+use Rattle.std.proofs.Common.{take, sym, ◌∙◌}
 use Rattle.vt100.specs.Parser.{Ran}
 use Rattle.vt_show.specs.Shown.{Silent}
 use Rattle.vt_show.proofs.Reading.{ok_ran, read_on}

@@ -1,4 +1,4 @@
-use Rattle.std.proofs.Common.{◌∙◌, string_bytes}
+use Rattle.std.proofs.Common.{◌∙◌}
 use Rattle.std.specs.Int.NonZero.{non_zero_u16_get}
 use Rattle.vt_show.proofs.Reading.{wrote}
 use Rattle.vt_show.proofs.engine.run.Goals as goal
