@@ -1,0 +1,166 @@
+-- Runs whose callbacks note each call.
+use Rattle.std.proofs.Common.{◌≡◌, ◌⊎◌, inl, inr, ℕ, Bool, true, false, List, [], ◌∷◌, ◌++◌, map, refl, sym, subst, ap, ◌∙◌}
+use Rattle.std.proofs.lemmas.Bool.{false≢true}
+use Rattle.std.proofs.lemmas.List.{append_assoc, append-nil}
+use Rattle.std.specs.List.{FoldsTo}
+use Rattle.std.specs.Prelude.{if◌then◌else◌}
+use Rattle.vt_rows.specs.Row.{RowValue}
+use Rattle.vt_scan.specs.Automaton.{State, Event, start}
+use Rattle.vt_scan.specs.Run.{run}
+use Rattle.vt_scan.specs.Scanner.{StandsFor}
+use Rattle.vt_screen.specs.Calls.{CallValue, OnScroll}
+use Rattle.vt_screen.specs.Screen.{ScreenValue}
+use Rattle.vt_screen.specs.Run as act
+use Rattle.vt_screen.specs.Run.{Hears, Performs, Scrolls, Takes, state}
+use Rattle.vt_screen.specs.Steps.{Step, Print, CarriageReturn, LineFeed, ReverseIndex, MoveUp, MoveDown, MoveRight, MoveLeft, NextLine, PreviousLine, Tab, MoveTo, MoveToColumn, MoveToRow, SetRegion, UseOrigin, EraseBelow, EraseAbove, ErasePage, EraseScrollback, EraseRest, EraseStart, EraseRow, EraseChars, InsertChars, DeleteChars, InsertLines, DeleteLines, ScrollUp, ScrollDown, Render, HideCursor, UseApplicationCursor, UseBracketedPaste, SetMouseMode, ClearMouseMode, SetMouseEncoding, ClearMouseEncoding, SetCursorStyle, Tell, reports, scrolled, stepped, steps_of}
+use Rattle.vt_screen.specs.Telling.{calls_of, calls_of_all, stepped_all, steps_of_all, steps_in, calls_in, screen_in}
+use Rattle.vt100.specs.Parser.{Parsing, Ran, joined, parsing, stage}
+use Rattle.vt100.proofs.Running.{folds_then, ran_joined}
+use Rattle.vt_notes.specs.Noting.{Noted, NotesIt, nothing_noted, with_call, with_gap}
+
+-- something was done: what it makes of the screen, and that it noted these calls, if none is missing at the end
+pub record Done (a : act.State Noted) (calls : List CallValue) (screen : ScreenValue) (b : act.State Noted) : Type 0 where
+  pub shown : b.screen ≡ screen
+  pub complete : b.callbacks.is_complete ≡ true → a.callbacks.is_complete ≡ true
+  pub noted : b.callbacks.is_complete ≡ true → b.callbacks.calls ≡ a.callbacks.calls ++ calls
+
+done_nothing : (a : act.State Noted) → Done a [] a.screen a
+done_nothing a = record { shown = refl; complete = λ all. all; noted = λ all. sym (append-nil a.callbacks.calls) }
+
+done_then : (a j b : act.State Noted) (xs ys : List CallValue) (mid after : ScreenValue) → Done a xs mid j → Done j ys after b → Done a (xs ++ ys) after b
+done_then a j b xs ys mid after one two = record {
+  shown = two.shown;
+  complete = λ all. one.complete (two.complete all);
+  noted = λ all. two.noted all ∙ (ap (λ (calls : List CallValue). calls ++ ys) (one.noted (two.complete all)) ∙ append_assoc a.callbacks.calls xs ys);
+}
+
+-- ---- one step
+
+done_quietly : (a b : act.State Noted) (screen : ScreenValue) → b ≡ state a.callbacks screen → Done a [] screen b
+done_quietly a b screen e =
+    let same : b.callbacks ≡ a.callbacks = ap (λ (s : act.State Noted). s.callbacks) e in
+    record {
+      shown = ap (λ (s : act.State Noted). s.screen) e;
+      complete = λ all. sym (ap (λ (n : Noted). n.is_complete) same) ∙ all;
+      noted = λ all. ap (λ (n : Noted). n.calls) same ∙ sym (append-nil a.callbacks.calls);
+    }
+
+was_complete : (call : CallValue) (old new : Noted) → (new ≡ with_call call old) ⊎ (new ≡ with_gap old) → new.is_complete ≡ true → old.is_complete ≡ true
+was_complete call old new (inl e) all = sym (ap (λ (n : Noted). n.is_complete) e) ∙ all
+was_complete call old new (inr e) all = absurd (false≢true (sym (ap (λ (n : Noted). n.is_complete) e) ∙ all))
+
+was_noted : (call : CallValue) (old new : Noted) → (new ≡ with_call call old) ⊎ (new ≡ with_gap old) → new.is_complete ≡ true → new.calls ≡ old.calls ++ call ∷ []
+was_noted call old new (inl e) all = ap (λ (n : Noted). n.calls) e
+was_noted call old new (inr e) all = absurd (false≢true (sym (ap (λ (n : Noted). n.is_complete) e) ∙ all))
+
+done_telling : (call : CallValue) (a b : act.State Noted) → NotesIt call a.callbacks a.screen b.callbacks b.screen → Done a (call ∷ []) a.screen b
+done_telling call a b t = record {
+  shown = t.0;
+  complete = was_complete call a.callbacks b.callbacks t.1;
+  noted = was_noted call a.callbacks b.callbacks t.1;
+}
+
+unscrolled : (alternate : Bool) (screen : ScreenValue) → (if alternate then screen else screen) ≡ screen
+unscrolled true screen = refl
+unscrolled false screen = refl
+
+-- a step that scrolls no row off the page
+done_own : (a b : act.State Noted) (after shown : ScreenValue) → shown ≡ after → b ≡ state a.callbacks after → Done a [] shown b
+done_own a b after shown same t = done_quietly a b shown (t ∙ ap (state a.callbacks) (sym same))
+
+-- rows that are reported
+done_heard : (alternate : Bool) (rows : List RowValue) (old new : Noted) (screen : ScreenValue) → FoldsTo (Hears NotesIt alternate) old rows new → Done (state old screen) (map (λ (row : RowValue). OnScroll row alternate) rows) screen (state new screen)
+done_heard alternate [] old new screen e = subst (λ (n : Noted). Done (state old screen) [] screen (state n screen)) e (done_nothing (state old screen))
+done_heard alternate (row ∷ rows) old new screen t =
+    done_then (state old screen) (state t.0 screen) (state new screen) (OnScroll row alternate ∷ []) (map (λ (r : RowValue). OnScroll r alternate) rows) screen screen
+    (done_telling (OnScroll row alternate) (state old screen) (state t.0 screen) (t.1 screen)) (done_heard alternate rows t.0 new screen t.2)
+
+done_scrolled : (x : Step) (a b : act.State Noted) → Scrolls NotesIt a x b → Done a (map (λ (row : RowValue). OnScroll row a.screen.is_alternate) (reports x a.screen)) (scrolled x a.screen) b
+done_scrolled x a b t =
+    let heard = done_heard a.screen.is_alternate (reports x a.screen) a.callbacks b.callbacks a.screen t.heard in
+    record { shown = t.screen; complete = heard.complete; noted = heard.noted }
+
+done_step : (x : Step) (a b : act.State Noted) → Takes NotesIt a x b → Done a (calls_of x a.screen) (scrolled x a.screen) b
+done_step (Tell call) a b t =
+    let told = done_telling call a b t in
+    record { shown = told.shown ∙ sym (unscrolled a.screen.is_alternate a.screen); complete = told.complete; noted = told.noted }
+done_step (Print c) a b t = done_scrolled (Print c) a b t
+done_step LineFeed a b t = done_scrolled LineFeed a b t
+done_step (ScrollUp count) a b t = done_scrolled (ScrollUp count) a b t
+done_step EraseScrollback a b t = done_scrolled EraseScrollback a b t
+done_step CarriageReturn a b t = done_own a b (stepped CarriageReturn a.screen) (scrolled CarriageReturn a.screen) (unscrolled a.screen.is_alternate (stepped CarriageReturn a.screen)) t
+done_step ReverseIndex a b t = done_own a b (stepped ReverseIndex a.screen) (scrolled ReverseIndex a.screen) (unscrolled a.screen.is_alternate (stepped ReverseIndex a.screen)) t
+done_step (MoveUp count) a b t = done_own a b (stepped (MoveUp count) a.screen) (scrolled (MoveUp count) a.screen) (unscrolled a.screen.is_alternate (stepped (MoveUp count) a.screen)) t
+done_step (MoveDown count) a b t = done_own a b (stepped (MoveDown count) a.screen) (scrolled (MoveDown count) a.screen) (unscrolled a.screen.is_alternate (stepped (MoveDown count) a.screen)) t
+done_step (MoveRight count) a b t = done_own a b (stepped (MoveRight count) a.screen) (scrolled (MoveRight count) a.screen) (unscrolled a.screen.is_alternate (stepped (MoveRight count) a.screen)) t
+done_step (MoveLeft count) a b t = done_own a b (stepped (MoveLeft count) a.screen) (scrolled (MoveLeft count) a.screen) (unscrolled a.screen.is_alternate (stepped (MoveLeft count) a.screen)) t
+done_step (NextLine count) a b t = done_own a b (stepped (NextLine count) a.screen) (scrolled (NextLine count) a.screen) (unscrolled a.screen.is_alternate (stepped (NextLine count) a.screen)) t
+done_step (PreviousLine count) a b t = done_own a b (stepped (PreviousLine count) a.screen) (scrolled (PreviousLine count) a.screen) (unscrolled a.screen.is_alternate (stepped (PreviousLine count) a.screen)) t
+done_step Tab a b t = done_own a b (stepped Tab a.screen) (scrolled Tab a.screen) (unscrolled a.screen.is_alternate (stepped Tab a.screen)) t
+done_step (MoveTo row col) a b t = done_own a b (stepped (MoveTo row col) a.screen) (scrolled (MoveTo row col) a.screen) (unscrolled a.screen.is_alternate (stepped (MoveTo row col) a.screen)) t
+done_step (MoveToColumn col) a b t = done_own a b (stepped (MoveToColumn col) a.screen) (scrolled (MoveToColumn col) a.screen) (unscrolled a.screen.is_alternate (stepped (MoveToColumn col) a.screen)) t
+done_step (MoveToRow row) a b t = done_own a b (stepped (MoveToRow row) a.screen) (scrolled (MoveToRow row) a.screen) (unscrolled a.screen.is_alternate (stepped (MoveToRow row) a.screen)) t
+done_step (SetRegion top bottom) a b t = done_own a b (stepped (SetRegion top bottom) a.screen) (scrolled (SetRegion top bottom) a.screen) (unscrolled a.screen.is_alternate (stepped (SetRegion top bottom) a.screen)) t
+done_step (UseOrigin on) a b t = done_own a b (stepped (UseOrigin on) a.screen) (scrolled (UseOrigin on) a.screen) (unscrolled a.screen.is_alternate (stepped (UseOrigin on) a.screen)) t
+done_step EraseBelow a b t = done_own a b (stepped EraseBelow a.screen) (scrolled EraseBelow a.screen) (unscrolled a.screen.is_alternate (stepped EraseBelow a.screen)) t
+done_step EraseAbove a b t = done_own a b (stepped EraseAbove a.screen) (scrolled EraseAbove a.screen) (unscrolled a.screen.is_alternate (stepped EraseAbove a.screen)) t
+done_step ErasePage a b t = done_own a b (stepped ErasePage a.screen) (scrolled ErasePage a.screen) (unscrolled a.screen.is_alternate (stepped ErasePage a.screen)) t
+done_step EraseRest a b t = done_own a b (stepped EraseRest a.screen) (scrolled EraseRest a.screen) (unscrolled a.screen.is_alternate (stepped EraseRest a.screen)) t
+done_step EraseStart a b t = done_own a b (stepped EraseStart a.screen) (scrolled EraseStart a.screen) (unscrolled a.screen.is_alternate (stepped EraseStart a.screen)) t
+done_step EraseRow a b t = done_own a b (stepped EraseRow a.screen) (scrolled EraseRow a.screen) (unscrolled a.screen.is_alternate (stepped EraseRow a.screen)) t
+done_step (EraseChars count) a b t = done_own a b (stepped (EraseChars count) a.screen) (scrolled (EraseChars count) a.screen) (unscrolled a.screen.is_alternate (stepped (EraseChars count) a.screen)) t
+done_step (InsertChars count) a b t = done_own a b (stepped (InsertChars count) a.screen) (scrolled (InsertChars count) a.screen) (unscrolled a.screen.is_alternate (stepped (InsertChars count) a.screen)) t
+done_step (DeleteChars count) a b t = done_own a b (stepped (DeleteChars count) a.screen) (scrolled (DeleteChars count) a.screen) (unscrolled a.screen.is_alternate (stepped (DeleteChars count) a.screen)) t
+done_step (InsertLines count) a b t = done_own a b (stepped (InsertLines count) a.screen) (scrolled (InsertLines count) a.screen) (unscrolled a.screen.is_alternate (stepped (InsertLines count) a.screen)) t
+done_step (DeleteLines count) a b t = done_own a b (stepped (DeleteLines count) a.screen) (scrolled (DeleteLines count) a.screen) (unscrolled a.screen.is_alternate (stepped (DeleteLines count) a.screen)) t
+done_step (ScrollDown count) a b t = done_own a b (stepped (ScrollDown count) a.screen) (scrolled (ScrollDown count) a.screen) (unscrolled a.screen.is_alternate (stepped (ScrollDown count) a.screen)) t
+done_step (Render setting) a b t = done_own a b (stepped (Render setting) a.screen) (scrolled (Render setting) a.screen) (unscrolled a.screen.is_alternate (stepped (Render setting) a.screen)) t
+done_step (HideCursor hidden) a b t = done_own a b (stepped (HideCursor hidden) a.screen) (scrolled (HideCursor hidden) a.screen) (unscrolled a.screen.is_alternate (stepped (HideCursor hidden) a.screen)) t
+done_step (UseApplicationCursor on) a b t = done_own a b (stepped (UseApplicationCursor on) a.screen) (scrolled (UseApplicationCursor on) a.screen) (unscrolled a.screen.is_alternate (stepped (UseApplicationCursor on) a.screen)) t
+done_step (UseBracketedPaste on) a b t = done_own a b (stepped (UseBracketedPaste on) a.screen) (scrolled (UseBracketedPaste on) a.screen) (unscrolled a.screen.is_alternate (stepped (UseBracketedPaste on) a.screen)) t
+done_step (SetMouseMode mode) a b t = done_own a b (stepped (SetMouseMode mode) a.screen) (scrolled (SetMouseMode mode) a.screen) (unscrolled a.screen.is_alternate (stepped (SetMouseMode mode) a.screen)) t
+done_step (ClearMouseMode mode) a b t = done_own a b (stepped (ClearMouseMode mode) a.screen) (scrolled (ClearMouseMode mode) a.screen) (unscrolled a.screen.is_alternate (stepped (ClearMouseMode mode) a.screen)) t
+done_step (SetMouseEncoding form) a b t = done_own a b (stepped (SetMouseEncoding form) a.screen) (scrolled (SetMouseEncoding form) a.screen) (unscrolled a.screen.is_alternate (stepped (SetMouseEncoding form) a.screen)) t
+done_step (ClearMouseEncoding form) a b t = done_own a b (stepped (ClearMouseEncoding form) a.screen) (scrolled (ClearMouseEncoding form) a.screen) (unscrolled a.screen.is_alternate (stepped (ClearMouseEncoding form) a.screen)) t
+done_step (SetCursorStyle look) a b t = done_own a b (stepped (SetCursorStyle look) a.screen) (scrolled (SetCursorStyle look) a.screen) (unscrolled a.screen.is_alternate (stepped (SetCursorStyle look) a.screen)) t
+
+-- ---- steps and events
+
+done_steps : (steps : List Step) (a b : act.State Noted) → FoldsTo (Takes NotesIt) a steps b → Done a (calls_of_all steps a.screen) (stepped_all steps a.screen) b
+done_steps [] a b e = subst (λ (s : act.State Noted). Done a [] a.screen s) e (done_nothing a)
+done_steps (x ∷ steps) a b t =
+    let one = done_step x a t.0 t.1 in
+    let rest = subst (λ (screen : ScreenValue). Done t.0 (calls_of_all steps screen) (stepped_all steps screen) b) one.shown (done_steps steps t.0 b t.2) in
+    done_then a t.0 b (calls_of x a.screen) (calls_of_all steps (scrolled x a.screen)) (scrolled x a.screen) (stepped_all steps (scrolled x a.screen)) one rest
+
+-- the steps of all events are those that the model lists
+same_steps : (events : List Event) (a b : act.State Noted) → FoldsTo (Performs NotesIt) a events b → FoldsTo (Takes NotesIt) a (steps_of_all events a.screen) b
+same_steps [] a b e = e
+same_steps (event ∷ events) a b t =
+    let steps = steps_of event a.screen in
+    let there = (done_steps steps a t.0 t.1).shown in
+    let rest = subst (λ (screen : ScreenValue). FoldsTo (Takes NotesIt) t.0 (steps_of_all events screen) b) there (same_steps events t.0 b t.2) in
+    folds_then (Takes NotesIt) steps (steps_of_all events (stepped_all steps a.screen)) a t.0 b t.1 rest
+
+-- ---- parsers
+
+pub done_run : (old new : Parsing Noted) (bytes : List ℕ) (scan : State) → Ran NotesIt old bytes new → StandsFor old.scanner scan → Done (stage old) (calls_in scan old.screen bytes) (screen_in scan old.screen bytes) (stage new)
+done_run old new bytes scan ran stands =
+    done_steps (steps_in scan old.screen bytes) (stage old) (stage new) (same_steps (run scan bytes).events (stage old) (stage new) (ran scan stands).1)
+
+-- ---- a fresh parser that read pieces
+
+pub record HasRead (screen : ScreenValue) (bytes : List ℕ) (new : Parsing Noted) : Type 0 where
+  pub shown : new.screen ≡ screen_in start screen bytes
+  pub noted : new.callbacks.is_complete ≡ true → new.callbacks.calls ≡ calls_in start screen bytes
+
+pub has_read : (old new : Parsing Noted) (screen : ScreenValue) (pieces : List (List ℕ)) → old ≡ parsing old.scanner screen nothing_noted → StandsFor old.scanner start → FoldsTo (Ran NotesIt) old pieces new → HasRead screen (joined pieces) new
+has_read old new screen pieces fresh stands runs =
+    let done = done_run old new (joined pieces) start (ran_joined NotesIt old new pieces runs) stands in
+    record {
+      shown = done.shown ∙ ap (λ (p : Parsing Noted). screen_in start p.screen (joined pieces)) fresh;
+      noted = λ all. done.noted all ∙ ap (λ (p : Parsing Noted). p.callbacks.calls ++ calls_in start p.screen (joined pieces)) fresh;
+    }
+
+pub read_more : (old mid new : Parsing Noted) (pieces : List (List ℕ)) (piece : List ℕ) → FoldsTo (Ran NotesIt) old pieces mid → Ran NotesIt mid piece new → FoldsTo (Ran NotesIt) old (pieces ++ piece ∷ []) new
+read_more old mid new pieces piece runs ran = folds_then (Ran NotesIt) pieces (piece ∷ []) old mid new runs (new, ran, refl)

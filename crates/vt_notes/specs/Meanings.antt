@@ -1,0 +1,27 @@
+-- What the code's notes mean.
+use Rattle.std.specs.Prelude.{map}
+use Rattle.vt_notes.specs.declared.note.KeptRow.{KeptRow}
+use Rattle.vt_notes.specs.declared.note.Note.{Note}
+use Rattle.vt_notes.specs.declared.note.Note.TheVariants as note
+use Rattle.vt_rows.specs.Row.{RowValue}
+use Rattle.vt_screen.specs.Calls as value
+use Rattle.vt_screen.specs.Calls.{CallValue}
+
+abbrev pub row_of : KeptRow → RowValue
+row_of row = record { cells = row.cells.items; wrapped = row.wrapped }
+
+-- the call that was noted
+abbrev pub value_of : Note → CallValue
+value_of note.AudibleBell = value.AudibleBell
+value_of note.VisualBell = value.VisualBell
+value_of (note.Resize size) = value.Resize size.0 size.1
+value_of (note.SetWindowIconName name) = value.SetWindowIconName name.items
+value_of (note.SetWindowTitle title) = value.SetWindowTitle title.items
+value_of (note.CopyToClipboard kind text) = value.CopyToClipboard kind.items text.items
+value_of (note.PasteFromClipboard kind) = value.PasteFromClipboard kind.items
+value_of (note.UnhandledChar code) = value.UnhandledChar code
+value_of (note.UnhandledControl byte) = value.UnhandledControl byte
+value_of (note.UnhandledEscape first second byte) = value.UnhandledEscape first second byte
+value_of (note.UnhandledCsi first second groups byte) = value.UnhandledCsi first second (map (λ group. group.items) groups.items) byte
+value_of (note.UnhandledOsc parts) = value.UnhandledOsc (map (λ part. part.items) parts.items)
+value_of (note.OnScroll row alternate) = value.OnScroll (row_of row) alternate

@@ -1,0 +1,112 @@
+//! Calls that are kept.
+
+ghost use Rattle.std.specs.Prelude.{◌≡◌, map, IfOk};
+ghost use Rattle.vt_notes.specs.Meanings.{row_of, value_of};
+ghost use Rattle.vt_screen.specs.Calls as calls;
+ghost use Rattle.vt_screen.specs.Meanings.{call_of};
+
+use std::alloc::{AllocError, Global};
+use vt100::capture::{BasicFormattedCaptureState, RowContents};
+use vt100::{Call, Cell};
+
+/// A row that left the page.
+#[derive(Drop)]
+pub struct KeptRow {
+    /// Its cells, from left to right.
+    pub cells: Vec<Cell>,
+
+    /// Whether its text went on in the row that was below it.
+    pub wrapped: bool,
+
+    /// Its basic text, as that of a first row.
+    pub text: String,
+}
+
+/// A call of one of the functions of [`Callbacks`](vt100::Callbacks), each named after its function,
+/// with a copy of what the call lent.
+#[derive(Drop)]
+pub enum Note {
+    AudibleBell,
+    VisualBell,
+    Resize((u16, u16)),
+    SetWindowIconName(Vec<u8>),
+    SetWindowTitle(Vec<u8>),
+    CopyToClipboard(Vec<u8>, Vec<u8>),
+    PasteFromClipboard(Vec<u8>),
+    UnhandledChar(char),
+    UnhandledControl(u8),
+    UnhandledEscape(Option<u8>, Option<u8>, u8),
+    UnhandledCsi(Option<u8>, Option<u8>, Vec<Vec<u16>>, char),
+    UnhandledOsc(Vec<Vec<u8>>),
+    OnScroll(KeptRow, bool),
+}
+
+impl Note {
+    /// The note of a call. Fails where memory for a copy of what it lends is refused.
+    pub fn of_call(alloc: Global, call: Call<'_>) -> Result<Self, AllocError>
+        ensures { IfOk result (λ note. value_of note ≡ call_of call.entry) }
+    {
+        match call {
+            Call::AudibleBell => Ok(Note::AudibleBell),
+            Call::VisualBell => Ok(Note::VisualBell),
+            Call::Resize(size) => Ok(Note::Resize(size)),
+            Call::SetWindowIconName(name) => {
+                Ok(Note::SetWindowIconName(Vec::from_slice(alloc, name)?))
+            }
+            Call::SetWindowTitle(title) => {
+                Ok(Note::SetWindowTitle(Vec::from_slice(alloc, title)?))
+            }
+            Call::CopyToClipboard(kind, text) => {
+                let kind = Vec::from_slice(alloc, kind)?;
+                Ok(Note::CopyToClipboard(kind, Vec::from_slice(alloc, text)?))
+            }
+            Call::PasteFromClipboard(kind) => {
+                Ok(Note::PasteFromClipboard(Vec::from_slice(alloc, kind)?))
+            }
+            Call::UnhandledChar(code) => Ok(Note::UnhandledChar(code)),
+            Call::UnhandledControl(byte) => Ok(Note::UnhandledControl(byte)),
+            Call::UnhandledEscape(first, second, byte) => {
+                Ok(Note::UnhandledEscape(first, second, byte))
+            }
+            Call::UnhandledCsi(first, second, groups, byte) => {
+                Ok(Note::UnhandledCsi(first, second, owned(alloc, groups)?, byte))
+            }
+            Call::UnhandledOsc(parts) => Ok(Note::UnhandledOsc(owned(alloc, parts)?)),
+        }
+    }
+
+    /// The note of a row that scrolled away; `alternate`: from the alternate page. Fails where memory
+    /// for a copy of the cells, or for their text, is refused.
+    pub fn of_scroll(
+        alloc: Global,
+        row: &RowContents<'_>,
+        alternate: bool,
+    ) -> Result<Self, AllocError>
+        ensures { IfOk result (λ note. value_of note ≡ calls.OnScroll row.now alternate) }
+    {
+        let cells = row.cells().to_vec(alloc)?;
+        let wrapped = row.wrapped();
+        let mut text = String::new(alloc);
+        let mut state = BasicFormattedCaptureState::new();
+        if row.write_formatted_basic(&mut text, &mut state).is_err() {
+            return Err(AllocError);
+        }
+        let kept = KeptRow {
+            cells,
+            wrapped,
+            text,
+        };
+        Ok(Note::OnScroll(kept, alternate))
+    }
+}
+
+// Copies of lists that are lent.
+fn owned<T: Copy>(alloc: Global, lists: &[&[T]]) -> Result<Vec<Vec<T>>, AllocError>
+    ensures { IfOk result (λ copies. map (λ copy. copy.items) copies.items ≡ map (λ list. list.now) lists.now) }
+{
+    let mut copies = Vec::with_capacity(alloc, lists.len())?;
+    for list in lists {
+        copies.push(Vec::from_slice(alloc, list)?)?;
+    }
+    Ok(copies)
+}

@@ -1,0 +1,36 @@
+//! Bytes read with notes of all calls.
+
+ghost use Rattle.std.specs.Prelude.{◌≡◌, map, true, IfErr, IfOk};
+ghost use Rattle.vt100.specs.Parser.{joined};
+ghost use Rattle.vt_scan.specs.Automaton.{start};
+ghost use Rattle.vt_screen.specs.Screen.{fresh_screen};
+ghost use Rattle.vt_screen.specs.Telling.{calls_in, screen_in};
+
+use crate::notes::Notes;
+use std::alloc::Global;
+use std::num::NonZeroU16;
+use vt100::{Error, Parser};
+
+/// A parser with a fresh screen of this size, without scrollback, after it read these pieces one
+/// after the other. Its notes are exactly the calls of the bytes.
+///
+/// Fails where memory is refused: for the screen, for the text of a command or for a note.
+pub fn read(
+    alloc: Global,
+    rows: NonZeroU16,
+    cols: NonZeroU16,
+    pieces: &[&[u8]],
+) -> Result<Parser<Notes>, Error>
+    ensures noted { IfOk result (λ parser. parser.callbacks.calls ≡ calls_in start (fresh_screen rows.value cols.value 0) (joined (map (λ piece. piece.now) pieces.now))) }
+    ensures complete { IfOk result (λ parser. parser.callbacks.is_complete ≡ true) }
+    ensures shown { IfOk result (λ parser. parser.screen ≡ screen_in start (fresh_screen rows.value cols.value 0) (joined (map (λ piece. piece.now) pieces.now))) }
+{
+    let mut parser = Parser::new_with_callbacks(alloc, rows, cols, 0, Notes::new(alloc))?;
+    for piece in pieces {
+        parser.process(piece)?;
+    }
+    if !parser.callbacks().is_complete() {
+        return Err(Error::OutOfMemory);
+    }
+    Ok(parser)
+}
