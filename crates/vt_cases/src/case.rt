@@ -51,7 +51,6 @@ impl<'a> Case<'a> {
             Some(("<", ".")) => {}
             Some(("<", digits)) => self.bytes = hex::decode(alloc, digits)?,
             Some(("formatted", digits)) => self.redraw = Some(hex::decode(alloc, digits)?),
-            Some(("scroll", _)) => {}
             _ => {
                 self.shown.push_str(line)?;
                 self.shown.push('\n')?;

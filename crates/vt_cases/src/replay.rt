@@ -49,8 +49,13 @@ fn differing_cut(alloc: Global, case: &Case<'_>) -> Result<Option<usize>> {
 fn is_shown(alloc: Global, case: &Case<'_>, pieces: &[&[u8]]) -> Result<bool> {
     let parser = fed(alloc, case, pieces)?;
     let mut lines = screen_lines(alloc, parser.screen())?;
-    for call in parser.callbacks().lines()?.lines() {
-        writeln!(lines, "event {call}")?;
+    let calls = parser.callbacks().lines(alloc)?;
+    for call in calls.lines() {
+        if call.starts_with("scroll ") {
+            writeln!(lines, "{call}")?;
+        } else {
+            writeln!(lines, "event {call}")?;
+        }
     }
     Ok(lines.as_str() == case.shown.as_str())
 }
@@ -65,16 +70,11 @@ fn is_redrawn(alloc: Global, case: &Case<'_>) -> Result<bool> {
     let redraw = parser.screen().contents_formatted()?;
     let reader = fed(alloc, case, &[redraw.as_bytes()])?;
     let again = reader.screen().contents_formatted()?;
-    let is_quiet = reader.callbacks().lines()?.is_empty();
+    let is_quiet = reader.callbacks().calls().is_empty();
     Ok(is_quiet && redraw.as_bytes() == expected.as_slice() && again.as_str() == redraw.as_str())
 }
 
 /// A fresh parser of the size of a case, after these pieces.
 fn fed(alloc: Global, case: &Case<'_>, pieces: &[&[u8]]) -> Result<Parser<Notes>> {
-    let notes = Notes::new(alloc);
-    let mut parser = Parser::new_with_callbacks(alloc, case.rows, case.cols, 0, notes)?;
-    for piece in pieces {
-        parser.process(piece)?;
-    }
-    Ok(parser)
+    Ok(vt_notes::read(alloc, case.rows, case.cols, pieces)?)
 }
