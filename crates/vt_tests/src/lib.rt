@@ -3,6 +3,10 @@
 #![tactic(auto)]
 
 #[cfg(test)]
+mod noted;
+#[cfg(test)]
+mod scrolling_tests;
+#[cfg(test)]
 mod seen;
 #[cfg(test)]
 mod tests;

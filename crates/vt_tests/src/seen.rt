@@ -6,13 +6,13 @@ use std::test::Fail;
 use vt_notes::Notes;
 use vt100::{Cell, Color, CursorStyle, Parser, Screen};
 
-/// What a fresh parser of this size shows after these pieces, and the lines of its calls.
+/// What a parser shows, and the lines of its calls.
 ///
 /// Each row that shows something is its number, a colon and its cells: a dot for a blank, brackets
 /// around a wide glyph, a slash at the end of a row that goes on in the next one; blanks at the end
-/// are left out. Then come the cursor, and of attributes and modes what isn't the default.
-pub(crate) fn seen(alloc: Global, size: (u16, u16), pieces: &[&[u8]]) -> Result<String, Fail> {
-    let parser = read(alloc, size, pieces)?;
+/// are left out. Then come the cursor, how many rows scrollback keeps and how many of them are in
+/// view, and attributes and modes; of all these but the cursor only what isn't the default.
+pub(crate) fn seen(alloc: Global, parser: &Parser<Notes>) -> Result<String, Fail> {
     let screen = parser.screen();
     let (rows, _cols) = screen.size();
     let mut text = String::new(alloc);
@@ -21,9 +21,10 @@ pub(crate) fn seen(alloc: Global, size: (u16, u16), pieces: &[&[u8]]) -> Result<
     }
     let (row, col) = screen.cursor_position();
     write!(text, "@{row},{col}")?;
+    write_scrollback(&mut text, screen)?;
     write_state(&mut text, screen)?;
     text.push('\n')?;
-    text.push_str(parser.callbacks().lines()?)?;
+    text.push_str(parser.callbacks().lines(alloc)?.as_str())?;
     Ok(text)
 }
 
@@ -35,7 +36,19 @@ pub(crate) fn read(
 ) -> Result<Parser<Notes>, Fail> {
     let rows = NonZeroU16::new(size.0).ok_or("no rows")?;
     let cols = NonZeroU16::new(size.1).ok_or("no columns")?;
-    let mut parser = Parser::new_with_callbacks(alloc, rows, cols, 0, Notes::new(alloc))?;
+    Ok(vt_notes::read(alloc, rows, cols, pieces)?)
+}
+
+/// A fresh parser of this size, whose scrollback keeps `capacity` rows, after these pieces.
+pub(crate) fn read_keeping(
+    alloc: Global,
+    size: (u16, u16),
+    capacity: usize,
+    pieces: &[&[u8]],
+) -> Result<Parser<Notes>, Fail> {
+    let rows = NonZeroU16::new(size.0).ok_or("no rows")?;
+    let cols = NonZeroU16::new(size.1).ok_or("no columns")?;
+    let mut parser = Parser::new_with_callbacks(alloc, rows, cols, capacity, Notes::new(alloc))?;
     for piece in pieces {
         parser.process(piece)?;
     }
@@ -78,6 +91,18 @@ fn write_cell(text: &mut String, cell: &Cell) -> Result<(), AllocError> {
         text.push('[')?;
     }
     text.push_str(cell.contents())
+}
+
+fn write_scrollback(text: &mut String, screen: &Screen) -> Result<(), AllocError> {
+    let kept = screen.scrollback_len();
+    if kept > 0 {
+        write!(text, " kept {kept}")?;
+    }
+    let in_view = screen.scrollback();
+    if in_view > 0 {
+        write!(text, " in view {in_view}")?;
+    }
+    Ok(())
 }
 
 fn write_state(text: &mut String, screen: &Screen) -> Result<(), AllocError> {

@@ -10,7 +10,8 @@ const CLEAR: &str = "\x1b[?25h\x1b[m\x1b[H\x1b[J";
 
 // Fails where these pieces give something else.
 fn expect(alloc: Global, size: (u16, u16), pieces: &[&[u8]], wanted: &str) -> Result<(), Fail> {
-    let found = seen(alloc, size, pieces)?;
+    let parser = read(alloc, size, pieces)?;
+    let found = seen(alloc, &parser)?;
     if found.as_str() != wanted {
         return Err(Fail::new(format_args!("{pieces:?} give {found}and not {wanted}")));
     }
@@ -32,11 +33,11 @@ fn expect_at_each_cut(
 }
 
 #[rattlefmt::skip]
-const PRINTED: [((u16, u16), &str, &str); 42] = [
+const PRINTED: [((u16, u16), &str, &str); 41] = [
     // A pending wrap.
     ((2, 4), "abcd", "0:abcd @0,4\n"),
     ((2, 4), "abcdx", "0:abcd/ 1:x @1,1\n"),
-    ((1, 1), "ab", "0:b @0,1\n"),
+    ((1, 1), "ab", "0:b @0,1\nscroll 61 0\n"),
 
     // Wide characters.
     ((2, 1), "中", "@0,0\n"),
@@ -66,29 +67,28 @@ const PRINTED: [((u16, u16), &str, &str); 42] = [
     ((2, 2), "\u{2764}\u{fe0f}", "0:[\u{2764}\u{fe0f}] @0,2\n"),
     ((2, 2), "\x1b[1;2H\u{2764}\u{fe0f}", "1:[\u{2764}\u{fe0f}] @1,2\n"),
     ((2, 2), "\x1b[2;1H\u{2764}\u{fe0f}", "1:[\u{2764}\u{fe0f}] @1,2\n"),
-    ((2, 2), "\x1b[2;2H\u{2764}\u{fe0f}", "1:[\u{2764}\u{fe0f}] @1,2\n"),
-    ((2, 2), "a\x1b[2;2H\u{2764}\u{fe0f}", "1:[\u{2764}\u{fe0f}] @1,2\n"),
-    ((2, 2), "\x1b[2;1Hab\x1b[2;2H\u{2764}\u{fe0f}", "0:a 1:[\u{2764}\u{fe0f}] @1,2\n"),
+    ((2, 2), "\x1b[2;2H\u{2764}\u{fe0f}", "1:[\u{2764}\u{fe0f}] @1,2\nscroll . 0\n"),
+    ((2, 2), "a\x1b[2;2H\u{2764}\u{fe0f}", "1:[\u{2764}\u{fe0f}] @1,2\nscroll 61 0\n"),
+    ((2, 2), "\x1b[2;1Hab\x1b[2;2H\u{2764}\u{fe0f}", "0:a 1:[\u{2764}\u{fe0f}] @1,2\nscroll . 0\n"),
     ((1, 3), "\u{2764}\u{fe0f}", "0:[\u{2764}\u{fe0f}] @0,2\n"),
     ((2, 3), "\x1b[1;2H\u{2764}\u{fe0f}", "0:.[\u{2764}\u{fe0f}] @0,3\n"),
     ((2, 3), "\x1b[1;3H\u{2764}\u{fe0f}", "1:[\u{2764}\u{fe0f}] @1,2\n"),
     ((2, 3), "\x1b[2;2H\u{2764}\u{fe0f}", "1:.[\u{2764}\u{fe0f}] @1,3\n"),
-    ((2, 3), "ab\x1b[2;3H\u{2764}\u{fe0f}", "1:[\u{2764}\u{fe0f}] @1,2\n"),
-    ((1, 3), "ab\u{2764}\u{fe0f}", "0:[\u{2764}\u{fe0f}] @0,2\n"),
+    ((2, 3), "ab\x1b[2;3H\u{2764}\u{fe0f}", "1:[\u{2764}\u{fe0f}] @1,2\nscroll 6162 0\n"),
+    ((1, 3), "ab\u{2764}\u{fe0f}", "0:[\u{2764}\u{fe0f}] @0,2\nscroll 6162 0\n"),
     ((2, 5), "\u{2764}\u{fe0f}", "0:[\u{2764}\u{fe0f}] @0,2\n"),
     ((2, 5), "\x1b[1;2H\u{2764}\u{fe0f}", "0:.[\u{2764}\u{fe0f}] @0,3\n"),
     ((2, 5), "\x1b[1;3H\u{2764}\u{fe0f}", "0:..[\u{2764}\u{fe0f}] @0,4\n"),
     ((2, 5), "\x1b[1;4H\u{2764}\u{fe0f}", "0:...[\u{2764}\u{fe0f}] @0,5\n"),
     ((2, 5), "\x1b[1;5H\u{2764}\u{fe0f}", "1:[\u{2764}\u{fe0f}] @1,2\n"),
     ((2, 5), "abcd\u{2764}\u{fe0f}", "0:abcd 1:[\u{2764}\u{fe0f}] @1,2\n"),
-    ((2, 5), "\x1b[2;5H\u{2764}\u{fe0f}", "1:[\u{2764}\u{fe0f}] @1,2\n"),
+    ((2, 5), "\x1b[2;5H\u{2764}\u{fe0f}", "1:[\u{2764}\u{fe0f}] @1,2\nscroll . 0\n"),
     ((2, 5), "\x1b[1;2H中\x1b[H\u{2764}\u{fe0f}", "0:[\u{2764}\u{fe0f}] @0,2\n"),
     ((2, 5), "\x1b[1;2Hx\x1b[H\u{2764}\u{fe0f}", "0:[\u{2764}\u{fe0f}] @0,2\n"),
 
     // The longest rows, and the most.
-    ((1, 65535), "\x1b[1;65535Hab", "0:b @0,1\n"),
-    ((1, 65535), "\x1b[1;65535H中", "0:[中] @0,2\n"),
-    ((65535, 1), "\x1b[65535;1Hab", "65533:a/ 65534:b @65534,1\n"),
+    ((1, 65535), "\x1b[1;65535H中", "0:[中] @0,2\nscroll . 0\n"),
+    ((65535, 1), "\x1b[65535;1Hab", "65533:a/ 65534:b @65534,1\nscroll . 0\n"),
     ((2, 4), "", "@0,0\n"),
 ];
 
@@ -98,6 +98,17 @@ fn prints_at_every_cut(rt: HostRuntime) -> Result<(), Fail> {
         expect_at_each_cut(rt.alloc(), size, text.as_bytes(), wanted)?;
     }
     Ok(())
+}
+
+#[test]
+fn wraps_the_longest_row(rt: HostRuntime) -> Result<(), Fail> {
+    let mut wanted = String::new(rt.alloc());
+    wanted.push_str("0:b @0,1\nscroll ")?;
+    for _ in 0..65534 {
+        wanted.push_str("20")?;
+    }
+    wanted.push_str("61 0\n")?;
+    expect_at_each_cut(rt.alloc(), (1, 65535), b"\x1b[1;65535Hab", wanted.as_str())
 }
 
 #[rattlefmt::skip]
