@@ -1,0 +1,77 @@
+//! Calls that may take memory, and their answers.
+
+use crate::tally::Tally;
+use std::fmt;
+use vt100::{Error, Parser};
+
+/// A call.
+#[derive(Clone, Copy)]
+pub enum Step {
+    /// `process` of these bytes.
+    Process(&'static [u8]),
+
+    /// `contents_formatted` of the screen.
+    Redraw,
+
+    /// `set_scrollback` of the screen to this many rows.
+    SetScrollback(usize),
+}
+
+impl Step {
+    /// Makes the call.
+    pub fn make(self, parser: &mut Parser<Tally>) -> Answer {
+        match self {
+            Step::Process(bytes) => done(parser.process(bytes)),
+            Step::Redraw => match parser.screen().contents_formatted() {
+                Ok(text) => Answer::Text(text),
+                Err(error) => Answer::Refused(error),
+            },
+            Step::SetScrollback(rows) => done(parser.screen_mut().set_scrollback(rows)),
+        }
+    }
+}
+
+/// The answer of a call without a value.
+fn done(made: Result<(), Error>) -> Answer {
+    match made {
+        Ok(()) => Answer::Done,
+        Err(error) => Answer::Refused(error),
+    }
+}
+
+impl fmt::Display for Step {
+    fn fmt<W: fmt::Write>(&self, f: &mut fmt::Formatter<W>) -> fmt::Result {
+        match self {
+            Step::Process(bytes) => write!(f, "process {}", bytes.escape_ascii()),
+            Step::Redraw => write!(f, "redraw"),
+            Step::SetScrollback(rows) => write!(f, "set_scrollback {rows}"),
+        }
+    }
+}
+
+/// What a call answered.
+#[derive(Drop)]
+pub enum Answer {
+    /// That it was made.
+    Done,
+
+    /// A text.
+    Text(String),
+
+    /// That memory was refused, now or before.
+    Refused(Error),
+}
+
+impl fmt::Display for Answer {
+    fn fmt<W: fmt::Write>(&self, f: &mut fmt::Formatter<W>) -> fmt::Result {
+        match self {
+            Answer::Done => write!(f, "ok"),
+            Answer::Text(text) => {
+                let bytes = text.as_bytes();
+                write!(f, "ok, {} bytes {}", bytes.len(), bytes.escape_ascii())
+            }
+            Answer::Refused(Error::OutOfMemory) => write!(f, "refused"),
+            Answer::Refused(Error::Failed) => write!(f, "failed"),
+        }
+    }
+}
