@@ -133,6 +133,19 @@ impl Cell {
         self.right_half = false;
     }
 
+    /// Makes the cell a glyph of one character, as [`Cell::glyph`] makes one.
+    #[inline(always)]
+    pub fn set_glyph(&mut self, c: char, wide: bool, attrs: Attrs)
+        requires reported { c ≢ 0xFFFD }
+        requires columns { columns_of c ≡ Some (if wide then 2 else 1) }
+        ensures { self.new ≡ glyph (encode_utf8 c) wide attrs }
+    {
+        self.len = push_char(&mut self.contents, 0, c);
+        self.attrs = attrs;
+        self.wide = wide;
+        self.right_half = false;
+    }
+
     /// Puts a mark, a character of width 0, on the cell.
     ///
     /// A blank becomes a space glyph first, in its attributes. From 18 bytes
