@@ -19,7 +19,7 @@ use vt_cells::{Attrs, Cell};
 /// Of a wide glyph whose right half stood there the left half becomes blank,
 /// in its own attributes. Of one whose left half stood there the right half
 /// becomes a space in `attrs`.
-#[inline]
+#[inline(always)]
 pub fn put_narrow(cells: &mut [Cell], column: usize, c: char, attrs: Attrs)
     requires paired { IsPaired cells.old }
     requires inside { column < length cells.old }
@@ -31,7 +31,8 @@ pub fn put_narrow(cells: &mut [Cell], column: usize, c: char, attrs: Attrs)
 {
     blank_left(cells, column);
     space_right(cells, column, attrs);
-    cells[column] = Cell::glyph(c, false, attrs);
+    let cell = &mut cells[column];
+    cell.set_glyph(c, false, attrs);
 }
 
 /// Puts a wide glyph at a column and the next.

@@ -43,6 +43,20 @@ impl Row {
         })
     }
 
+    /// A copy of the row.
+    ///
+    /// Fails where its memory is refused.
+    pub fn try_clone(&self, alloc: Global) -> Result<Row, Error>
+        ensures ok { IfOk result (λ row. row ≡ self.now) }
+        ensures memory { IfErr result (λ error. error ≡ Error.OutOfMemory) }
+    {
+        let cells = self.cells.to_vec(alloc)?;
+        Ok(Row {
+            cells,
+            wrapped: self.wrapped,
+        })
+    }
+
     /// How many columns the row has.
     #[inline]
     pub fn cols(&self) -> usize
@@ -99,7 +113,7 @@ impl Row {
     /// Puts a narrow glyph at a column; see `cells::put_narrow`.
     ///
     /// The row goes on no more where its last column is blank.
-    #[inline]
+    #[inline(always)]
     pub fn put_narrow(&mut self, column: usize, c: char, attrs: Attrs)
         requires paired { IsPaired self.old.cells }
         requires inside { column < length self.old.cells }

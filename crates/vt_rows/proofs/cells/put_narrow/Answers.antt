@@ -11,7 +11,7 @@ space_right-requires-clause-room c =
 
 pub returns-clause-value : goal.returns-clause-value
 returns-clause-value c =
-    rw (c.space_right.ensures, c.blank_left.ensures, c.glyph.ensures) (narrow_steps c.args.column _ _ c.args.cells.now c.requires.paired c.requires.inside)
+    rw (c.space_right.ensures, c.blank_left.ensures, c.set_glyph.ensures) (narrow_steps c.args.column _ _ c.args.cells.now c.requires.paired c.requires.inside)
 
 pub returns-clause-paired : goal.returns-clause-paired
 returns-clause-paired c = rw (returns-clause-value c) (IsPaired-put_narrow c.args.column _ c.args.attrs c.args.cells.now c.requires.inside c.requires.paired)
