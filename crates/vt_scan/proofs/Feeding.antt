@@ -6,7 +6,7 @@ use Rattle.std.proofs.lemmas.Bool.{false≢true}
 use Rattle.vt_scan.specs.Characters.{is_beginning, character_of}
 use Rattle.vt_scan.specs.Automaton as automaton
 use Rattle.vt_scan.specs.Automaton.{State, Step, marks_of, parts_of, after, fresh_step, step_in}
-use Rattle.vt_scan.specs.Scanner.{Held, Reads, StandsFor, Follows, event_of, events_in}
+use Rattle.vt_scan.specs.Scanner.{Feeds, Held, Reads, StandsFor, Follows, event_of, events_in}
 use Rattle.vt_scan.specs.Keeping.{Begins, Extends}
 use Rattle.vt_scan.specs.declared.table.Kind.{Kind}
 use Rattle.vt_scan.specs.declared.table.Kind.TheVariants.{Ground, Escape}
@@ -108,3 +108,13 @@ fresh_broken held b answer is none high broken e =
     let known : Follows held (one_event (given.Character 0xFFFD)) (gives Ground [] (automaton.Character 0xFFFD ∷ [])) = record { stands = stands_at held [] is none; means = refl } in
     follows_as held answer (fresh_step b) (gives Ground [] (automaton.Character 0xFFFD ∷ [])) (fresh_step-broken b high broken)
     (subst (λ (a : Events). Follows held a (gives Ground [] (automaton.Character 0xFFFD ∷ []))) (sym e) known)
+
+-- a printable character in plain text leaves all as it is
+pub plain_feeds : (held : Held) (b : ℕ) → held.kind ≡ Ground → held.unfinished ≡ [] → 0x20 ≤ b → b < 0x80 → Feeds held b held (one_event (given.Character b))
+plain_feeds held b is none low high = λ s stands.
+    let kind : s.kind ≡ Ground = sym stands.kind ∙ is in
+    let read : Reads held Ground s.collected = subst (λ (k : Kind). Reads held k s.collected) is stands.reads in
+    let collected : s.collected ≡ [] = sym read ∙ none in
+    subst (λ (k : Kind). Follows held (one_event (given.Character b)) (step_in k s.collected b)) (sym kind)
+    (subst (λ (c : List ℕ). Follows held (one_event (given.Character b)) (step_in Ground c b)) (sym collected)
+    (fresh_character held b b (one_event (given.Character b)) is none low high refl refl))

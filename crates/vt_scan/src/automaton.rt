@@ -1,14 +1,15 @@
 //! The scanner: from bytes to events.
 
-ghost use Rattle.std.specs.Prelude.{◌≡◌, IfErr, IfOk, IsErr, OnErr};
+ghost use Rattle.std.specs.Prelude.{◌≡◌, [], IfErr, IfOk, IsErr, IsTrue, None, OnErr, Some};
 ghost use Rattle.vt_scan.specs.Automaton.{State, parts_of, start};
 ghost use Rattle.vt_scan.specs.Scanner.{Feeds, StandsFor};
 ghost use Rattle.vt_scan.specs.Table.{class_of, turn_of};
+ghost use Rattle.vt_scan.specs.declared.event.Event.{Event};
 ghost use Rattle.vt_scan.specs.declared.table.Kind.{Kind};
 ghost use Rattle.vt_scan.specs.declared.table.Turn.{Turn};
 
 use crate::event::Events;
-use crate::groups::Groups;
+use crate::groups::{FewGroups, Groups};
 use crate::parts::Parts;
 use crate::registers::Registers;
 use std::alloc::Global;
@@ -65,6 +66,17 @@ impl Scanner {
         self.registers.feed(byte)
     }
 
+    /// Whether this byte would be read as the character of ASCII that it is,
+    /// and nothing else: it is printable, and no sequence and no other
+    /// character is unfinished. Reading it leaves the scanner as it is, so
+    /// that it need not be fed.
+    #[inline(always)]
+    pub fn is_plain(&self, byte: u8) -> bool
+        ensures { IsTrue result → Feeds self.now byte self.now (record { first = Some (Event.Character byte); second = None }) }
+    {
+        self.registers.is_plain(byte)
+    }
+
     /// Says that the scanner stands for at least one state of the automaton,
     /// as every scanner does.
     pub fn stands(&self)
@@ -79,6 +91,17 @@ impl Scanner {
         ensures { result ≡ self.now.table.groups }
     {
         self.registers.groups()
+    }
+
+    /// Puts the groups of numbers of a control sequence, after its event, into
+    /// an empty table of few, and says whether all have room there. Where they
+    /// do, that is cheaper than [`Scanner::groups`].
+    #[inline(always)]
+    pub fn lend_groups<'a>(&'a self, few: &mut FewGroups<'a>) -> bool
+        requires { few.old ≡ [] }
+        ensures { IsTrue result → few.new ≡ self.now.table.groups }
+    {
+        self.registers.lend_groups(few)
     }
 
     /// The marker and the intermediates of a sequence, after its event: the

@@ -14,7 +14,7 @@ pub mod unfinished;
 
 pub use automaton::Scanner;
 pub use event::{Event, Events};
-pub use groups::Groups;
+pub use groups::{FewGroups, Groups};
 pub use parts::Parts;
 
 #[cfg(test)]

@@ -1,10 +1,10 @@
 //! The numbers of a control sequence.
 
-ghost use Rattle.std.specs.Prelude.{◌≡◌, ℕ, ◌+◌, ◌*◌, ◌-◌, ◌<◌, ◌≤◌, List, [], ◌∷◌, ◌++◌, min, take, true};
+ghost use Rattle.std.specs.Prelude.{◌≡◌, ℕ, ◌+◌, ◌*◌, ◌-◌, ◌<◌, ◌≤◌, List, [], ◌∷◌, ◌++◌, IsTrue, min, take, true};
 ghost use Rattle.vt_scan.specs.Parameters.{Table, table_of};
 ghost use Rattle.vt_scan.specs.Keeping.{Ascends, groups_from};
 
-use crate::groups::Groups;
+use crate::groups::{FewGroups, Groups};
 use std::marker::Model;
 
 /// The first 32 numbers of a parameter text, in their groups.
@@ -106,6 +106,7 @@ impl Parameters {
     }
 
     /// The groups, lent until the next byte.
+    #[inline]
     pub fn groups(&self) -> Groups<'_>
         ensures { result ≡ self.now.groups }
     {
@@ -118,6 +119,26 @@ impl Parameters {
         }
         groups.push(&self.numbers[start..self.len]);
         groups
+    }
+
+    /// Puts the groups into an empty table of few, and says whether all have
+    /// room there.
+    #[inline(always)]
+    pub fn lend<'a>(&'a self, few: &mut FewGroups<'a>) -> bool
+        requires { few.old ≡ [] }
+        ensures { IsTrue result → few.new ≡ self.now.groups }
+    {
+        if self.closed >= 6 {
+            return false;
+        }
+        let mut start = 0;
+        for i in 0..self.closed {
+            let end = self.ends[i];
+            few.push(&self.numbers[start..end]);
+            start = end;
+        }
+        few.push(&self.numbers[start..self.len]);
+        true
     }
 }
 

@@ -1,17 +1,18 @@
 //! What the scanner holds of the bytes that it has read.
 
-ghost use Rattle.std.specs.Prelude.{◌≡◌, ◌≢◌, ℕ, List, [], ◌∷◌, ◌++◌, IfErr, IfOk, IsErr, None, OnErr, OnOk};
+ghost use Rattle.std.specs.Prelude.{◌≡◌, ◌≢◌, ◌≤◌, ◌<◌, ℕ, List, [], ◌∷◌, ◌++◌, IfErr, IfOk, IsErr, IsTrue, None, OnErr, OnOk, Some};
 ghost use Rattle.vt_scan.specs.Automaton.{fresh_step, is_parameter, parts_of, start, step_in};
 ghost use Rattle.vt_scan.specs.Keeping.{Begins, Fits, answer_of};
 ghost use Rattle.vt_scan.specs.Scanner.{Feeds, Follows, Held, Reads, StandsFor};
 ghost use Rattle.vt_scan.specs.Table.{class_of, turn_of};
+ghost use Rattle.vt_scan.specs.declared.event.Event.{Event};
 
 use crate::event::{Event, Events};
-use crate::groups::Groups;
+use crate::groups::{FewGroups, Groups};
 use crate::marks::Marks;
 use crate::parameters::Parameters;
 use crate::parts::Parts;
-use crate::table::{Ending, Kind, Turn, classify, look_up};
+use crate::table::{Ending, Kind, Turn, turn_at};
 use crate::unfinished::{Extended, Unfinished};
 use std::alloc::Global;
 use std::marker::Model;
@@ -60,6 +61,25 @@ impl Registers {
         match self.kind {
             Kind::Ground => Ok(self.feed_ground(byte)),
             _ => self.feed_sequence(byte),
+        }
+    }
+
+    /// Whether this byte is a printable one of ASCII, read by itself.
+    #[inline(always)]
+    pub fn is_plain(&self, byte: u8) -> bool
+        ensures { IsTrue result → Feeds self.now byte self.now (record { first = Some (Event.Character byte); second = None }) }
+    {
+        is_printable(byte) && self.is_fresh()
+    }
+
+    // Whether the next byte begins something.
+    #[inline(always)]
+    fn is_fresh(&self) -> bool
+        ensures { IsTrue result → (self.now.kind ≡ Kind.Ground) × (self.now.unfinished ≡ []) }
+    {
+        match self.kind {
+            Kind::Ground => self.unfinished.is_empty(),
+            _ => false,
         }
     }
 
@@ -112,7 +132,7 @@ impl Registers {
         ensures only { IfErr result (λ e. e ≡ Error.OutOfMemory) }
         ensures text { IsErr result → turn_of self.old.kind (class_of byte) ≡ Turn.Collect Kind.OscString }
     {
-        match look_up(self.kind, classify(byte)) {
+        match turn_at(self.kind, byte) {
             Turn::Collect(kind) => {
                 self.collect(kind, byte)?;
                 Ok(Events::none())
@@ -174,6 +194,16 @@ impl Registers {
         self.parameters.groups()
     }
 
+    /// Puts the groups into an empty table of few, and says whether all have
+    /// room there.
+    #[inline(always)]
+    pub fn lend_groups<'a>(&'a self, few: &mut FewGroups<'a>) -> bool
+        requires { few.old ≡ [] }
+        ensures { IsTrue result → few.new ≡ self.now.table.groups }
+    {
+        self.parameters.lend(few)
+    }
+
     /// The marker and the intermediates of the sequence, at most two.
     #[inline]
     pub fn marks(&self) -> &[u8]
@@ -188,6 +218,14 @@ impl Registers {
     {
         Parts::of(&self.text)
     }
+}
+
+// Whether the byte is a printable one of ASCII.
+#[inline(always)]
+fn is_printable(byte: u8) -> bool
+    ensures { IsTrue result → (0x20 ≤ byte) × (byte < 0x80) }
+{
+    byte >= 0x20 && byte < 0x7F
 }
 
 // Whether the byte is one of the parameter text.

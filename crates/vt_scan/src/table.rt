@@ -142,6 +142,19 @@ pub fn classify(byte: u8) -> Class
     }
 }
 
+/// What a byte does in this kind of state.
+#[inline(always)]
+#[tactic(auto, using(std::proofs::lemmas::Bool::Decides::nat_tests), unfolding(crate::specs::Table::class_of))]
+pub fn turn_at(kind: Kind, byte: u8) -> Turn
+    ensures turn { result ≡ turn_of kind (class_of byte) }
+    ensures fits { Fits kind result }
+{
+    match (kind, byte) {
+        (Kind::CsiParam, 0x30..=0x3B) => Turn::Collect(Kind::CsiParam),
+        _ => look_up(kind, classify(byte)),
+    }
+}
+
 /// What a byte of this class does in this kind of state.
 #[inline]
 pub fn look_up(kind: Kind, class: Class) -> Turn

@@ -1,0 +1,10 @@
+-- The groups so far, and those from `start` on, are all groups.
+use Rattle.std.proofs.Common.{◌≡◌, ◌++◌, length, take, drop}
+use Rattle.vt_scan.specs.Keeping.{Ascends, groups_from}
+use Rattle.vt_scan.proofs.parameters.Parameters.lend.Given as goal
+
+abbrev pub invariant-loop-i : goal.invariant-loop-i
+invariant-loop-i l =
+    (length l.few ≡ l.i)
+    × Ascends l.start (drop l.i (take l.self-inside.closed l.self-inside.ends)) l.self-inside.len
+    × (l.few ++ groups_from l.start (drop l.i (take l.self-inside.closed l.self-inside.ends)) l.self-inside.len l.self-inside.numbers ≡ l.self.groups)
