@@ -25,3 +25,6 @@ pub mod Writing
 pub mod Stacking
 pub mod Growing
 pub mod Scrolling
+pub mod Moving
+pub mod Resizing
+pub mod ResizeExamples

@@ -14,7 +14,7 @@ use Rattle.vt_rows.specs.Cells.{IsPaired, ends_blank}
 use Rattle.vt_rows.specs.Row.{RowValue, IsRow, blank_row, with_cells}
 use Rattle.vt_rows.proofs.Rows.{IsRow-blank_row, IsRow-erased}
 use Rattle.vt_grid.specs.Page.{Page, IsPage, row_or, row_at, cursor_row, with_row, blank_page, moved_rows, up_source, rows_up, scrolled_up}
-use Rattle.vt_grid.specs.Moves.{carriage_return, moved_left, moved_right, moved_to, target_row, at_bottom, line_feed}
+use Rattle.vt_grid.specs.Moves.{carriage_return, moved_left, moved_right, moved_to, target_row, at_bottom, line_feed, cursor_saved, cursor_restored}
 use Rattle.vt_grid.specs.Erasing.{erased_columns, erased_chars, erased_rest, blanked_below, erased_below}
 use Rattle.vt_grid.specs.Printing.{with_cursor_cells}
 
@@ -59,6 +59,36 @@ page_carriage_return page p = page_at page.row 0 page p.cursor_row (omega arith)
 
 pub page_moved_left : (n : ℕ) (page : Page) → IsPage page → IsPage (moved_left n page)
 page_moved_left n page p = page_at page.row (page.column - n) page p.cursor_row (omega (arith, p.cursor_column)) p
+
+pub page_cursor_saved : (page : Page) → IsPage page → IsPage (cursor_saved page)
+page_cursor_saved page p = record {
+  has_columns = p.has_columns;
+  columns = p.columns;
+  height = p.height;
+  cursor_row = p.cursor_row;
+  cursor_column = p.cursor_column;
+  saved_row = p.cursor_row;
+  saved_column = p.cursor_column;
+  region = p.region;
+  region_end = p.region_end;
+  rows = p.rows;
+  last = p.last;
+}
+
+pub page_cursor_restored : (page : Page) → IsPage page → IsPage (cursor_restored page)
+page_cursor_restored page p = record {
+  has_columns = p.has_columns;
+  columns = p.columns;
+  height = p.height;
+  cursor_row = p.saved_row;
+  cursor_column = p.saved_column;
+  saved_row = p.saved_row;
+  saved_column = p.saved_column;
+  region = p.region;
+  region_end = p.region_end;
+  rows = p.rows;
+  last = p.last;
+}
 
 pub page_moved_right : (n : ℕ) (page : Page) → IsPage page → IsPage (moved_right n page)
 page_moved_right n page p = page_at page.row (min (page.column + n) (page.width - 1)) page p.cursor_row (omega arith) p

@@ -9,7 +9,8 @@ use Rattle.std.proofs.lemmas.List.Elements.{All-get_or}
 use Rattle.vt_cells.specs.Attrs.{default_attrs}
 use Rattle.vt_cells.specs.declared.attrs.Attrs.{Attrs}
 use Rattle.vt_rows.specs.Row.{RowValue, IsRow, blank_row}
-use Rattle.vt_grid.specs.Keeping.{turn_source, cleared_row}
+use Rattle.vt_rows.specs.Keeping.{turn_source}
+use Rattle.vt_grid.specs.Keeping.{cleared_row}
 use Rattle.vt_grid.specs.Page.{row_or, moved_rows, up_source, rows_up}
 use Rattle.vt_grid.specs.Shifts.{down_source}
 use Rattle.vt_grid.proofs.Pages.{row_or-moved_rows, length-moved_rows}

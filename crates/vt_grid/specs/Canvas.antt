@@ -7,7 +7,7 @@ use Rattle.vt_rows.specs.Cells.{at}
 use Rattle.vt_cells.specs.Op.{Op, Hide, ClearAttrs, MoveTo, MoveRight, NextRow, LineFeed, Backspace, EraseBelow, EraseRest, EraseChars, SaveCursor, RestoreCursor, ChangeAttrs, Print}
 use Rattle.vt_cells.specs.declared.attrs.Attrs.{Attrs}
 use Rattle.vt_grid.specs.Page.{Page, cursor_row}
-use Rattle.vt_grid.specs.Moves.{carriage_return, moved_left, moved_right, moved_to, line_feed, feeds_out}
+use Rattle.vt_grid.specs.Moves.{carriage_return, moved_left, moved_right, moved_to, line_feed, feeds_out, cursor_saved, cursor_restored}
 use Rattle.vt_grid.specs.Erasing.{erased_below, erased_rest, erased_chars}
 use Rattle.vt_grid.specs.Printing.{printed, lacks_room, mark_column, takes_mark}
 
@@ -57,16 +57,10 @@ fed canvas = if feeds_out canvas.page then None else Some (with_page (line_feed 
 
 -- cursor, origin mode and attributes saved, and restored as they were saved (DECSC, DECRC)
 abbrev pub saved : Canvas → Canvas
-saved canvas = record canvas {
-  page = record (canvas.page) { saved_row = canvas.page.row; saved_column = canvas.page.column; saved_origin = canvas.page.origin };
-  saved_attrs = canvas.attrs;
-}
+saved canvas = record canvas { page = cursor_saved canvas.page; saved_attrs = canvas.attrs }
 
 abbrev pub restored : Canvas → Canvas
-restored canvas = record canvas {
-  page = record (canvas.page) { row = canvas.page.saved_row; column = canvas.page.saved_column; origin = canvas.page.saved_origin };
-  attrs = canvas.saved_attrs;
-}
+restored canvas = record canvas { page = cursor_restored canvas.page; attrs = canvas.saved_attrs }
 
 -- what an operation draws; none where it would scroll a row off the page
 abbrev pub drawn : Op → Canvas → Option Canvas

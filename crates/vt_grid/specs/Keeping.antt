@@ -1,10 +1,10 @@
 -- What the fields of a grid are together; for its model and private contracts only.
-use Rattle.std.specs.Prelude.{◌≡◌, ℕ, ◌+◌, ◌-◌, ◌<◌, ◌&&◌, nat_le, nat_lt, Bool, true, false, List, [], length, Some, zero, if◌then◌else◌}
+use Rattle.std.specs.Prelude.{◌≡◌, ℕ, ◌+◌, ◌-◌, ◌<◌, nat_le, nat_lt, Bool, true, false, List, [], length, slice_index_or, Some, zero, if◌then◌else◌}
 use Rattle.vt_cells.specs.declared.attrs.Attrs.{Attrs}
 use Rattle.vt_cells.specs.declared.pos.Pos.{Pos}
 use Rattle.vt_cells.specs.Cell.{CellValue, is_wide, is_blank, is_right_half, widened, IsCell}
 use Rattle.vt_rows.specs.Cells.{at, erased}
-use Rattle.vt_rows.specs.Row.{RowValue, blank_row}
+use Rattle.vt_rows.specs.Row.{RowValue, blank_row, resized_row}
 use Rattle.vt_grid.specs.Page.{Page, IsPage, cursor_row}
 use Rattle.vt_grid.specs.Printing.{with_cursor_cells, lacks_room}
 use Rattle.vt_grid.specs.Canvas.{carries}
@@ -31,10 +31,6 @@ pub record IsSized (rows cols : ℕ) (page : Page) : Type 0 where
   pub sound : IsPage page
   pub height : rows ≡ length page.rows
   pub width : cols ≡ page.width
-
--- where item k of a list comes from, after those from `from` up to `to` were turned to the left by n
-abbrev pub turn_source : ℕ → ℕ → ℕ → ℕ → ℕ
-turn_source from to n k = if nat_le from k && nat_lt k to then (if nat_lt (k + n) to then k + n else k + n - (to - from)) else k
 
 -- a row made blank, in its own width
 abbrev pub cleared_row : Attrs → RowValue → RowValue
@@ -64,3 +60,10 @@ room_out columns page = if lacks_room columns page then fed_out page else []
 -- the rows that leave where a mark is printed
 abbrev pub mark_out : ℕ → Attrs → Page → List RowValue
 mark_out mark attrs page = if carries mark page then fed_out (left_by (Some zero) attrs page) else []
+
+-- what row k of a page of another size becomes, which is blank before: one of the newest rows above, or one of the page
+abbrev pub refilled : (down up : ℕ) → (above rows : List RowValue) → (blank : RowValue) → (k : ℕ) → (d : RowValue) → RowValue
+refilled down up above rows blank k d =
+    if nat_lt k up then (if nat_le up (length above + k) then resized_row (length blank.cells) (slice_index_or above (length above + k - up) d) else blank)
+    else if nat_lt (down + (k - up)) (length rows) then resized_row (length blank.cells) (slice_index_or rows (down + (k - up)) d)
+    else blank

@@ -36,3 +36,10 @@ line_feed page =
 -- rows leave the page at its top: the region that scrolls begins there
 abbrev pub feeds_out : Page → Bool
 feeds_out page = if at_bottom page then page.top == 0 else false
+
+-- the cursor and origin mode are saved, and restored as they were saved (DECSC, DECRC)
+abbrev pub cursor_saved : Page → Page
+cursor_saved page = record page { saved_row = page.row; saved_column = page.column; saved_origin = page.origin }
+
+abbrev pub cursor_restored : Page → Page
+cursor_restored page = record page { row = page.saved_row; column = page.saved_column; origin = page.saved_origin }

@@ -49,7 +49,7 @@ kept_after gone above =
 abbrev pub grown_row : ℕ → RowValue → RowValue
 grown_row width row = if nat_lt (length row.cells) width then resized_row width row else row
 
--- of the rows in view, those that a screen of this height shows are grown
+-- of the newest rows that the offset brings into view, those that a screen of this height has room for are grown
 unfoldable pub grown_in_view : (height width : ℕ) → Scrollback → Scrollback
 grown_in_view height width above =
     let first = length above.rows - above.offset in

@@ -6,6 +6,7 @@ ghost use Rattle.vt_grid.specs.Page.{blank_page, cell_at, row_at};
 mod erasing;
 mod moves;
 mod printing;
+mod resizing;
 mod scrolling;
 mod shifts;
 
@@ -66,6 +67,38 @@ impl Grid {
             origin_mode: false,
             saved_origin_mode: false,
         })
+    }
+
+    /// A copy of the page.
+    ///
+    /// Fails where its memory is refused.
+    pub fn try_clone(&self, alloc: Global) -> Result<Grid, Error>
+        ensures ok { IfOk result (λ grid. grid ≡ self.now) }
+        ensures memory { IfErr result (λ error. error ≡ Error.OutOfMemory) }
+    {
+        Ok(Grid {
+            sheet: self.sheet.try_clone(alloc)?,
+            size: self.size,
+            pos: self.pos,
+            saved_pos: self.saved_pos,
+            scroll_top: self.scroll_top,
+            scroll_bottom: self.scroll_bottom,
+            origin_mode: self.origin_mode,
+            saved_origin_mode: self.saved_origin_mode,
+        })
+    }
+
+    /// Makes the page as a fresh one of its size is. It takes no memory.
+    pub fn clear(&mut self)
+        ensures { self.new ≡ blank_page (length self.old.rows) self.old.width }
+    {
+        self.sheet.clear_all(Attrs::new());
+        self.pos = Pos { row: 0, col: 0 };
+        self.saved_pos = Pos { row: 0, col: 0 };
+        self.scroll_top = 0;
+        self.scroll_bottom = self.size.rows - 1;
+        self.origin_mode = false;
+        self.saved_origin_mode = false;
     }
 
     /// How many rows and columns the page has.
@@ -152,7 +185,7 @@ mod tests {
     }
 
     // Whether the cells of a row have these texts; a right half is `>`, a blank `.`.
-    fn shows(grid: &Grid, row: u16, texts: &str) -> bool {
+    pub(super) fn shows(grid: &Grid, row: u16, texts: &str) -> bool {
         let mut col: u16 = 0;
         for text in texts.split('|') {
             let shown = match grid.drawing_cell(Pos { row, col }) {

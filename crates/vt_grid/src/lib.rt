@@ -1,4 +1,4 @@
-//! A page of rows with its cursor, and the redraw of a page.
+//! A page of rows with its cursor, the scrollback above it, and the redraw of a page.
 #![tactic(auto)]
 
 pub mod grid;
@@ -6,10 +6,9 @@ pub mod laws;
 pub mod pen;
 pub mod redraw;
 pub mod scrollback;
-pub mod sheet;
+mod sheet;
 pub mod size;
 
 pub use grid::Grid;
 pub use scrollback::Scrollback;
-pub use sheet::Sheet;
 pub use size::Size;

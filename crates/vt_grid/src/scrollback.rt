@@ -1,12 +1,13 @@
 //! The rows that left a page at its top, as far as they are kept (xterm's
 //! saved lines).
 
-ghost use Rattle.std.specs.Prelude.{◌≡◌, ◌+◌, ◌-◌, ◌^◌, ◌==◌, ◌<◌, ◌≤◌, ◌↔◌, ◌++◌, ◌∷◌, [], ℕ, List, All, IfErr, IfOk, IfSome, IsErr, IsSome, OnErr, OnOk, if◌then◌else◌, length, map, min, nat_lt, replicate, slice_index_or};
+ghost use Rattle.std.specs.Prelude.{◌≡◌, ◌+◌, ◌-◌, ◌^◌, ◌==◌, ◌<◌, ◌≤◌, ◌↔◌, ◌++◌, ◌∷◌, [], ℕ, List, All, IfErr, IfOk, IfSome, IsErr, IsSome, OnErr, OnOk, if◌then◌else◌, length, map, min, nat_le, nat_lt, replicate, slice_index_or, take};
 ghost use Rattle.std.specs.List.{FoldsTo};
 ghost use Rattle.std.specs.VecDeque.{deque_capacity, deque_len};
 ghost use Rattle.vt_cells.specs.Attrs.{default_attrs};
-ghost use Rattle.vt_rows.specs.Row.{RowValue, IsRow, blank_row, trimmed_row};
-ghost use Rattle.vt_grid.specs.Scrollback.{Sends, Takes, before_last, cleared, grown_row, kept_after, last_of, no_scrollback, viewed, visible};
+ghost use Rattle.vt_rows.specs.Row.{RowValue, IsRow, blank_row, resized_row, trimmed_row};
+ghost use Rattle.vt_grid.specs.Resize.{out_of_view, taken_back};
+ghost use Rattle.vt_grid.specs.Scrollback.{IsScrollback, Sends, Takes, before_last, cleared, grown_row, kept_after, last_of, no_scrollback, viewed, visible};
 ghost use Rattle.vt_grid.specs.Spare.{AreSpare, grown_from, in_view, narrow_rows, window_from};
 
 use crate::size::Size;
@@ -52,6 +53,22 @@ impl Scrollback {
         }
     }
 
+    /// A copy of the scrollback.
+    ///
+    /// Fails where its memory is refused.
+    pub fn try_clone(&self) -> Result<Scrollback, Error>
+        ensures ok { IfOk result (λ above. above ≡ self.now) }
+        ensures memory { IfErr result (λ error. error ≡ Error.OutOfMemory) }
+    {
+        Ok(Scrollback {
+            alloc: self.alloc,
+            rows: copied_rows(&self.rows, self.alloc)?,
+            capacity: self.capacity,
+            theoretical: self.theoretical,
+            offset: self.offset,
+        })
+    }
+
     /// How many rows are kept.
     #[inline]
     pub fn len(&self) -> usize
@@ -66,6 +83,15 @@ impl Scrollback {
         ensures { result ≡ self.now.capacity }
     {
         self.capacity
+    }
+
+    /// How many rows there would be if all were kept.
+    #[inline]
+    pub fn theoretical_len(&self) -> usize
+        ensures value { result ≡ self.now.theoretical }
+        ensures sound { IsScrollback self.now }
+    {
+        self.theoretical
     }
 
     /// How many rows are in view.
@@ -108,6 +134,50 @@ impl Scrollback {
             return Ok(());
         }
         self.keep(rows, size, leaving)
+    }
+
+    /// Takes over rows as `push` does, and brings all rows out of view before.
+    ///
+    /// Fails where memory is refused, and then nothing has changed and nothing
+    /// was reported.
+    pub fn push_out_of_view<L: Leaving>(
+        &mut self,
+        rows: &mut [Row],
+        size: Size,
+        leaving: &mut L,
+    ) -> Result<(), Error>
+        requires sound { All (IsRow size.cols) rows.old }
+        ensures sent { OnOk result (Sends L.leaves size.rows size.cols rows.old (out_of_view self.old) leaving.old self.new leaving.new) }
+        ensures len { OnOk result (length rows.new ≡ length rows.old) }
+        ensures rows { OnOk result (All (IsRow size.cols) rows.new) }
+        ensures err { OnErr result ((self.new ≡ self.old) × ((rows.new ≡ rows.old) × (leaving.new ≡ leaving.old))) }
+        ensures grows { IsErr result → Takes rows.old self.old }
+        ensures memory { IfErr result (λ error. error ≡ Error.OutOfMemory) }
+    {
+        let offset = self.offset;
+        self.offset = 0;
+        if let Err(error) = self.push(rows, size, leaving) {
+            self.offset = offset;
+            return Err(error);
+        }
+        Ok(())
+    }
+
+    /// Gives the newest rows back: each blank row takes over the cells of one,
+    /// the last of them those of the newest. Where there are too few rows, the
+    /// first of the blank ones stay as they are.
+    ///
+    /// All of them count as given back, also those that were not kept. No row
+    /// may be in view.
+    pub fn give_back(&mut self, fresh: &mut [Row])
+        requires hidden { self.old.offset ≡ 0 }
+        requires blank { All (λ row. row ≡ blank_row default_attrs (length row.cells)) fresh.old }
+        ensures above { self.new ≡ taken_back (length fresh.old) self.old }
+        ensures len { length fresh.new ≡ length fresh.old }
+        ensures by_index { (k : ℕ) (d : RowValue) → k < length fresh.old → slice_index_or fresh.new k d ≡ (if nat_le (length fresh.old) (length self.old.rows + k) then resized_row (length (slice_index_or fresh.old k d).cells) (slice_index_or self.old.rows (length self.old.rows + k - length fresh.old) d) else slice_index_or fresh.old k d) }
+    {
+        self.theoretical = self.theoretical.saturating_sub(fresh.len());
+        give_rows(&mut self.rows, fresh);
     }
 
     /// Reports rows that leave, where no row is kept; see `push`.
@@ -185,6 +255,13 @@ impl Scrollback {
         Ok(())
     }
 
+    /// Brings all rows out of view.
+    pub fn leave_view(&mut self)
+        ensures { self.new ≡ out_of_view self.old }
+    {
+        self.offset = 0;
+    }
+
     /// Gives up and reports all rows, older first, and forgets how many there
     /// were.
     pub fn clear<L: Leaving>(&mut self, leaving: &mut L)
@@ -225,6 +302,19 @@ fn blank_rows(alloc: Global, columns: usize, count: usize) -> Result<Vec<Row>, E
         rows.push_reserved(Row::new(alloc, columns)?);
     }
     Ok(rows)
+}
+
+/// Copies of rows.
+fn copied_rows(rows: &VecDeque<Row>, alloc: Global) -> Result<VecDeque<Row>, Error>
+    ensures ok { IfOk result (λ copies. copies.items ≡ rows.now.items) }
+    ensures memory { IfErr result (λ error. error ≡ Error.OutOfMemory) }
+{
+    let mut copies = VecDeque::new(alloc);
+    copies.reserve(rows.len())?;
+    for k in 0..rows.len() {
+        copies.push_back_reserved(rows[k].try_clone(alloc)?);
+    }
+    Ok(copies)
 }
 
 /// Gives up and reports all rows, older first.
@@ -301,6 +391,24 @@ fn push_row<L: Leaving>(mut row: Row, kept: &mut VecDeque<Row>, capacity: usize,
     kept.push_back_reserved(row);
 }
 
+/// Moves the newest rows into blank ones; see `Scrollback::give_back`.
+fn give_rows(kept: &mut VecDeque<Row>, fresh: &mut [Row])
+    requires blank { All (λ row. row ≡ blank_row default_attrs (length row.cells)) fresh.old }
+    requires sound { All (λ row. IsRow (length row.cells) row) kept.old.items }
+    ensures kept { kept.new.items ≡ take (length kept.old.items - length fresh.old) kept.old.items }
+    ensures len { length fresh.new ≡ length fresh.old }
+    ensures by_index { (k : ℕ) (d : RowValue) → k < length fresh.old → slice_index_or fresh.new k d ≡ (if nat_le (length fresh.old) (length kept.old.items + k) then resized_row (length (slice_index_or fresh.old k d).cells) (slice_index_or kept.old.items (length kept.old.items + k - length fresh.old) d) else slice_index_or fresh.old k d) }
+{
+    let mut k = fresh.len();
+    while k > 0 {
+        let Some(row) = kept.pop_back() else {
+            return;
+        };
+        k -= 1;
+        fresh[k].refit(row);
+    }
+}
+
 /// The offset after rows were taken over: what was in view stays in view.
 fn followed(offset: usize, count: usize, len: usize) -> usize
     ensures { result ≡ (if offset == 0 then 0 else min (offset + count) len) }
@@ -367,15 +475,15 @@ fn grow_row(row: &mut Row, columns: usize, spare: &mut Vec<Row>)
 }
 
 #[cfg(test)]
-mod tests {
+pub(crate) mod tests {
     use super::*;
     use vt_cells::{Attrs, Color};
     use vt_rows::RowContents;
 
     // How many rows have left.
     #[derive(Drop)]
-    struct Counter {
-        rows: u32,
+    pub(crate) struct Counter {
+        pub(crate) rows: u32,
     }
 
     impl Leaving for Counter {

@@ -1,21 +1,24 @@
 //! The rows of a page, without its cursor.
 
-ghost use Rattle.std.specs.Prelude.{◌≡◌, ◌≢◌, ◌+◌, ◌-◌, ◌&&◌, ◌++◌, ◌<◌, ◌≤◌, ◌↔◌, ℕ, IfErr, IfOk, IfSome, IsErr, IsSome, OnErr, OnOk, Some, All, true, false, encode_utf8, if◌then◌else◌, length, min, nat_le, nat_lt, replicate, slice_index_or, slice_set, take, drop};
+ghost use Rattle.std.specs.Prelude.{◌≡◌, ◌≢◌, ◌+◌, ◌-◌, ◌^◌, ◌&&◌, ◌++◌, ◌<◌, ◌≤◌, ◌↔◌, ℕ, IfErr, IfOk, IfSome, IsErr, IsSome, OnErr, OnOk, Some, All, true, false, encode_utf8, if◌then◌else◌, length, min, nat_le, nat_lt, replicate, slice_index_or, slice_set, take, drop};
 ghost use Rattle.vt_cells.specs.Cell.{IsCell, attrs_of, is_blank, is_right_half, is_wide, text_of, widened};
 ghost use Rattle.vt_cells.specs.Glyph.{columns_of};
 ghost use Rattle.vt_rows.specs.Cells.{IsPaired, at, ends_blank, erased, marked_at, narrowed_at, put_narrow, put_wide, widened_at};
 ghost use Rattle.vt_rows.specs.Row.{RowValue, IsRow, blank_row, deleted_row, inserted_row, with_cells};
-ghost use Rattle.vt_grid.specs.Keeping.{cleared_row, turn_source};
+ghost use Rattle.vt_grid.specs.Keeping.{cleared_row};
 ghost use Rattle.vt_grid.specs.Page.{rows_up};
 ghost use Rattle.vt_grid.specs.Shifts.{rows_down};
 ghost use Rattle.vt_grid.specs.Scrollback.{Sends, Takes};
 ghost use Rattle.vt_grid.specs.Sheet.{blank_sheet, sheet_flagged, sheet_row, with_sheet_row, with_row_cells};
+
+mod resizing;
 
 use crate::scrollback::Scrollback;
 use crate::size::Size;
 use std::alloc::Global;
 use std::marker::Model;
 use vt_cells::{Attrs, Cell, Error};
+use vt_rows::shifts::turn;
 use vt_rows::{Leaving, Row, cells};
 
 /// Rows of one width, changed one at a time or put in another order.
@@ -52,6 +55,32 @@ impl Sheet {
             rows,
             width: size.cols,
         })
+    }
+
+    /// A copy of the sheet.
+    ///
+    /// Fails where its memory is refused.
+    pub fn try_clone(&self, alloc: Global) -> Result<Sheet, Error>
+        ensures ok { IfOk result (λ sheet. sheet ≡ self.now) }
+        ensures memory { IfErr result (λ error. error ≡ Error.OutOfMemory) }
+    {
+        Ok(Sheet {
+            rows: copied_rows(&self.rows, alloc)?,
+            width: self.width,
+        })
+    }
+
+    /// How many rows and columns the sheet has.
+    #[inline]
+    pub fn size(&self) -> Size
+        requires { length self.now.rows < 2 ^ 16 }
+        ensures rows { result.rows ≡ length self.now.rows }
+        ensures cols { result.cols ≡ self.now.width }
+    {
+        Size {
+            rows: self.rows.len() as u16,
+            cols: self.width,
+        }
     }
 
     /// The rows, from the top.
@@ -115,7 +144,7 @@ impl Sheet {
     }
 
     /// Puts a narrow glyph at a column of a row; see `Row::put_narrow`.
-    #[inline]
+    #[inline(always)]
     pub fn put_narrow(&mut self, row: u16, col: u16, c: char, attrs: Attrs)
         requires inside { row < length self.old.rows }
         requires paired { IsPaired (sheet_row self.old row).cells }
@@ -345,6 +374,18 @@ impl Sheet {
     }
 }
 
+/// Copies of rows.
+fn copied_rows(rows: &[Row], alloc: Global) -> Result<Vec<Row>, Error>
+    ensures ok { IfOk result (λ copies. copies.items ≡ rows.now) }
+    ensures memory { IfErr result (λ error. error ≡ Error.OutOfMemory) }
+{
+    let mut copies = Vec::with_capacity(alloc, rows.len())?;
+    for row in rows {
+        copies.push_reserved(row.try_clone(alloc)?);
+    }
+    Ok(copies)
+}
+
 /// Moves rows up by `count` and hands those that leave to scrollback; see
 /// `Sheet::send_up`.
 fn send_rows<L: Leaving>(
@@ -409,16 +450,6 @@ fn clear_from(rows: &mut [Row], from: usize, attrs: Attrs)
 {
     let end = rows.len();
     clear_rows(rows, from, end, attrs);
-}
-
-/// Rotates the items from `from` up to `to` to the left by `count`.
-fn turn<T>(items: &mut [T], from: usize, to: usize, count: usize)
-    requires in_order { from + count ≤ to }
-    requires inside { to ≤ length items.old }
-    ensures len { length items.new ≡ length items.old }
-    ensures by_index { (k : ℕ) (d : T) → slice_index_or items.new k d ≡ slice_index_or items.old (turn_source from to count k) d }
-{
-    items[from..to].rotate_left(count);
 }
 
 /// Makes the rows from `from` up to `to` blank, each in its width.

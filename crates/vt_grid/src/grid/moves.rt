@@ -1,7 +1,7 @@
 //! Moves of the cursor, the scroll region and origin mode.
 
 ghost use Rattle.std.specs.Prelude.{◌≡◌, ◌+◌, ◌-◌, ◌<◌, ◌⊎◌, if◌then◌else◌, length};
-ghost use Rattle.vt_grid.specs.Moves.{carriage_return, moved_left, moved_right, moved_to, target_row};
+ghost use Rattle.vt_grid.specs.Moves.{carriage_return, cursor_restored, cursor_saved, moved_left, moved_right, moved_to, target_row};
 ghost use Rattle.vt_grid.specs.Regions.{in_region, last_row, moved_down, moved_to_column, moved_to_row, moved_up, next_line, origin_set, previous_line, region_set, tabbed};
 
 use super::Grid;
@@ -145,6 +145,23 @@ impl Grid {
     {
         self.origin_mode = on;
         self.move_to(0, 0);
+    }
+
+    /// Saves the cursor and origin mode (DECSC).
+    pub fn save_cursor(&mut self)
+        ensures { self.new ≡ cursor_saved self.old }
+    {
+        self.saved_pos = self.pos;
+        self.saved_origin_mode = self.origin_mode;
+    }
+
+    /// Restores the cursor and origin mode as they were saved: the cursor may
+    /// come to a pending wrap, or out of the scroll region (DECRC).
+    pub fn restore_cursor(&mut self)
+        ensures { self.new ≡ cursor_restored self.old }
+    {
+        self.pos = self.saved_pos;
+        self.origin_mode = self.saved_origin_mode;
     }
 
     /// Makes rows the scroll region, and moves the cursor to its first place.

@@ -29,7 +29,6 @@ impl Grid {
     /// A wrap at the bottom of the scroll region scrolls it; see
     /// [`Grid::scroll_up`]. Fails where memory for scrollback is refused, and
     /// then nothing has changed and nothing was reported.
-    #[tactic(auto, using(crate::proofs::Dispatch::printed_none, crate::proofs::Dispatch::printed_narrow, crate::proofs::Dispatch::printed_wide, crate::proofs::Outgoing::out_none, crate::proofs::Outgoing::out_narrow, crate::proofs::Outgoing::out_wide))]
     #[inline]
     pub fn print<L: Leaving>(
         &mut self,
@@ -45,7 +44,29 @@ impl Grid {
         ensures grows { IsErr result → Takes (printed_out c attrs self.old) above.old }
         ensures memory { IfErr result (λ error. error ≡ Error.OutOfMemory) }
     {
-        let Some(width) = columns(c) else {
+        self.print_columns(c, columns(c), attrs, above, leaving)
+    }
+
+    /// Prints a character as [`Grid::print`] does, where its columns are known.
+    #[tactic(auto, using(crate::proofs::Dispatch::printed_none, crate::proofs::Dispatch::printed_narrow, crate::proofs::Dispatch::printed_wide, crate::proofs::Outgoing::out_none, crate::proofs::Outgoing::out_narrow, crate::proofs::Outgoing::out_wide))]
+    #[inline(always)]
+    pub fn print_columns<L: Leaving>(
+        &mut self,
+        c: char,
+        width: Option<u8>,
+        attrs: Attrs,
+        above: &mut Scrollback,
+        leaving: &mut L,
+    ) -> Result<(), Error>
+        requires reported { c ≢ 0xFFFD }
+        requires columns { width ≡ columns_of c }
+        ensures page { OnOk result (self.new ≡ printed c attrs self.old) }
+        ensures sent { OnOk result (Sends L.leaves (length self.old.rows) self.old.width (printed_out c attrs self.old) above.old leaving.old above.new leaving.new) }
+        ensures err { OnErr result ((self.new ≡ self.old) × ((above.new ≡ above.old) × (leaving.new ≡ leaving.old))) }
+        ensures grows { IsErr result → Takes (printed_out c attrs self.old) above.old }
+        ensures memory { IfErr result (λ error. error ≡ Error.OutOfMemory) }
+    {
+        let Some(width) = width else {
             return Ok(());
         };
         if width == 1 {
@@ -58,7 +79,7 @@ impl Grid {
     }
 
     /// Prints a character of one column.
-    #[inline]
+    #[inline(always)]
     fn print_narrow<L: Leaving>(
         &mut self,
         c: char,
@@ -81,7 +102,7 @@ impl Grid {
 
     /// Wraps where there is no room for this many columns.
     #[tactic(auto, unfolding(crate::specs::Printing::room_made))]
-    #[inline]
+    #[inline(always)]
     fn make_room<L: Leaving>(
         &mut self,
         columns: u16,
@@ -104,6 +125,7 @@ impl Grid {
 
     /// Prints a character without columns of its own: it goes to the glyph
     /// before the cursor.
+    #[inline(never)]
     fn print_mark<L: Leaving>(
         &mut self,
         mark: char,
@@ -334,7 +356,7 @@ impl Grid {
     }
 
     /// Puts a glyph of one column at the cursor, which moves behind it.
-    #[inline]
+    #[inline(always)]
     fn put_narrow(&mut self, c: char, attrs: Attrs)
         requires reported { c ≢ 0xFFFD }
         requires columns { columns_of c ≡ Some 1 }
@@ -346,6 +368,7 @@ impl Grid {
     }
 
     /// Prints a character of two columns; on a page of one column nothing.
+    #[inline(never)]
     fn print_wide<L: Leaving>(
         &mut self,
         c: char,

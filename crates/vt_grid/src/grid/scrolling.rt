@@ -87,6 +87,7 @@ impl Grid {
     /// was left goes on there, if its last column is not blank and it stands
     /// directly above.
     #[tactic(auto, using(crate::proofs::Prints::page_left), unfolding(crate::specs::Printing::wrapped_page))]
+    #[inline(never)]
     pub(super) fn wrap<L: Leaving>(
         &mut self,
         above: &mut Scrollback,

@@ -1,0 +1,329 @@
+-- Another size of a page: what the fresh rows take over, and that what results is a page.
+use Rattle.std.proofs.Common.{◌≡◌, ℕ, zero, suc, ◌+◌, ◌-◌, ◌<◌, ◌≤◌, ◌^◌, nat_le, nat_lt, min, Bool, true, false, List, [], ◌∷◌, ◌++◌, length, take, drop, map, get_or, set, replicate, refl, inl, inr, sym, ap, subst, ◌∙◌, arith}
+use Rattle.std.specs.Prelude.{All, if◌then◌else◌}
+use Rattle.std.proofs.lemmas.Bool.{cases_lt, cases_eq, cond_both}
+use Rattle.std.proofs.lemmas.Bool.Decides.{nat_tests}
+use Rattle.std.proofs.lemmas.Grind.{get_or-set_at}
+use Rattle.std.proofs.lemmas.List.{take_all, drop_all, append-nil, ext_get_or, get_or_default, get_or_past, get_or-map, get_or-drop, get_or-replicate, get_or_append_left, get_or-append_right, length-map, length-replicate, length-set, length-take}
+use Rattle.std.proofs.lemmas.List.FromFn.{length-map-range_with_len, get_or-map-range_with_len}
+use Rattle.std.proofs.lemmas.List.Elements.{All-append, All-from_get_or, All-get_or, All-map, All-set, All-take, All-weaker}
+use Rattle.vt_cells.specs.Attrs.{default_attrs}
+use Rattle.vt_cells.specs.Cell.{default_blank}
+use Rattle.vt_rows.specs.Cells.{at, blanks, resized}
+use Rattle.vt_rows.specs.Row.{RowValue, IsRow, blank_row, resized_row}
+use Rattle.vt_rows.proofs.Moves.{IsRow-resized_row, moved_is}
+use Rattle.vt_rows.proofs.Rows.{IsRow-blank_row}
+use Rattle.vt_cells.specs.declared.pos.Pos.{Pos}
+use Rattle.vt_grid.specs.Keeping.{IsSized, page_of, refilled}
+use Rattle.vt_grid.specs.Page.{Page, IsPage, blank_page, by_row, row_or}
+use Rattle.vt_grid.specs.Resize.{leaving, returning, window, rows_resized, row_resized, page_resized, out_of_view, taken_back, scrollback_resized}
+use Rattle.vt_grid.specs.Scrollback.{Scrollback, IsScrollback, kept_after, grown_in_view, pushed}
+use Rattle.vt_grid.specs.Sheet.{SheetValue}
+use Rattle.vt_grid.specs.Shifts.{unflagged}
+use Rattle.vt_grid.proofs.Pages.{IsRow-row_or}
+use Rattle.vt_grid.proofs.Scrolling.{IsScrollback-pushed}
+
+-- ---- a blank row of another size is a blank row
+
+at-blanks : (v k : ℕ) → at (blanks default_attrs v) k ≡ default_blank
+at-blanks zero k = refl
+at-blanks (suc v) zero = refl
+at-blanks (suc v) (suc k) = at-blanks v k
+
+resized-blanks : (v w : ℕ) → resized w (blanks default_attrs v) ≡ blanks default_attrs w
+unfolding resized
+resized-blanks v w =
+    sym (moved_is w (λ k. k) (blanks default_attrs v) (blanks default_attrs w) (length-replicate w default_blank) (λ k h.
+    at-blanks w k ∙ sym (let e = at-blanks v k in grind arith)))
+
+pub resized_row-blank : (v w : ℕ) → resized_row w (blank_row default_attrs v) ≡ blank_row default_attrs w
+resized_row-blank v w = λ i. record { cells = resized-blanks v w i; wrapped = false }
+
+-- ---- what stands where
+
+blank_at : (w k : ℕ) (rows : List RowValue) → length rows ≤ k → row_or w rows k ≡ blank_row default_attrs w
+blank_at w k rows h = get_or_past rows k (blank_row default_attrs w) h
+
+pub length-window : (v h down up : ℕ) (above rows : List RowValue) → length (window v h down up above rows) ≡ h
+unfolding window
+length-window v h down up above rows =
+    length-map-range_with_len (λ k. if nat_lt (length above + down + k) up then blank_row default_attrs v else row_or v (above ++ rows) (length above + down + k - up)) 0 h
+
+row_or-window : (v h down up : ℕ) (above rows : List RowValue) (k : ℕ) → k < h →
+    row_or v (window v h down up above rows) k ≡ (if nat_lt (length above + down + k) up then blank_row default_attrs v else row_or v (above ++ rows) (length above + down + k - up))
+unfolding window
+row_or-window v h down up above rows k l =
+    get_or-map-range_with_len (λ k. if nat_lt (length above + down + k) up then blank_row default_attrs v else row_or v (above ++ rows) (length above + down + k - up)) 0 h k k (blank_row default_attrs v) l (omega arith)
+
+picks : {X : Type 0} (b : Bool) (x y : X) → b ≡ true → (if b then x else y) ≡ x
+picks true x y e = refl
+picks false x y e = absurd (grind arith)
+
+passes : {X : Type 0} (b : Bool) (x y : X) → b ≡ false → (if b then x else y) ≡ y
+passes true x y e = absurd (grind arith)
+passes false x y e = refl
+
+-- a row that was lost
+window_lost : (v h down up : ℕ) (above rows : List RowValue) (k : ℕ) → k < h → length above + down + k < up → row_or v (window v h down up above rows) k ≡ blank_row default_attrs v
+window_lost v h down up above rows k l i =
+    row_or-window v h down up above rows k l ∙ picks (nat_lt (length above + down + k) up) (blank_row default_attrs v) (row_or v (above ++ rows) (length above + down + k - up)) (grind (arith, nat_tests))
+
+window_there : (v h down up : ℕ) (above rows : List RowValue) (k : ℕ) → k < h → up ≤ length above + down + k → row_or v (window v h down up above rows) k ≡ row_or v (above ++ rows) (length above + down + k - up)
+window_there v h down up above rows k l i =
+    row_or-window v h down up above rows k l ∙ passes (nat_lt (length above + down + k) up) (blank_row default_attrs v) (row_or v (above ++ rows) (length above + down + k - up)) (grind (arith, nat_tests))
+
+-- a row that comes back
+window_above : (v h down up : ℕ) (above rows : List RowValue) (k : ℕ) → k < h → k < up → down ≡ 0 → up ≤ length above + k → row_or v (window v h down up above rows) k ≡ row_or v above (length above + k - up)
+window_above v h down up above rows k l i z j =
+    window_there v h down up above rows k l (omega arith)
+    ∙ (ap (λ (n : ℕ). row_or v (above ++ rows) n) (omega arith) ∙ get_or_append_left above rows (blank_row default_attrs v) (length above + k - up) (omega arith))
+
+-- a row of the page
+window_own : (v h down up : ℕ) (above rows : List RowValue) (k : ℕ) → k < h → up ≤ k → row_or v (window v h down up above rows) k ≡ row_or v rows (down + (k - up))
+window_own v h down up above rows k l i =
+    window_there v h down up above rows k l (omega arith)
+    ∙ (get_or-append_right above rows (length above) (length above + down + k - up) (blank_row default_attrs v) refl (omega arith) ∙ ap (λ (n : ℕ). row_or v rows n) (omega arith))
+
+-- ---- the fresh rows take over
+
+refilled_at : (v w h down up : ℕ) (above rows : List RowValue) (k : ℕ) → k < h → (0 < up → down ≡ 0) →
+    refilled down up above rows (blank_row default_attrs w) k (blank_row default_attrs v) ≡ resized_row w (row_or v (window v h down up above rows) k)
+refilled_at v w h down up above rows k l either =
+    let blank = blank_row default_attrs w in
+    let d = blank_row default_attrs v in
+    let n = length blank.cells in
+    let width : n ≡ w = length-replicate w default_blank in
+    let back = resized_row n (get_or above (length above + k - up) d) in
+    let own = resized_row n (get_or rows (down + (k - up)) d) in
+    elim (cases_lt k up) [
+      | inl i ↦
+          let z = either (omega arith) in
+          picks (nat_lt k up) (if nat_le up (length above + k) then back else blank) (if nat_lt (down + (k - up)) (length rows) then own else blank) (grind (arith, nat_tests))
+          ∙ elim (cases_lt (length above + k) up) [
+            | inl lost ↦
+                passes (nat_le up (length above + k)) back blank (grind (arith, nat_tests))
+                ∙ sym (ap (resized_row w) (window_lost v h down up above rows k l (omega arith)) ∙ resized_row-blank v w)
+            | inr kept ↦
+                picks (nat_le up (length above + k)) back blank (grind (arith, nat_tests))
+                ∙ (ap (λ (m : ℕ). resized_row m (get_or above (length above + k - up) d)) width
+                ∙ sym (ap (resized_row w) (window_above v h down up above rows k l i z kept)))
+          ]
+      | inr i ↦
+          passes (nat_lt k up) (if nat_le up (length above + k) then back else blank) (if nat_lt (down + (k - up)) (length rows) then own else blank) (grind (arith, nat_tests))
+          ∙ elim (cases_lt (down + (k - up)) (length rows)) [
+            | inl there ↦
+                picks (nat_lt (down + (k - up)) (length rows)) own blank (grind (arith, nat_tests))
+                ∙ (ap (λ (m : ℕ). resized_row m (get_or rows (down + (k - up)) d)) width
+                ∙ sym (ap (resized_row w) (window_own v h down up above rows k l i)))
+            | inr past ↦
+                passes (nat_lt (down + (k - up)) (length rows)) own blank (grind (arith, nat_tests))
+                ∙ sym (ap (resized_row w) (window_own v h down up above rows k l i ∙ blank_at v (down + (k - up)) rows past) ∙ resized_row-blank v w)
+          ]
+    ]
+
+pub refilled_is : (v w h down up : ℕ) (above rows fresh filled : List RowValue) → fresh ≡ replicate h (blank_row default_attrs w) → length filled ≡ length fresh → (0 < up → down ≡ 0) →
+    ((k : ℕ) (d : RowValue) → k < length fresh → get_or filled k d ≡ refilled down up above rows (get_or fresh k d) k d) → filled ≡ map (resized_row w) (window v h down up above rows)
+refilled_is v w h down up above rows fresh filled e l either by_index =
+    let d = blank_row default_attrs v in
+    let blank = blank_row default_attrs w in
+    let win = window v h down up above rows in
+    let fresh_len : length fresh ≡ h = ap length e ∙ length-replicate h blank in
+    ext_get_or d filled (map (resized_row w) win) (l ∙ (fresh_len ∙ sym (length-map win (resized_row w) ∙ length-window v h down up above rows))) (λ k i.
+    let inside : k < h = omega (arith, l, fresh_len) in
+    let there : get_or fresh k d ≡ blank = ap (λ (rows : List RowValue). get_or rows k d) e ∙ get_or-replicate h k blank d inside in
+    by_index k d (omega (arith, l)) ∙ (ap (λ (row : RowValue). refilled down up above rows row k d) there
+    ∙ (refilled_at v w h down up above rows k inside either
+    ∙ sym (get_or-map (resized_row w) win k d d (omega (arith, length-window v h down up above rows, inside))))))
+
+whole : (n : ℕ) (given items : List RowValue) → length given ≡ length items → n ≡ length items → take n (given ++ drop (length given) items) ≡ given
+whole n given items e l =
+    let none : drop (length given) items ≡ [] = drop_all (length given) items (omega arith) in
+    ap (λ (rest : List RowValue). take n (given ++ rest)) none ∙ (ap (take n) (append-nil given) ∙ take_all n given (omega arith))
+
+-- the last of them goes on no more
+pub settled : (v w h down up n last : ℕ) (above rows fresh items filled : List RowValue) (row new : RowValue) → fresh ≡ replicate h (blank_row default_attrs w) → items ≡ fresh → n ≡ length items → 0 < h → last ≡ n - 1 → length filled ≡ length items →
+    (0 < up → down ≡ 0) → ((k : ℕ) (d : RowValue) → k < length items → get_or filled k d ≡ refilled down up above rows (get_or items k d) k d) →
+    row ≡ get_or (take n (filled ++ drop (length filled) items)) last row → new ≡ record row { wrapped = false } →
+    set (take n (filled ++ drop (length filled) items)) last new ≡ rows_resized w (window v h down up above rows)
+settled v w h down up n last above rows fresh items filled row new e f l pos end same either by_index was is =
+    let win = window v h down up above rows in
+    let all : take n (filled ++ drop (length filled) items) ≡ map (resized_row w) win = whole n filled items same l ∙ refilled_is v w h down up above rows items filled (f ∙ e) same either by_index in
+    let len : length (map (resized_row w) win) ≡ h = length-map win (resized_row w) ∙ length-window v h down up above rows in
+    let n_is : n ≡ h = l ∙ (ap length (f ∙ e) ∙ length-replicate h (blank_row default_attrs w)) in
+    let place : last ≡ length win - 1 = omega (arith, end, n_is, length-window v h down up above rows) in
+    let row_is : row ≡ get_or (map (resized_row w) win) last row = was ∙ ap (λ (xs : List RowValue). get_or xs last row) all in
+    let other : row ≡ row_or w (map (resized_row w) win) last = row_is ∙ get_or_default (map (resized_row w) win) last row (blank_row default_attrs w) (omega (arith, len, end, n_is)) in
+    ap (λ (xs : List RowValue). set xs last new) all
+    ∙ (ap (λ (x : RowValue). set (map (resized_row w) win) last x) (is ∙ ap (λ (x : RowValue). record x { wrapped = false }) other)
+    ∙ ap (λ (i : ℕ). unflagged w i (map (resized_row w) win)) place)
+
+-- ---- a page
+
+abbrev IsAny : RowValue → Type 0
+IsAny row = IsRow (length row.cells) row
+
+any : (w : ℕ) (row : RowValue) → IsRow w row → IsAny row
+any w row r = subst (λ (n : ℕ). IsRow n row) (sym r.columns) r
+
+any_blank : (w : ℕ) → IsAny (blank_row default_attrs w)
+any_blank w = any w (blank_row default_attrs w) (IsRow-blank_row default_attrs w)
+
+pub All-any : (w : ℕ) (rows : List RowValue) → All (IsRow w) rows → All (λ row. IsRow (length row.cells) row) rows
+All-any w rows all = All-weaker (IsRow w) (λ row. IsRow (length row.cells) row) (any w) rows all
+
+any_row : (w : ℕ) (rows : List RowValue) (k : ℕ) → All (λ row. IsRow (length row.cells) row) rows → IsAny (row_or w rows k)
+any_row w rows k all = elim (cases_lt k (length rows)) [
+  | inl lt ↦ All-get_or (λ row. IsRow (length row.cells) row) rows k (blank_row default_attrs w) lt all
+  | inr ge ↦ subst IsAny (sym (blank_at w k rows ge)) (any_blank w)
+]
+
+All-window : (v h down up : ℕ) (above rows : List RowValue) → All (λ row. IsRow (length row.cells) row) above → All (λ row. IsRow (length row.cells) row) rows → All (λ row. IsRow (length row.cells) row) (window v h down up above rows)
+All-window v h down up above rows a r =
+    All-from_get_or (λ row. IsRow (length row.cells) row) (window v h down up above rows) (blank_row default_attrs v) (λ k l.
+    let inside : k < h = omega (arith, l, length-window v h down up above rows) in
+    let i = length above + down + k in
+    subst IsAny (sym (row_or-window v h down up above rows k inside))
+    (cond_both (nat_lt i up) (blank_row default_attrs v) (row_or v (above ++ rows) (i - up)) IsAny (λ _. any_blank v) (λ _. any_row v (above ++ rows) (i - up) (All-append (λ row. IsRow (length row.cells) row) above rows a r))))
+
+IsRow-unflagged : (w : ℕ) (row : RowValue) → IsRow w row → IsRow w (record row { wrapped = false })
+IsRow-unflagged w row r = record { columns = r.columns; paired = r.paired; flagged = λ h. absurd (grind arith); sound = r.sound }
+
+All-resized : (w : ℕ) (rows : List RowValue) → All (λ row. IsRow (length row.cells) row) rows → All (IsRow w) (map (resized_row w) rows)
+All-resized w rows all = All-map (IsRow w) (resized_row w) rows (All-weaker (λ row. IsRow (length row.cells) row) (λ row. IsRow w (resized_row w row)) (λ row r. IsRow-resized_row (length row.cells) w row r) rows all)
+
+length-rows_resized : (w : ℕ) (rows : List RowValue) → length (rows_resized w rows) ≡ length rows
+length-rows_resized w rows = length-set (map (resized_row w) rows) (length rows - 1) (record (row_or w (map (resized_row w) rows) (length rows - 1)) { wrapped = false }) ∙ length-map rows (resized_row w)
+
+All-rows_resized : (w : ℕ) (rows : List RowValue) → All (λ row. IsRow (length row.cells) row) rows → All (IsRow w) (rows_resized w rows)
+All-rows_resized w rows all =
+    let wide = map (resized_row w) rows in
+    All-set (IsRow w) wide (length rows - 1) (record (row_or w wide (length rows - 1)) { wrapped = false }) (IsRow-unflagged w (row_or w wide (length rows - 1)) (IsRow-row_or w wide (length rows - 1) (All-resized w rows all))) (All-resized w rows all)
+
+last-rows_resized : (w : ℕ) (rows : List RowValue) → 0 < length rows → (row_or w (rows_resized w rows) (length rows - 1)).wrapped ≡ false
+last-rows_resized w rows h =
+    let wide = map (resized_row w) rows in
+    let row : RowValue = record (row_or w wide (length rows - 1)) { wrapped = false } in
+    ap (λ (x : RowValue). x.wrapped) (get_or-set_at wide (length rows - 1) (length rows - 1) row (blank_row default_attrs w) refl (omega (arith, length-map rows (resized_row w), h)))
+
+pub page_page_resized : (height width : ℕ) (above : Scrollback) (page : Page) → IsPage page → IsScrollback above → 0 < height → height < 2 ^ 16 → 0 < width → width < 2 ^ 16 → IsPage (page_resized height width above page)
+unfolding page_resized
+page_page_resized height width above page p a h hh w ww =
+    let down = leaving height page in
+    let up = returning height above page in
+    let rows = window page.width height down up above.rows page.rows in
+    let win : length rows ≡ height = length-window page.width height down up above.rows page.rows in
+    let len : length (rows_resized width rows) ≡ height = length-rows_resized width rows ∙ win in
+    record {
+      has_columns = w;
+      columns = ww;
+      height = rw len hh;
+      cursor_row = rw len (omega arith);
+      cursor_column = omega arith;
+      saved_row = rw len (omega arith);
+      saved_column = omega arith;
+      region = inr (refl, rw len (omega arith));
+      region_end = rw len (omega arith);
+      rows = All-rows_resized width rows (All-window page.width height down up above.rows page.rows a.sound (All-any page.width page.rows p.rows));
+      last = ap (λ (n : ℕ). (row_or width (rows_resized width rows) (n - 1)).wrapped) (len ∙ sym win) ∙ last-rows_resized width rows (omega (arith, win));
+    }
+
+-- ---- scrollback
+
+pub offset-pushed : (h w : ℕ) (gone : List RowValue) (above : Scrollback) → (pushed h w gone (out_of_view above)).offset ≡ 0
+unfolding kept_after grown_in_view
+offset-pushed h w [] above = refl
+offset-pushed h w (row ∷ gone) above = refl
+
+IsScrollback-out_of_view : (above : Scrollback) → IsScrollback above → IsScrollback (out_of_view above)
+IsScrollback-out_of_view above a = record { kept = a.kept; in_view = omega arith; sound = a.sound }
+
+pub scrollback_resized_is : (height : ℕ) (page : Page) (above : Scrollback) → IsPage page → IsScrollback above → IsScrollback (scrollback_resized height page above)
+unfolding scrollback_resized
+scrollback_resized_is height page above p a =
+    let gone = take (leaving height page) page.rows in
+    let mid = pushed (length page.rows) page.width gone (out_of_view above) in
+    let m = IsScrollback-pushed (length page.rows) page.width gone (out_of_view above) (All-take (IsRow page.width) (leaving height page) page.rows p.rows) (IsScrollback-out_of_view above a) in
+    let n = length mid.rows - returning height above page in
+    record {
+      kept = omega (arith, m.kept, length-take n mid.rows);
+      in_view = omega (arith, offset-pushed (length page.rows) page.width gone above);
+      sound = All-take (λ row. IsRow (length row.cells) row) n mid.rows m.sound;
+    }
+
+-- ---- the steps of the code
+
+-- no row came back
+window_below : (v h down up : ℕ) (above rows : List RowValue) → up ≡ 0 → window v h down up above rows ≡ by_row h (λ k. row_or v (drop down rows) k)
+unfolding window
+window_below v h down up above rows z = λ i. by_row h (λ k. there k i) where
+  there : (k : ℕ) → (if nat_lt (length above + down + k) up then blank_row default_attrs v else row_or v (above ++ rows) (length above + down + k - up)) ≡ row_or v (drop down rows) k
+  there k =
+      passes (nat_lt (length above + down + k) up) (blank_row default_attrs v) (row_or v (above ++ rows) (length above + down + k - up)) (grind (arith, nat_tests))
+      ∙ (get_or-append_right above rows (length above) (length above + down + k - up) (blank_row default_attrs v) refl (omega arith)
+      ∙ (ap (λ (n : ℕ). row_or v rows n) (omega arith) ∙ sym (get_or-drop down rows k (blank_row default_attrs v))))
+
+window_sent : (v h down up : ℕ) (above kept rows left : List RowValue) → (0 < up → down ≡ 0) → (down ≡ 0 → kept ≡ above) → drop down left ≡ drop down rows → window v h down up kept left ≡ window v h down up above rows
+window_sent v h down up above kept rows left either same d = elim (cases_eq down 0) [
+  | inl z ↦
+      let own : left ≡ rows = ap (λ (n : ℕ). drop n left) (sym z) ∙ (d ∙ ap (λ (n : ℕ). drop n rows) z) in
+      λ i. window v h down up (same z i) (own i)
+  | inr pos ↦
+      let none : up ≡ 0 = elim (cases_eq up 0) [ inl z ↦ z | inr some ↦ absurd (pos (either (omega arith))) ] in
+      window_below v h down up kept left none ∙ (ap (λ (xs : List RowValue). by_row h (λ k. row_or v xs k)) d ∙ sym (window_below v h down up above rows none))
+]
+
+pushed_none : (h w n : ℕ) (rows : List RowValue) (above : Scrollback) → n ≡ 0 → (pushed h w (take n rows) (out_of_view above)).rows ≡ above.rows
+pushed_none h w n rows above z = ap (λ (m : ℕ). (pushed h w (take m rows) (out_of_view above)).rows) z
+
+pub page_by_steps : (h w r c down up : ℕ) (above mid : Scrollback) (page : Page) (left sheet : SheetValue) (pos saved : Pos) (rows cols : ℕ) → rows ≡ h → cols ≡ w → down ≡ leaving h page → up ≡ returning h above page →
+    mid ≡ pushed r c (take down page.rows) (out_of_view above) → left.width ≡ page.width → drop down left.rows ≡ drop down page.rows →
+    sheet.rows ≡ rows_resized w (window left.width h down up mid.rows left.rows) → sheet.width ≡ w →
+    pos.row ≡ row_resized rows down up page.row → pos.col ≡ min page.column (cols - 1) → saved.row ≡ row_resized rows down up page.saved_row → saved.col ≡ min page.saved_column (cols - 1) →
+    page_of sheet pos saved 0 (rows - 1) page.origin page.saved_origin ≡ page_resized h w above page
+unfolding page_resized
+page_by_steps h w r c down up above mid page left sheet pos saved rows cols hr wc d u m lw ld sr sw pr pc qr qc =
+    let either : 0 < up → down ≡ 0 = λ s. omega (arith, d, u, s) in
+    let kept : down ≡ 0 → mid.rows ≡ above.rows = λ z. ap (λ (s : Scrollback). s.rows) m ∙ pushed_none r c down page.rows above z in
+    let win : window left.width h down up mid.rows left.rows ≡ window page.width h (leaving h page) (returning h above page) above.rows page.rows
+    = ap (λ (v : ℕ). window v h down up mid.rows left.rows) lw
+    ∙ (window_sent page.width h down up above.rows mid.rows page.rows left.rows either kept ld ∙ λ i. window page.width h (d i) (u i) above.rows page.rows) in
+    let all : sheet.rows ≡ rows_resized w (window page.width h (leaving h page) (returning h above page) above.rows page.rows) = sr ∙ ap (rows_resized w) win in
+    let row : pos.row ≡ row_resized h (leaving h page) (returning h above page) page.row = pr ∙ λ i. row_resized (hr i) (d i) (u i) page.row in
+    let saved_row : saved.row ≡ row_resized h (leaving h page) (returning h above page) page.saved_row = qr ∙ λ i. row_resized (hr i) (d i) (u i) page.saved_row in
+    let column : pos.col ≡ min page.column (w - 1) = pc ∙ ap (λ (n : ℕ). min page.column (n - 1)) wc in
+    let saved_column : saved.col ≡ min page.saved_column (w - 1) = qc ∙ ap (λ (n : ℕ). min page.saved_column (n - 1)) wc in
+    λ i. record {
+      rows = all i;
+      row = row i;
+      column = column i;
+      saved_row = saved_row i;
+      saved_column = saved_column i;
+      top = 0;
+      bottom = hr i - 1;
+      origin = page.origin;
+      saved_origin = page.saved_origin;
+      width = sw i;
+    }
+
+pub above_by_steps : (h r c down up : ℕ) (above mid new : Scrollback) (page : Page) → r ≡ length page.rows → c ≡ page.width → down ≡ leaving h page → up ≡ returning h above page →
+    mid ≡ pushed r c (take down page.rows) (out_of_view above) → new ≡ taken_back up mid → new ≡ scrollback_resized h page above
+unfolding scrollback_resized
+above_by_steps h r c down up above mid new page re ce d u m t =
+    t ∙ (ap (taken_back up) m ∙ λ i. taken_back (u i) (pushed (re i) (ce i) (take (d i) page.rows) (out_of_view above)))
+
+pub sized_resized : (rows cols h w : ℕ) (above : Scrollback) (page : Page) → rows ≡ h → cols ≡ w → IsPage (page_resized h w above page) → IsSized rows cols (page_resized h w above page)
+unfolding page_resized
+sized_resized rows cols h w above page r c p =
+    let win = window page.width h (leaving h page) (returning h above page) above.rows page.rows in
+    record { sound = p; height = r ∙ sym (length-rows_resized w win ∙ length-window page.width h (leaving h page) (returning h above page) above.rows page.rows); width = c }
+
+-- ---- a fresh page tells its size
+
+pub fresh_height : (height width : ℕ) (page : Page) → page ≡ blank_page height width → length page.rows ≡ height
+fresh_height height width page e = ap (λ (p : Page). length p.rows) e ∙ length-replicate height (blank_row default_attrs width)
+
+pub fresh_width : (height width : ℕ) (page : Page) → page ≡ blank_page height width → page.width ≡ width
+fresh_width height width page e = ap (λ (p : Page). p.width) e
+
+pub fresh_page : (height width : ℕ) (page : Page) → page ≡ blank_page height width → page ≡ blank_page (length page.rows) page.width
+fresh_page height width page e = e ∙ λ i. blank_page (sym (fresh_height height width page e) i) (sym (fresh_width height width page e) i)
