@@ -9,9 +9,9 @@ use Rattle.vt_cells.specs.declared.attrs.Attrs.{Attrs}
 use Rattle.vt_rows.specs.Cells.{at, moved, moved_at, insert_column, insert_source, delete_source, inserted, deleted}
 use Rattle.vt_rows.specs.Row.{RowValue, blank_row, inserted_row, deleted_row}
 use Rattle.vt_rows.proofs.Moves.{length-moved, at-moved}
-use Rattle.vt_grid.specs.Page.{Page, row_or, cursor_row, with_row, moved_rows, up_source, rows_up}
+use Rattle.vt_grid.specs.Page.{Page, row_or, cursor_row, moved_rows, up_source, rows_up}
 use Rattle.vt_grid.specs.Regions.{in_region, last_row, region_set}
-use Rattle.vt_grid.specs.Shifts.{down_source, unflagged, rows_down, reverse_index, scrolled_down, lines_inserted, lines_deleted, chars_inserted, chars_deleted}
+use Rattle.vt_grid.specs.Shifts.{down_source, rows_down, reverse_index, scrolled_down, lines_inserted, lines_deleted, chars_inserted, chars_deleted}
 use Rattle.vt_grid.specs.Erasing.{erased_start, erased_row, blanked_above, erased_above, erased_page}
 use Rattle.vt_grid.proofs.Pages.{length-moved_rows, row_or-moved_rows}
 use Rattle.vt_screen.specs.Keeping.{IsColoredCell, IsColoredRow, AreColored}
@@ -70,7 +70,7 @@ colored_moved_at n source cells k all =
     cell_if (is_wide x && not (nat_lt (k + 1) n && (source (k + 1) == source k + 1))) (blank (attrs_of x)) (if alone then default_blank else x) there
     (cell_if alone default_blank x plain there)
 
-colored_moved : (n : ℕ) (source : ℕ → ℕ) (cells : List CellValue) → All IsColoredCell cells → All IsColoredCell (moved n source cells)
+pub colored_moved : (n : ℕ) (source : ℕ → ℕ) (cells : List CellValue) → All IsColoredCell cells → All IsColoredCell (moved n source cells)
 colored_moved n source cells all =
     All-from_get_or IsColoredCell (moved n source cells) default_blank (λ k lt.
     let i : k < n = omega (arith, length-moved n source cells) in

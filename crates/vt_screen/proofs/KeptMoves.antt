@@ -11,73 +11,75 @@ use Rattle.vt_grid.proofs.Pages.{page_moved_left, page_scrolled_up}
 use Rattle.vt_grid.proofs.Regions.{page_moved_up, page_moved_down, page_next_line, page_previous_line, page_moved_to_column, page_moved_to_row, page_tabbed, page_region_set, page_origin_set}
 use Rattle.vt_grid.proofs.Shifting.{page_scrolled_down, page_reverse_index, page_lines_inserted, page_lines_deleted, page_chars_inserted, page_chars_deleted}
 use Rattle.vt_grid.proofs.Blanking.{page_erased_start, page_erased_row, page_erased_above, page_erased_page}
-use Rattle.vt_screen.specs.Keeping.{IsKept}
+use Rattle.vt_screen.specs.Keeping.{Aside, IsKept}
+use Rattle.vt_screen.proofs.Asides.{kept_page}
+use Rattle.vt_screen.proofs.Sizes.{same_chars_deleted, same_chars_inserted, same_erased_above, same_erased_page, same_erased_row, same_erased_start, same_lines_deleted, same_lines_inserted, same_moved_down, same_moved_left, same_moved_to_column, same_moved_to_row, same_moved_up, same_next_line, same_origin_set, same_previous_line, same_region_set, same_reverse_index, same_scrolled_down, same_scrolled_up, same_tabbed}
 use Rattle.vt_screen.proofs.ColoredMoves.{colored_region_set, colored_reverse_index, colored_lines_inserted, colored_lines_deleted, colored_scrolled_down, colored_chars_inserted, colored_chars_deleted, colored_erased_above, colored_erased_page, colored_erased_start, colored_erased_row}
 use Rattle.vt_screen.proofs.Colored.{colored_scrolled_up}
 
-pub kept_left : (n : ℕ) (page : Page) (last : Option ℕ) → IsKept page last → IsKept (moved_left n page) last
-kept_left n page last k = record { sound = page_moved_left n page k.sound; colored = k.colored; reported = k.reported }
+pub kept_left : (n : ℕ) (page : Page) (last : Option ℕ) (aside : Aside) → IsKept page last aside → IsKept (moved_left n page) last aside
+kept_left n page last aside k = kept_page page (moved_left n page) last aside (page_moved_left n page k.sound) k.colored (same_moved_left n page) k
 
-pub kept_up : (n : ℕ) (page : Page) (last : Option ℕ) → IsKept page last → IsKept (moved_up n page) last
+pub kept_up : (n : ℕ) (page : Page) (last : Option ℕ) (aside : Aside) → IsKept page last aside → IsKept (moved_up n page) last aside
 unfolding moved_up
-kept_up n page last k = record { sound = page_moved_up n page k.sound; colored = k.colored; reported = k.reported }
+kept_up n page last aside k = kept_page page (moved_up n page) last aside (page_moved_up n page k.sound) k.colored (same_moved_up n page) k
 
-pub kept_down : (n : ℕ) (page : Page) (last : Option ℕ) → IsKept page last → IsKept (moved_down n page) last
+pub kept_down : (n : ℕ) (page : Page) (last : Option ℕ) (aside : Aside) → IsKept page last aside → IsKept (moved_down n page) last aside
 unfolding moved_down
-kept_down n page last k = record { sound = page_moved_down n page k.sound; colored = k.colored; reported = k.reported }
+kept_down n page last aside k = kept_page page (moved_down n page) last aside (page_moved_down n page k.sound) k.colored (same_moved_down n page) k
 
-pub kept_next_line : (n : ℕ) (page : Page) (last : Option ℕ) → IsKept page last → IsKept (next_line n page) last
+pub kept_next_line : (n : ℕ) (page : Page) (last : Option ℕ) (aside : Aside) → IsKept page last aside → IsKept (next_line n page) last aside
 unfolding moved_down
-kept_next_line n page last k = record { sound = page_next_line n page k.sound; colored = k.colored; reported = k.reported }
+kept_next_line n page last aside k = kept_page page (next_line n page) last aside (page_next_line n page k.sound) k.colored (same_next_line n page) k
 
-pub kept_previous_line : (n : ℕ) (page : Page) (last : Option ℕ) → IsKept page last → IsKept (previous_line n page) last
+pub kept_previous_line : (n : ℕ) (page : Page) (last : Option ℕ) (aside : Aside) → IsKept page last aside → IsKept (previous_line n page) last aside
 unfolding moved_up
-kept_previous_line n page last k = record { sound = page_previous_line n page k.sound; colored = k.colored; reported = k.reported }
+kept_previous_line n page last aside k = kept_page page (previous_line n page) last aside (page_previous_line n page k.sound) k.colored (same_previous_line n page) k
 
-pub kept_to_column : (c : ℕ) (page : Page) (last : Option ℕ) → IsKept page last → IsKept (moved_to_column c page) last
-kept_to_column c page last k = record { sound = page_moved_to_column c page k.sound; colored = k.colored; reported = k.reported }
+pub kept_to_column : (c : ℕ) (page : Page) (last : Option ℕ) (aside : Aside) → IsKept page last aside → IsKept (moved_to_column c page) last aside
+kept_to_column c page last aside k = kept_page page (moved_to_column c page) last aside (page_moved_to_column c page k.sound) k.colored (same_moved_to_column c page) k
 
-pub kept_to_row : (r : ℕ) (page : Page) (last : Option ℕ) → IsKept page last → IsKept (moved_to_row r page) last
-kept_to_row r page last k = record { sound = page_moved_to_row r page k.sound; colored = k.colored; reported = k.reported }
+pub kept_to_row : (r : ℕ) (page : Page) (last : Option ℕ) (aside : Aside) → IsKept page last aside → IsKept (moved_to_row r page) last aside
+kept_to_row r page last aside k = kept_page page (moved_to_row r page) last aside (page_moved_to_row r page k.sound) k.colored (same_moved_to_row r page) k
 
-pub kept_tabbed : (page : Page) (last : Option ℕ) → IsKept page last → IsKept (tabbed page) last
-kept_tabbed page last k = record { sound = page_tabbed page k.sound; colored = k.colored; reported = k.reported }
+pub kept_tabbed : (page : Page) (last : Option ℕ) (aside : Aside) → IsKept page last aside → IsKept (tabbed page) last aside
+kept_tabbed page last aside k = kept_page page (tabbed page) last aside (page_tabbed page k.sound) k.colored (same_tabbed page) k
 
-pub kept_region_set : (top : ℕ) (bottom : ℕ) (page : Page) (last : Option ℕ) → IsKept page last → IsKept (region_set top bottom page) last
-kept_region_set top bottom page last k = record { sound = page_region_set top bottom page k.sound; colored = colored_region_set top bottom page k.colored; reported = k.reported }
+pub kept_region_set : (top : ℕ) (bottom : ℕ) (page : Page) (last : Option ℕ) (aside : Aside) → IsKept page last aside → IsKept (region_set top bottom page) last aside
+kept_region_set top bottom page last aside k = kept_page page (region_set top bottom page) last aside (page_region_set top bottom page k.sound) (colored_region_set top bottom page k.colored) (same_region_set top bottom page) k
 
-pub kept_origin_set : (on : Bool) (page : Page) (last : Option ℕ) → IsKept page last → IsKept (origin_set on page) last
-kept_origin_set on page last k = record { sound = page_origin_set on page k.sound; colored = k.colored; reported = k.reported }
+pub kept_origin_set : (on : Bool) (page : Page) (last : Option ℕ) (aside : Aside) → IsKept page last aside → IsKept (origin_set on page) last aside
+kept_origin_set on page last aside k = kept_page page (origin_set on page) last aside (page_origin_set on page k.sound) k.colored (same_origin_set on page) k
 
-pub kept_reverse_index : (page : Page) (last : Option ℕ) → IsKept page last → IsKept (reverse_index page) last
-kept_reverse_index page last k = record { sound = page_reverse_index page k.sound; colored = colored_reverse_index page k.colored; reported = k.reported }
+pub kept_reverse_index : (page : Page) (last : Option ℕ) (aside : Aside) → IsKept page last aside → IsKept (reverse_index page) last aside
+kept_reverse_index page last aside k = kept_page page (reverse_index page) last aside (page_reverse_index page k.sound) (colored_reverse_index page k.colored) (same_reverse_index page) k
 
-pub kept_lines_inserted : (n : ℕ) (page : Page) (last : Option ℕ) → IsKept page last → IsKept (lines_inserted n page) last
-kept_lines_inserted n page last k = record { sound = page_lines_inserted n page k.sound; colored = colored_lines_inserted n page k.colored; reported = k.reported }
+pub kept_lines_inserted : (n : ℕ) (page : Page) (last : Option ℕ) (aside : Aside) → IsKept page last aside → IsKept (lines_inserted n page) last aside
+kept_lines_inserted n page last aside k = kept_page page (lines_inserted n page) last aside (page_lines_inserted n page k.sound) (colored_lines_inserted n page k.colored) (same_lines_inserted n page) k
 
-pub kept_lines_deleted : (n : ℕ) (page : Page) (last : Option ℕ) → IsKept page last → IsKept (lines_deleted n page) last
-kept_lines_deleted n page last k = record { sound = page_lines_deleted n page k.sound; colored = colored_lines_deleted n page k.colored; reported = k.reported }
+pub kept_lines_deleted : (n : ℕ) (page : Page) (last : Option ℕ) (aside : Aside) → IsKept page last aside → IsKept (lines_deleted n page) last aside
+kept_lines_deleted n page last aside k = kept_page page (lines_deleted n page) last aside (page_lines_deleted n page k.sound) (colored_lines_deleted n page k.colored) (same_lines_deleted n page) k
 
-pub kept_scrolled_up : (n : ℕ) (page : Page) (last : Option ℕ) → IsKept page last → IsKept (scrolled_up n page) last
-kept_scrolled_up n page last k = record { sound = page_scrolled_up n page k.sound; colored = colored_scrolled_up n page k.colored; reported = k.reported }
+pub kept_scrolled_up : (n : ℕ) (page : Page) (last : Option ℕ) (aside : Aside) → IsKept page last aside → IsKept (scrolled_up n page) last aside
+kept_scrolled_up n page last aside k = kept_page page (scrolled_up n page) last aside (page_scrolled_up n page k.sound) (colored_scrolled_up n page k.colored) (same_scrolled_up n page) k
 
-pub kept_scrolled_down : (n : ℕ) (page : Page) (last : Option ℕ) → IsKept page last → IsKept (scrolled_down n page) last
-kept_scrolled_down n page last k = record { sound = page_scrolled_down n page k.sound; colored = colored_scrolled_down n page k.colored; reported = k.reported }
+pub kept_scrolled_down : (n : ℕ) (page : Page) (last : Option ℕ) (aside : Aside) → IsKept page last aside → IsKept (scrolled_down n page) last aside
+kept_scrolled_down n page last aside k = kept_page page (scrolled_down n page) last aside (page_scrolled_down n page k.sound) (colored_scrolled_down n page k.colored) (same_scrolled_down n page) k
 
-pub kept_chars_inserted : (n : ℕ) (page : Page) (last : Option ℕ) → IsKept page last → IsKept (chars_inserted n page) last
-kept_chars_inserted n page last k = record { sound = page_chars_inserted n page k.sound; colored = colored_chars_inserted n page k.colored; reported = k.reported }
+pub kept_chars_inserted : (n : ℕ) (page : Page) (last : Option ℕ) (aside : Aside) → IsKept page last aside → IsKept (chars_inserted n page) last aside
+kept_chars_inserted n page last aside k = kept_page page (chars_inserted n page) last aside (page_chars_inserted n page k.sound) (colored_chars_inserted n page k.colored) (same_chars_inserted n page) k
 
-pub kept_chars_deleted : (n : ℕ) (page : Page) (last : Option ℕ) → IsKept page last → IsKept (chars_deleted n page) last
-kept_chars_deleted n page last k = record { sound = page_chars_deleted n page k.sound; colored = colored_chars_deleted n page k.colored; reported = k.reported }
+pub kept_chars_deleted : (n : ℕ) (page : Page) (last : Option ℕ) (aside : Aside) → IsKept page last aside → IsKept (chars_deleted n page) last aside
+kept_chars_deleted n page last aside k = kept_page page (chars_deleted n page) last aside (page_chars_deleted n page k.sound) (colored_chars_deleted n page k.colored) (same_chars_deleted n page) k
 
-pub kept_erased_above : (attrs : Attrs) (page : Page) (last : Option ℕ) → FitsAttrs attrs → IsKept page last → IsKept (erased_above attrs page) last
-kept_erased_above attrs page last h k = record { sound = page_erased_above attrs page k.sound; colored = colored_erased_above attrs page h k.colored; reported = k.reported }
+pub kept_erased_above : (attrs : Attrs) (page : Page) (last : Option ℕ) (aside : Aside) → FitsAttrs attrs → IsKept page last aside → IsKept (erased_above attrs page) last aside
+kept_erased_above attrs page last aside h k = kept_page page (erased_above attrs page) last aside (page_erased_above attrs page k.sound) (colored_erased_above attrs page h k.colored) (same_erased_above attrs page k.sound) k
 
-pub kept_erased_page : (attrs : Attrs) (page : Page) (last : Option ℕ) → FitsAttrs attrs → IsKept page last → IsKept (erased_page attrs page) last
-kept_erased_page attrs page last h k = record { sound = page_erased_page attrs page k.sound; colored = colored_erased_page attrs page h k.colored; reported = k.reported }
+pub kept_erased_page : (attrs : Attrs) (page : Page) (last : Option ℕ) (aside : Aside) → FitsAttrs attrs → IsKept page last aside → IsKept (erased_page attrs page) last aside
+kept_erased_page attrs page last aside h k = kept_page page (erased_page attrs page) last aside (page_erased_page attrs page k.sound) (colored_erased_page attrs page h k.colored) (same_erased_page attrs page) k
 
-pub kept_erased_start : (attrs : Attrs) (page : Page) (last : Option ℕ) → FitsAttrs attrs → IsKept page last → IsKept (erased_start attrs page) last
-kept_erased_start attrs page last h k = record { sound = page_erased_start attrs page k.sound; colored = colored_erased_start attrs page h k.colored; reported = k.reported }
+pub kept_erased_start : (attrs : Attrs) (page : Page) (last : Option ℕ) (aside : Aside) → FitsAttrs attrs → IsKept page last aside → IsKept (erased_start attrs page) last aside
+kept_erased_start attrs page last aside h k = kept_page page (erased_start attrs page) last aside (page_erased_start attrs page k.sound) (colored_erased_start attrs page h k.colored) (same_erased_start attrs page) k
 
-pub kept_erased_row : (attrs : Attrs) (page : Page) (last : Option ℕ) → FitsAttrs attrs → IsKept page last → IsKept (erased_row attrs page) last
-kept_erased_row attrs page last h k = record { sound = page_erased_row attrs page k.sound; colored = colored_erased_row attrs page h k.colored; reported = k.reported }
+pub kept_erased_row : (attrs : Attrs) (page : Page) (last : Option ℕ) (aside : Aside) → FitsAttrs attrs → IsKept page last aside → IsKept (erased_row attrs page) last aside
+kept_erased_row attrs page last aside h k = kept_page page (erased_row attrs page) last aside (page_erased_row attrs page k.sound) (colored_erased_row attrs page h k.colored) (same_erased_row attrs page) k

@@ -6,6 +6,11 @@ pub mod Readback
 pub mod Redrawing
 pub mod Colored
 pub mod ColoredMoves
+pub mod Sizes
+pub mod ColoredScrollback
+mod Asides
+mod Exchanging
+mod Resized
 mod Reporting
 mod Kept
 mod KeptMoves

@@ -16,5 +16,5 @@ pub data CallValue : Type 0 where
   UnhandledEscape : (first second : Option ℕ) (byte : ℕ) → CallValue
   UnhandledCsi : (first second : Option ℕ) (groups : List (List ℕ)) (byte : ℕ) → CallValue
   UnhandledOsc : (parts : List (List ℕ)) → CallValue
-  -- a row left the page at its top
+  -- a row left the page at its top and isn't kept, or scrollback gave it up
   OnScroll : (row : RowValue) (alternate : Bool) → CallValue

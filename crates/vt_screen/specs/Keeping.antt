@@ -1,9 +1,14 @@
 -- What the fields of a screen are together; for its model only.
-use Rattle.std.specs.Prelude.{◌≢◌, ℕ, List, All, Option, Some}
+use Rattle.std.specs.Prelude.{◌≡◌, ◌≢◌, ℕ, Bool, true, List, [], All, Option, Some, None, IfSome, IsSome, option_map, not, if◌then◌else◌}
 use Rattle.vt_cells.specs.Cell.{CellValue, attrs_of}
 use Rattle.vt_cells.specs.Op.{FitsAttrs}
 use Rattle.vt_rows.specs.Row.{RowValue}
 use Rattle.vt_grid.specs.Page.{Page, IsPage}
+use Rattle.vt_grid.specs.Scrollback.{Scrollback, IsScrollback, no_scrollback}
+use Rattle.vt_grid.specs.Resize.{page_resized, scrollback_resized}
+use Rattle.vt_grid.specs.Simple.{SameSize}
+use Rattle.vt_screen.specs.Pages.{fresh_page, page_aside}
+use Rattle.vt_screen.specs.Screen.{ScreenValue}
 
 -- colours have bytes as their numbers
 abbrev pub IsColoredCell : CellValue → Type 0
@@ -15,7 +20,71 @@ IsColoredRow row = All IsColoredCell row.cells
 abbrev pub AreColored : List RowValue → Type 0
 AreColored rows = All IsColoredRow rows
 
-pub record IsKept (page : Page) (last : Option ℕ) : Type 0 where
+-- what a screen has beside its active page: the other page, which of them is active, scrollback above the active one, and above the
+-- other one
+pub record Aside : Type 0 where
+  pub other : Option Page
+  pub is_alternate : Bool
+  pub active : Scrollback
+  pub idle : Scrollback
+
+-- scrollback above the main page, and above the alternate one
+abbrev pub main_scrollback : Bool → Scrollback → Scrollback → Scrollback
+main_scrollback is_alternate active idle = if is_alternate then idle else active
+
+abbrev pub alternate_scrollback : Bool → Scrollback → Scrollback → Scrollback
+alternate_scrollback is_alternate active idle = if is_alternate then active else idle
+
+-- scrollback that never keeps a row
+pub record IsNothing (above : Scrollback) : Type 0 where
+  pub capacity : above.capacity ≡ 0
+  pub rows : above.rows ≡ []
+  pub offset : above.offset ≡ 0
+
+-- scrollback of rows that may come back to a page
+pub record IsAbove (above : Scrollback) : Type 0 where
+  pub sound : IsScrollback above
+  pub colored : AreColored above.rows
+
+pub record IsOther (page other : Page) : Type 0 where
+  pub sound : IsPage other
+  pub colored : AreColored other.rows
+  pub same : SameSize other page
+
+pub record IsKept (page : Page) (last : Option ℕ) (aside : Aside) : Type 0 where
   pub sound : IsPage page
   pub colored : AreColored page.rows
   pub reported : last ≢ Some 0xFFFD
+  pub other : IfSome aside.other (IsOther page)
+  pub entered : aside.is_alternate ≡ true → IsSome aside.other
+  pub nothing : IsNothing (alternate_scrollback aside.is_alternate aside.active aside.idle)
+  pub above : IsAbove (main_scrollback aside.is_alternate aside.active aside.idle)
+
+-- ---- parts of entering, leaving and starting anew
+
+-- with the page that isn't active made, if there was none
+abbrev pub with_other : ScreenValue → ScreenValue
+with_other screen = record screen { other = Some (page_aside screen) }
+
+-- the two pages exchanged, if there are two
+abbrev pub exchanged_with : Option Page → ScreenValue → ScreenValue
+exchanged_with (Some page) screen = record screen { page = page; other = Some screen.page; is_alternate = not screen.is_alternate }
+exchanged_with None screen = screen
+
+abbrev pub exchanged : ScreenValue → ScreenValue
+exchanged screen = exchanged_with screen.other screen
+
+-- the active page made fresh, and the other one
+abbrev pub with_fresh_page : ScreenValue → ScreenValue
+with_fresh_page screen = record screen { page = fresh_page screen }
+
+abbrev pub with_fresh_other : ScreenValue → ScreenValue
+with_fresh_other screen = record screen { other = option_map (λ _. fresh_page screen) screen.other }
+
+-- both pages in another size, while the main page is the active one
+abbrev pub pages_resized : (rows cols : ℕ) → ScreenValue → ScreenValue
+pages_resized rows cols screen = record screen {
+  page = page_resized rows cols screen.scrollback screen.page;
+  other = option_map (page_resized rows cols (no_scrollback 0)) screen.other;
+  scrollback = scrollback_resized rows screen.page screen.scrollback;
+}

@@ -2,6 +2,7 @@ pub mod Calls
 pub mod Meanings
 pub mod Sgr
 pub mod Screen
+pub mod Pages
 pub mod Steps
 pub mod Run
 pub mod Reading

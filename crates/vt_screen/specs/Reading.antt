@@ -1,22 +1,24 @@
 -- Reading a text that calls nobody, takes no memory and pushes no row off the page: what it makes of a screen.
-use Rattle.std.specs.Prelude.{◌≡◌, ◌==◌, ℕ, Bool, true, false, List, [], ◌∷◌, Option, Some, None, if◌then◌else◌}
+use Rattle.std.specs.Prelude.{◌≡◌, ◌==◌, ℕ, Bool, true, false, List, [], ◌∷◌, Option, Some, None, is_some, if◌then◌else◌}
 use Rattle.vt_grid.specs.Canvas.{and_then, pushes}
 use Rattle.vt_grid.specs.Moves.{feeds_out}
 use Rattle.vt_grid.specs.Simple.{IsPlain, SameSize}
 use Rattle.vt_screen.specs.Screen.{ScreenValue, IsScreen}
-use Rattle.vt_screen.specs.Steps.{Step, Print, LineFeed, ScrollUp, EraseScrollback, Tell, stepped, steps_of}
+use Rattle.vt_screen.specs.Steps.{Step, Print, LineFeed, ScrollUp, EraseScrollback, EnterAlternate, EnterFresh, Tell, stepped, steps_of}
 use Rattle.vt_scan.specs.Automaton.{State, Event, step_in, start}
 use Rattle.vt_scan.specs.Table.{class_of, turn_of}
 use Rattle.vt_scan.specs.declared.table.Kind.TheVariants.{OscString}
 use Rattle.vt_scan.specs.declared.table.Turn.{Turn}
 use Rattle.vt_scan.specs.declared.table.Turn.TheVariants.{Collect}
 
--- a step that calls nobody and takes no memory
+-- a step that calls nobody, takes no memory and gives up no scrollback to be told of
 abbrev pub quiet_step : Step → ScreenValue → Option ScreenValue
 quiet_step (Print c) screen = if pushes c screen.page then None else Some (stepped (Print c) screen)
 quiet_step LineFeed screen = if feeds_out screen.page then None else Some (stepped LineFeed screen)
 quiet_step (ScrollUp count) screen = if screen.page.top == 0 then None else Some (stepped (ScrollUp count) screen)
 quiet_step EraseScrollback screen = None
+quiet_step EnterAlternate screen = if is_some screen.other then Some (stepped EnterAlternate screen) else None
+quiet_step EnterFresh screen = if is_some screen.other then Some (stepped EnterFresh screen) else None
 quiet_step (Tell call) screen = None
 quiet_step step screen = Some (stepped step screen)
 

@@ -15,9 +15,13 @@ pub record State (S : Type 0) : Type 0 where
 abbrev pub state : {S : Type 0} → S → ScreenValue → State S
 state callbacks screen = record { callbacks = callbacks; screen = screen }
 
--- a row is reported: callbacks are lent no screen then, so whatever screen there is stays
+-- a call that is lent no screen: whatever screen there is stays
+abbrev pub Told : {S : Type 0} → (CallValue → S → ScreenValue → S → ScreenValue → Type 0) → S → CallValue → S → Type 0
+Told does old call new = (screen : ScreenValue) → does call old screen new screen
+
+-- a row is reported
 abbrev pub Hears : {S : Type 0} → (CallValue → S → ScreenValue → S → ScreenValue → Type 0) → (alternate : Bool) → S → RowValue → S → Type 0
-Hears does alternate old row new = (screen : ScreenValue) → does (OnScroll row alternate) old screen new screen
+Hears does alternate old row new = Told does old (OnScroll row alternate) new
 
 -- a step that may send rows off the page: first its rows are reported, one by one
 pub record Scrolls {S : Type 0} (does : CallValue → S → ScreenValue → S → ScreenValue → Type 0) (a : State S) (step : Step) (b : State S) : Type 0 where

@@ -1,5 +1,5 @@
 -- A screen: the active page and the other one, scrollback, attributes and modes.
-use Rattle.std.specs.Prelude.{ℕ, Bool, false, List, Option, None, if◌then◌else◌}
+use Rattle.std.specs.Prelude.{◌≡◌, ℕ, Bool, true, false, List, length, Option, None, IfSome, IsSome, if◌then◌else◌}
 use Rattle.vt_cells.specs.Attrs.{default_attrs}
 use Rattle.vt_cells.specs.declared.attrs.Attrs.{Attrs}
 use Rattle.vt_cells.specs.declared.modes.MouseProtocolMode.TheVariants as mouse
@@ -7,12 +7,13 @@ use Rattle.vt_cells.specs.declared.modes.MouseProtocolEncoding.TheVariants as en
 use Rattle.vt_cells.specs.declared.modes.CursorStyle.TheVariants as style
 use Rattle.vt_rows.specs.Row.{RowValue}
 use Rattle.vt_grid.specs.Page.{Page, IsPage, blank_page, row_or}
+use Rattle.vt_grid.specs.Simple.{SameSize}
 use Rattle.vt_grid.specs.Canvas.{Canvas}
-use Rattle.vt_grid.specs.Scrollback.{Scrollback, IsScrollback, no_scrollback, cleared, visible}
+use Rattle.vt_grid.specs.Scrollback.{Scrollback, IsScrollback, no_scrollback, viewed, visible}
 pub use Rattle.vt_screen.specs.declared.modes.Modes.{Modes}
 
 pub record ScreenValue : Type 0 where
-  -- the active page, and the other one if it was ever entered; scrollback is above the main one
+  -- the active page, and the other one, once the alternate page was entered; scrollback is above the main one
   pub page : Page
   pub other : Option Page
   pub is_alternate : Bool
@@ -70,7 +71,15 @@ visible_rows screen = visible (above_page screen) screen.page.rows
 abbrev pub visible_row : ScreenValue → ℕ → RowValue
 visible_row screen r = row_or screen.page.width (visible_rows screen) r
 
+-- the newest n rows of scrollback come into view, at most all; the alternate page has none
+abbrev pub scrolled_back : ℕ → ScreenValue → ScreenValue
+scrolled_back n screen =
+    if screen.is_alternate then screen
+    else record screen { scrollback = viewed (length screen.page.rows) screen.page.width n screen.scrollback }
+
 -- what every screen is
 pub record IsScreen (screen : ScreenValue) : Type 0 where
   pub page : IsPage screen.page
+  pub other : IfSome screen.other (λ page. IsPage page × SameSize page screen.page)
+  pub entered : screen.is_alternate ≡ true → IsSome screen.other
   pub scrollback : IsScrollback screen.scrollback

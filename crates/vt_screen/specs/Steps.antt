@@ -1,5 +1,5 @@
 -- The elementary steps of an event, and what each makes of the screen.
-use Rattle.std.specs.Prelude.{ℕ, ◌-◌, ◌==◌, ◌&&◌, ◌||◌, not, nat_lt, nat_le, Bool, true, false, List, [], ◌∷◌, ◌++◌, length, replicate, slice_index_or, slice_get, Option, Some, None, codes, if◌then◌else◌}
+use Rattle.std.specs.Prelude.{◌≡◌, ℕ, ◌-◌, ◌==◌, ◌&&◌, ◌||◌, not, nat_lt, nat_le, Bool, true, false, List, [], ◌∷◌, ◌++◌, length, replicate, slice_index_or, slice_get, Option, Some, None, codes, if◌then◌else◌}
 use Rattle.std.specs.List.{list_all, list_any}
 use Rattle.vt_cells.specs.Glyph.{columns_of}
 use Rattle.vt_cells.specs.declared.modes.MouseProtocolMode.{MouseProtocolMode}
@@ -20,6 +20,7 @@ use Rattle.vt_rows.specs.Row.{RowValue}
 use Rattle.vt_scan.specs.Automaton.{Event, Character, Executed, EscDispatch, CsiDispatch, OscDispatch}
 use Rattle.vt_screen.specs.Calls.{CallValue, AudibleBell, VisualBell, Resize, SetWindowIconName, SetWindowTitle, CopyToClipboard, PasteFromClipboard, UnhandledChar, UnhandledControl, UnhandledEscape, UnhandledCsi, UnhandledOsc}
 use Rattle.vt_screen.specs.Sgr.{group_read, rendered}
+use Rattle.vt_screen.specs.Pages.{saved, restored, entered, entered_fresh, left, left_restored, reset}
 use Rattle.vt_screen.specs.Screen.{ScreenValue, with_page, above_page}
 use Rattle.vt_screen.specs.declared.modes.Modes.{Modes}
 use Rattle.vt_screen.specs.declared.sgr.Setting.{Setting}
@@ -45,6 +46,15 @@ pub data Step : Type 0 where
   MoveToRow : (row : ℕ) → Step
   SetRegion : (top bottom : ℕ) → Step
   UseOrigin : (on : Bool) → Step
+  SaveCursor : Step
+  RestoreCursor : Step
+  -- the alternate page is entered as it is, or fresh; it is left, and what was saved restored
+  EnterAlternate : Step
+  EnterFresh : Step
+  LeaveAlternate : Step
+  LeaveRestoring : Step
+  -- all as on a fresh screen
+  Reset : Step
   EraseBelow : Step
   EraseAbove : Step
   ErasePage : Step
@@ -61,6 +71,7 @@ pub data Step : Type 0 where
   ScrollDown : (count : ℕ) → Step
   Render : Setting → Step
   HideCursor : (hidden : Bool) → Step
+  UseApplicationKeypad : (on : Bool) → Step
   UseApplicationCursor : (on : Bool) → Step
   UseBracketedPaste : (on : Bool) → Step
   SetMouseMode : MouseProtocolMode → Step
@@ -73,7 +84,7 @@ pub data Step : Type 0 where
   -- a callback
   Tell : CallValue → Step
 
--- ---- what a step makes of the screen
+-- ---- what a step makes of the screen, but for scrollback that takes over rows or is given up; `scrolled` is the whole
 
 -- a character that takes columns, and fits the page, is the last one from now on
 abbrev pub is_kept : ScreenValue → Option ℕ → Bool
@@ -125,6 +136,13 @@ stepped (MoveToColumn col) screen = with_page (moved_to_column col screen.page) 
 stepped (MoveToRow row) screen = with_page (moved_to_row row screen.page) screen
 stepped (SetRegion top bottom) screen = with_page (region_set top bottom screen.page) screen
 stepped (UseOrigin on) screen = with_page (origin_set on screen.page) screen
+stepped SaveCursor screen = saved screen
+stepped RestoreCursor screen = restored screen
+stepped EnterAlternate screen = entered screen
+stepped EnterFresh screen = entered_fresh screen
+stepped LeaveAlternate screen = left screen
+stepped LeaveRestoring screen = left_restored screen
+stepped Reset screen = reset screen
 stepped EraseBelow screen = with_page (erased_below screen.attrs screen.page) screen
 stepped EraseAbove screen = with_page (erased_above screen.attrs screen.page) screen
 stepped ErasePage screen = with_page (erased_page screen.attrs screen.page) screen
@@ -141,6 +159,7 @@ stepped (ScrollUp count) screen = with_page (scrolled_up count screen.page) scre
 stepped (ScrollDown count) screen = with_page (scrolled_down count screen.page) screen
 stepped (Render setting) screen = record screen { attrs = rendered setting screen.attrs }
 stepped (HideCursor hidden) screen = record screen { hidden = hidden }
+stepped (UseApplicationKeypad on) screen = with_modes (λ modes. record modes { application_keypad = on }) screen
 stepped (UseApplicationCursor on) screen = with_modes (λ modes. record modes { application_cursor = on }) screen
 stepped (UseBracketedPaste on) screen = with_modes (λ modes. record modes { bracketed_paste = on }) screen
 stepped (SetMouseMode mode) screen = with_modes (λ modes. record modes { mouse_mode = mode }) screen
@@ -159,20 +178,29 @@ outgoing LineFeed screen = fed_out screen.page
 outgoing (ScrollUp count) screen = scrolled_out count screen.page
 outgoing _ screen = []
 
--- the screen after a step, with the rows that left in scrollback, or with scrollback given up
-abbrev pub scrolled : Step → ScreenValue → ScreenValue
-scrolled EraseScrollback screen = if screen.is_alternate then screen else record screen { scrollback = cleared screen.scrollback }
-scrolled step screen =
+-- the screen after a step that may send rows off the main page, to scrollback
+abbrev pub sent : Step → ScreenValue → ScreenValue
+sent step screen =
     if screen.is_alternate then stepped step screen
     else record (stepped step screen) { scrollback = pushed (length screen.page.rows) screen.page.width (outgoing step screen) screen.scrollback }
+
+-- the screen after a step
+abbrev pub scrolled : Step → ScreenValue → ScreenValue
+scrolled (Print c) screen = sent (Print c) screen
+scrolled LineFeed screen = sent LineFeed screen
+scrolled (ScrollUp count) screen = sent (ScrollUp count) screen
+scrolled EraseScrollback screen = if screen.is_alternate then screen else record screen { scrollback = cleared screen.scrollback }
+scrolled step screen = stepped step screen
 
 -- the rows that are reported, older first: those that aren't kept
 abbrev pub reports : Step → ScreenValue → List RowValue
 reports EraseScrollback screen = (above_page screen).rows
 reports step screen = reported (outgoing step screen) (above_page screen)
 
--- a row is moved into scrollback, which takes memory
+-- a step that takes memory: a row is moved into scrollback, or an alternate page is entered that isn't there yet
 abbrev pub Grows : Step → ScreenValue → Type 0
+Grows EnterAlternate screen = screen.other ≡ None
+Grows EnterFresh screen = screen.other ≡ None
 Grows step screen = Takes (outgoing step screen) (above_page screen)
 
 -- ---- numbers
@@ -206,15 +234,16 @@ control_steps b =
     else if (b == 0x0E) || (b == 0x0F) then []
     else Tell (UnhandledControl b) ∷ []
 
--- escape sequences without intermediates that are not there yet
-abbrev pub is_coming : ℕ → Bool
-is_coming b = list_any (λ c. c == b) (codes "78=>c")
-
+-- DECSC, DECRC, DECKPAM, DECKPNM, RI, RIS, and xterm's visual bell
 unfoldable pub escape_steps : List ℕ → ℕ → List Step
 escape_steps [] b =
-    if b == 0x67 then Tell VisualBell ∷ []
+    if b == 0x37 then SaveCursor ∷ []
+    else if b == 0x38 then RestoreCursor ∷ []
+    else if b == 0x3D then UseApplicationKeypad true ∷ []
+    else if b == 0x3E then UseApplicationKeypad false ∷ []
     else if b == 0x4D then ReverseIndex ∷ []
-    else if is_coming b then []
+    else if b == 0x63 then Reset ∷ []
+    else if b == 0x67 then Tell VisualBell ∷ []
     else Tell (UnhandledEscape None None b) ∷ []
 escape_steps (mark ∷ marks) b = Tell (UnhandledEscape (Some mark) (mark_at 0 marks) b) ∷ []
 
@@ -329,20 +358,27 @@ mouse_step on mode = if on then SetMouseMode mode else ClearMouseMode mode
 abbrev pub encoding_step : Bool → MouseProtocolEncoding → Step
 encoding_step on form = if on then SetMouseEncoding form else ClearMouseEncoding form
 
--- a private mode of one number: known, not there yet, or unknown
+abbrev pub alternate_step : Bool → Step
+alternate_step on = if on then EnterAlternate else LeaveAlternate
+
+abbrev pub fresh_step : Bool → Step
+fresh_step on = if on then EnterFresh else LeaveRestoring
+
+-- a private mode of one number, or an unknown one
 unfoldable pub mode_step : Bool → CallValue → ℕ → List Step
 mode_step on report n =
     if n == 1 then UseApplicationCursor on ∷ []
     else if n == 6 then UseOrigin on ∷ []
     else if n == 9 then mouse_step on mouse.Press ∷ []
     else if n == 25 then HideCursor (not on) ∷ []
+    else if n == 47 then alternate_step on ∷ []
     else if n == 1000 then mouse_step on mouse.PressRelease ∷ []
     else if n == 1002 then mouse_step on mouse.ButtonMotion ∷ []
     else if n == 1003 then mouse_step on mouse.AnyMotion ∷ []
     else if n == 1005 then encoding_step on encoding.Utf8 ∷ []
     else if n == 1006 then encoding_step on encoding.Sgr ∷ []
+    else if n == 1049 then fresh_step on ∷ []
     else if n == 2004 then UseBracketedPaste on ∷ []
-    else if (n == 47) || (n == 1049) then []
     else Tell report ∷ []
 
 abbrev pub mode_steps : Bool → CallValue → List (List ℕ) → List Step

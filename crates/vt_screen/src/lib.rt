@@ -1,5 +1,5 @@
-//! The screen of a terminal: its page, attributes and modes, what a program's
-//! controls make of them, and the texts that redraw it.
+//! The screen of a terminal: its two pages, scrollback, attributes and modes,
+//! what a program's controls make of them, and the texts that redraw it.
 #![tactic(auto)]
 
 pub mod callbacks;

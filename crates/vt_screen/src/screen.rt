@@ -9,9 +9,11 @@ ghost use Rattle.vt_rows.specs.Cells.{at};
 ghost use Rattle.vt_grid.specs.Script.{redraw};
 ghost use Rattle.vt_grid.specs.Simple.{IsSimple};
 ghost use Rattle.vt_screen.specs.Reading.{Redraws};
-ghost use Rattle.vt_screen.specs.Screen.{canvas_of, fresh_screen, visible_row};
+ghost use Rattle.vt_screen.specs.Screen.{IsScreen, canvas_of, fresh_screen, visible_row};
 
 mod controls;
+mod pages;
+mod resizing;
 mod scrolling;
 
 use crate::modes::Modes;
@@ -26,8 +28,9 @@ use vt_grid::redraw::write_contents_formatted;
 use vt_grid::{Grid, Scrollback, Size};
 use vt_rows::Row;
 
-/// A terminal's screen: a page of cells with its cursor, the attributes that
-/// new text is drawn with, and the modes that a program set.
+/// A terminal's screen: two pages of cells, each with its cursor, of which one
+/// is active; scrollback above the main one; the attributes that new text is
+/// drawn with, and the modes that a program set.
 #[derive(Drop)]
 pub struct Screen {
     alloc: Global,
@@ -38,20 +41,22 @@ pub struct Screen {
     modes: Modes,
     last: Option<char>,
     scrollback: Scrollback,
+    other: Option<Grid>,
+    other_scrollback: Scrollback,
+    is_alternate: bool,
 }
 
 impl Model for Screen {
-    ghost use Rattle.std.specs.Prelude.{None, false};
-    ghost use Rattle.vt_screen.specs.Keeping.{IsKept};
+    ghost use Rattle.vt_screen.specs.Keeping.{IsKept, main_scrollback};
     ghost use Rattle.vt_screen.specs.Screen.{ScreenValue};
 
     ghost Value = { ScreenValue };
 
     ghost view = { λ s. record {
       page = s.grid;
-      other = None;
-      is_alternate = false;
-      scrollback = s.scrollback;
+      other = s.other;
+      is_alternate = s.is_alternate;
+      scrollback = main_scrollback s.is_alternate s.scrollback s.other_scrollback;
       attrs = s.attrs;
       saved_attrs = s.saved_attrs;
       hidden = s.hidden;
@@ -59,7 +64,7 @@ impl Model for Screen {
       last = s.last;
     } };
 
-    ghost invariant = { λ s. IsKept s.grid s.last };
+    ghost invariant = { λ s. IsKept s.grid s.last (record { other = s.other; is_alternate = s.is_alternate; active = s.scrollback; idle = s.other_scrollback }) };
 }
 
 impl Screen {
@@ -92,6 +97,31 @@ impl Screen {
             modes: Modes::new(),
             last: None,
             scrollback: Scrollback::new(alloc, scrollback_capacity),
+            other: None,
+            other_scrollback: Scrollback::new(alloc, 0),
+            is_alternate: false,
+        })
+    }
+
+    /// A copy of the screen, with both pages and scrollback.
+    ///
+    /// Fails where its memory is refused.
+    pub fn clone(&self) -> Result<Screen, Error>
+        ensures ok { IfOk result (λ screen. screen ≡ self.now) }
+        ensures memory { IfErr result (λ error. error ≡ Error.OutOfMemory) }
+    {
+        Ok(Screen {
+            alloc: self.alloc,
+            grid: self.grid.try_clone(self.alloc)?,
+            attrs: self.attrs,
+            saved_attrs: self.saved_attrs,
+            hidden: self.hidden,
+            modes: self.modes,
+            last: self.last,
+            scrollback: self.scrollback.try_clone()?,
+            other: copied_page(&self.other, self.alloc)?,
+            other_scrollback: self.other_scrollback.try_clone()?,
+            is_alternate: self.is_alternate,
         })
     }
 }
@@ -99,7 +129,12 @@ impl Screen {
 // What is known of the screen.
 impl Screen {
     /// How many rows and columns the screen has.
+    ///
+    /// The clause `whole` says what every screen is, whatever was done to it:
+    /// both pages of one size, with rows, cursors and regions in bounds, and
+    /// scrollback within its capacity.
     pub fn size(&self) -> (NonZeroU16, NonZeroU16)
+        ensures whole { IsScreen self.now }
         ensures rows { result.0.value ≡ length self.now.page.rows }
         ensures cols { result.1.value ≡ self.now.page.width }
     {
@@ -149,12 +184,11 @@ impl Screen {
         (pos.row, pos.col)
     }
 
-    /// Whether the alternate page is the active one. It never is yet.
+    /// Whether the alternate page is the active one.
     pub fn alternate_screen(&self) -> bool
         ensures { result ≡ self.now.is_alternate }
     {
-        let _hidden = self.hidden;
-        false
+        self.is_alternate
     }
 
     /// The last character that was printed in columns of its own, which REP
@@ -301,7 +335,7 @@ impl Screen {
             size.cols,
             self.grid.pos(),
             attrs,
-            self.hidden,
+            self.hide_cursor(),
         )
     }
 
@@ -310,6 +344,17 @@ impl Screen {
         ensures { result ≡ self.now.attrs }
     {
         self.attrs
+    }
+}
+
+/// A copy of a page, if there is one.
+fn copied_page(page: &Option<Grid>, alloc: Global) -> Result<Option<Grid>, Error>
+    ensures ok { IfOk result (λ copy. copy ≡ page.now) }
+    ensures memory { IfErr result (λ error. error ≡ Error.OutOfMemory) }
+{
+    match page {
+        Some(page) => Ok(Some(page.try_clone(alloc)?)),
+        None => Ok(None),
     }
 }
 

@@ -233,6 +233,14 @@ impl Screen {
         self.hidden = hidden;
     }
 
+    /// Turns the application sequences of the keypad on or off (DECKPAM,
+    /// DECKPNM).
+    pub fn set_application_keypad(&mut self, on: bool)
+        ensures { self.new ≡ stepped (step.UseApplicationKeypad on) self.old }
+    {
+        self.modes.application_keypad = on;
+    }
+
     /// Turns the application sequences of the cursor keys on or off (DECCKM).
     pub fn set_application_cursor(&mut self, on: bool)
         ensures { self.new ≡ stepped (step.UseApplicationCursor on) self.old }

@@ -1,11 +1,11 @@
 //! Controls that may scroll rows off the page, and scrollback.
 
-ghost use Rattle.std.specs.Prelude.{◌≡◌, ◌≢◌, IfErr, OnErr, OnOk, Some, length};
-ghost use Rattle.vt_grid.specs.Scrollback.{cleared, viewed};
+ghost use Rattle.std.specs.Prelude.{◌≡◌, ◌≢◌, IfErr, IsErr, OnErr, OnOk, Some, false, length};
+ghost use Rattle.vt_cells.specs.Glyph.{columns_of};
 ghost use Rattle.vt_screen.specs.Run.{Refuses, Takes, state};
-ghost use Rattle.vt_screen.specs.Screen.{above_page};
+ghost use Rattle.vt_screen.specs.Screen.{above_page, scrolled_back};
 ghost use Rattle.vt_screen.specs.Steps as step;
-ghost use Rattle.vt_screen.specs.Steps.{last_after};
+ghost use Rattle.vt_screen.specs.Steps.{last_after, scrolled};
 
 use super::Screen;
 use crate::callbacks::Callbacks;
@@ -22,32 +22,35 @@ impl Screen {
     ///
     /// A wrap at the bottom may scroll a row off the page, as in
     /// [`Screen::lf`].
-    #[inline]
+    #[inline(always)]
     pub fn text<CB: Callbacks>(&mut self, c: char, callbacks: &mut CB) -> Result<(), Error>
         requires { c ≢ 0xFFFD }
         ensures done { OnOk result (Takes CB.does (state callbacks.old self.old) (step.Print c) (state callbacks.new self.new)) }
         ensures refused { OnErr result (Refuses (state callbacks.old self.old) (step.Print c) (state callbacks.new self.new)) }
         ensures memory { IfErr result (λ error. error ≡ Error.OutOfMemory) }
     {
-        let last = self.last_after(c);
+        let width = columns(c);
+        let last = self.last_after(c, width);
         let mut reporter = Reporter {
             callbacks,
-            alternate: false,
+            alternate: self.is_alternate,
         };
         self.grid
-            .print(c, self.attrs, &mut self.scrollback, &mut reporter)?;
+            .print_columns(c, width, self.attrs, &mut self.scrollback, &mut reporter)?;
         self.last = last;
         Ok(())
     }
 
-    /// The last character that REP repeats, once this one is printed.
-    #[inline]
-    fn last_after(&self, c: char) -> Option<char>
-        requires { c ≢ 0xFFFD }
+    /// The last character that REP repeats, once this one, which takes these
+    /// columns, is printed.
+    #[inline(always)]
+    fn last_after(&self, c: char, width: Option<u8>) -> Option<char>
+        requires sound { c ≢ 0xFFFD }
+        requires columns { width ≡ columns_of c }
         ensures value { result ≡ last_after c self.now }
         ensures reported { result ≢ Some 0xFFFD }
     {
-        let Some(columns) = columns(c) else {
+        let Some(columns) = width else {
             return self.last;
         };
         if columns == 0 || u16::from(columns) > self.grid.size().cols {
@@ -70,7 +73,7 @@ impl Screen {
     {
         let mut reporter = Reporter {
             callbacks,
-            alternate: false,
+            alternate: self.is_alternate,
         };
         self.grid.line_feed(&mut self.scrollback, &mut reporter)?;
         Ok(())
@@ -85,7 +88,7 @@ impl Screen {
     {
         let mut reporter = Reporter {
             callbacks,
-            alternate: false,
+            alternate: self.is_alternate,
         };
         self.grid
             .scroll_up(count, &mut self.scrollback, &mut reporter)?;
@@ -99,46 +102,52 @@ impl Screen {
     {
         let mut reporter = Reporter {
             callbacks,
-            alternate: false,
+            alternate: self.is_alternate,
         };
         self.scrollback.clear(&mut reporter);
     }
 
     /// Brings the newest `rows` rows of scrollback into view, at most all; 0
-    /// is the page alone.
+    /// is the page alone. On the alternate page, which has no scrollback,
+    /// nothing happens.
     ///
     /// Rows that come into view are grown to the screen's columns. Fails where
     /// memory for that is refused; then nothing has changed.
     pub fn set_scrollback(&mut self, rows: usize) -> Result<(), Error>
-        ensures ok { OnOk result (self.new ≡ record self.old { scrollback = viewed (length self.old.page.rows) self.old.page.width rows self.old.scrollback }) }
+        ensures ok { OnOk result (self.new ≡ scrolled_back rows self.old) }
         ensures err { OnErr result (self.new ≡ self.old) }
+        ensures grows { IsErr result → self.old.is_alternate ≡ false }
         ensures memory { IfErr result (λ error. error ≡ Error.OutOfMemory) }
     {
-        self.scrollback.set_offset(rows, self.grid.size())
+        if self.is_alternate {
+            return Ok(());
+        }
+        self.scrollback.set_offset(rows, self.grid.size())?;
+        Ok(())
     }
 
-    /// Gives up scrollback; nobody is told of its rows.
+    /// Gives up the scrollback of the active page; nobody is told of its rows.
     pub fn clear_scrollback(&mut self)
-        ensures { self.new ≡ record self.old { scrollback = cleared self.old.scrollback } }
+        ensures { self.new ≡ scrolled step.EraseScrollback self.old }
     {
         self.scrollback.clear(&mut ());
     }
 
-    /// How many rows of scrollback are in view.
+    /// How many rows of scrollback are in view; none on the alternate page.
     pub fn scrollback(&self) -> usize
         ensures { result ≡ (above_page self.now).offset }
     {
         self.scrollback.offset()
     }
 
-    /// How many rows scrollback has.
+    /// How many rows scrollback has; none on the alternate page.
     pub fn scrollback_len(&self) -> usize
         ensures { result ≡ length (above_page self.now).rows }
     {
         self.scrollback.len()
     }
 
-    /// How many rows scrollback keeps at most.
+    /// How many rows scrollback keeps at most; none on the alternate page.
     pub fn scrollback_capacity(&self) -> usize
         ensures { result ≡ (above_page self.now).capacity }
     {

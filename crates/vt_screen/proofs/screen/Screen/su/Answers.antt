@@ -1,23 +1,29 @@
 -- The region scrolls up, and the callbacks hear of the rows that left.
-use Rattle.std.proofs.Common.{refl, subst, false, rules}
+use Rattle.std.proofs.Common.{refl, subst, rules}
 use Rattle.std.specs.List.{FoldsTo}
 use Rattle.vt_grid.specs.Outgoing.{scrolled_out}
 use Rattle.vt_grid.specs.Scrollback.{reported}
 use Rattle.vt_screen.specs.Run.{Hears}
 use Rattle.vt_screen.specs.contracts.screen.Screen.{the_view}
+use Rattle.vt_screen.proofs.Asides.{kept_sent, rows_scrolled_out}
+use Rattle.vt_screen.proofs.ColoredScrollback.{colored_scrolled_out}
 use Rattle.vt_screen.proofs.KeptMoves.{kept_scrolled_up}
 use Rattle.vt_screen.proofs.Reporting.{same_callbacks, reported_to, scrolled_up_by}
 use Rattle.vt_screen.proofs.screen.Screen.su.Goals as goal
 
 pub invariant_of-self-2 : goal.invariant_of-self-2
-invariant_of-self-2 g c = rw c.in_ok-scroll_up.ensures.page (kept_scrolled_up c.args.count c.self.inside.grid c.self.inside.last c.self.invariant)
+invariant_of-self-2 g c =
+    let k = c.self.invariant in
+    rw (c.in_ok-scroll_up.ensures.page, c.in_ok-scroll_up.ensures.sent.0)
+    (kept_sent _ _ _ _ _ c.self.inside.grid.width (rows_scrolled_out c.args.count c.self.inside.grid k.sound) (colored_scrolled_out c.args.count c.self.inside.grid k.colored)
+    (kept_scrolled_up c.args.count c.self.inside.grid c.self.inside.last _ k))
 
 pub returns-clause-done : goal.returns-clause-done
 returns-clause-done g c =
     let s = the_view c.self.inside in
-    let rows = reported (scrolled_out c.args.count s.page) s.scrollback in
+    let rows = reported (scrolled_out c.args.count s.page) c.self.inside.scrollback in
     let sent = c.in_ok-scroll_up.ensures.sent in
     let same = same_callbacks g.CB.Callbacks.does rows _ c.scroll_up.new.leaving sent.1 in
-    let all = reported_to g.CB.Callbacks.does false rows _ c.scroll_up.new.leaving refl sent.1 in
-    scrolled_up_by g.CB.Callbacks.does c.args.count s c.args.self.now c.scroll_up.new.self c.scroll_up.new.above c.args.callbacks.now _ c.self.view_is refl c.in_ok-scroll_up.ensures.page sent.0
-    (subst (λ z. FoldsTo (Hears g.CB.Callbacks.does false) c.args.callbacks.now rows z) (search rules) all)
+    let all = reported_to g.CB.Callbacks.does s.is_alternate rows _ c.scroll_up.new.leaving refl sent.1 in
+    scrolled_up_by g.CB.Callbacks.does c.args.count s c.args.self.now c.scroll_up.new.self c.self.inside.scrollback c.self.inside.other_scrollback c.scroll_up.new.above c.args.callbacks.now _ c.self.view_is refl c.self.invariant.nothing c.in_ok-scroll_up.ensures.page sent.0
+    (subst (λ z. FoldsTo (Hears g.CB.Callbacks.does s.is_alternate) c.args.callbacks.now rows z) (search rules) all)

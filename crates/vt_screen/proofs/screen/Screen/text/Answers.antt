@@ -1,24 +1,29 @@
 -- The character is printed, and the callbacks hear of the row that left.
-use Rattle.std.proofs.Common.{refl, subst, false, rules}
+use Rattle.std.proofs.Common.{refl, subst, rules}
 use Rattle.std.specs.List.{FoldsTo}
 use Rattle.vt_grid.specs.Outgoing.{printed_out}
 use Rattle.vt_grid.specs.Scrollback.{reported}
 use Rattle.vt_screen.specs.Run.{Hears}
 use Rattle.vt_screen.specs.contracts.screen.Screen.{the_view}
+use Rattle.vt_screen.proofs.Asides.{kept_sent, rows_printed_out}
+use Rattle.vt_screen.proofs.ColoredScrollback.{colored_printed_out}
 use Rattle.vt_screen.proofs.Kept.{kept_printed}
 use Rattle.vt_screen.proofs.Reporting.{same_callbacks, reported_to, character_printed}
 use Rattle.vt_screen.proofs.screen.Screen.text.Goals as goal
 
 pub invariant_of-self-2 : goal.invariant_of-self-2
 invariant_of-self-2 g c =
-    rw c.in_ok-print.ensures.page (kept_printed c.args.c c.self.inside.attrs c.self.inside.grid c.self.inside.last _ (search rules) c.requires c.last_after-last.ensures.reported (search rules) c.self.invariant)
+    let k = c.self.invariant in
+    rw (c.in_ok-print_columns.ensures.page, c.in_ok-print_columns.ensures.sent.0)
+    (kept_sent _ _ _ _ _ c.self.inside.grid.width (rows_printed_out c.args.c c.self.inside.attrs c.self.inside.grid k.sound) (colored_printed_out c.args.c c.self.inside.attrs c.self.inside.grid (search rules) k.colored)
+    (kept_printed c.args.c c.self.inside.attrs c.self.inside.grid c.self.inside.last _ _ (search rules) c.requires c.last_after-last.ensures.reported (search rules) k))
 
 pub returns-clause-done : goal.returns-clause-done
 returns-clause-done g c =
     let s = the_view c.self.inside in
-    let rows = reported (printed_out c.args.c s.attrs s.page) s.scrollback in
-    let sent = c.in_ok-print.ensures.sent in
-    let same = same_callbacks g.CB.Callbacks.does rows _ c.print.new.leaving sent.1 in
-    let all = reported_to g.CB.Callbacks.does false rows _ c.print.new.leaving refl sent.1 in
-    character_printed g.CB.Callbacks.does c.args.c s c.args.self.now c.print.new.self c.print.new.above c.last_after-last.result c.args.callbacks.now _ c.self.view_is refl c.in_ok-print.ensures.page c.last_after-last.ensures.value sent.0
-    (subst (λ z. FoldsTo (Hears g.CB.Callbacks.does false) c.args.callbacks.now rows z) (search rules) all)
+    let rows = reported (printed_out c.args.c s.attrs s.page) c.self.inside.scrollback in
+    let sent = c.in_ok-print_columns.ensures.sent in
+    let same = same_callbacks g.CB.Callbacks.does rows _ c.print_columns.new.leaving sent.1 in
+    let all = reported_to g.CB.Callbacks.does s.is_alternate rows _ c.print_columns.new.leaving refl sent.1 in
+    character_printed g.CB.Callbacks.does c.args.c s c.args.self.now c.print_columns.new.self c.self.inside.scrollback c.self.inside.other_scrollback c.print_columns.new.above c.last_after-last.result c.args.callbacks.now _ c.self.view_is refl c.self.invariant.nothing c.in_ok-print_columns.ensures.page c.last_after-last.ensures.value sent.0
+    (subst (λ z. FoldsTo (Hears g.CB.Callbacks.does s.is_alternate) c.args.callbacks.now rows z) (search rules) all)

@@ -1,0 +1,83 @@
+-- The two pages of a screen (xterm's private modes 47 and 1049; DECSC, DECRC and RIS in the VT510 manual).
+use Rattle.std.specs.Prelude.{ℕ, ◌==◌, ◌&&◌, Bool, true, false, List, [], ◌++◌, length, map, Option, Some, None, option_map, unwrap_or, if◌then◌else◌}
+use Rattle.vt_grid.specs.Page.{Page, blank_page}
+use Rattle.vt_grid.specs.Moves.{cursor_saved, cursor_restored}
+use Rattle.vt_grid.specs.Resize.{out_of_view, page_resized, scrollback_resized, resize_reports}
+use Rattle.vt_grid.specs.Scrollback.{Scrollback, no_scrollback}
+use Rattle.vt_screen.specs.Calls.{CallValue, OnScroll}
+use Rattle.vt_screen.specs.Screen.{ScreenValue, above_page, fresh_screen}
+
+-- a fresh page of the screen's size
+abbrev pub fresh_page : ScreenValue → Page
+fresh_page screen = blank_page (length screen.page.rows) screen.page.width
+
+-- the page that isn't active; a fresh one, as long as it was never entered
+abbrev pub page_aside : ScreenValue → Page
+page_aside screen = unwrap_or screen.other (fresh_page screen)
+
+-- cursor, origin mode and attributes are saved, and restored as they were saved (DECSC, DECRC)
+abbrev pub saved : ScreenValue → ScreenValue
+saved screen = record screen { page = cursor_saved screen.page; saved_attrs = screen.attrs }
+
+abbrev pub restored : ScreenValue → ScreenValue
+restored screen = record screen { page = cursor_restored screen.page; attrs = screen.saved_attrs }
+
+-- the alternate page becomes the active one; no row of scrollback stays in view
+abbrev pub entered : ScreenValue → ScreenValue
+entered screen =
+    if screen.is_alternate then screen
+    else record screen { page = page_aside screen; other = Some screen.page; is_alternate = true; scrollback = out_of_view screen.scrollback }
+
+-- all is saved on the active page, and a fresh alternate page is entered; where that was the active one, what was saved on it goes too
+abbrev pub entered_fresh : ScreenValue → ScreenValue
+entered_fresh screen = record (entered (saved screen)) { page = fresh_page screen }
+
+-- the main page becomes the active one
+abbrev pub left : ScreenValue → ScreenValue
+left screen = if screen.is_alternate then record screen { page = page_aside screen; other = Some screen.page; is_alternate = false } else screen
+
+-- the main page becomes the active one, and its saved cursor and origin mode and the saved attributes are restored
+abbrev pub left_restored : ScreenValue → ScreenValue
+left_restored screen = restored (left screen)
+
+-- all is as on a fresh screen of the same size and capacity; an alternate page that was entered stays, made fresh (RIS)
+abbrev pub reset : ScreenValue → ScreenValue
+reset screen = record (fresh_screen (length screen.page.rows) screen.page.width screen.scrollback.capacity) {
+  other = option_map (λ _. fresh_page screen) screen.other;
+}
+
+-- ---- another size
+
+-- the page below scrollback, and the other one
+abbrev pub main_page : ScreenValue → Page
+main_page screen = if screen.is_alternate then page_aside screen else screen.page
+
+abbrev pub alternate_page : ScreenValue → Option Page
+alternate_page screen = if screen.is_alternate then Some screen.page else screen.other
+
+-- scrollback above the page that isn't active
+abbrev pub above_aside : ScreenValue → Scrollback
+above_aside screen = if screen.is_alternate then screen.scrollback else no_scrollback 0
+
+abbrev pub has_size : (rows cols : ℕ) → ScreenValue → Bool
+has_size rows cols screen = (rows == length screen.page.rows) && (cols == screen.page.width)
+
+-- both pages in another size, and scrollback above the main one; an equal size changes nothing
+abbrev pub resized : (rows cols : ℕ) → ScreenValue → ScreenValue
+resized rows cols screen =
+    if has_size rows cols screen then screen
+    else record screen {
+      page = page_resized rows cols (above_page screen) screen.page;
+      other = option_map (page_resized rows cols (above_aside screen)) screen.other;
+      scrollback = scrollback_resized rows (main_page screen) screen.scrollback;
+    }
+
+abbrev pub reports_of : (alternate : Bool) (rows : ℕ) → Option Page → Scrollback → List CallValue
+reports_of alternate rows (Some page) above = map (λ row. OnScroll row alternate) (resize_reports rows page above)
+reports_of alternate rows None above = []
+
+-- the calls on the way: for the rows that leave the main page and aren't kept, and then for those that leave the alternate one
+abbrev pub calls_resized : (rows cols : ℕ) → ScreenValue → List CallValue
+calls_resized rows cols screen =
+    if has_size rows cols screen then []
+    else reports_of false rows (Some (main_page screen)) screen.scrollback ++ reports_of true rows (alternate_page screen) (no_scrollback 0)

@@ -1,0 +1,169 @@
+//! Another size of the screen.
+
+ghost use Rattle.std.specs.List.{FoldsTo};
+ghost use Rattle.std.specs.Prelude.{◌≡◌, ◌<◌, ◌++◌, IfErr, IfOk, IsErr, OnErr, OnOk, Some, false, length, option_map, true};
+ghost use Rattle.vt_grid.specs.Page.{blank_page};
+ghost use Rattle.vt_grid.specs.Resize.{page_resized};
+ghost use Rattle.vt_grid.specs.Scrollback.{no_scrollback};
+ghost use Rattle.vt_screen.specs.Keeping.{IsNothing, pages_resized};
+ghost use Rattle.vt_screen.specs.Pages.{calls_resized, has_size, reports_of, resized};
+ghost use Rattle.vt_screen.specs.Run.{Told};
+ghost use Rattle.vt_screen.specs.Screen.{IsScreen};
+
+use super::Screen;
+use crate::callbacks::Callbacks;
+use crate::reporter::Reporter;
+use std::alloc::Global;
+use std::num::NonZeroU16;
+use vt_cells::Error;
+use vt_grid::{Grid, Scrollback, Size};
+
+impl Screen {
+    /// Gives the screen another number of rows and columns, as xterm's resize
+    /// does, on both pages. An equal size changes nothing and takes no memory.
+    /// Nobody is told of the rows that leave.
+    ///
+    /// Fails where memory is refused; then nothing has changed.
+    pub fn set_size(&mut self, rows: NonZeroU16, cols: NonZeroU16) -> Result<(), Error>
+        ensures ok { OnOk result (self.new ≡ resized rows.value cols.value self.old) }
+        ensures err { OnErr result (self.new ≡ self.old) }
+        ensures grows { IsErr result → has_size rows.value cols.value self.old ≡ false }
+        ensures memory { IfErr result (λ error. error ≡ Error.OutOfMemory) }
+    {
+        self.set_size_with_cb(rows, cols, &mut ())?;
+        Ok(())
+    }
+
+    /// Gives the screen another size, as [`Screen::set_size`] does, and tells
+    /// the callbacks of the rows that leave the pages at their tops and aren't
+    /// kept: first those of the main page, then those of the alternate one,
+    /// each older ones first.
+    ///
+    /// Fails where memory is refused; then nothing has changed, and nothing was
+    /// told.
+    pub fn set_size_with_cb<CB: Callbacks>(
+        &mut self,
+        rows: NonZeroU16,
+        cols: NonZeroU16,
+        callbacks: &mut CB,
+    ) -> Result<(), Error>
+        ensures ok { OnOk result (self.new ≡ resized rows.value cols.value self.old) }
+        ensures told { OnOk result (FoldsTo (Told CB.does) callbacks.old (calls_resized rows.value cols.value self.old) callbacks.new) }
+        ensures err { OnErr result ((self.new ≡ self.old) × (callbacks.new ≡ callbacks.old)) }
+        ensures grows { IsErr result → has_size rows.value cols.value self.old ≡ false }
+        ensures memory { IfErr result (λ error. error ≡ Error.OutOfMemory) }
+    {
+        let size = Size {
+            rows: rows.get(),
+            cols: cols.get(),
+        };
+        if self.has_size(size) {
+            return Ok(());
+        }
+        self.resize_pages(size, callbacks)?;
+        Ok(())
+    }
+
+    /// Whether this is the size of the screen.
+    fn has_size(&self, size: Size) -> bool
+        ensures value { result ≡ has_size size.rows size.cols self.now }
+        ensures whole { IsScreen self.now }
+    {
+        let now = self.grid.size();
+        size.rows == now.rows && size.cols == now.cols
+    }
+
+    /// Gives both pages another size; see [`Screen::set_size_with_cb`].
+    fn resize_pages<CB: Callbacks>(&mut self, size: Size, callbacks: &mut CB) -> Result<(), Error>
+        requires rows { 0 < size.rows }
+        requires cols { 0 < size.cols }
+        requires other { has_size size.rows size.cols self.old ≡ false }
+        requires whole { IsScreen self.old }
+        ensures ok { OnOk result (self.new ≡ resized size.rows size.cols self.old) }
+        ensures told { OnOk result (FoldsTo (Told CB.does) callbacks.old (calls_resized size.rows size.cols self.old) callbacks.new) }
+        ensures err { OnErr result ((self.new ≡ self.old) × (callbacks.new ≡ callbacks.old)) }
+        ensures memory { IfErr result (λ error. error ≡ Error.OutOfMemory) }
+    {
+        if !self.alternate_screen() {
+            return self.resize_below(size, callbacks);
+        }
+        self.exchange();
+        let done = self.resize_below(size, callbacks);
+        self.exchange();
+        done
+    }
+
+    /// Gives both pages another size, while the main page is the active one.
+    fn resize_below<CB: Callbacks>(&mut self, size: Size, callbacks: &mut CB) -> Result<(), Error>
+        requires rows { 0 < size.rows }
+        requires cols { 0 < size.cols }
+        requires main { self.old.is_alternate ≡ false }
+        ensures ok { OnOk result (self.new ≡ pages_resized size.rows size.cols self.old) }
+        ensures told { OnOk result (FoldsTo (Told CB.does) callbacks.old (reports_of false size.rows (Some self.old.page) self.old.scrollback ++ reports_of true size.rows self.old.other (no_scrollback 0)) callbacks.new) }
+        ensures err { OnErr result ((self.new ≡ self.old) × (callbacks.new ≡ callbacks.old)) }
+        ensures memory { IfErr result (λ error. error ≡ Error.OutOfMemory) }
+    {
+        let fresh = Grid::new(self.alloc, size)?;
+        let other_fresh = fresh_page(&self.other, self.alloc, size)?;
+        let mut reporter = Reporter {
+            callbacks: &mut *callbacks,
+            alternate: false,
+        };
+        self.grid
+            .set_size(fresh, &mut self.scrollback, &mut reporter)?;
+        self.other_scrollback.clear(&mut ());
+        resize_alternate(
+            &mut self.other,
+            other_fresh,
+            size,
+            &mut self.other_scrollback,
+            callbacks,
+        );
+        Ok(())
+    }
+}
+
+/// A fresh page to take over another one, if there is one.
+fn fresh_page(page: &Option<Grid>, alloc: Global, size: Size) -> Result<Option<Grid>, Error>
+    requires rows { 0 < size.rows }
+    requires cols { 0 < size.cols }
+    ensures ok { IfOk result (λ fresh. fresh ≡ option_map (λ _. blank_page size.rows size.cols) page.now) }
+    ensures memory { IfErr result (λ error. error ≡ Error.OutOfMemory) }
+{
+    match page {
+        Some(_) => Ok(Some(Grid::new(alloc, size)?)),
+        None => Ok(None),
+    }
+}
+
+/// Gives the alternate page, if there is one, another size. It takes no memory,
+/// since no row is kept above it.
+fn resize_alternate<CB: Callbacks>(
+    page: &mut Option<Grid>,
+    fresh: Option<Grid>,
+    size: Size,
+    nothing: &mut Scrollback,
+    callbacks: &mut CB,
+)
+    requires rows { 0 < size.rows }
+    requires cols { 0 < size.cols }
+    requires fresh { fresh ≡ option_map (λ _. blank_page size.rows size.cols) page.old }
+    requires nothing { nothing.old ≡ no_scrollback 0 }
+    ensures page { page.new ≡ option_map (page_resized size.rows size.cols (no_scrollback 0)) page.old }
+    ensures told { FoldsTo (Told CB.does) callbacks.old (reports_of true size.rows page.old (no_scrollback 0)) callbacks.new }
+    ensures nothing { IsNothing nothing.new }
+{
+    let Some(fresh) = fresh else {
+        return;
+    };
+    let Some(page) = page else {
+        return;
+    };
+    let mut reporter = Reporter {
+        callbacks,
+        alternate: true,
+    };
+    let done = page.set_size(fresh, nothing, &mut reporter);
+    prove!(done.is_ok());
+    let _ = done;
+}
