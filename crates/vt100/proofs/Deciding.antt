@@ -1,8 +1,9 @@
 -- Which steps there are, from the tests that the code makes.
 use Rattle.std.proofs.Common.{◌≡◌, ◌≢◌, ℕ, ◌<◌, ◌≤◌, ◌==◌, ◌&&◌, ◌||◌, nat_le, Bool, true, false, List, [], ◌∷◌, length, codes, refl, arith}
 use Rattle.std.proofs.lemmas.Bool.Decides.{nat_tests}
-use Rattle.vt_screen.specs.Calls.{CallValue, SetWindowIconName, SetWindowTitle, UnhandledChar, UnhandledControl, UnhandledEscape, UnhandledOsc}
-use Rattle.vt_screen.specs.Steps.{Tell, LineFeed, Print, character_steps, control_steps, escape_steps, mark_at, mode_steps, named_steps, osc_steps, is_text}
+use Rattle.vt_screen.specs.Calls.{CallValue, Resize, SetWindowIconName, SetWindowTitle, UnhandledChar, UnhandledControl, UnhandledEscape, UnhandledOsc}
+use Rattle.vt_screen.specs.Screen.{ScreenValue}
+use Rattle.vt_screen.specs.Steps.{Tell, LineFeed, Print, character_steps, control_steps, escape_steps, mark_at, mode_steps, named_steps, number_at, osc_steps, size_or, window_steps, is_text}
 
 pub reported_steps : (c : ℕ) → ((c == 0xFFFD) || (nat_le 0x80 c && nat_le c 0x9F)) ≡ true → character_steps c ≡ Tell (UnhandledChar c) ∷ []
 unfolding character_steps
@@ -37,6 +38,10 @@ pub other_group : (on : Bool) (report : CallValue) (group : List ℕ) → length
 other_group on report [] h = refl
 other_group on report (x ∷ []) h = absurd (h refl)
 other_group on report (x ∷ y ∷ zs) h = refl
+
+pub sized : (groups : List (List ℕ)) (screen : ScreenValue) (height width rows cols : ℕ) → number_at 0 groups ≡ 8 → height ≡ length screen.page.rows → width ≡ screen.page.width → rows ≡ size_or height 1 groups → cols ≡ size_or width 2 groups → window_steps groups screen ≡ Tell (Resize rows cols) ∷ []
+unfolding window_steps
+sized groups screen height width rows cols asked h w r c = rw (asked, r, c, h, w) refl
 
 pub other_parts : (parts : List (List ℕ)) → length parts ≢ 2 → length parts ≢ 3 → osc_steps parts ≡ Tell (UnhandledOsc parts) ∷ []
 other_parts [] h k = refl

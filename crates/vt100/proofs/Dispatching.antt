@@ -1,5 +1,5 @@
 -- What a control sequence does, from the tests that the code makes.
-use Rattle.std.proofs.Common.{◌≡◌, ℕ, Bool, true, false, List, [], ◌∷◌, Option, None, Some, subst, rules}
+use Rattle.std.proofs.Common.{◌≡◌, ℕ, true, false, List, [], ◌∷◌, Option, None, Some, subst, rules}
 use Rattle.vt_screen.specs.Calls.{CallValue}
 use Rattle.vt_screen.specs.Screen.{ScreenValue}
 use Rattle.vt_screen.specs.Steps.{Step, counted_step, csi_steps, mark_at, marked_steps, number_or, one_or, plain_steps, scrolling_steps}
@@ -39,3 +39,7 @@ plain_does does groups (m ∷ marks) b s t d e h k = search rules
 pub marked_does : {S : Type 0} (does : CallValue → S → ScreenValue → S → ScreenValue → Type 0) (groups : List (List ℕ)) (marks : List ℕ) (mark b : ℕ) (s t : S) (d e : ScreenValue) → mark_at 0 marks ≡ Some mark → Does does s d (marked_steps mark (mark_at 1 marks) groups b) t e → Does does s d (csi_steps groups marks b d) t e
 marked_does does groups [] mark b s t d e h k = search rules
 marked_does does groups (m ∷ marks) mark b s t d e h k = search rules
+
+pub marked_stops : {S : Type 0} (does : CallValue → S → ScreenValue → S → ScreenValue → Type 0) (groups : List (List ℕ)) (marks : List ℕ) (mark b : ℕ) (s t : S) (d e : ScreenValue) → mark_at 0 marks ≡ Some mark → Stops does s d (marked_steps mark (mark_at 1 marks) groups b) t e → Stops does s d (csi_steps groups marks b d) t e
+marked_stops does groups [] mark b s t d e h k = search rules
+marked_stops does groups (m ∷ marks) mark b s t d e h k = search rules

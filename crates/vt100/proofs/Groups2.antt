@@ -7,9 +7,9 @@ use Rattle.vt_screen.specs.Sgr.{group_read}
 use Rattle.vt_screen.specs.declared.sgr.Wanted.{Wanted}
 use Rattle.vt_screen.specs.declared.sgr.GroupRead.{GroupRead}
 use Rattle.vt_screen.specs.Steps.{Step, Tell, mode_step, mode_steps, osc_steps, reading_steps, sgr_from}
-use Rattle.vt100.specs.Keeping.{Does}
+use Rattle.vt100.specs.Keeping.{Does, Stops}
 use Rattle.vt100.proofs.Deciding.{other_parts}
-use Rattle.vt100.proofs.Stepping.{Rest, rest_on}
+use Rattle.vt100.proofs.Stepping.{Left, Rest, left_through, left_within, rest_on}
 
 -- the item that indexing falls back on
 abbrev pub nothing : Bor (List ℕ)
@@ -25,14 +25,21 @@ modes_parted on report [] xs = refl
 modes_parted on report (n ∷ []) xs = ap (λ (steps : List Step). steps ++ mode_steps on report xs) (sym (append-nil (mode_step on report n)))
 modes_parted on report (n ∷ m ∷ ns) xs = refl
 
--- one more group of modes is done
-pub modes_left : {S : Type 0} (does : CallValue → S → ScreenValue → S → ScreenValue → Type 0) (s t u : S) (d e f : ScreenValue) (all : List Step) (on : Bool) (report : CallValue) (groups : List (Bor (List ℕ))) (i : ℕ) (none : Bor (List ℕ)) → i < length groups → Rest does s d all t e (mode_steps on report (map (λ (group : Bor (List ℕ)). group.now) (drop i groups))) → Does does t e (mode_steps on report ((get_or groups i none).now ∷ [])) u f → Rest does s d all u f (mode_steps on report (map (λ (group : Bor (List ℕ)). group.now) (drop (i + 1) groups)))
-modes_left {S} does s t u d e f all on report groups i none h rest done =
-    let next : mode_steps on report (map (λ (group : Bor (List ℕ)). group.now) (drop i groups)) ≡ mode_steps on report ((get_or groups i none).now ∷ []) ++ mode_steps on report (map (λ (group : Bor (List ℕ)). group.now) (drop (i + 1) groups)) =
+modes_next : (on : Bool) (report : CallValue) (groups : List (Bor (List ℕ))) (i : ℕ) (none : Bor (List ℕ)) → i < length groups → mode_steps on report (map (λ (group : Bor (List ℕ)). group.now) (drop i groups)) ≡ mode_steps on report ((get_or groups i none).now ∷ []) ++ mode_steps on report (map (λ (group : Bor (List ℕ)). group.now) (drop (i + 1) groups))
+modes_next on report groups i none h =
     ap (λ (gs : List (Bor (List ℕ))). mode_steps on report (map (λ (group : Bor (List ℕ)). group.now) gs)) (drop_more groups i none h)
-    ∙ modes_parted on report (get_or groups i none).now (map (λ (group : Bor (List ℕ)). group.now) (drop (i + 1) groups)) in
-    rest_on does s t u d e f all (mode_steps on report ((get_or groups i none).now ∷ [])) (mode_steps on report (map (λ (group : Bor (List ℕ)). group.now) (drop (i + 1) groups)))
-    (subst (λ (steps : List Step). Rest does s d all t e steps) next rest) done
+    ∙ modes_parted on report (get_or groups i none).now (map (λ (group : Bor (List ℕ)). group.now) (drop (i + 1) groups))
+
+-- one more group of modes is done, or stopped in
+pub modes_left : {S : Type 0} (does : CallValue → S → ScreenValue → S → ScreenValue → Type 0) (s t u : S) (d e f : ScreenValue) (all : List Step) (on : Bool) (report : CallValue) (groups : List (Bor (List ℕ))) (i : ℕ) (none : Bor (List ℕ)) → i < length groups → Left does s d all t e (mode_steps on report (map (λ (group : Bor (List ℕ)). group.now) (drop i groups))) → Does does t e (mode_steps on report ((get_or groups i none).now ∷ [])) u f → Left does s d all u f (mode_steps on report (map (λ (group : Bor (List ℕ)). group.now) (drop (i + 1) groups)))
+modes_left {S} does s t u d e f all on report groups i none h left done =
+    left_through does s t u d e f all (mode_steps on report ((get_or groups i none).now ∷ [])) (mode_steps on report (map (λ (group : Bor (List ℕ)). group.now) (drop (i + 1) groups)))
+    (subst (λ (steps : List Step). Left does s d all t e steps) (modes_next on report groups i none h) left) done
+
+pub modes_stop : {S : Type 0} (does : CallValue → S → ScreenValue → S → ScreenValue → Type 0) (s t u : S) (d e f : ScreenValue) (all : List Step) (on : Bool) (report : CallValue) (groups : List (Bor (List ℕ))) (i : ℕ) (none : Bor (List ℕ)) → i < length groups → Left does s d all t e (mode_steps on report (map (λ (group : Bor (List ℕ)). group.now) (drop i groups))) → Stops does t e (mode_steps on report ((get_or groups i none).now ∷ [])) u f → Stops does s d all u f
+modes_stop {S} does s t u d e f all on report groups i none h left stop =
+    left_within does s t u d e f all (mode_steps on report ((get_or groups i none).now ∷ [])) (mode_steps on report (map (λ (group : Bor (List ℕ)). group.now) (drop (i + 1) groups)))
+    (subst (λ (steps : List Step). Left does s d all t e steps) (modes_next on report groups i none h) left) stop
 
 -- one more group of settings is done
 pub settings_left : {S : Type 0} (does : CallValue → S → ScreenValue → S → ScreenValue → Type 0) (s t u : S) (d e f : ScreenValue) (all : List Step) (whole : List (List ℕ)) (wanted : Wanted) (groups : List (Bor (List ℕ))) (i : ℕ) (none : Bor (List ℕ)) (read : GroupRead) → i < length groups → read ≡ group_read wanted (get_or groups i none).now → Rest does s d all t e (sgr_from whole wanted (map (λ (group : Bor (List ℕ)). group.now) (drop i groups))) → Does does t e (reading_steps whole read.reading) u f → Rest does s d all u f (sgr_from whole read.wanted (map (λ (group : Bor (List ℕ)). group.now) (drop (i + 1) groups)))

@@ -1,11 +1,12 @@
 -- What is read quietly happens in every run.
-use Rattle.std.specs.Prelude.{if◌then◌else◌}
+use Rattle.std.specs.Prelude.{if◌then◌else◌, is_some}
 use Rattle.std.proofs.Common.{◌≡◌, ◌==◌, ◌⊎◌, ℕ, zero, suc, ◌+◌, ◌<◌, min, inl, inr, Bool, true, false, List, [], ◌∷◌, ◌++◌, length, take, Option, Some, None, cond, refl, sym, subst, ap, ◌∙◌, arith}
 use Rattle.std.specs.List.{FoldsTo}
 use Rattle.std.proofs.lemmas.Bool.{false≢true}
 use Rattle.vt_grid.specs.Canvas.{and_then, pushes}
 use Rattle.vt_grid.specs.Moves.{feeds_out}
 use Rattle.vt_grid.specs.Outgoing.{left_by}
+use Rattle.vt_grid.specs.Scrollback as room
 use Rattle.vt_grid.specs.Scrollback.{Scrollback, pushed, reported}
 use Rattle.vt_rows.specs.Row.{RowValue}
 use Rattle.vt_cells.specs.Glyph.{columns_of}
@@ -17,7 +18,7 @@ use Rattle.vt_screen.specs.Calls.{CallValue}
 use Rattle.vt_screen.specs.Screen.{ScreenValue, above_page}
 use Rattle.vt_screen.specs.Run as act
 use Rattle.vt_screen.specs.Run.{Performs, Breaks, Hears, Refuses, StopsIn, Takes, state}
-use Rattle.vt_screen.specs.Steps.{Step, Print, CarriageReturn, LineFeed, ReverseIndex, MoveUp, MoveDown, MoveLeft, NextLine, PreviousLine, Tab, MoveToColumn, MoveToRow, SetRegion, UseOrigin, EraseAbove, ErasePage, EraseScrollback, EraseStart, EraseRow, InsertChars, DeleteChars, InsertLines, DeleteLines, ScrollDown, ScrollUp, MoveRight, MoveTo, EraseBelow, EraseRest, EraseChars, Render, HideCursor, UseApplicationCursor, UseBracketedPaste, SetMouseMode, ClearMouseMode, SetMouseEncoding, ClearMouseEncoding, SetCursorStyle, Tell, Grows, outgoing, stepped, steps_of}
+use Rattle.vt_screen.specs.Steps.{Step, Print, CarriageReturn, LineFeed, ReverseIndex, MoveUp, MoveDown, MoveLeft, NextLine, PreviousLine, Tab, MoveToColumn, MoveToRow, SetRegion, UseOrigin, EraseAbove, ErasePage, EraseScrollback, EraseStart, EraseRow, InsertChars, DeleteChars, InsertLines, DeleteLines, ScrollDown, ScrollUp, MoveRight, MoveTo, EraseBelow, EraseRest, EraseChars, Render, HideCursor, UseApplicationCursor, UseBracketedPaste, SetMouseMode, ClearMouseMode, SetMouseEncoding, ClearMouseEncoding, SetCursorStyle, SaveCursor, RestoreCursor, EnterAlternate, EnterFresh, LeaveAlternate, LeaveRestoring, Reset, UseApplicationKeypad, Tell, Grows, outgoing, stepped, steps_of}
 use Rattle.vt_screen.specs.Reading.{Terminal, terminal, grows, quiet_step, quiet_steps, quiet_events, read, read_byte}
 use Rattle.vt100.specs.Parser.{Parsing, Ran, Stopped, Collects, stage}
 use Rattle.vt100.proofs.Running.{folds_parted}
@@ -46,6 +47,10 @@ and_then-some f (Some a) y e = (a, refl, e)
 calm_of : {A : Type 0} (b : Bool) (o : Option A) (y : A) → cond b None o ≡ Some y → (b ≡ false) × (o ≡ Some y)
 calm_of true o y e = absurd (subst IsNone e tt)
 calm_of false o y e = (refl, e)
+
+there_of : {A B : Type 0} (p : Option B) (o : Option A) (y : A) → (if is_some p then o else None) ≡ Some y → (is_some p ≡ true) × (o ≡ Some y)
+there_of None o y e = absurd (subst IsNone e tt)
+there_of (Some x) o y e = (refl, e)
 
 same_screen : (alternate : Bool) (x y z : ScreenValue) → y ≡ x → z ≡ x → (if alternate then y else z) ≡ x
 same_screen true x y z p q = p
@@ -112,6 +117,14 @@ quiet_takes does (ClearMouseMode mode) held screen after b e t = t ∙ ap (state
 quiet_takes does (SetMouseEncoding form) held screen after b e t = t ∙ ap (state held) (same_some (stepped (SetMouseEncoding form) screen) after e)
 quiet_takes does (ClearMouseEncoding form) held screen after b e t = t ∙ ap (state held) (same_some (stepped (ClearMouseEncoding form) screen) after e)
 quiet_takes does (SetCursorStyle look) held screen after b e t = t ∙ ap (state held) (same_some (stepped (SetCursorStyle look) screen) after e)
+quiet_takes does SaveCursor held screen after b e t = t ∙ ap (state held) (same_some (stepped SaveCursor screen) after e)
+quiet_takes does RestoreCursor held screen after b e t = t ∙ ap (state held) (same_some (stepped RestoreCursor screen) after e)
+quiet_takes does LeaveAlternate held screen after b e t = t ∙ ap (state held) (same_some (stepped LeaveAlternate screen) after e)
+quiet_takes does LeaveRestoring held screen after b e t = t ∙ ap (state held) (same_some (stepped LeaveRestoring screen) after e)
+quiet_takes does Reset held screen after b e t = t ∙ ap (state held) (same_some (stepped Reset screen) after e)
+quiet_takes does (UseApplicationKeypad on) held screen after b e t = t ∙ ap (state held) (same_some (stepped (UseApplicationKeypad on) screen) after e)
+quiet_takes does EnterAlternate held screen after b e t = t ∙ ap (state held) (same_some (stepped EnterAlternate screen) after (there_of screen.other (Some (stepped EnterAlternate screen)) after e).1)
+quiet_takes does EnterFresh held screen after b e t = t ∙ ap (state held) (same_some (stepped EnterFresh screen) after (there_of screen.other (Some (stepped EnterFresh screen)) after e).1)
 
 quiet_folds : {S : Type 0} (does : CallValue → S → ScreenValue → S → ScreenValue → Type 0) (steps : List Step) (held : S) (screen after : ScreenValue) (b : act.State S) → quiet_steps steps screen ≡ Some after → FoldsTo (Takes does) (state held screen) steps b → b ≡ state held after
 quiet_folds does [] held screen after b e t = sym t ∙ ap (state held) (same_some screen after e)
@@ -129,56 +142,64 @@ quiet_performs does (event ∷ events) held screen after b e t =
 
 -- ---- nothing is refused
 
-never_grows : (step : Step) (screen : ScreenValue) → outgoing step screen ≡ [] → Grows step screen → ⊥
-never_grows step screen none grows = let n : length (outgoing step screen) ≡ 0 = ap length none in absurd (omega (arith, grows.0, n))
+never_grows : (gone : List RowValue) (above : Scrollback) → gone ≡ [] → room.Takes gone above → ⊥
+never_grows gone above none takes = let n : length gone ≡ 0 = ap length none in absurd (omega (arith, takes.0, n))
 
 quiet_holds : (x : Step) (screen after : ScreenValue) → quiet_step x screen ≡ Some after → Grows x screen → ⊥
 quiet_holds (Print c) screen after e g =
     let calm = calm_of (pushes c screen.page) (Some (stepped (Print c) screen)) after e in
-    never_grows (Print c) screen (ap (λ (pushed : Bool). if pushed then take 1 (left_by (columns_of c) screen.attrs screen.page).rows else []) calm.0) g
+    never_grows (outgoing (Print c) screen) (above_page screen) (ap (λ (pushed : Bool). if pushed then take 1 (left_by (columns_of c) screen.attrs screen.page).rows else []) calm.0) g
 quiet_holds LineFeed screen after e g =
     let calm = calm_of (feeds_out screen.page) (Some (stepped LineFeed screen)) after e in
-    never_grows LineFeed screen (ap (λ (fed : Bool). if fed then take 1 screen.page.rows else []) calm.0) g
+    never_grows (outgoing LineFeed screen) (above_page screen) (ap (λ (fed : Bool). if fed then take 1 screen.page.rows else []) calm.0) g
 quiet_holds (ScrollUp count) screen after e g =
     let calm = calm_of (screen.page.top == 0) (Some (stepped (ScrollUp count) screen)) after e in
-    never_grows (ScrollUp count) screen (ap (λ (whole : Bool). if whole then take (min count (screen.page.bottom + 1)) screen.page.rows else []) calm.0) g
-quiet_holds (Tell call) screen after e g = never_grows (Tell call) screen refl g
-quiet_holds CarriageReturn screen after e g = never_grows CarriageReturn screen refl g
-quiet_holds ReverseIndex screen after e g = never_grows ReverseIndex screen refl g
-quiet_holds (MoveUp count) screen after e g = never_grows (MoveUp count) screen refl g
-quiet_holds (MoveDown count) screen after e g = never_grows (MoveDown count) screen refl g
-quiet_holds (MoveRight count) screen after e g = never_grows (MoveRight count) screen refl g
-quiet_holds (MoveLeft count) screen after e g = never_grows (MoveLeft count) screen refl g
-quiet_holds (NextLine count) screen after e g = never_grows (NextLine count) screen refl g
-quiet_holds (PreviousLine count) screen after e g = never_grows (PreviousLine count) screen refl g
-quiet_holds Tab screen after e g = never_grows Tab screen refl g
-quiet_holds (MoveTo row col) screen after e g = never_grows (MoveTo row col) screen refl g
-quiet_holds (MoveToColumn col) screen after e g = never_grows (MoveToColumn col) screen refl g
-quiet_holds (MoveToRow row) screen after e g = never_grows (MoveToRow row) screen refl g
-quiet_holds (SetRegion top bottom) screen after e g = never_grows (SetRegion top bottom) screen refl g
-quiet_holds (UseOrigin on) screen after e g = never_grows (UseOrigin on) screen refl g
-quiet_holds EraseBelow screen after e g = never_grows EraseBelow screen refl g
-quiet_holds EraseAbove screen after e g = never_grows EraseAbove screen refl g
-quiet_holds ErasePage screen after e g = never_grows ErasePage screen refl g
-quiet_holds EraseScrollback screen after e g = never_grows EraseScrollback screen refl g
-quiet_holds EraseRest screen after e g = never_grows EraseRest screen refl g
-quiet_holds EraseStart screen after e g = never_grows EraseStart screen refl g
-quiet_holds EraseRow screen after e g = never_grows EraseRow screen refl g
-quiet_holds (EraseChars count) screen after e g = never_grows (EraseChars count) screen refl g
-quiet_holds (InsertChars count) screen after e g = never_grows (InsertChars count) screen refl g
-quiet_holds (DeleteChars count) screen after e g = never_grows (DeleteChars count) screen refl g
-quiet_holds (InsertLines count) screen after e g = never_grows (InsertLines count) screen refl g
-quiet_holds (DeleteLines count) screen after e g = never_grows (DeleteLines count) screen refl g
-quiet_holds (ScrollDown count) screen after e g = never_grows (ScrollDown count) screen refl g
-quiet_holds (Render setting) screen after e g = never_grows (Render setting) screen refl g
-quiet_holds (HideCursor hidden) screen after e g = never_grows (HideCursor hidden) screen refl g
-quiet_holds (UseApplicationCursor on) screen after e g = never_grows (UseApplicationCursor on) screen refl g
-quiet_holds (UseBracketedPaste on) screen after e g = never_grows (UseBracketedPaste on) screen refl g
-quiet_holds (SetMouseMode mode) screen after e g = never_grows (SetMouseMode mode) screen refl g
-quiet_holds (ClearMouseMode mode) screen after e g = never_grows (ClearMouseMode mode) screen refl g
-quiet_holds (SetMouseEncoding form) screen after e g = never_grows (SetMouseEncoding form) screen refl g
-quiet_holds (ClearMouseEncoding form) screen after e g = never_grows (ClearMouseEncoding form) screen refl g
-quiet_holds (SetCursorStyle look) screen after e g = never_grows (SetCursorStyle look) screen refl g
+    never_grows (outgoing (ScrollUp count) screen) (above_page screen) (ap (λ (whole : Bool). if whole then take (min count (screen.page.bottom + 1)) screen.page.rows else []) calm.0) g
+quiet_holds (Tell call) screen after e g = never_grows [] (above_page screen) refl g
+quiet_holds CarriageReturn screen after e g = never_grows [] (above_page screen) refl g
+quiet_holds ReverseIndex screen after e g = never_grows [] (above_page screen) refl g
+quiet_holds (MoveUp count) screen after e g = never_grows [] (above_page screen) refl g
+quiet_holds (MoveDown count) screen after e g = never_grows [] (above_page screen) refl g
+quiet_holds (MoveRight count) screen after e g = never_grows [] (above_page screen) refl g
+quiet_holds (MoveLeft count) screen after e g = never_grows [] (above_page screen) refl g
+quiet_holds (NextLine count) screen after e g = never_grows [] (above_page screen) refl g
+quiet_holds (PreviousLine count) screen after e g = never_grows [] (above_page screen) refl g
+quiet_holds Tab screen after e g = never_grows [] (above_page screen) refl g
+quiet_holds (MoveTo row col) screen after e g = never_grows [] (above_page screen) refl g
+quiet_holds (MoveToColumn col) screen after e g = never_grows [] (above_page screen) refl g
+quiet_holds (MoveToRow row) screen after e g = never_grows [] (above_page screen) refl g
+quiet_holds (SetRegion top bottom) screen after e g = never_grows [] (above_page screen) refl g
+quiet_holds (UseOrigin on) screen after e g = never_grows [] (above_page screen) refl g
+quiet_holds EraseBelow screen after e g = never_grows [] (above_page screen) refl g
+quiet_holds EraseAbove screen after e g = never_grows [] (above_page screen) refl g
+quiet_holds ErasePage screen after e g = never_grows [] (above_page screen) refl g
+quiet_holds EraseScrollback screen after e g = never_grows [] (above_page screen) refl g
+quiet_holds EraseRest screen after e g = never_grows [] (above_page screen) refl g
+quiet_holds EraseStart screen after e g = never_grows [] (above_page screen) refl g
+quiet_holds EraseRow screen after e g = never_grows [] (above_page screen) refl g
+quiet_holds (EraseChars count) screen after e g = never_grows [] (above_page screen) refl g
+quiet_holds (InsertChars count) screen after e g = never_grows [] (above_page screen) refl g
+quiet_holds (DeleteChars count) screen after e g = never_grows [] (above_page screen) refl g
+quiet_holds (InsertLines count) screen after e g = never_grows [] (above_page screen) refl g
+quiet_holds (DeleteLines count) screen after e g = never_grows [] (above_page screen) refl g
+quiet_holds (ScrollDown count) screen after e g = never_grows [] (above_page screen) refl g
+quiet_holds (Render setting) screen after e g = never_grows [] (above_page screen) refl g
+quiet_holds (HideCursor hidden) screen after e g = never_grows [] (above_page screen) refl g
+quiet_holds (UseApplicationCursor on) screen after e g = never_grows [] (above_page screen) refl g
+quiet_holds (UseBracketedPaste on) screen after e g = never_grows [] (above_page screen) refl g
+quiet_holds (SetMouseMode mode) screen after e g = never_grows [] (above_page screen) refl g
+quiet_holds (ClearMouseMode mode) screen after e g = never_grows [] (above_page screen) refl g
+quiet_holds (SetMouseEncoding form) screen after e g = never_grows [] (above_page screen) refl g
+quiet_holds (ClearMouseEncoding form) screen after e g = never_grows [] (above_page screen) refl g
+quiet_holds (SetCursorStyle look) screen after e g = never_grows [] (above_page screen) refl g
+quiet_holds SaveCursor screen after e g = never_grows [] (above_page screen) refl g
+quiet_holds RestoreCursor screen after e g = never_grows [] (above_page screen) refl g
+quiet_holds LeaveAlternate screen after e g = never_grows [] (above_page screen) refl g
+quiet_holds LeaveRestoring screen after e g = never_grows [] (above_page screen) refl g
+quiet_holds Reset screen after e g = never_grows [] (above_page screen) refl g
+quiet_holds (UseApplicationKeypad on) screen after e g = never_grows [] (above_page screen) refl g
+quiet_holds EnterAlternate screen after e g = false≢true (ap is_some (sym g) ∙ (there_of screen.other (Some (stepped EnterAlternate screen)) after e).0)
+quiet_holds EnterFresh screen after e g = false≢true (ap is_some (sym g) ∙ (there_of screen.other (Some (stepped EnterFresh screen)) after e).0)
 
 quiet_stays : {S : Type 0} (does : CallValue → S → ScreenValue → S → ScreenValue → Type 0) (steps : List Step) (held : S) (screen after : ScreenValue) (b : act.State S) → quiet_steps steps screen ≡ Some after → StopsIn (Takes does) Refuses (state held screen) steps b → ⊥
 quiet_stays does [] held screen after b e t = t

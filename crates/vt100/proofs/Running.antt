@@ -1,11 +1,12 @@
 -- Runs, one after the other.
-use Rattle.std.proofs.Common.{◌≡◌, ℕ, List, [], ◌∷◌, ◌++◌, ◌+◌, ◌<◌, length, take, drop, slice_index_or, refl, sym, subst, ap, ◌∙◌, inl, inr}
+use Rattle.std.proofs.Common.{◌≡◌, ℕ, List, [], ◌∷◌, ◌++◌, ◌+◌, ◌<◌, length, take, drop, slice_index_or, Some, None, refl, sym, subst, ap, ◌∙◌, inl, inr}
 use Rattle.std.proofs.lemmas.List.{append-nil, drop_more, take-append-drop}
 use Rattle.std.specs.List.{FoldsTo}
 use Rattle.vt_scan.specs.Automaton.{State, step_in}
 use Rattle.vt_scan.specs.Run.{run}
 use Rattle.vt_scan.specs.Scanner.{Feeds, Held, StandsFor, events_in}
 use Rattle.vt_scan.specs.Table.{class_of, turn_of}
+use Rattle.vt_scan.specs.declared.event.Event.TheVariants.{Character}
 use Rattle.vt_scan.specs.declared.event.Events.{Events}
 use Rattle.vt_scan.specs.declared.table.Kind.{Kind}
 use Rattle.vt_scan.specs.declared.table.Kind.TheVariants.{OscString}
@@ -73,3 +74,11 @@ stopped_within does p m q after bytes k answer inside ran feeds stops = λ s sta
     let all = stops_then (Performs does) (Breaks does) there.events (run there.state (x ∷ rest)).events (stage p) (stage m) (stage q) one.1 here in
     subst (λ (bs : List ℕ). StopsIn (Performs does) (Breaks does) (stage p) (run s bs).events (stage q)) split
     (rw (run-append s (take k bytes) (x ∷ rest)) all)
+
+-- one character, and nothing after it
+abbrev pub one_character : ℕ → Events
+one_character code = record { first = Some (Character code); second = None }
+
+-- a byte that is read as its character
+pub plain_answer : (held : Held) (b code : ℕ) → Feeds held b held (one_character b) → code ≡ b → Feeds held b held (one_character code)
+plain_answer held b code feeds same = subst (λ (k : ℕ). Feeds held b held (one_character k)) (sym same) feeds

@@ -5,9 +5,9 @@ use Rattle.std.proofs.lemmas.Bool.{false≢true}
 use Rattle.vt_screen.specs.Calls.{CallValue}
 use Rattle.vt_screen.specs.Screen.{ScreenValue}
 use Rattle.vt_screen.specs.Run.{State, Takes, Refuses, StopsIn, state}
-use Rattle.vt_screen.specs.Steps.{Step, Print, CarriageReturn, LineFeed, ReverseIndex, MoveUp, MoveDown, MoveLeft, NextLine, PreviousLine, Tab, MoveToColumn, MoveToRow, SetRegion, UseOrigin, EraseAbove, ErasePage, EraseScrollback, EraseStart, EraseRow, InsertChars, DeleteChars, InsertLines, DeleteLines, ScrollDown, ScrollUp, MoveRight, MoveTo, EraseBelow, EraseRest, EraseChars, Render, HideCursor, UseApplicationCursor, UseBracketedPaste, SetMouseMode, ClearMouseMode, SetMouseEncoding, ClearMouseEncoding, SetCursorStyle, Tell, stepped}
+use Rattle.vt_screen.specs.Steps.{Step, Print, CarriageReturn, LineFeed, ReverseIndex, MoveUp, MoveDown, MoveLeft, NextLine, PreviousLine, Tab, MoveToColumn, MoveToRow, SetRegion, UseOrigin, EraseAbove, ErasePage, EraseScrollback, EraseStart, EraseRow, InsertChars, DeleteChars, InsertLines, DeleteLines, ScrollDown, ScrollUp, MoveRight, MoveTo, EraseBelow, EraseRest, EraseChars, Render, HideCursor, UseApplicationCursor, UseBracketedPaste, SetMouseMode, ClearMouseMode, SetMouseEncoding, ClearMouseEncoding, SetCursorStyle, SaveCursor, RestoreCursor, EnterAlternate, EnterFresh, LeaveAlternate, LeaveRestoring, Reset, UseApplicationKeypad, Tell, Grows, alternate_step, fresh_step, stepped}
 use Rattle.vt100.specs.Keeping.{Does, Stops, is_own}
-use Rattle.vt100.proofs.Running.{folds_then}
+use Rattle.vt100.proofs.Running.{folds_then, stops_first, stops_then}
 
 pub taken : {S : Type 0} (does : CallValue → S → ScreenValue → S → ScreenValue → Type 0) (x : Step) (s t : S) (d e : ScreenValue) → Takes does (state s d) x (state t e) → Does does s d (x ∷ []) t e
 taken does x s t d e h = (state t e, h, refl)
@@ -60,11 +60,44 @@ takes_own does (ClearMouseMode mode) s d e own h = ap (state s) h
 takes_own does (SetMouseEncoding form) s d e own h = ap (state s) h
 takes_own does (ClearMouseEncoding form) s d e own h = ap (state s) h
 takes_own does (SetCursorStyle look) s d e own h = ap (state s) h
+takes_own does SaveCursor s d e own h = ap (state s) h
+takes_own does RestoreCursor s d e own h = ap (state s) h
+takes_own does EnterAlternate s d e own h = absurd (false≢true own)
+takes_own does EnterFresh s d e own h = absurd (false≢true own)
+takes_own does LeaveAlternate s d e own h = ap (state s) h
+takes_own does LeaveRestoring s d e own h = ap (state s) h
+takes_own does Reset s d e own h = ap (state s) h
+takes_own does (UseApplicationKeypad on) s d e own h = ap (state s) h
 takes_own does EraseScrollback s d e own h = absurd (false≢true own)
 takes_own does (Tell call) s d e own h = absurd (false≢true own)
 
 pub stepping : {S : Type 0} (does : CallValue → S → ScreenValue → S → ScreenValue → Type 0) (x : Step) (s : S) (d e : ScreenValue) → is_own x ≡ true → e ≡ stepped x d → Does does s d (x ∷ []) s e
 stepping does x s d e own h = (state s e, takes_own does x s d e own h, refl)
+
+-- ---- another page is shown, or that is refused
+
+alone_refused : {S : Type 0} (does : CallValue → S → ScreenValue → S → ScreenValue → Type 0) (x : Step) (s : S) (d e : ScreenValue) → Grows x d → e ≡ d → Stops does s d (x ∷ []) s e
+alone_refused does x s d e grows same = inl (grows, ap (state s) same)
+
+takes_alternate : {S : Type 0} (does : CallValue → S → ScreenValue → S → ScreenValue → Type 0) (on : Bool) (s : S) (d e : ScreenValue) → e ≡ stepped (alternate_step on) d → Takes does (state s d) (alternate_step on) (state s e)
+takes_alternate does true s d e h = ap (state s) h
+takes_alternate does false s d e h = ap (state s) h
+
+takes_fresh : {S : Type 0} (does : CallValue → S → ScreenValue → S → ScreenValue → Type 0) (on : Bool) (s : S) (d e : ScreenValue) → e ≡ stepped (fresh_step on) d → Takes does (state s d) (fresh_step on) (state s e)
+takes_fresh does true s d e h = ap (state s) h
+takes_fresh does false s d e h = ap (state s) h
+
+pub alternating : {S : Type 0} (does : CallValue → S → ScreenValue → S → ScreenValue → Type 0) (on : Bool) (s : S) (d e : ScreenValue) → e ≡ stepped (alternate_step on) d → Does does s d (alternate_step on ∷ []) s e
+alternating does on s d e h = (state s e, takes_alternate does on s d e h, refl)
+
+pub alternating_stops : {S : Type 0} (does : CallValue → S → ScreenValue → S → ScreenValue → Type 0) (on : Bool) (s : S) (d e : ScreenValue) → Grows (alternate_step on) d → e ≡ d → Stops does s d (alternate_step on ∷ []) s e
+alternating_stops does on s d e grows same = alone_refused does (alternate_step on) s d e grows same
+
+pub freshening : {S : Type 0} (does : CallValue → S → ScreenValue → S → ScreenValue → Type 0) (on : Bool) (s : S) (d e : ScreenValue) → e ≡ stepped (fresh_step on) d → Does does s d (fresh_step on ∷ []) s e
+freshening does on s d e h = (state s e, takes_fresh does on s d e h, refl)
+
+pub freshening_stops : {S : Type 0} (does : CallValue → S → ScreenValue → S → ScreenValue → Type 0) (on : Bool) (s : S) (d e : ScreenValue) → Grows (fresh_step on) d → e ≡ d → Stops does s d (fresh_step on ∷ []) s e
+freshening_stops does on s d e grows same = alone_refused does (fresh_step on) s d e grows same
 
 -- ---- loops: what of all steps is left
 
@@ -98,6 +131,14 @@ left_on does s t u d e f all x rest (r, q) h = ((λ v k. r v (state u f, h, k)),
 
 left_stop : {S : Type 0} (does : CallValue → S → ScreenValue → S → ScreenValue → Type 0) (s t u : S) (d e f : ScreenValue) (all : List Step) (x : Step) (rest : List Step) → Left does s d all t e (x ∷ rest) → Refuses (state t e) x (state u f) → Stops does s d all u f
 left_stop does s t u d e f all x rest (r, q) h = q (state u f) (inl h)
+
+-- a list of them is done, or stopped in
+pub left_through : {S : Type 0} (does : CallValue → S → ScreenValue → S → ScreenValue → Type 0) (s t u : S) (d e f : ScreenValue) (all one rest : List Step) → Left does s d all t e (one ++ rest) → Does does t e one u f → Left does s d all u f rest
+left_through does s t u d e f all one rest (r, q) h =
+    ((λ v k. r v (folds_then (Takes does) one rest (state t e) (state u f) v h k)), (λ v k. q v (stops_then (Takes does) Refuses one rest (state t e) (state u f) v h k)))
+
+pub left_within : {S : Type 0} (does : CallValue → S → ScreenValue → S → ScreenValue → Type 0) (s t u : S) (d e f : ScreenValue) (all one rest : List Step) → Left does s d all t e (one ++ rest) → Stops does t e one u f → Stops does s d all u f
+left_within does s t u d e f all one rest (r, q) h = q (state u f) (stops_first (Takes does) Refuses one rest (state t e) (state u f) h)
 
 -- one more print is done, or refused
 pub prints_left : {S : Type 0} (does : CallValue → S → ScreenValue → S → ScreenValue → Type 0) (s t u : S) (d e f : ScreenValue) (all : List Step) (c n k : ℕ) → k < n → Left does s d all t e (replicate (n - k) (Print c)) → Takes does (state t e) (Print c) (state u f) → Left does s d all u f (replicate (n - (k + 1)) (Print c))

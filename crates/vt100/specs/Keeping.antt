@@ -3,7 +3,7 @@ use Rattle.std.specs.Prelude.{◌≡◌, Bool, true, false, List, map, Option, S
 use Rattle.std.specs.List.{FoldsTo}
 use Rattle.vt_screen.specs.Calls.{CallValue, UnhandledCsi}
 use Rattle.vt_screen.specs.Screen.{ScreenValue}
-use Rattle.vt_screen.specs.Steps.{Step, Print, LineFeed, ScrollUp, EraseScrollback, Tell, stepped}
+use Rattle.vt_screen.specs.Steps.{Step, Print, LineFeed, ScrollUp, EnterAlternate, EnterFresh, EraseScrollback, Tell, stepped}
 use Rattle.vt_screen.specs.Run.{Refuses, StopsIn, Takes, state}
 use Rattle.vt100.specs.declared.sequence.Sequence.{Sequence}
 
@@ -19,13 +19,15 @@ Stops does old before steps new after = StopsIn (Takes does) Refuses (state old 
 abbrev pub report_of : Sequence → CallValue
 report_of sequence = UnhandledCsi sequence.first sequence.second (map (λ group. group.now) sequence.groups.now) sequence.byte
 
--- a step that calls nobody, and scrolls no row off the page
+-- a step that calls nobody, takes no memory, and scrolls no row off the page
 abbrev pub is_own : Step → Bool
 is_own (Tell call) = false
 is_own (Print c) = false
 is_own LineFeed = false
 is_own (ScrollUp count) = false
 is_own EraseScrollback = false
+is_own EnterAlternate = false
+is_own EnterFresh = false
 is_own _ = true
 
 -- a step was made, if there is one, and else nothing

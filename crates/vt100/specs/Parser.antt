@@ -51,6 +51,10 @@ abbrev pub StoppedWithin : {S : Type 0} → (CallValue → S → ScreenValue →
 StoppedWithin does old bytes new =
     (state : State) → StandsFor old.scanner state → StopsIn (Performs does) (Breaks does) (stage old) (scan.run state bytes).events (stage new)
 
+-- callbacks that do nothing, and leave the screen
+abbrev pub quietly : CallValue → Unit {0} → ScreenValue → Unit {0} → ScreenValue → Type 0
+quietly call old before new after = (new ≡ old) × (after ≡ before)
+
 -- a run that ended for want of memory
 abbrev pub Stopped : {S : Type 0} → (CallValue → S → ScreenValue → S → ScreenValue → Type 0) → Parsing S → List ℕ → Parsing S → Type 0
 Stopped does old bytes new = StoppedBefore does old bytes new ⊎ StoppedWithin does old bytes new

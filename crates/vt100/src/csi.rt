@@ -1,6 +1,6 @@
 //! Control sequences.
 
-ghost use Rattle.std.specs.Prelude.{◌≡◌, ◌-◌, ◌<◌, IfOk, IsErr, None, Some, length, map};
+ghost use Rattle.std.specs.Prelude.{◌≡◌, ◌-◌, ◌<◌, IfOk, IsErr, None, Some, length, map, IfErr};
 ghost use Rattle.vt100.specs.Keeping.{Does, MadeIf, Stops, report_of};
 ghost use Rattle.vt_screen.specs.Calls.{UnhandledCsi};
 ghost use Rattle.vt_screen.specs.Steps.{counted_step, csi_steps, marked_steps, number_at, number_or, other_steps, scrolling_steps, page_erasing, plain_steps, private_steps, repeated, row_erasing, size_or, space_steps, stepped, style_of, style_steps, window_steps};
@@ -12,7 +12,7 @@ use vt_cells::{CursorStyle, Error};
 use vt_screen::{Callbacks, Screen};
 
 /// Does what a control sequence says, up to a step whose memory is refused.
-#[tactic(auto, using(crate::proofs::Dispatching::plain_does, crate::proofs::Dispatching::plain_stops, crate::proofs::Dispatching::marked_does))]
+#[tactic(auto, using(crate::proofs::Dispatching::plain_does, crate::proofs::Dispatching::plain_stops, crate::proofs::Dispatching::marked_does, crate::proofs::Dispatching::marked_stops))]
 pub fn perform<CB: Callbacks>(
     screen: &mut Screen,
     callbacks: &mut CB,
@@ -22,6 +22,7 @@ pub fn perform<CB: Callbacks>(
 ) -> Result<(), Error>
     ensures done { IfOk result (λ _. Does CB.does callbacks.old screen.old (csi_steps (map (λ group. group.now) groups.now) marks.now byte screen.old) callbacks.new screen.new) }
     ensures stopped { IsErr result → Stops CB.does callbacks.old screen.old (csi_steps (map (λ group. group.now) groups.now) marks.now byte screen.old) callbacks.new screen.new }
+    ensures memory { IfErr result (λ error. error ≡ Error.OutOfMemory) }
 {
     let Some(mark) = numbers::mark_at(marks, 0) else {
         return plain(screen, callbacks, groups, byte);
@@ -32,8 +33,7 @@ pub fn perform<CB: Callbacks>(
         groups,
         byte,
     };
-    marked(screen, callbacks, mark, sequence);
-    Ok(())
+    marked(screen, callbacks, mark, sequence)
 }
 
 // A control sequence without a marker or an intermediate.
@@ -46,6 +46,7 @@ fn plain<CB: Callbacks>(
 ) -> Result<(), Error>
     ensures done { IfOk result (λ _. Does CB.does callbacks.old screen.old (plain_steps (map (λ group. group.now) groups.now) byte screen.old) callbacks.new screen.new) }
     ensures stopped { IsErr result → Stops CB.does callbacks.old screen.old (plain_steps (map (λ group. group.now) groups.now) byte screen.old) callbacks.new screen.new }
+    ensures memory { IfErr result (λ error. error ≡ Error.OutOfMemory) }
 {
     if counted(screen, byte, numbers::number_or(1, groups, 0)) {
         return Ok(());
@@ -69,6 +70,7 @@ fn scrolling<CB: Callbacks>(
     requires { report_of sequence ≡ UnhandledCsi None None (map (λ group. group.now) sequence.groups.now) sequence.byte }
     ensures done { IfOk result (λ _. Does CB.does callbacks.old screen.old (scrolling_steps (map (λ group. group.now) sequence.entry.groups.now) sequence.entry.byte screen.old) callbacks.new screen.new) }
     ensures stopped { IsErr result → Stops CB.does callbacks.old screen.old (scrolling_steps (map (λ group. group.now) sequence.entry.groups.now) sequence.entry.byte screen.old) callbacks.new screen.new }
+    ensures memory { IfErr result (λ error. error ≡ Error.OutOfMemory) }
 {
     let count = numbers::number_or(1, sequence.groups, 0);
     match sequence.byte {
@@ -177,6 +179,7 @@ fn erase_row<CB: Callbacks>(screen: &mut Screen, callbacks: &mut CB, sequence: S
 fn repeat<CB: Callbacks>(screen: &mut Screen, callbacks: &mut CB, count: u16) -> Result<(), Error>
     ensures done { IfOk result (λ _. Does CB.does callbacks.old screen.old (repeated count screen.old.last) callbacks.new screen.new) }
     ensures stopped { IsErr result → Stops CB.does callbacks.old screen.old (repeated count screen.old.last) callbacks.new screen.new }
+    ensures memory { IfErr result (λ error. error ≡ Error.OutOfMemory) }
 {
     let Some(character) = screen.last_char() else {
         return Ok(());
@@ -214,31 +217,46 @@ fn number_or_own(own: u16, groups: &[&[u16]], i: usize) -> u16
 }
 
 // A control sequence with a marker or an intermediate.
-#[tactic(auto, using(std::proofs::lemmas::Bool::Decides::nat_tests, crate::proofs::Stepping::told, crate::proofs::Stepping::told_two, crate::proofs::Stepping::stepping), unfolding(vt_screen::specs::Steps::marked_steps))]
-fn marked<CB: Callbacks>(screen: &mut Screen, callbacks: &mut CB, mark: u8, sequence: Sequence<'_>)
+#[tactic(auto, using(std::proofs::lemmas::Bool::Decides::nat_tests, crate::proofs::Stepping::told), unfolding(vt_screen::specs::Steps::marked_steps))]
+fn marked<CB: Callbacks>(
+    screen: &mut Screen,
+    callbacks: &mut CB,
+    mark: u8,
+    sequence: Sequence<'_>,
+) -> Result<(), Error>
     requires { sequence.first ≡ Some mark }
-    ensures { Does CB.does callbacks.old screen.old (marked_steps mark sequence.entry.second (map (λ group. group.now) sequence.entry.groups.now) sequence.entry.byte) callbacks.new screen.new }
+    ensures done { IfOk result (λ _. Does CB.does callbacks.old screen.old (marked_steps mark sequence.entry.second (map (λ group. group.now) sequence.entry.groups.now) sequence.entry.byte) callbacks.new screen.new) }
+    ensures stopped { IsErr result → Stops CB.does callbacks.old screen.old (marked_steps mark sequence.entry.second (map (λ group. group.now) sequence.entry.groups.now) sequence.entry.byte) callbacks.new screen.new }
+    ensures memory { IfErr result (λ error. error ≡ Error.OutOfMemory) }
 {
     match mark {
-        b'?' => private(screen, callbacks, sequence),
+        b'?' => private(screen, callbacks, sequence)?,
         b' ' => spaced(screen, callbacks, sequence),
         _ => sequence.report(screen, callbacks),
     }
+    Ok(())
 }
 
 // Behind `?`.
-#[tactic(auto, using(std::proofs::lemmas::Bool::Decides::nat_tests, crate::proofs::Stepping::told, crate::proofs::Stepping::told_two, crate::proofs::Stepping::stepping), unfolding(vt_screen::specs::Steps::private_steps))]
-fn private<CB: Callbacks>(screen: &mut Screen, callbacks: &mut CB, sequence: Sequence<'_>)
+#[tactic(auto, using(std::proofs::lemmas::Bool::Decides::nat_tests, crate::proofs::Stepping::told), unfolding(vt_screen::specs::Steps::private_steps))]
+fn private<CB: Callbacks>(
+    screen: &mut Screen,
+    callbacks: &mut CB,
+    sequence: Sequence<'_>,
+) -> Result<(), Error>
     requires { sequence.first ≡ Some 0x3F }
-    ensures { Does CB.does callbacks.old screen.old (private_steps sequence.entry.second (map (λ group. group.now) sequence.entry.groups.now) sequence.entry.byte) callbacks.new screen.new }
+    ensures done { IfOk result (λ _. Does CB.does callbacks.old screen.old (private_steps sequence.entry.second (map (λ group. group.now) sequence.entry.groups.now) sequence.entry.byte) callbacks.new screen.new) }
+    ensures stopped { IsErr result → Stops CB.does callbacks.old screen.old (private_steps sequence.entry.second (map (λ group. group.now) sequence.entry.groups.now) sequence.entry.byte) callbacks.new screen.new }
+    ensures memory { IfErr result (λ error. error ≡ Error.OutOfMemory) }
 {
     match sequence.byte {
         b'J' => erase_page(screen, callbacks, sequence),
         b'K' => erase_row(screen, callbacks, sequence),
-        b'h' => private_modes::perform(screen, callbacks, true, sequence),
-        b'l' => private_modes::perform(screen, callbacks, false, sequence),
+        b'h' => private_modes::perform(screen, callbacks, true, sequence)?,
+        b'l' => private_modes::perform(screen, callbacks, false, sequence)?,
         _ => sequence.report(screen, callbacks),
     }
+    Ok(())
 }
 
 // Behind a space.

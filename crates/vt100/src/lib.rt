@@ -7,7 +7,7 @@ mod csi;
 pub mod laws;
 mod numbers;
 mod osc;
-pub mod parser;
+mod parser;
 mod perform;
 mod private_modes;
 mod processing;

@@ -1,12 +1,15 @@
 //! The parser: bytes in, a screen and callbacks out.
 
 ghost use Rattle.std.specs.Borrow.{sem, Lends};
-ghost use Rattle.std.specs.Prelude.{◌≡◌, ◌↔◌, Err, IfErr, IfOk, IsErr, Ok, Some, false, true};
+ghost use Rattle.std.specs.List.{FoldsTo};
+ghost use Rattle.std.specs.Prelude.{◌≡◌, ◌↔◌, Err, IfErr, IfOk, IsErr, Ok, OnErr, OnOk, Some, false, true};
 ghost use Rattle.vt100.specs.Parser.{IsHarmless, Ran, Stopped, parsing};
 ghost use Rattle.vt100.specs.contracts.parser.Parser.{the_row as parser_row};
 ghost use Rattle.vt_scan.specs.Automaton.{State, start};
 ghost use Rattle.vt_scan.specs.Scanner.{StandsFor};
 ghost use Rattle.vt_screen.specs.Reading.{Terminal, read, terminal};
+ghost use Rattle.vt_screen.specs.Pages.{calls_resized, has_size, resized};
+ghost use Rattle.vt_screen.specs.Run.{Told};
 ghost use Rattle.vt_screen.specs.Screen.{fresh_screen};
 ghost use Rattle.vt_screen.specs.contracts.screen.Screen.{the_row as screen_row};
 
@@ -106,11 +109,12 @@ impl<CB: Callbacks> Parser<CB> {
     /// ends something. Bytes may come in any pieces; what a piece leaves
     /// unfinished goes on with the next one.
     ///
-    /// Memory is taken only for the text of operating system commands, and for
-    /// rows that are pushed into scrollback. Where it is refused, the answer is
-    /// `OutOfMemory`: all steps before the refused one were taken, that one
-    /// changed nothing and called nobody, and from then on the parser reads
-    /// nothing and answers `Failed`. Its screen can still be read.
+    /// Memory is taken only for the text of operating system commands, for rows
+    /// that are pushed into scrollback, and for the first entry to the
+    /// alternate page. Where it is refused, the answer is `OutOfMemory`: all
+    /// steps before the refused one were taken, that one changed nothing and
+    /// called nobody, and from then on the parser reads nothing and answers
+    /// `Failed`. Its screen can still be read.
     pub fn process(&mut self, bytes: &[u8]) -> Result<(), Error>
         ensures ran { IfOk result (λ _. Ran CB.does self.old bytes.now self.new) }
         ensures memory { result ≡ Err Error.OutOfMemory → Stopped CB.does self.old bytes.now self.new }
@@ -137,11 +141,35 @@ impl<CB: Callbacks> Parser<CB> {
         }
     }
 
+    /// Gives the screen another number of rows and columns, on both pages, as
+    /// [`Screen::set_size`] does. The callbacks are told of the rows that leave
+    /// a page at its top and aren't kept: first those of the main page, then
+    /// those of the alternate one, each older ones first.
+    ///
+    /// Fails where memory is refused; then nothing has changed, and nothing was
+    /// told. A parser that ran out of memory can be resized, too.
+    pub fn set_size(&mut self, rows: NonZeroU16, cols: NonZeroU16) -> Result<(), Error>
+        ensures ok { OnOk result (self.new ≡ record self.old { screen = resized rows.value cols.value self.old.screen; callbacks = self.new.callbacks }) }
+        ensures told { OnOk result (FoldsTo (Told CB.does) self.old.callbacks (calls_resized rows.value cols.value self.old.screen) self.new.callbacks) }
+        ensures err { OnErr result (self.new ≡ self.old) }
+        ensures grows { IsErr result → has_size rows.value cols.value self.old.screen ≡ false }
+        ensures memory { IfErr result (λ error. error ≡ Error.OutOfMemory) }
+    {
+        self.screen
+            .set_size_with_cb(rows, cols, &mut self.callbacks)?;
+        Ok(())
+    }
+
     /// The screen.
+    ///
+    /// The clause `stands` says that the parser's scanner stands for at least
+    /// one state of the automaton, as every parser's does.
     #[inline]
     pub fn screen(&self) -> &Screen
-        ensures { result.now ≡ self.now.screen }
+        ensures value { result.now ≡ self.now.screen }
+        ensures stands { ∥ ((state : State) × StandsFor self.now.scanner state) ∥₁ }
     {
+        self.scanner.stands();
         &self.screen
     }
 

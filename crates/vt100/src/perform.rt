@@ -1,20 +1,21 @@
 //! What the events of the scanner do to the screen, and which callbacks they
 //! call.
 
-ghost use Rattle.std.specs.Prelude.{◌≡◌, ◌==◌, ◌&&◌, ◌||◌, [], IfOk, IsErr, false, nat_le};
+ghost use Rattle.std.specs.Prelude.{◌≡◌, ◌==◌, ◌&&◌, ◌||◌, [], IfOk, IsErr, false, nat_le, IfErr};
 ghost use Rattle.vt100.specs.Keeping.{Does, Stops};
 ghost use Rattle.vt_scan.specs.Scanner.{event_of};
+ghost use Rattle.vt_scan.specs.declared.event.Event.{Event};
 ghost use Rattle.vt_screen.specs.Run.{Breaks, Performs, state};
 ghost use Rattle.vt_screen.specs.Steps.{character_steps, control_steps, escape_steps};
 
 use crate::{csi, numbers, osc};
 use vt_cells::Error;
-use vt_scan::{Event, Scanner};
+use vt_scan::{Event, FewGroups, Scanner};
 use vt_screen::{Callbacks, Screen};
 
 /// Does what an event of the scanner's last byte says, up to a step whose
 /// memory is refused.
-#[inline]
+#[inline(always)]
 pub fn perform<CB: Callbacks>(
     screen: &mut Screen,
     callbacks: &mut CB,
@@ -23,6 +24,7 @@ pub fn perform<CB: Callbacks>(
 ) -> Result<(), Error>
     ensures done { IfOk result (λ _. Performs CB.does (state callbacks.old screen.old) (event_of scanner.now event) (state callbacks.new screen.new)) }
     ensures stopped { IsErr result → Breaks CB.does (state callbacks.old screen.old) (event_of scanner.now event) (state callbacks.new screen.new) }
+    ensures memory { IfErr result (λ error. error ≡ Error.OutOfMemory) }
 {
     match event {
         Event::Character(character) => print(screen, callbacks, character),
@@ -31,30 +33,74 @@ pub fn perform<CB: Callbacks>(
             escape(screen, callbacks, scanner.marks(), byte);
             Ok(())
         }
-        Event::Csi(byte) => csi::perform(
-            screen,
-            callbacks,
-            scanner.groups().as_slice(),
-            scanner.marks(),
-            byte,
-        ),
+        Event::Csi(byte) => control_sequence(screen, callbacks, scanner, byte),
         Event::Osc => {
-            osc::perform(screen, callbacks, scanner.parts().as_slice());
+            command(screen, callbacks, scanner);
             Ok(())
         }
     }
 }
 
-// A character: printed, or reported where it stands for bytes that are none.
-#[inline]
+// A control sequence. Its table of groups is made here and not above, since
+// that would cost time for each character.
+#[inline(never)]
+fn control_sequence<CB: Callbacks>(
+    screen: &mut Screen,
+    callbacks: &mut CB,
+    scanner: &Scanner,
+    byte: u8,
+) -> Result<(), Error>
+    ensures done { IfOk result (λ _. Performs CB.does (state callbacks.old screen.old) (event_of scanner.now (Event.Csi byte)) (state callbacks.new screen.new)) }
+    ensures stopped { IsErr result → Breaks CB.does (state callbacks.old screen.old) (event_of scanner.now (Event.Csi byte)) (state callbacks.new screen.new) }
+    ensures memory { IfErr result (λ error. error ≡ Error.OutOfMemory) }
+{
+    let mut few = FewGroups::new();
+    if scanner.lend_groups(&mut few) {
+        return csi::perform(screen, callbacks, few.as_slice(), scanner.marks(), byte);
+    }
+    long_sequence(screen, callbacks, scanner, byte)
+}
+
+// A control sequence of any number of groups.
+#[inline(never)]
+fn long_sequence<CB: Callbacks>(
+    screen: &mut Screen,
+    callbacks: &mut CB,
+    scanner: &Scanner,
+    byte: u8,
+) -> Result<(), Error>
+    ensures done { IfOk result (λ _. Performs CB.does (state callbacks.old screen.old) (event_of scanner.now (Event.Csi byte)) (state callbacks.new screen.new)) }
+    ensures stopped { IsErr result → Breaks CB.does (state callbacks.old screen.old) (event_of scanner.now (Event.Csi byte)) (state callbacks.new screen.new) }
+    ensures memory { IfErr result (λ error. error ≡ Error.OutOfMemory) }
+{
+    csi::perform(
+        screen,
+        callbacks,
+        scanner.groups().as_slice(),
+        scanner.marks(),
+        byte,
+    )
+}
+
+// An operating system command, with its table of parts.
+#[inline(never)]
+fn command<CB: Callbacks>(screen: &mut Screen, callbacks: &mut CB, scanner: &Scanner)
+    ensures { Performs CB.does (state callbacks.old screen.old) (event_of scanner.now Event.Osc) (state callbacks.new screen.new) }
+{
+    osc::perform(screen, callbacks, scanner.parts().as_slice());
+}
+
+/// A character: printed, or reported where it stands for bytes that are none.
+#[inline(always)]
 #[tactic(auto, using(std::proofs::lemmas::Bool::Decides::nat_tests, crate::proofs::Stepping::told, crate::proofs::Stepping::taken, crate::proofs::Stepping::refused), unfolding(vt_screen::specs::Steps::character_steps))]
-fn print<CB: Callbacks>(
+pub fn print<CB: Callbacks>(
     screen: &mut Screen,
     callbacks: &mut CB,
     character: char,
 ) -> Result<(), Error>
     ensures done { IfOk result (λ _. Does CB.does callbacks.old screen.old (character_steps character) callbacks.new screen.new) }
     ensures stopped { IsErr result → Stops CB.does callbacks.old screen.old (character_steps character) callbacks.new screen.new }
+    ensures memory { IfErr result (λ error. error ≡ Error.OutOfMemory) }
 {
     if is_reported(character) {
         callbacks.unhandled_char(screen, character);
@@ -78,6 +124,7 @@ fn is_reported(character: char) -> bool
 fn execute<CB: Callbacks>(screen: &mut Screen, callbacks: &mut CB, byte: u8) -> Result<(), Error>
     ensures done { IfOk result (λ _. Does CB.does callbacks.old screen.old (control_steps byte) callbacks.new screen.new) }
     ensures stopped { IsErr result → Stops CB.does callbacks.old screen.old (control_steps byte) callbacks.new screen.new }
+    ensures memory { IfErr result (λ error. error ≡ Error.OutOfMemory) }
 {
     if (0x0A..=0x0C).contains(&byte) {
         screen.lf(callbacks)?;
@@ -123,9 +170,13 @@ fn plain_escape<CB: Callbacks>(screen: &mut Screen, callbacks: &mut CB, byte: u8
     ensures { Does CB.does callbacks.old screen.old (escape_steps [] byte) callbacks.new screen.new }
 {
     match byte {
-        b'g' => callbacks.visual_bell(screen),
+        b'7' => screen.decsc(),
+        b'8' => screen.decrc(),
+        b'=' => screen.set_application_keypad(true),
+        b'>' => screen.set_application_keypad(false),
         b'M' => screen.ri(),
-        b'7' | b'8' | b'=' | b'>' | b'c' => {}
+        b'c' => screen.ris(),
+        b'g' => callbacks.visual_bell(screen),
         _ => callbacks.unhandled_escape(screen, None, None, byte),
     }
 }

@@ -1,26 +1,29 @@
 //! Private modes: DECSET and DECRST.
 
-ghost use Rattle.std.specs.Prelude.{◌≡◌, [], ◌∷◌, map};
-ghost use Rattle.vt100.specs.Keeping.{Does, report_of};
-ghost use Rattle.vt_screen.specs.Steps.{encoding_step, mode_step, mode_steps, mouse_step, stepped};
+ghost use Rattle.std.specs.Prelude.{◌≡◌, ◌==◌, [], ◌∷◌, IfOk, IsErr, OnErr, OnOk, false, map, IfErr};
+ghost use Rattle.vt100.specs.Keeping.{Does, Stops, report_of};
+ghost use Rattle.vt_screen.specs.Steps.{Grows, alternate_step, encoding_step, fresh_step, mode_step, mode_steps, mouse_step, stepped};
 
 use crate::sequence::Sequence;
-use vt_cells::{MouseProtocolEncoding, MouseProtocolMode};
+use vt_cells::{Error, MouseProtocolEncoding, MouseProtocolMode};
 use vt_screen::{Callbacks, Screen};
 
 /// Turns the modes that a sequence names on or off, and reports each group
-/// that is none.
+/// that is none, up to a mode whose memory is refused.
 pub fn perform<CB: Callbacks>(
     screen: &mut Screen,
     callbacks: &mut CB,
     on: bool,
     sequence: Sequence<'_>,
-)
-    ensures { Does CB.does callbacks.old screen.old (mode_steps on (report_of sequence.entry) (map (λ group. group.now) sequence.entry.groups.now)) callbacks.new screen.new }
+) -> Result<(), Error>
+    ensures done { IfOk result (λ _. Does CB.does callbacks.old screen.old (mode_steps on (report_of sequence.entry) (map (λ group. group.now) sequence.entry.groups.now)) callbacks.new screen.new) }
+    ensures stopped { IsErr result → Stops CB.does callbacks.old screen.old (mode_steps on (report_of sequence.entry) (map (λ group. group.now) sequence.entry.groups.now)) callbacks.new screen.new }
+    ensures memory { IfErr result (λ error. error ≡ Error.OutOfMemory) }
 {
     for group in sequence.groups {
-        perform_group(screen, callbacks, on, sequence, group);
+        perform_group(screen, callbacks, on, sequence, group)?;
     }
+    Ok(())
 }
 
 // One group: a mode if it is one number.
@@ -31,25 +34,51 @@ fn perform_group<CB: Callbacks>(
     on: bool,
     sequence: Sequence<'_>,
     group: &[u16],
-)
-    ensures { Does CB.does callbacks.old screen.old (mode_steps on (report_of sequence.entry) (group.now ∷ [])) callbacks.new screen.new }
+) -> Result<(), Error>
+    ensures done { IfOk result (λ _. Does CB.does callbacks.old screen.old (mode_steps on (report_of sequence.entry) (group.now ∷ [])) callbacks.new screen.new) }
+    ensures stopped { IsErr result → Stops CB.does callbacks.old screen.old (mode_steps on (report_of sequence.entry) (group.now ∷ [])) callbacks.new screen.new }
+    ensures memory { IfErr result (λ error. error ≡ Error.OutOfMemory) }
 {
     if group.len() != 1 {
         sequence.report(screen, callbacks);
-        return;
+        return Ok(());
     }
-    set_mode(screen, callbacks, on, sequence, group[0]);
+    set_mode(screen, callbacks, on, sequence, group[0])
 }
 
-// A mode of one number.
-#[tactic(auto, using(std::proofs::lemmas::Bool::Decides::nat_tests, crate::proofs::Stepping::told, crate::proofs::Stepping::told_two, crate::proofs::Stepping::stepping), unfolding(vt_screen::specs::Steps::mode_step))]
+// A mode of one number: one of the two that show the alternate page, or
+// another one.
+#[tactic(auto, using(std::proofs::lemmas::Bool::Decides::nat_tests, crate::proofs::Stepping::alternating, crate::proofs::Stepping::alternating_stops, crate::proofs::Stepping::freshening, crate::proofs::Stepping::freshening_stops), unfolding(vt_screen::specs::Steps::mode_step))]
 fn set_mode<CB: Callbacks>(
     screen: &mut Screen,
     callbacks: &mut CB,
     on: bool,
     sequence: Sequence<'_>,
     number: u16,
+) -> Result<(), Error>
+    ensures done { IfOk result (λ _. Does CB.does callbacks.old screen.old (mode_step on (report_of sequence.entry) number) callbacks.new screen.new) }
+    ensures stopped { IsErr result → Stops CB.does callbacks.old screen.old (mode_step on (report_of sequence.entry) number) callbacks.new screen.new }
+    ensures memory { IfErr result (λ error. error ≡ Error.OutOfMemory) }
+{
+    match number {
+        47 => show_alternate(screen, on)?,
+        1049 => show_fresh_alternate(screen, on)?,
+        _ => set_other_mode(screen, callbacks, on, sequence, number),
+    }
+    Ok(())
+}
+
+// A mode of one number that shows no other page.
+#[tactic(auto, using(std::proofs::lemmas::Bool::Decides::nat_tests, crate::proofs::Stepping::told, crate::proofs::Stepping::told_two, crate::proofs::Stepping::stepping), unfolding(vt_screen::specs::Steps::mode_step))]
+fn set_other_mode<CB: Callbacks>(
+    screen: &mut Screen,
+    callbacks: &mut CB,
+    on: bool,
+    sequence: Sequence<'_>,
+    number: u16,
 )
+    requires first { (number == 47) ≡ false }
+    requires second { (number == 1049) ≡ false }
     ensures { Does CB.does callbacks.old screen.old (mode_step on (report_of sequence.entry) number) callbacks.new screen.new }
 {
     match number {
@@ -63,9 +92,37 @@ fn set_mode<CB: Callbacks>(
         1005 => set_mouse_encoding(screen, on, MouseProtocolEncoding::Utf8),
         1006 => set_mouse_encoding(screen, on, MouseProtocolEncoding::Sgr),
         2004 => screen.set_bracketed_paste(on),
-        47 | 1049 => {}
         _ => sequence.report(screen, callbacks),
     }
+}
+
+// The alternate page as it was left, or the main page.
+fn show_alternate(screen: &mut Screen, on: bool) -> Result<(), Error>
+    ensures ok { OnOk result (screen.new ≡ stepped (alternate_step on) screen.old) }
+    ensures err { OnErr result (screen.new ≡ screen.old) }
+    ensures grows { IsErr result → Grows (alternate_step on) screen.old }
+    ensures memory { IfErr result (λ error. error ≡ Error.OutOfMemory) }
+{
+    if on {
+        return screen.enter_alternate();
+    }
+    screen.leave_alternate();
+    Ok(())
+}
+
+// All saved and a fresh alternate page, or the main page with what was saved
+// restored.
+fn show_fresh_alternate(screen: &mut Screen, on: bool) -> Result<(), Error>
+    ensures ok { OnOk result (screen.new ≡ stepped (fresh_step on) screen.old) }
+    ensures err { OnErr result (screen.new ≡ screen.old) }
+    ensures grows { IsErr result → Grows (fresh_step on) screen.old }
+    ensures memory { IfErr result (λ error. error ≡ Error.OutOfMemory) }
+{
+    if on {
+        return screen.enter_fresh_alternate();
+    }
+    screen.leave_and_restore();
+    Ok(())
 }
 
 fn set_mouse_mode(screen: &mut Screen, on: bool, mode: MouseProtocolMode)

@@ -2,7 +2,8 @@
 
 ghost use Rattle.std.specs.Io.{WritesAtMost};
 ghost use Rattle.std.specs.Io.KnownBytes.{WriteAppends};
-ghost use Rattle.std.specs.Prelude.{◌≡◌, IfOk, None, length};
+ghost use Rattle.std.specs.Prelude.{◌≡◌, ◌↔◌, IfOk, IsErr, None, Ok, length, true};
+ghost use Rattle.vt100.specs.Parser.{Ran, quietly};
 
 use crate::parser::Parser;
 use std::io;
@@ -19,6 +20,9 @@ impl Write for Parser<()> {
         ensures bound { WritesAtMost result buf.now }
         ensures bytes { WriteAppends None None result buf.now }
         ensures whole { IfOk result (λ count. count ≡ length buf.now) }
+        ensures ran { IfOk result (λ _. Ran quietly self.old buf.now self.new) }
+        ensures for_good { self.new.is_failed ≡ true ↔ IsErr result }
+        ensures failed { self.old.is_failed ≡ true → self.new ≡ self.old }
     {
         match self.process(buf) {
             Ok(()) => Ok(buf.len()),
@@ -28,7 +32,10 @@ impl Write for Parser<()> {
     }
 
     /// Nothing is kept back.
-    fn flush(&mut self) -> io::Result<()> {
+    fn flush(&mut self) -> io::Result<()>
+        ensures done { result ≡ Ok tt }
+        ensures same { self.new ≡ self.old }
+    {
         Ok(())
     }
 }
