@@ -1,9 +1,8 @@
 -- Runs whose callbacks note each call.
-use Rattle.std.proofs.Common.{◌≡◌, ◌⊎◌, inl, inr, ℕ, Bool, true, false, List, [], ◌∷◌, ◌++◌, map, refl, sym, subst, ap, ◌∙◌}
+use Rattle.std.proofs.Common.{◌≡◌, ◌⊎◌, inl, inr, ℕ, Bool, true, List, [], ◌∷◌, ◌++◌, map, refl, sym, subst, ap, ◌∙◌}
 use Rattle.std.proofs.lemmas.Bool.{false≢true}
 use Rattle.std.proofs.lemmas.List.{append_assoc, append-nil}
 use Rattle.std.specs.List.{FoldsTo}
-use Rattle.std.specs.Prelude.{if◌then◌else◌}
 use Rattle.vt_rows.specs.Row.{RowValue}
 use Rattle.vt_scan.specs.Automaton.{State, Event, start}
 use Rattle.vt_scan.specs.Run.{run}
@@ -12,7 +11,7 @@ use Rattle.vt_screen.specs.Calls.{CallValue, OnScroll}
 use Rattle.vt_screen.specs.Screen.{ScreenValue}
 use Rattle.vt_screen.specs.Run as act
 use Rattle.vt_screen.specs.Run.{Hears, Performs, Scrolls, Takes, state}
-use Rattle.vt_screen.specs.Steps.{Step, Print, CarriageReturn, LineFeed, ReverseIndex, MoveUp, MoveDown, MoveRight, MoveLeft, NextLine, PreviousLine, Tab, MoveTo, MoveToColumn, MoveToRow, SetRegion, UseOrigin, EraseBelow, EraseAbove, ErasePage, EraseScrollback, EraseRest, EraseStart, EraseRow, EraseChars, InsertChars, DeleteChars, InsertLines, DeleteLines, ScrollUp, ScrollDown, Render, HideCursor, UseApplicationCursor, UseBracketedPaste, SetMouseMode, ClearMouseMode, SetMouseEncoding, ClearMouseEncoding, SetCursorStyle, Tell, reports, scrolled, stepped, steps_of}
+use Rattle.vt_screen.specs.Steps.{Step, Print, CarriageReturn, LineFeed, ReverseIndex, MoveUp, MoveDown, MoveRight, MoveLeft, NextLine, PreviousLine, Tab, MoveTo, MoveToColumn, MoveToRow, SetRegion, UseOrigin, EraseBelow, EraseAbove, ErasePage, EraseScrollback, EraseRest, EraseStart, EraseRow, EraseChars, InsertChars, DeleteChars, InsertLines, DeleteLines, ScrollUp, ScrollDown, Render, HideCursor, UseApplicationCursor, UseBracketedPaste, SetMouseMode, ClearMouseMode, SetMouseEncoding, ClearMouseEncoding, SetCursorStyle, SaveCursor, RestoreCursor, EnterAlternate, EnterFresh, LeaveAlternate, LeaveRestoring, Reset, UseApplicationKeypad, Tell, reports, scrolled, stepped, steps_of}
 use Rattle.vt_screen.specs.Telling.{calls_of, calls_of_all, stepped_all, steps_of_all, steps_in, calls_in, screen_in}
 use Rattle.vt100.specs.Parser.{Parsing, Ran, joined, parsing, stage}
 use Rattle.vt100.proofs.Running.{folds_then, ran_joined}
@@ -60,14 +59,6 @@ done_telling call a b t = record {
   noted = was_noted call a.callbacks b.callbacks t.1;
 }
 
-unscrolled : (alternate : Bool) (screen : ScreenValue) → (if alternate then screen else screen) ≡ screen
-unscrolled true screen = refl
-unscrolled false screen = refl
-
--- a step that scrolls no row off the page
-done_own : (a b : act.State Noted) (after shown : ScreenValue) → shown ≡ after → b ≡ state a.callbacks after → Done a [] shown b
-done_own a b after shown same t = done_quietly a b shown (t ∙ ap (state a.callbacks) (sym same))
-
 -- rows that are reported
 done_heard : (alternate : Bool) (rows : List RowValue) (old new : Noted) (screen : ScreenValue) → FoldsTo (Hears NotesIt alternate) old rows new → Done (state old screen) (map (λ (row : RowValue). OnScroll row alternate) rows) screen (state new screen)
 done_heard alternate [] old new screen e = subst (λ (n : Noted). Done (state old screen) [] screen (state n screen)) e (done_nothing (state old screen))
@@ -81,48 +72,54 @@ done_scrolled x a b t =
     record { shown = t.screen; complete = heard.complete; noted = heard.noted }
 
 done_step : (x : Step) (a b : act.State Noted) → Takes NotesIt a x b → Done a (calls_of x a.screen) (scrolled x a.screen) b
-done_step (Tell call) a b t =
-    let told = done_telling call a b t in
-    record { shown = told.shown ∙ sym (unscrolled a.screen.is_alternate a.screen); complete = told.complete; noted = told.noted }
+done_step (Tell call) a b t = done_telling call a b t
 done_step (Print c) a b t = done_scrolled (Print c) a b t
 done_step LineFeed a b t = done_scrolled LineFeed a b t
 done_step (ScrollUp count) a b t = done_scrolled (ScrollUp count) a b t
 done_step EraseScrollback a b t = done_scrolled EraseScrollback a b t
-done_step CarriageReturn a b t = done_own a b (stepped CarriageReturn a.screen) (scrolled CarriageReturn a.screen) (unscrolled a.screen.is_alternate (stepped CarriageReturn a.screen)) t
-done_step ReverseIndex a b t = done_own a b (stepped ReverseIndex a.screen) (scrolled ReverseIndex a.screen) (unscrolled a.screen.is_alternate (stepped ReverseIndex a.screen)) t
-done_step (MoveUp count) a b t = done_own a b (stepped (MoveUp count) a.screen) (scrolled (MoveUp count) a.screen) (unscrolled a.screen.is_alternate (stepped (MoveUp count) a.screen)) t
-done_step (MoveDown count) a b t = done_own a b (stepped (MoveDown count) a.screen) (scrolled (MoveDown count) a.screen) (unscrolled a.screen.is_alternate (stepped (MoveDown count) a.screen)) t
-done_step (MoveRight count) a b t = done_own a b (stepped (MoveRight count) a.screen) (scrolled (MoveRight count) a.screen) (unscrolled a.screen.is_alternate (stepped (MoveRight count) a.screen)) t
-done_step (MoveLeft count) a b t = done_own a b (stepped (MoveLeft count) a.screen) (scrolled (MoveLeft count) a.screen) (unscrolled a.screen.is_alternate (stepped (MoveLeft count) a.screen)) t
-done_step (NextLine count) a b t = done_own a b (stepped (NextLine count) a.screen) (scrolled (NextLine count) a.screen) (unscrolled a.screen.is_alternate (stepped (NextLine count) a.screen)) t
-done_step (PreviousLine count) a b t = done_own a b (stepped (PreviousLine count) a.screen) (scrolled (PreviousLine count) a.screen) (unscrolled a.screen.is_alternate (stepped (PreviousLine count) a.screen)) t
-done_step Tab a b t = done_own a b (stepped Tab a.screen) (scrolled Tab a.screen) (unscrolled a.screen.is_alternate (stepped Tab a.screen)) t
-done_step (MoveTo row col) a b t = done_own a b (stepped (MoveTo row col) a.screen) (scrolled (MoveTo row col) a.screen) (unscrolled a.screen.is_alternate (stepped (MoveTo row col) a.screen)) t
-done_step (MoveToColumn col) a b t = done_own a b (stepped (MoveToColumn col) a.screen) (scrolled (MoveToColumn col) a.screen) (unscrolled a.screen.is_alternate (stepped (MoveToColumn col) a.screen)) t
-done_step (MoveToRow row) a b t = done_own a b (stepped (MoveToRow row) a.screen) (scrolled (MoveToRow row) a.screen) (unscrolled a.screen.is_alternate (stepped (MoveToRow row) a.screen)) t
-done_step (SetRegion top bottom) a b t = done_own a b (stepped (SetRegion top bottom) a.screen) (scrolled (SetRegion top bottom) a.screen) (unscrolled a.screen.is_alternate (stepped (SetRegion top bottom) a.screen)) t
-done_step (UseOrigin on) a b t = done_own a b (stepped (UseOrigin on) a.screen) (scrolled (UseOrigin on) a.screen) (unscrolled a.screen.is_alternate (stepped (UseOrigin on) a.screen)) t
-done_step EraseBelow a b t = done_own a b (stepped EraseBelow a.screen) (scrolled EraseBelow a.screen) (unscrolled a.screen.is_alternate (stepped EraseBelow a.screen)) t
-done_step EraseAbove a b t = done_own a b (stepped EraseAbove a.screen) (scrolled EraseAbove a.screen) (unscrolled a.screen.is_alternate (stepped EraseAbove a.screen)) t
-done_step ErasePage a b t = done_own a b (stepped ErasePage a.screen) (scrolled ErasePage a.screen) (unscrolled a.screen.is_alternate (stepped ErasePage a.screen)) t
-done_step EraseRest a b t = done_own a b (stepped EraseRest a.screen) (scrolled EraseRest a.screen) (unscrolled a.screen.is_alternate (stepped EraseRest a.screen)) t
-done_step EraseStart a b t = done_own a b (stepped EraseStart a.screen) (scrolled EraseStart a.screen) (unscrolled a.screen.is_alternate (stepped EraseStart a.screen)) t
-done_step EraseRow a b t = done_own a b (stepped EraseRow a.screen) (scrolled EraseRow a.screen) (unscrolled a.screen.is_alternate (stepped EraseRow a.screen)) t
-done_step (EraseChars count) a b t = done_own a b (stepped (EraseChars count) a.screen) (scrolled (EraseChars count) a.screen) (unscrolled a.screen.is_alternate (stepped (EraseChars count) a.screen)) t
-done_step (InsertChars count) a b t = done_own a b (stepped (InsertChars count) a.screen) (scrolled (InsertChars count) a.screen) (unscrolled a.screen.is_alternate (stepped (InsertChars count) a.screen)) t
-done_step (DeleteChars count) a b t = done_own a b (stepped (DeleteChars count) a.screen) (scrolled (DeleteChars count) a.screen) (unscrolled a.screen.is_alternate (stepped (DeleteChars count) a.screen)) t
-done_step (InsertLines count) a b t = done_own a b (stepped (InsertLines count) a.screen) (scrolled (InsertLines count) a.screen) (unscrolled a.screen.is_alternate (stepped (InsertLines count) a.screen)) t
-done_step (DeleteLines count) a b t = done_own a b (stepped (DeleteLines count) a.screen) (scrolled (DeleteLines count) a.screen) (unscrolled a.screen.is_alternate (stepped (DeleteLines count) a.screen)) t
-done_step (ScrollDown count) a b t = done_own a b (stepped (ScrollDown count) a.screen) (scrolled (ScrollDown count) a.screen) (unscrolled a.screen.is_alternate (stepped (ScrollDown count) a.screen)) t
-done_step (Render setting) a b t = done_own a b (stepped (Render setting) a.screen) (scrolled (Render setting) a.screen) (unscrolled a.screen.is_alternate (stepped (Render setting) a.screen)) t
-done_step (HideCursor hidden) a b t = done_own a b (stepped (HideCursor hidden) a.screen) (scrolled (HideCursor hidden) a.screen) (unscrolled a.screen.is_alternate (stepped (HideCursor hidden) a.screen)) t
-done_step (UseApplicationCursor on) a b t = done_own a b (stepped (UseApplicationCursor on) a.screen) (scrolled (UseApplicationCursor on) a.screen) (unscrolled a.screen.is_alternate (stepped (UseApplicationCursor on) a.screen)) t
-done_step (UseBracketedPaste on) a b t = done_own a b (stepped (UseBracketedPaste on) a.screen) (scrolled (UseBracketedPaste on) a.screen) (unscrolled a.screen.is_alternate (stepped (UseBracketedPaste on) a.screen)) t
-done_step (SetMouseMode mode) a b t = done_own a b (stepped (SetMouseMode mode) a.screen) (scrolled (SetMouseMode mode) a.screen) (unscrolled a.screen.is_alternate (stepped (SetMouseMode mode) a.screen)) t
-done_step (ClearMouseMode mode) a b t = done_own a b (stepped (ClearMouseMode mode) a.screen) (scrolled (ClearMouseMode mode) a.screen) (unscrolled a.screen.is_alternate (stepped (ClearMouseMode mode) a.screen)) t
-done_step (SetMouseEncoding form) a b t = done_own a b (stepped (SetMouseEncoding form) a.screen) (scrolled (SetMouseEncoding form) a.screen) (unscrolled a.screen.is_alternate (stepped (SetMouseEncoding form) a.screen)) t
-done_step (ClearMouseEncoding form) a b t = done_own a b (stepped (ClearMouseEncoding form) a.screen) (scrolled (ClearMouseEncoding form) a.screen) (unscrolled a.screen.is_alternate (stepped (ClearMouseEncoding form) a.screen)) t
-done_step (SetCursorStyle look) a b t = done_own a b (stepped (SetCursorStyle look) a.screen) (scrolled (SetCursorStyle look) a.screen) (unscrolled a.screen.is_alternate (stepped (SetCursorStyle look) a.screen)) t
+done_step CarriageReturn a b t = done_quietly a b (stepped CarriageReturn a.screen) t
+done_step ReverseIndex a b t = done_quietly a b (stepped ReverseIndex a.screen) t
+done_step (MoveUp count) a b t = done_quietly a b (stepped (MoveUp count) a.screen) t
+done_step (MoveDown count) a b t = done_quietly a b (stepped (MoveDown count) a.screen) t
+done_step (MoveRight count) a b t = done_quietly a b (stepped (MoveRight count) a.screen) t
+done_step (MoveLeft count) a b t = done_quietly a b (stepped (MoveLeft count) a.screen) t
+done_step (NextLine count) a b t = done_quietly a b (stepped (NextLine count) a.screen) t
+done_step (PreviousLine count) a b t = done_quietly a b (stepped (PreviousLine count) a.screen) t
+done_step Tab a b t = done_quietly a b (stepped Tab a.screen) t
+done_step (MoveTo row col) a b t = done_quietly a b (stepped (MoveTo row col) a.screen) t
+done_step (MoveToColumn col) a b t = done_quietly a b (stepped (MoveToColumn col) a.screen) t
+done_step (MoveToRow row) a b t = done_quietly a b (stepped (MoveToRow row) a.screen) t
+done_step (SetRegion top bottom) a b t = done_quietly a b (stepped (SetRegion top bottom) a.screen) t
+done_step (UseOrigin on) a b t = done_quietly a b (stepped (UseOrigin on) a.screen) t
+done_step EraseBelow a b t = done_quietly a b (stepped EraseBelow a.screen) t
+done_step EraseAbove a b t = done_quietly a b (stepped EraseAbove a.screen) t
+done_step ErasePage a b t = done_quietly a b (stepped ErasePage a.screen) t
+done_step EraseRest a b t = done_quietly a b (stepped EraseRest a.screen) t
+done_step EraseStart a b t = done_quietly a b (stepped EraseStart a.screen) t
+done_step EraseRow a b t = done_quietly a b (stepped EraseRow a.screen) t
+done_step (EraseChars count) a b t = done_quietly a b (stepped (EraseChars count) a.screen) t
+done_step (InsertChars count) a b t = done_quietly a b (stepped (InsertChars count) a.screen) t
+done_step (DeleteChars count) a b t = done_quietly a b (stepped (DeleteChars count) a.screen) t
+done_step (InsertLines count) a b t = done_quietly a b (stepped (InsertLines count) a.screen) t
+done_step (DeleteLines count) a b t = done_quietly a b (stepped (DeleteLines count) a.screen) t
+done_step (ScrollDown count) a b t = done_quietly a b (stepped (ScrollDown count) a.screen) t
+done_step (Render setting) a b t = done_quietly a b (stepped (Render setting) a.screen) t
+done_step (HideCursor hidden) a b t = done_quietly a b (stepped (HideCursor hidden) a.screen) t
+done_step (UseApplicationCursor on) a b t = done_quietly a b (stepped (UseApplicationCursor on) a.screen) t
+done_step (UseBracketedPaste on) a b t = done_quietly a b (stepped (UseBracketedPaste on) a.screen) t
+done_step (SetMouseMode mode) a b t = done_quietly a b (stepped (SetMouseMode mode) a.screen) t
+done_step (ClearMouseMode mode) a b t = done_quietly a b (stepped (ClearMouseMode mode) a.screen) t
+done_step (SetMouseEncoding form) a b t = done_quietly a b (stepped (SetMouseEncoding form) a.screen) t
+done_step (ClearMouseEncoding form) a b t = done_quietly a b (stepped (ClearMouseEncoding form) a.screen) t
+done_step (SetCursorStyle look) a b t = done_quietly a b (stepped (SetCursorStyle look) a.screen) t
+done_step SaveCursor a b t = done_quietly a b (stepped SaveCursor a.screen) t
+done_step RestoreCursor a b t = done_quietly a b (stepped RestoreCursor a.screen) t
+done_step EnterAlternate a b t = done_quietly a b (stepped EnterAlternate a.screen) t
+done_step EnterFresh a b t = done_quietly a b (stepped EnterFresh a.screen) t
+done_step LeaveAlternate a b t = done_quietly a b (stepped LeaveAlternate a.screen) t
+done_step LeaveRestoring a b t = done_quietly a b (stepped LeaveRestoring a.screen) t
+done_step Reset a b t = done_quietly a b (stepped Reset a.screen) t
+done_step (UseApplicationKeypad on) a b t = done_quietly a b (stepped (UseApplicationKeypad on) a.screen) t
 
 -- ---- steps and events
 
