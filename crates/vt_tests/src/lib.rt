@@ -5,6 +5,8 @@
 #[cfg(test)]
 mod noted;
 #[cfg(test)]
+mod pages_tests;
+#[cfg(test)]
 mod scrolling_tests;
 #[cfg(test)]
 mod seen;

@@ -4,16 +4,23 @@ use std::alloc::{AllocError, Global};
 use std::num::NonZeroU16;
 use std::test::Fail;
 use vt_notes::Notes;
-use vt100::{Cell, Color, CursorStyle, Parser, Screen};
+use vt100::{Cell, Color, CursorStyle, MouseProtocolEncoding, MouseProtocolMode, Parser, Screen};
 
-/// What a parser shows, and the lines of its calls.
+/// What a parser shows, as a line, and the lines of its calls.
+pub(crate) fn seen(alloc: Global, parser: &Parser<Notes>) -> Result<String, Fail> {
+    let mut text = shown(alloc, parser.screen())?;
+    text.push_str(parser.callbacks().lines(alloc)?.as_str())?;
+    Ok(text)
+}
+
+/// What a screen shows, as a line.
 ///
 /// Each row that shows something is its number, a colon and its cells: a dot for a blank, brackets
 /// around a wide glyph, a slash at the end of a row that goes on in the next one; blanks at the end
-/// are left out. Then come the cursor, how many rows scrollback keeps and how many of them are in
-/// view, and attributes and modes; of all these but the cursor only what isn't the default.
-pub(crate) fn seen(alloc: Global, parser: &Parser<Notes>) -> Result<String, Fail> {
-    let screen = parser.screen();
+/// are left out. Then come the cursor, whether the page is the alternate one, how many rows
+/// scrollback keeps and how many of them are in view, and attributes and modes; of all these but the
+/// cursor only what isn't the default.
+pub(crate) fn shown(alloc: Global, screen: &Screen) -> Result<String, Fail> {
     let (rows, _cols) = screen.size();
     let mut text = String::new(alloc);
     for row in 0..rows.get() {
@@ -21,10 +28,10 @@ pub(crate) fn seen(alloc: Global, parser: &Parser<Notes>) -> Result<String, Fail
     }
     let (row, col) = screen.cursor_position();
     write!(text, "@{row},{col}")?;
-    write_scrollback(&mut text, screen)?;
-    write_state(&mut text, screen)?;
+    write_page(&mut text, screen)?;
+    write_attributes(&mut text, screen)?;
+    write_modes(&mut text, screen)?;
     text.push('\n')?;
-    text.push_str(parser.callbacks().lines(alloc)?.as_str())?;
     Ok(text)
 }
 
@@ -93,7 +100,10 @@ fn write_cell(text: &mut String, cell: &Cell) -> Result<(), AllocError> {
     text.push_str(cell.contents())
 }
 
-fn write_scrollback(text: &mut String, screen: &Screen) -> Result<(), AllocError> {
+fn write_page(text: &mut String, screen: &Screen) -> Result<(), AllocError> {
+    if screen.alternate_screen() {
+        text.push_str(" alternate")?;
+    }
     let kept = screen.scrollback_len();
     if kept > 0 {
         write!(text, " kept {kept}")?;
@@ -105,7 +115,7 @@ fn write_scrollback(text: &mut String, screen: &Screen) -> Result<(), AllocError
     Ok(())
 }
 
-fn write_state(text: &mut String, screen: &Screen) -> Result<(), AllocError> {
+fn write_attributes(text: &mut String, screen: &Screen) -> Result<(), AllocError> {
     let foreground = screen.fgcolor();
     if foreground != Color::Default {
         write!(text, " foreground {foreground:?}")?;
@@ -120,16 +130,39 @@ fn write_state(text: &mut String, screen: &Screen) -> Result<(), AllocError> {
         (screen.italic(), " italic"),
         (screen.underline(), " underline"),
         (screen.inverse(), " inverse"),
-        (screen.hide_cursor(), " hidden"),
     ];
-    for (on, word) in words {
-        if on {
-            text.push_str(word)?;
-        }
+    write_words(text, &words)
+}
+
+fn write_modes(text: &mut String, screen: &Screen) -> Result<(), AllocError> {
+    let words = [
+        (screen.hide_cursor(), " hidden"),
+        (screen.application_keypad(), " keypad"),
+        (screen.application_cursor(), " cursor keys"),
+        (screen.bracketed_paste(), " paste"),
+    ];
+    write_words(text, &words)?;
+    let mode = screen.mouse_protocol_mode();
+    if mode != MouseProtocolMode::None {
+        write!(text, " {mode:?}")?;
+    }
+    let encoding = screen.mouse_protocol_encoding();
+    if encoding != MouseProtocolEncoding::Default {
+        write!(text, " {encoding:?}")?;
     }
     let style = screen.cursor_style();
     if style != CursorStyle::Default {
         write!(text, " {style:?}")?;
+    }
+    Ok(())
+}
+
+// Appends the words of what is on.
+fn write_words(text: &mut String, words: &[(bool, &str)]) -> Result<(), AllocError> {
+    for (on, word) in words {
+        if *on {
+            text.push_str(word)?;
+        }
     }
     Ok(())
 }
