@@ -2,23 +2,57 @@
 
 use crate::tally::Tally;
 use std::fmt;
-use vt100::Parser;
+use vt100::{Parser, Screen};
 
-/// The first cell that a parser's screen shows, the cursor, the titles that were counted, the rows
-/// of scrollback, how many of them are in view, and the reported rows that were counted.
+/// The cells that a parser's screen shows, row by row and a dot for each blank, the cursor, the
+/// titles that were counted, the rows of scrollback, how many of them are in view, the reported rows
+/// that were counted, and what else is on.
 #[derive(Clone, Copy)]
 pub struct Shown<'a>(pub &'a Parser<Tally>);
 
 impl fmt::Display for Shown<'_> {
     fn fmt<W: fmt::Write>(&self, f: &mut fmt::Formatter<W>) -> fmt::Result {
         let screen = self.0.screen();
-        let cell = screen.cell(0, 0).map_or("", |cell| cell.contents());
+        write!(f, "cells ")?;
+        write_cells(screen, f)?;
         let (row, col) = screen.cursor_position();
         let (kept, in_view) = (screen.scrollback_len(), screen.scrollback());
         let Tally { titles, reported } = *self.0.callbacks();
         write!(
             f,
-            "cell \"{cell}\", cursor {row} {col}, titles {titles}, kept {kept}, in view {in_view}, reported {reported}"
-        )
+            ", cursor {row} {col}, titles {titles}, kept {kept}, in view {in_view}, reported {reported}"
+        )?;
+        write_modes(screen, f)
     }
+}
+
+/// Writes the rows, with a slash between them.
+fn write_cells<W: fmt::Write>(screen: &Screen, f: &mut fmt::Formatter<W>) -> fmt::Result {
+    let (rows, cols) = screen.size();
+    for row in 0..rows.get() {
+        if row > 0 {
+            write!(f, "/")?;
+        }
+        for col in 0..cols.get() {
+            match screen.cell(row, col) {
+                Some(cell) if cell.has_contents() => write!(f, "{}", cell.contents())?,
+                _ => write!(f, ".")?,
+            }
+        }
+    }
+    Ok(())
+}
+
+/// Writes what is on.
+fn write_modes<W: fmt::Write>(screen: &Screen, f: &mut fmt::Formatter<W>) -> fmt::Result {
+    for (on, word) in [
+        (screen.alternate_screen(), "alternate page"),
+        (screen.application_cursor(), "cursor keys"),
+        (screen.bracketed_paste(), "paste"),
+    ] {
+        if on {
+            write!(f, ", {word}")?;
+        }
+    }
+    Ok(())
 }

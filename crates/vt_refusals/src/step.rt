@@ -2,6 +2,7 @@
 
 use crate::tally::Tally;
 use std::fmt;
+use std::num::NonZeroU16;
 use vt100::{Error, Parser};
 
 /// A call.
@@ -15,11 +16,19 @@ pub enum Step {
 
     /// `set_scrollback` of the screen to this many rows.
     SetScrollback(usize),
+
+    /// `set_size` of the parser to one row of four columns.
+    SetSize,
+
+    /// `set_size` of the screen to one row of four columns.
+    SetScreenSize,
 }
 
 impl Step {
     /// Makes the call.
     pub fn make(self, parser: &mut Parser<Tally>) -> Answer {
+        let rows = NonZeroU16::new(1).unwrap();
+        let cols = NonZeroU16::new(4).unwrap();
         match self {
             Step::Process(bytes) => done(parser.process(bytes)),
             Step::Redraw => match parser.screen().contents_formatted() {
@@ -27,6 +36,8 @@ impl Step {
                 Err(error) => Answer::Refused(error),
             },
             Step::SetScrollback(rows) => done(parser.screen_mut().set_scrollback(rows)),
+            Step::SetSize => done(parser.set_size(rows, cols)),
+            Step::SetScreenSize => done(parser.screen_mut().set_size(rows, cols)),
         }
     }
 }
@@ -45,6 +56,8 @@ impl fmt::Display for Step {
             Step::Process(bytes) => write!(f, "process {}", bytes.escape_ascii()),
             Step::Redraw => write!(f, "redraw"),
             Step::SetScrollback(rows) => write!(f, "set_scrollback {rows}"),
+            Step::SetSize => write!(f, "set_size 1 4"),
+            Step::SetScreenSize => write!(f, "screen set_size 1 4"),
         }
     }
 }

@@ -1,0 +1,69 @@
+//! Two parsers, and what is done with them.
+
+use crate::step::{Answer, Step};
+use crate::tally::Tally;
+use std::{fmt, mem};
+use vt100::Parser;
+
+/// Two parsers.
+#[derive(Drop)]
+pub struct Pair {
+    pub first: Parser<Tally>,
+    pub second: Parser<Tally>,
+}
+
+/// What is done with two parsers.
+#[derive(Clone, Copy)]
+pub enum Act {
+    /// A call of the first one.
+    First(Step),
+
+    /// A call of the second one.
+    Second(Step),
+
+    /// They exchange their screens.
+    Exchange,
+
+    /// The first one gets a `clone` of the screen of the second one.
+    Copy,
+}
+
+impl Pair {
+    /// Does this.
+    pub fn make(&mut self, act: Act) -> Answer {
+        match act {
+            Act::First(step) => step.make(&mut self.first),
+            Act::Second(step) => step.make(&mut self.second),
+            Act::Exchange => {
+                mem::swap(self.first.screen_mut(), self.second.screen_mut());
+                Answer::Done
+            }
+            Act::Copy => match self.second.screen().clone() {
+                Ok(screen) => {
+                    *self.first.screen_mut() = screen;
+                    Answer::Done
+                }
+                Err(error) => Answer::Refused(error),
+            },
+        }
+    }
+
+    /// The parser that this changes; of two the second one.
+    pub fn changed_by(&self, act: Act) -> &Parser<Tally> {
+        match act {
+            Act::First(_) | Act::Copy => &self.first,
+            Act::Second(_) | Act::Exchange => &self.second,
+        }
+    }
+}
+
+impl fmt::Display for Act {
+    fn fmt<W: fmt::Write>(&self, f: &mut fmt::Formatter<W>) -> fmt::Result {
+        match self {
+            Act::First(step) => write!(f, "first {step}"),
+            Act::Second(step) => write!(f, "second {step}"),
+            Act::Exchange => write!(f, "exchange"),
+            Act::Copy => write!(f, "first gets a copy"),
+        }
+    }
+}
