@@ -1,5 +1,6 @@
 -- Changes of attributes: the code's `==` is the definitions' sameness, and what the numbers of a change are.
 use Rattle.std.proofs.Common.{◌≡◌, ℕ, ◌≤◌, ◌<◌, Bool, true, false, List, [], ◌∷◌, ◌++◌, length, nat_lt, decimal, refl, sym, ◌∙◌, ap, append_assoc, append-nil, length-append, flat_map, if◌then◌else◌, rules, arith}
+use Rattle.std.proofs.lemmas.Bool.{cond_both}
 use Rattle.std.proofs.lemmas.Bool.Decides.{nat_tests}
 use Rattle.std.specs.List.{AllByRecursion}
 use Rattle.vt_cells.specs.Attrs.{default_attrs, same_attrs, same_bool, same_color, same_intensity}
@@ -82,11 +83,6 @@ parts_of_change was new =
     right_nested (foreground_part was new) (background_part was new) (intensity_part was new)
     (italic_part was new) (underline_part was new) (inverse_part was new)
 
-by_if : (P : List ℕ → Type 0) (b : Bool) (xs ys : List ℕ) → (b ≡ true → P xs) → (b ≡ false → P ys) →
-    P (if b then xs else ys)
-by_if P true xs ys f g = f refl
-by_if P false xs ys f g = g refl
-
 -- how many numbers a colour has
 abbrev IsShort : List ℕ → Type 0
 IsShort ns = (0 < length ns) × (length ns ≤ 5)
@@ -95,16 +91,16 @@ foreground-length : (c : Color) → IsShort (foreground_numbers c)
 unfolding foreground_numbers
 foreground-length Default = (omega arith, omega arith)
 foreground-length (Idx i) =
-    by_if IsShort (nat_lt i 8) _ _ (λ _. (omega arith, omega arith))
-    (λ _. by_if IsShort (nat_lt i 16) _ _ (λ _. (omega arith, omega arith)) (λ _. (omega arith, omega arith)))
+    cond_both (nat_lt i 8) _ _ IsShort (λ _. (omega arith, omega arith))
+    (λ _. cond_both (nat_lt i 16) _ _ IsShort (λ _. (omega arith, omega arith)) (λ _. (omega arith, omega arith)))
 foreground-length (Rgb r g b) = (omega arith, omega arith)
 
 background-length : (c : Color) → IsShort (background_numbers c)
 unfolding background_numbers
 background-length Default = (omega arith, omega arith)
 background-length (Idx i) =
-    by_if IsShort (nat_lt i 8) _ _ (λ _. (omega arith, omega arith))
-    (λ _. by_if IsShort (nat_lt i 16) _ _ (λ _. (omega arith, omega arith)) (λ _. (omega arith, omega arith)))
+    cond_both (nat_lt i 8) _ _ IsShort (λ _. (omega arith, omega arith))
+    (λ _. cond_both (nat_lt i 16) _ _ IsShort (λ _. (omega arith, omega arith)) (λ _. (omega arith, omega arith)))
 background-length (Rgb r g b) = (omega arith, omega arith)
 
 part-length : (same : Bool) (ns : List ℕ) → length (part same ns) ≤ length ns
@@ -158,8 +154,8 @@ AllBytes-foreground : (c : Color) → FitsColor c → AllBytes (foreground_numbe
 unfolding foreground_numbers
 AllBytes-foreground Default h = (omega arith, tt)
 AllBytes-foreground (Idx i) h =
-    by_if AllBytes (nat_lt i 8) _ _ (λ e. (omega (arith, below i 8 e), tt))
-    (λ _. by_if AllBytes (nat_lt i 16) _ _ (λ e. (omega (arith, below i 16 e), tt))
+    cond_both (nat_lt i 8) _ _ AllBytes (λ e. (omega (arith, below i 8 e), tt))
+    (λ _. cond_both (nat_lt i 16) _ _ AllBytes (λ e. (omega (arith, below i 16 e), tt))
     (λ _. (omega arith, (omega arith, (h, tt)))))
 AllBytes-foreground (Rgb r g b) h = (omega arith, (omega arith, (h.0, (h.1.0, (h.1.1, tt)))))
 
@@ -167,8 +163,8 @@ AllBytes-background : (c : Color) → FitsColor c → AllBytes (background_numbe
 unfolding background_numbers
 AllBytes-background Default h = (omega arith, tt)
 AllBytes-background (Idx i) h =
-    by_if AllBytes (nat_lt i 8) _ _ (λ e. (omega (arith, below i 8 e), tt))
-    (λ _. by_if AllBytes (nat_lt i 16) _ _ (λ e. (omega (arith, below i 16 e), tt))
+    cond_both (nat_lt i 8) _ _ AllBytes (λ e. (omega (arith, below i 8 e), tt))
+    (λ _. cond_both (nat_lt i 16) _ _ AllBytes (λ e. (omega (arith, below i 16 e), tt))
     (λ _. (omega arith, (omega arith, (h, tt)))))
 AllBytes-background (Rgb r g b) h = (omega arith, (omega arith, (h.0, (h.1.0, (h.1.1, tt)))))
 

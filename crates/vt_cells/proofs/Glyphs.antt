@@ -45,7 +45,8 @@ IsGlyphText-first c wide scalar reported columns = record {
   width = λ _. columns;
 }
 
-longer : (text : List ℕ) (was wide : Bool) (mark : ℕ) (glyph : IsGlyphText text was) → IsMark mark → has_room text ≡ true
+-- one mark more, where the width is known
+pub longer : (text : List ℕ) (was wide : Bool) (mark : ℕ) (glyph : IsGlyphText text was) → IsMark mark → has_room text ≡ true
     → (list_any is_selector (glyph.marks ++ mark ∷ []) ≡ false → columns_of glyph.first ≡ Some (first_columns wide)) → IsGlyphText (text ++ encode_utf8 mark) wide
 longer text was wide mark glyph is_mark room width = record {
   first = glyph.first;

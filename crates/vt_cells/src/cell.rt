@@ -12,6 +12,9 @@ use std::marker::Model;
 use std::str;
 use unicode_width::UnicodeWidthStr;
 
+#[cfg(test)]
+mod tests;
+
 /// A cell whose text has this many bytes takes no further mark.
 const MARK_LIMIT: u8 = 18;
 
@@ -401,95 +404,4 @@ fn low_bits(bits: u32) -> u8
     ensures { result ≡ 0x80 + bits % 64 }
 {
     (0x80 + bits % 64) as u8
-}
-
-#[cfg(test)]
-mod tests {
-    use super::*;
-    use crate::width::columns;
-
-    // The cell in which a character and the marks after it come to stand.
-    fn cell_of_text(text: &str) -> Cell {
-        let mut cell = Cell::new();
-        for c in text.chars() {
-            match columns(c) {
-                Some(0) if !cell.is_wide_continuation() => cell.append(c),
-                Some(1) if c != char::REPLACEMENT_CHARACTER => {
-                    cell = Cell::glyph(c, false, Attrs::new());
-                }
-                Some(2) if c != char::REPLACEMENT_CHARACTER => {
-                    cell = Cell::glyph(c, true, Attrs::new());
-                }
-                _ => {}
-            }
-        }
-        cell
-    }
-
-    #[test]
-    fn keeps_a_character_and_its_marks(rt: HostRuntime) {
-        let nine = "e\u{301}\u{301}\u{301}\u{301}\u{301}\u{301}\u{301}\u{301}\u{301}";
-        let twelve =
-            "e\u{301}\u{301}\u{301}\u{301}\u{301}\u{301}\u{301}\u{301}\u{301}\u{301}\u{301}\u{301}";
-        for (text, contents, wide, wide_text) in [
-            ("", "", false, false),
-            ("a", "a", false, false),
-            ("e\u{301}", "e\u{301}", false, false),
-            (twelve, nine, false, false),
-            ("\u{301}", " \u{301}", false, false),
-            ("中", "中", true, true),
-            ("\u{2764}", "\u{2764}", false, false),
-            ("\u{2764}\u{fe0f}", "\u{2764}\u{fe0f}", false, true),
-        ] {
-            let cell = cell_of_text(text);
-            assert_eq!(rt; cell.contents(), contents, "contents of {text}");
-            assert_eq!(rt;
-                cell.has_contents(),
-                !contents.is_empty(),
-                "has contents: {text}"
-            );
-            assert_eq!(rt; cell.is_blank(), contents.is_empty(), "is blank: {text}");
-            assert_eq!(rt; cell.is_wide(), wide, "is wide: {text}");
-            assert_eq!(rt; cell.is_wide_text(), wide_text, "wide text: {text}");
-        }
-        assert_eq!(rt; nine.len(), 19);
-    }
-
-    #[test]
-    fn compares_text_width_flags_and_attributes(rt: HostRuntime) {
-        let mut bold = Attrs::new();
-        bold.set_bold();
-        let mut shorter = cell_of_text("e\u{301}");
-        shorter.clear(Attrs::new());
-        for (cell, other, same) in [
-            (Cell::new(), Cell::blank(Attrs::new()), true),
-            (shorter, Cell::new(), true),
-            (Cell::new(), Cell::blank(bold), false),
-            (Cell::new(), Cell::right_half(), false),
-            (Cell::new(), Cell::space(Attrs::new()), false),
-            (cell_of_text("e"), cell_of_text("e"), true),
-            (cell_of_text("e"), cell_of_text("e\u{301}"), false),
-            (cell_of_text("e"), cell_of_text("f"), false),
-        ] {
-            assert_eq!(rt; cell == other, same);
-        }
-    }
-
-    #[test]
-    fn lends_its_attributes(rt: HostRuntime) {
-        let mut attrs = Attrs::new();
-        attrs.fgcolor = Color::Idx(1);
-        attrs.bgcolor = Color::Rgb(2, 3, 4);
-        attrs.set_dim();
-        attrs.set_italic(true);
-        attrs.set_inverse(true);
-        let cell = Cell::space(attrs);
-        assert_eq!(rt; cell.contents(), " ");
-        assert_eq!(rt; cell.attrs(), attrs);
-        assert_eq!(rt; cell.fgcolor(), Color::Idx(1));
-        assert_eq!(rt; cell.bgcolor(), Color::Rgb(2, 3, 4));
-        assert!(rt; cell.dim() && cell.italic() && cell.inverse());
-        assert!(rt; !cell.bold() && !cell.underline());
-        assert!(rt; Cell::right_half().is_wide_continuation());
-    }
 }
