@@ -6,4 +6,5 @@ pub mod Steps
 pub mod Moves
 pub mod ShiftSteps
 pub mod Trims
+pub mod Folds
 pub mod Examples

@@ -192,12 +192,12 @@ IsPaired-set k x cells w r p = record {
     | inr other ↦ ap f (get_or-set_other cells k j x default_blank other)
   ]
 
-is_wide-marked : (mark : ℕ) (x : CellValue) → is_wide (marked mark x) ≡ is_wide x
+pub is_wide-marked : (mark : ℕ) (x : CellValue) → is_wide (marked mark x) ≡ is_wide x
 is_wide-marked mark (blank attrs) = refl
 is_wide-marked mark (glyph text wide attrs) = refl
 is_wide-marked mark right_half = refl
 
-is_right_half-marked : (mark : ℕ) (x : CellValue) → is_right_half (marked mark x) ≡ is_right_half x
+pub is_right_half-marked : (mark : ℕ) (x : CellValue) → is_right_half (marked mark x) ≡ is_right_half x
 is_right_half-marked mark (blank attrs) = refl
 is_right_half-marked mark (glyph text wide attrs) = refl
 is_right_half-marked mark right_half = refl

@@ -1,9 +1,9 @@
 //! Rows that are lent to be read, and their texts.
 
-ghost use Rattle.std.specs.Prelude.{◌≡◌, [], ◌∷◌, ◌++◌, if◌then◌else◌, IfOk, OnErr, OnOk};
+ghost use Rattle.std.specs.Prelude.{◌≡◌, [], ◌∷◌, ◌++◌, if◌then◌else◌, length, IfOk, OnErr, OnOk};
 ghost use Rattle.vt_cells.specs.Op.{change_text};
 ghost use Rattle.vt_rows.specs.Basic.{attrs_after, attrs_after_all, basic_text, cells_text, shown_text, unwritten, written_after};
-ghost use Rattle.vt_rows.specs.Row.{trimmed_row};
+ghost use Rattle.vt_rows.specs.Row.{IsRow, trimmed_row};
 
 use crate::cuts;
 use crate::row::Row;
@@ -15,7 +15,7 @@ use vt_cells::{Attrs, Cell, Sink};
 mod tests;
 
 /// The contents of a row: its cells, and whether its text goes on in the row
-/// below.
+/// below. It is as a row of a page is, in its own width.
 #[derive(Drop)]
 pub struct RowContents<'a> {
     cells: &'a [Cell],
@@ -23,20 +23,25 @@ pub struct RowContents<'a> {
 }
 
 impl<'a> Model for RowContents<'a> {
-    ghost use Rattle.vt_rows.specs.Row.{RowValue};
+    ghost use Rattle.std.specs.Prelude.{length};
+    ghost use Rattle.vt_rows.specs.Row.{IsRow, RowValue};
 
     ghost Value = { RowValue };
 
     ghost view = { λ r. record { cells = r.cells.now; wrapped = r.wrapped } };
+
+    ghost invariant = { λ r. IsRow (length r.cells.now) (record { cells = r.cells.now; wrapped = r.wrapped }) };
 }
 
 impl<'a> RowContents<'a> {
-    ghost use Rattle.std.specs.Prelude.{◌≡◌};
+    ghost use Rattle.std.specs.Prelude.{◌≡◌, length};
+    ghost use Rattle.vt_rows.specs.Row.{IsRow};
 
     /// The cells, from left to right.
     #[inline]
     pub fn cells(&self) -> &[Cell]
-        ensures { result.now ≡ self.now.cells }
+        ensures value { result.now ≡ self.now.cells }
+        ensures sound { IsRow (length self.now.cells) self.now }
     {
         self.cells
     }
@@ -179,6 +184,7 @@ impl Row {
     /// The row as it stands.
     #[inline]
     pub fn contents(&self) -> RowContents<'_>
+        requires { IsRow (length self.now.cells) self.now }
         ensures { result ≡ self.now }
     {
         RowContents {
@@ -189,6 +195,7 @@ impl Row {
 
     /// The row without the default blanks at its end.
     pub fn trimmed_contents(&self) -> RowContents<'_>
+        requires { IsRow (length self.now.cells) self.now }
         ensures { result ≡ trimmed_row self.now }
     {
         let cells = self.cells();

@@ -1,6 +1,6 @@
 //! One row of a screen.
 
-ghost use Rattle.std.specs.Prelude.{◌≡◌, ◌≢◌, ◌&&◌, ◌<◌, ◌≤◌, ◌+◌, ◌-◌, ◌↔◌, ◌++◌, false, true, IfErr, IfOk, IfSome, IsSome, OnErr, OnOk, Some, encode_utf8, length, slice_set, vec_capacity, vec_len};
+ghost use Rattle.std.specs.Prelude.{◌≡◌, ◌≢◌, ◌&&◌, ◌<◌, ◌≤◌, ◌+◌, ◌-◌, ◌↔◌, ◌++◌, false, true, IfErr, IfOk, IfSome, IsSome, Some, encode_utf8, length, slice_set, vec_capacity, vec_len};
 ghost use Rattle.vt_cells.specs.Attrs.{default_attrs};
 ghost use Rattle.vt_cells.specs.Cell.{IsCell, attrs_of, is_blank, is_right_half, is_wide, text_of, widened};
 ghost use Rattle.vt_cells.specs.Glyph.{columns_of};
@@ -256,44 +256,6 @@ impl Row {
     {
         let len = cuts::trimmed_len(&self.cells);
         self.cells.truncate(len);
-    }
-
-    /// Cuts the row to fewer columns, or as many.
-    ///
-    /// A left half that comes to stand in the last column becomes blank, in
-    /// its own attributes. A row that becomes shorter goes on no more.
-    pub fn cut(&mut self, columns: usize)
-        requires paired { IsPaired self.old.cells }
-        requires inside { columns ≤ length self.old.cells }
-        ensures { self.new ≡ resized_row columns self.old }
-    {
-        if columns == self.cells.len() {
-            return;
-        }
-        self.cells.truncate(columns);
-        cuts::blank_end(&mut self.cells);
-        self.wrapped = false;
-    }
-
-    /// Grows the row to more columns, or as many, by default blanks. A row
-    /// that becomes longer goes on no more.
-    ///
-    /// Fails where its memory is refused, and then nothing has changed.
-    pub fn grow(&mut self, columns: usize) -> Result<(), Error>
-        requires paired { IsPaired self.old.cells }
-        requires inside { length self.old.cells ≤ columns }
-        ensures ok { OnOk result (self.new ≡ resized_row columns self.old) }
-        ensures err { OnErr result (self.new ≡ self.old) }
-        ensures memory { IfErr result (λ error. error ≡ Error.OutOfMemory) }
-    {
-        let len = self.cells.len();
-        if columns == len {
-            return Ok(());
-        }
-        self.cells.reserve(columns - len)?;
-        push_blanks(&mut self.cells, columns - len);
-        self.wrapped = false;
-        Ok(())
     }
 
     /// Takes over the cells of another row, as far as they fit; this one is

@@ -1,10 +1,13 @@
 //! Basic texts of rows, as the rule for them says.
 
+ghost use Rattle.std.specs.Prelude.{◌≡◌, false, IfOk, length};
+ghost use Rattle.vt_rows.specs.Row.{IsRow};
+
 use super::{BasicFormattedCaptureState, RowContents};
 use crate::row::Row;
 use std::alloc::Global;
 use std::test::Fail;
-use vt_cells::{Attrs, Cell, Color, Error, Sink, columns};
+use vt_cells::{Attrs, Color, Error, Sink, columns};
 
 fn red() -> Attrs {
     let mut attrs = Attrs::new();
@@ -18,78 +21,108 @@ fn on_blue() -> Attrs {
     attrs
 }
 
-// The glyph of a character, or a blank for one that takes no column.
-fn glyph(c: char, attrs: Attrs) -> Cell {
+// Puts a character at a column, or a blank for one that takes no column.
+fn put(row: &mut Row, column: usize, c: char, attrs: Attrs)
+    requires { IsRow (length row.old.cells) row.old }
+    ensures { IsRow (length row.old.cells) row.new }
+{
+    let left = row.cols().saturating_sub(column);
     match columns(c) {
-        Some(1) if c != char::REPLACEMENT_CHARACTER => Cell::glyph(c, false, attrs),
-        Some(2) if c != char::REPLACEMENT_CHARACTER => Cell::glyph(c, true, attrs),
-        _ => Cell::blank(attrs),
+        Some(1) if left > 0 && c != char::REPLACEMENT_CHARACTER => row.put_narrow(column, c, attrs),
+        Some(2) if left > 1 && c != char::REPLACEMENT_CHARACTER => row.put_wide(column, c, attrs),
+        _ if left > 0 => row.erase(column, column + 1, attrs),
+        _ => {}
     }
 }
 
-fn plain(c: char) -> Cell {
-    glyph(c, Attrs::new())
+// A row with characters at some of its columns.
+fn row_of(alloc: Global, columns: usize, puts: &[(usize, char, Attrs)]) -> Result<Row, Error>
+    ensures { IfOk result (λ row. IsRow (length row.cells) row) }
+{
+    let mut row = Row::new(alloc, columns)?;
+    for (column, c, attrs) in puts {
+        put(&mut row, *column, *c, *attrs);
+    }
+    Ok(row)
 }
 
-// The basic text of rows one after the other, each with its flag.
-fn text_of(alloc: Global, rows: &[(&[Cell], bool)]) -> Result<String, Error> {
+// Lets a row go on, if a glyph is in its last column.
+fn wrap(row: &mut Row)
+    requires { IsRow (length row.old.cells) row.old }
+    ensures { IsRow (length row.old.cells) row.new }
+{
+    let len = row.cols();
+    if len > 0 && !row.cells()[len - 1].is_blank() {
+        row.wrap(true);
+    }
+}
+
+// The basic text of rows one after the other.
+fn text_of(alloc: Global, rows: &[RowContents<'_>]) -> Result<String, Error> {
     let mut text = String::new(alloc);
     let mut state = BasicFormattedCaptureState::new();
-    for (cells, wrapped) in rows {
-        let row = RowContents {
-            cells: *cells,
-            wrapped: *wrapped,
-        };
+    for row in rows {
         row.write_formatted_basic(&mut text, &mut state)?;
     }
     Ok(text)
 }
 
+// Whether the row begins with a right half: no row does that is lent.
+fn begins_torn(row: &RowContents<'_>) -> bool
+    ensures { result ≡ false }
+{
+    match row.cells().first() {
+        Some(cell) => cell.is_wide_continuation(),
+        None => false,
+    }
+}
+
+#[test]
+fn lends_sound_rows(rt: HostRuntime) -> Result<(), Fail> {
+    let mut row = row_of(rt.alloc(), 3, &[(0, '中', red()), (2, '中', red())])?;
+    assert!(rt; !begins_torn(&row.contents()));
+    put(&mut row, 1, 'a', red());
+    assert!(rt; !begins_torn(&row.trimmed_contents()));
+    Ok(())
+}
+
 #[test]
 fn writes_cells_in_their_attributes(rt: HostRuntime) -> Result<(), Fail> {
-    let blank = Cell::new();
-    let colored = Cell::blank(on_blue());
-    let spaced = [glyph('a', red()), Cell::new(), plain('b')];
-    let ended = [plain('a'), Cell::new(), Cell::blank(on_blue()), Cell::new()];
-    let wide = [plain('中'), Cell::right_half(), plain('a')];
-    let red_wide = [
-        glyph('中', red()),
-        Cell::right_half(),
-        Cell::new(),
-        glyph('a', red()),
-    ];
-    let last_wide = [glyph('中', red()), Cell::right_half(), Cell::new()];
-    for (cells, want) in [
-        (&spaced[..], "\x1b[31ma \x1b[mb"),
-        (&ended, "a \x1b[44m "),
-        (&wide, "中a"),
-        (&red_wide, "\x1b[31m中 a"),
-        (&last_wide, "\x1b[31m中"),
-        (&[blank], ""),
-        (&[colored], "\x1b[44m "),
+    let plain = Attrs::new();
+    for (columns, puts, want) in [
+        (
+            3,
+            &[(0, 'a', red()), (2, 'b', plain)][..],
+            "\x1b[31ma \x1b[mb",
+        ),
+        (4, &[(0, 'a', plain), (2, '\0', on_blue())], "a \x1b[44m "),
+        (3, &[(0, '中', plain), (2, 'a', plain)], "中a"),
+        (4, &[(0, '中', red()), (3, 'a', red())], "\x1b[31m中 a"),
+        (3, &[(0, '中', red())], "\x1b[31m中"),
+        (1, &[], ""),
+        (1, &[(0, '\0', on_blue())], "\x1b[44m "),
     ] {
-        assert_eq!(rt; text_of(rt.alloc(), &[(cells, false)])?.as_str(), want);
+        let row = row_of(rt.alloc(), columns, puts)?;
+        assert_eq!(rt; text_of(rt.alloc(), &[row.contents()])?.as_str(), want);
     }
     Ok(())
 }
 
 #[test]
 fn ends_a_row_before_the_next(rt: HostRuntime) -> Result<(), Fail> {
-    let first = [glyph('a', red()), glyph('b', red())];
-    let second = [glyph('c', red()), plain('d')];
-    for (wrapped, want) in [
-        (false, "\x1b[31mab\nc\x1b[md"),
-        (true, "\x1b[31mabc\x1b[md"),
-    ] {
-        let rows = [(&first[..], wrapped), (&second, false)];
-        assert_eq!(rt; text_of(rt.alloc(), &rows)?.as_str(), want);
-    }
+    let mut first = row_of(rt.alloc(), 2, &[(0, 'a', red()), (1, 'b', red())])?;
+    let second = row_of(rt.alloc(), 2, &[(0, 'c', red()), (1, 'd', Attrs::new())])?;
+    let ended = text_of(rt.alloc(), &[first.contents(), second.contents()])?;
+    assert_eq!(rt; ended.as_str(), "\x1b[31mab\nc\x1b[md");
+    wrap(&mut first);
+    let joined = text_of(rt.alloc(), &[first.contents(), second.contents()])?;
+    assert_eq!(rt; joined.as_str(), "\x1b[31mabc\x1b[md");
     Ok(())
 }
 
 #[test]
 fn writes_blank_rows_as_line_ends(rt: HostRuntime) -> Result<(), Fail> {
-    let row = Row::new(rt.alloc(), 4)?;
+    let row = row_of(rt.alloc(), 4, &[])?;
     let mut text = String::new(rt.alloc());
     let mut state = BasicFormattedCaptureState::default();
     for _row in 0..3 {
@@ -124,20 +157,15 @@ impl Sink for Refusing {
 
 #[test]
 fn stays_where_a_row_is_refused(rt: HostRuntime) -> Result<(), Fail> {
-    let before = [glyph('a', red())];
-    let cells = [plain('b'), glyph('c', red())];
+    let before = row_of(rt.alloc(), 1, &[(0, 'a', red())])?;
+    let row = row_of(rt.alloc(), 2, &[(0, 'b', Attrs::new()), (1, 'c', red())])?;
     let want = "\n\x1b[mb\x1b[31mc";
     let mut written = BasicFormattedCaptureState::new();
     let mut text = String::new(rt.alloc());
-    RowContents {
-        cells: &before,
-        wrapped: false,
-    }
-    .write_formatted_basic(&mut text, &mut written)?;
-    let row = RowContents {
-        cells: &cells,
-        wrapped: false,
-    };
+    before
+        .contents()
+        .write_formatted_basic(&mut text, &mut written)?;
+    let row = row.contents();
     for (pieces_left, taken) in [(0, false), (1, false), (3, false), (100, true)] {
         let mut state = written.clone()?;
         let mut sink = Refusing {
