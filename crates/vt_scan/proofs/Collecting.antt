@@ -33,10 +33,10 @@ sequence_to CsiIgnore held text s r = absurd s
 sequence_to OscString held text s r = absurd s
 sequence_to Skip held text s r = absurd s
 
-filter-yes : (p : ℕ → Bool) (text : List ℕ) (b : ℕ) → p b ≡ true → filter p (text ++ b ∷ []) ≡ filter p text ++ b ∷ []
+pub filter-yes : (p : ℕ → Bool) (text : List ℕ) (b : ℕ) → p b ≡ true → filter p (text ++ b ∷ []) ≡ filter p text ++ b ∷ []
 filter-yes p text b h = filter-append p text (b ∷ []) ∙ ap (λ t. filter p text ++ cond t (b ∷ []) []) h
 
-filter-no : (p : ℕ → Bool) (text : List ℕ) (b : ℕ) → p b ≡ false → filter p (text ++ b ∷ []) ≡ filter p text
+pub filter-no : (p : ℕ → Bool) (text : List ℕ) (b : ℕ) → p b ≡ false → filter p (text ++ b ∷ []) ≡ filter p text
 filter-no p text b h = filter-append p text (b ∷ []) ∙ ap (λ t. filter p text ++ cond t (b ∷ []) []) h ∙ append-nil (filter p text)
 
 in_sequence : (old new : Kind) → Fits old (Collect new) → old ≢ OscString → InSequence old × InSequence new

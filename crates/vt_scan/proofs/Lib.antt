@@ -1,6 +1,8 @@
+pub mod Alike
 pub mod Collecting
 pub mod Cutting
 pub mod Feeding
+pub mod Growing
 pub mod Lists
 pub mod Readback
 pub mod Reading

@@ -138,6 +138,11 @@ Ascends-below from [] len a = a
 Ascends-below from (to ∷ ends) len a = omega (arith, Ascends-below to ends len a.1)
 
 -- the last number changes
+-- one group more than are closed
+pub length-groups_from : (from : ℕ) (ends : List ℕ) (len : ℕ) (numbers : List ℕ) → length (groups_from from ends len numbers) ≡ length ends + 1
+length-groups_from from [] len numbers = refl
+length-groups_from from (to ∷ ends) len numbers = omega (arith, length-groups_from to ends len numbers)
+
 pub groups_from-digit : (f : ℕ → ℕ) (from : ℕ) (ends : List ℕ) (len at : ℕ) (numbers : List ℕ) → len ≡ at + 1 → Ascends from ends len → at < length numbers →
     groups_from from ends len (set numbers at (f (get_or numbers at 0))) ≡ on_last (on_last f) (groups_from from ends len numbers)
 groups_from-digit f from [] len at numbers e a h =

@@ -43,7 +43,7 @@ is_cut groups text e = let test : nat_lt 32 (total (groups_of text)) ≡ true = 
 first_is : (groups : List (List ℕ)) (b : Bool) (text : List ℕ) → table groups b ≡ table_of text → groups ≡ first_numbers 32 (groups_of text)
 first_is groups b text e = ap (λ (t : Table). t.groups) e ∙ groups_is text
 
-whole_is : (groups : List (List ℕ)) (text : List ℕ) → table groups false ≡ table_of text → groups ≡ groups_of text
+pub whole_is : (groups : List (List ℕ)) (text : List ℕ) → table groups false ≡ table_of text → groups ≡ groups_of text
 whole_is groups text e = first_is groups false text e ∙ first_numbers-all 32 (groups_of text) (groups_of-all_some text) (is_whole groups text e)
 
 pub table-empty : table ((0 ∷ []) ∷ []) false ≡ table_of []

@@ -1,5 +1,5 @@
 -- What the scanner holds of the bytes that it has read, which states of the automaton that stands for, and what its answer means.
-use Rattle.std.specs.Prelude.{◌≡◌, ℕ, List, ◌++◌, map, option_to_list}
+use Rattle.std.specs.Prelude.{◌≡◌, ℕ, ◌<◌, ◌≤◌, List, [], ◌++◌, map, option_to_list}
 use Rattle.vt_scan.specs.Parameters.{Table, table_of}
 use Rattle.vt_scan.specs.Automaton as automaton
 use Rattle.vt_scan.specs.Automaton.{State, Step, parameter_text, marks_of, parts_of, step_in}
@@ -54,6 +54,10 @@ events_in held events = map (event_of held) (option_to_list events.first ++ opti
 pub record Follows (new : Held) (answer : Events) (step : Step) : Type 0 where
   pub stands : StandsFor new step.state
   pub means : events_in new answer ≡ step.events
+
+-- plain text with nothing unfinished, and a printable byte of ASCII
+abbrev pub ReadsItself : Held → ℕ → Type 0
+ReadsItself held b = (held.kind ≡ Ground) × (held.unfinished ≡ []) × (0x20 ≤ b) × (b < 0x7F)
 
 -- whatever state the scanner was in, it is then in the one that follows by this byte
 abbrev pub Feeds : Held → ℕ → Held → Events → Type 0

@@ -1,8 +1,8 @@
 //! The scanner: from bytes to events.
 
-ghost use Rattle.std.specs.Prelude.{◌≡◌, [], IfErr, IfOk, IsErr, IsTrue, None, OnErr, Some};
+ghost use Rattle.std.specs.Prelude.{◌≡◌, ◌≤◌, ◌↔◌, [], IfErr, IfOk, IsErr, IsTrue, None, OnErr, Some, length};
 ghost use Rattle.vt_scan.specs.Automaton.{State, parts_of, start};
-ghost use Rattle.vt_scan.specs.Scanner.{Feeds, StandsFor};
+ghost use Rattle.vt_scan.specs.Scanner.{Feeds, ReadsItself, StandsFor};
 ghost use Rattle.vt_scan.specs.Table.{class_of, turn_of};
 ghost use Rattle.vt_scan.specs.declared.event.Event.{Event};
 ghost use Rattle.vt_scan.specs.declared.table.Kind.{Kind};
@@ -72,7 +72,8 @@ impl Scanner {
     /// that it need not be fed.
     #[inline(always)]
     pub fn is_plain(&self, byte: u8) -> bool
-        ensures { IsTrue result → Feeds self.now byte self.now (record { first = Some (Event.Character byte); second = None }) }
+        ensures feeds { IsTrue result → Feeds self.now byte self.now (record { first = Some (Event.Character byte); second = None }) }
+        ensures plain { IsTrue result ↔ ReadsItself self.now byte }
     {
         self.registers.is_plain(byte)
     }
@@ -99,7 +100,8 @@ impl Scanner {
     #[inline(always)]
     pub fn lend_groups<'a>(&'a self, few: &mut FewGroups<'a>) -> bool
         requires { few.old ≡ [] }
-        ensures { IsTrue result → few.new ≡ self.now.table.groups }
+        ensures lent { IsTrue result → few.new ≡ self.now.table.groups }
+        ensures few { IsTrue result ↔ (length self.now.table.groups ≤ 6) }
     {
         self.registers.lend_groups(few)
     }

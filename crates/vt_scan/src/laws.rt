@@ -11,6 +11,7 @@ ghost use Rattle.vt_cells.specs.Op.{csi, joined, place};
 ghost use Rattle.vt_scan.specs.Automaton.{Character, CsiDispatch, EscDispatch, Executed, State, Step, start};
 ghost use Rattle.vt_scan.specs.Parameters.{table_of};
 ghost use Rattle.vt_scan.specs.Run.{run};
+ghost use Rattle.vt_scan.specs.Scanner.{Held, StandsFor};
 ghost use Rattle.vt_scan.specs.Texts.{IsParameterText, back_with, place_groups};
 
 /// Bytes may come in pieces: those of the second piece are read from the
@@ -18,6 +19,14 @@ ghost use Rattle.vt_scan.specs.Texts.{IsParameterText, back_with, place_groups};
 pub fn pieces()
     ensures state { (state : State) (a b : List ℕ) → (run state (a ++ b)).state ≡ (run (run state a).state b).state }
     ensures events { (state : State) (a b : List ℕ) → (run state (a ++ b)).events ≡ (run state a).events ++ (run (run state a).state b).events }
+{}
+
+/// What a scanner holds tells all that follows. Of the states that it may be
+/// in, each gives the same events for the same bytes; and what stands for one
+/// of them after these bytes stands for the others.
+pub fn futures()
+    ensures events { (held : Held) (s t : State) (bytes : List ℕ) → StandsFor held s → StandsFor held t → (run s bytes).events ≡ (run t bytes).events }
+    ensures stands { (held after : Held) (s t : State) (bytes : List ℕ) → StandsFor held s → StandsFor held t → StandsFor after (run s bytes).state → StandsFor after (run t bytes).state }
 {}
 
 /// A character that is written as UTF-8 is read as itself, and so are the

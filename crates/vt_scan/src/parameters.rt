@@ -1,6 +1,6 @@
 //! The numbers of a control sequence.
 
-ghost use Rattle.std.specs.Prelude.{◌≡◌, ℕ, ◌+◌, ◌*◌, ◌-◌, ◌<◌, ◌≤◌, List, [], ◌∷◌, ◌++◌, IsTrue, min, take, true};
+ghost use Rattle.std.specs.Prelude.{◌≡◌, ℕ, ◌+◌, ◌*◌, ◌-◌, ◌<◌, ◌≤◌, ◌↔◌, List, [], ◌∷◌, ◌++◌, IsTrue, length, min, take, true};
 ghost use Rattle.vt_scan.specs.Parameters.{Table, table_of};
 ghost use Rattle.vt_scan.specs.Keeping.{Ascends, groups_from};
 
@@ -126,7 +126,8 @@ impl Parameters {
     #[inline(always)]
     pub fn lend<'a>(&'a self, few: &mut FewGroups<'a>) -> bool
         requires { few.old ≡ [] }
-        ensures { IsTrue result → few.new ≡ self.now.groups }
+        ensures lent { IsTrue result → few.new ≡ self.now.groups }
+        ensures few { IsTrue result ↔ (length self.now.groups ≤ 6) }
     {
         if self.closed >= 6 {
             return false;

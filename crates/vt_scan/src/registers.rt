@@ -1,9 +1,9 @@
 //! What the scanner holds of the bytes that it has read.
 
-ghost use Rattle.std.specs.Prelude.{◌≡◌, ◌≢◌, ◌≤◌, ◌<◌, ℕ, List, [], ◌∷◌, ◌++◌, IfErr, IfOk, IsErr, IsTrue, None, OnErr, OnOk, Some};
+ghost use Rattle.std.specs.Prelude.{◌≡◌, ◌≢◌, ◌≤◌, ◌<◌, ◌↔◌, ℕ, List, [], ◌∷◌, ◌++◌, IfErr, IfOk, IsErr, IsTrue, None, OnErr, OnOk, Some, length};
 ghost use Rattle.vt_scan.specs.Automaton.{fresh_step, is_parameter, parts_of, start, step_in};
 ghost use Rattle.vt_scan.specs.Keeping.{Begins, Fits, answer_of};
-ghost use Rattle.vt_scan.specs.Scanner.{Feeds, Follows, Held, Reads, StandsFor};
+ghost use Rattle.vt_scan.specs.Scanner.{Feeds, Follows, Held, Reads, ReadsItself, StandsFor};
 ghost use Rattle.vt_scan.specs.Table.{class_of, turn_of};
 ghost use Rattle.vt_scan.specs.declared.event.Event.{Event};
 
@@ -67,7 +67,8 @@ impl Registers {
     /// Whether this byte is a printable one of ASCII, read by itself.
     #[inline(always)]
     pub fn is_plain(&self, byte: u8) -> bool
-        ensures { IsTrue result → Feeds self.now byte self.now (record { first = Some (Event.Character byte); second = None }) }
+        ensures feeds { IsTrue result → Feeds self.now byte self.now (record { first = Some (Event.Character byte); second = None }) }
+        ensures plain { IsTrue result ↔ ReadsItself self.now byte }
     {
         is_printable(byte) && self.is_fresh()
     }
@@ -75,7 +76,7 @@ impl Registers {
     // Whether the next byte begins something.
     #[inline(always)]
     fn is_fresh(&self) -> bool
-        ensures { IsTrue result → (self.now.kind ≡ Kind.Ground) × (self.now.unfinished ≡ []) }
+        ensures { IsTrue result ↔ ((self.now.kind ≡ Kind.Ground) × (self.now.unfinished ≡ [])) }
     {
         match self.kind {
             Kind::Ground => self.unfinished.is_empty(),
@@ -199,7 +200,8 @@ impl Registers {
     #[inline(always)]
     pub fn lend_groups<'a>(&'a self, few: &mut FewGroups<'a>) -> bool
         requires { few.old ≡ [] }
-        ensures { IsTrue result → few.new ≡ self.now.table.groups }
+        ensures lent { IsTrue result → few.new ≡ self.now.table.groups }
+        ensures few { IsTrue result ↔ (length self.now.table.groups ≤ 6) }
     {
         self.parameters.lend(few)
     }
@@ -223,7 +225,7 @@ impl Registers {
 // Whether the byte is a printable one of ASCII.
 #[inline(always)]
 fn is_printable(byte: u8) -> bool
-    ensures { IsTrue result → (0x20 ≤ byte) × (byte < 0x80) }
+    ensures { IsTrue result ↔ ((0x20 ≤ byte) × (byte < 0x7F)) }
 {
     byte >= 0x20 && byte < 0x7F
 }

@@ -1,0 +1,177 @@
+-- States of the automaton that read alike: one and the same scanner may be in both, and no byte ever tells them apart.
+use Rattle.std.proofs.Common.{◌≡◌, ◌≢◌, ℕ, Bool, true, false, not, ◌⊎◌, List, [], ◌∷◌, ◌++◌, take, filter, inl, inr, refl, sym, subst, ◌∙◌, ap, rules}
+use Rattle.std.proofs.Math.Logic.{⊎_elim}
+use Rattle.vt_scan.specs.Table.{turn_of, class_of}
+use Rattle.vt_scan.specs.Parameters.{Table, table_of}
+use Rattle.vt_scan.specs.Automaton.{State, Step, EscDispatch, CsiDispatch, OscDispatch, Executed, is_parameter, parameter_text, marks_of, parts_of, given, after, step_in}
+use Rattle.vt_scan.specs.Run.{run}
+use Rattle.vt_scan.specs.Scanner.{Held, Reads, ReadsSequence, StandsFor}
+use Rattle.vt_scan.specs.Keeping.{Fits, FitsEnding}
+use Rattle.vt_scan.specs.declared.table.Kind.{Kind}
+use Rattle.vt_scan.specs.declared.table.Kind.TheVariants.{Ground, Escape, EscapeIntermediate, CsiEntry, CsiParam, CsiIntermediate, CsiIgnore, OscString, Skip}
+use Rattle.vt_scan.specs.declared.table.Class.{Class}
+use Rattle.vt_scan.specs.declared.table.Turn.{Turn}
+use Rattle.vt_scan.specs.declared.table.Turn.TheVariants.{Collect, Drop, Execute, End}
+use Rattle.vt_scan.specs.declared.table.Ending as ending
+use Rattle.vt_scan.specs.declared.table.Ending.TheVariants as ends
+use Rattle.vt_scan.proofs.Collecting.{filter-yes, filter-no, sequence_from, sequence_to}
+use Rattle.vt_scan.proofs.Growing.{table-more, take-more}
+use Rattle.vt_scan.proofs.Stepping.{step_in-table}
+
+abbrev pub at : Kind → List ℕ → State
+at kind collected = record { kind = kind; collected = collected }
+
+-- what a scanner holds that has read just this
+abbrev pub held_of : State → Held
+held_of state = record {
+  kind = state.kind;
+  unfinished = state.collected;
+  table = table_of (parameter_text state.collected);
+  marks = marks_of state.collected;
+  text = state.collected;
+}
+
+abbrev pub Alike : State → State → Type 0
+Alike s t = StandsFor (held_of s) t
+
+-- of one kind, by the collected bytes
+abbrev pub AlikeIn : Kind → List ℕ → List ℕ → Type 0
+AlikeIn kind a b = Reads (held_of (at kind a)) kind b
+
+reads_itself : (kind : Kind) (a : List ℕ) → AlikeIn kind a a
+reads_itself Ground a = refl
+reads_itself Escape a = record { table = refl; marks = refl }
+reads_itself EscapeIntermediate a = record { table = refl; marks = refl }
+reads_itself CsiEntry a = record { table = refl; marks = refl }
+reads_itself CsiParam a = record { table = refl; marks = refl }
+reads_itself CsiIntermediate a = record { table = refl; marks = refl }
+reads_itself CsiIgnore a = tt
+reads_itself OscString a = refl
+reads_itself Skip a = tt
+
+pub itself : (s : State) → Alike s s
+itself s = record { kind = refl; reads = reads_itself s.kind s.collected }
+
+both_read : (kind : Kind) (held : Held) (a b : List ℕ) → Reads held kind a → Reads held kind b → AlikeIn kind a b
+both_read Ground held a b r q = sym r ∙ q
+both_read Escape held a b r q = record { table = sym r.table ∙ q.table; marks = sym r.marks ∙ q.marks }
+both_read EscapeIntermediate held a b r q = record { table = sym r.table ∙ q.table; marks = sym r.marks ∙ q.marks }
+both_read CsiEntry held a b r q = record { table = sym r.table ∙ q.table; marks = sym r.marks ∙ q.marks }
+both_read CsiParam held a b r q = record { table = sym r.table ∙ q.table; marks = sym r.marks ∙ q.marks }
+both_read CsiIntermediate held a b r q = record { table = sym r.table ∙ q.table; marks = sym r.marks ∙ q.marks }
+both_read CsiIgnore held a b r q = tt
+both_read OscString held a b r q = sym r ∙ q
+both_read Skip held a b r q = tt
+
+other_reads : (kind : Kind) (held : Held) (a b : List ℕ) → AlikeIn kind a b → Reads held kind a → Reads held kind b
+other_reads Ground held a b e r = r ∙ e
+other_reads Escape held a b e r = record { table = r.table ∙ e.table; marks = r.marks ∙ e.marks }
+other_reads EscapeIntermediate held a b e r = record { table = r.table ∙ e.table; marks = r.marks ∙ e.marks }
+other_reads CsiEntry held a b e r = record { table = r.table ∙ e.table; marks = r.marks ∙ e.marks }
+other_reads CsiParam held a b e r = record { table = r.table ∙ e.table; marks = r.marks ∙ e.marks }
+other_reads CsiIntermediate held a b e r = record { table = r.table ∙ e.table; marks = r.marks ∙ e.marks }
+other_reads CsiIgnore held a b e r = tt
+other_reads OscString held a b e r = r ∙ e
+other_reads Skip held a b e r = tt
+
+-- states that one scanner may be in are alike
+pub both_stand : (held : Held) (s t : State) → StandsFor held s → StandsFor held t → Alike s t
+both_stand held s t p q =
+    record {
+      kind = sym p.kind ∙ q.kind;
+      reads = subst (λ (k : Kind). AlikeIn k s.collected t.collected) p.kind (both_read held.kind held s.collected t.collected p.reads q.reads);
+    }
+
+-- and a scanner that may be in one of them may be in the other
+pub other_stands : (held : Held) (s t : State) → Alike s t → StandsFor held s → StandsFor held t
+other_stands held s t e p =
+    record {
+      kind = p.kind ∙ e.kind;
+      reads = other_reads held.kind held s.collected t.collected (subst (λ (k : Kind). AlikeIn k s.collected t.collected) (sym p.kind) e.reads) p.reads;
+    }
+
+-- one byte
+
+-- alike, with the same events on the way
+pub record Same (x y : Step) : Type 0 where
+  pub alike : Alike x.state y.state
+  pub events : x.events ≡ y.events
+
+same_itself : (x : Step) → Same x x
+same_itself x = record { alike = itself x.state; events = refl }
+
+-- what all turns of the table have in common
+turn_fits : (kind : Kind) (class : Class) → Fits kind (turn_of kind class)
+turn_fits kind class = search rules
+
+-- of two texts that are alike within a sequence, also those with one more byte are
+sequence_more : (kind next : Kind) (a b : List ℕ) (x : ℕ) → ReadsSequence (held_of (at kind a)) b → ReadsSequence (held_of (at next (a ++ x ∷ []))) (b ++ x ∷ [])
+sequence_more kind next a b x r = by (is_parameter x) refl
+  where
+    by : (t : Bool) → is_parameter x ≡ t → ReadsSequence (held_of (at next (a ++ x ∷ []))) (b ++ x ∷ [])
+    by true is = record {
+      table = ap table_of (filter-yes is_parameter a x is) ∙ table-more (parameter_text a) (parameter_text b) x is r.table ∙ ap table_of (sym (filter-yes is_parameter b x is));
+      marks = ap (take 2) (filter-no (λ y. not (is_parameter y)) a x (ap not is)) ∙ r.marks ∙ ap (take 2) (sym (filter-no (λ y. not (is_parameter y)) b x (ap not is)));
+    }
+    by false is = record {
+      table = ap table_of (filter-no is_parameter a x is) ∙ r.table ∙ ap table_of (sym (filter-no is_parameter b x is));
+      marks = ap (take 2) (filter-yes (λ y. not (is_parameter y)) a x (ap not is))
+          ∙ take-more 2 (filter (λ y. not (is_parameter y)) a) (filter (λ y. not (is_parameter y)) b) x r.marks
+          ∙ ap (take 2) (sym (filter-yes (λ y. not (is_parameter y)) b x (ap not is)));
+    }
+
+-- within the text of a command both are the same
+same_text : (kind : Kind) (a b : List ℕ) → kind ≡ OscString → AlikeIn kind a b → a ≡ b
+same_text kind a b is r = subst (λ (k : Kind). AlikeIn k a b) is r
+
+collects_alike : (kind next : Kind) (a b : List ℕ) (x : ℕ) → Fits kind (Collect next) → AlikeIn kind a b → AlikeIn next (a ++ x ∷ []) (b ++ x ∷ [])
+collects_alike kind next a b x (inl (old, new)) r =
+    sequence_to next (held_of (at next (a ++ x ∷ []))) (b ++ x ∷ []) new (sequence_more kind next a b x (sequence_from kind (held_of (at kind a)) b old r))
+collects_alike kind next a b x (inr (old, new)) r =
+    subst (λ (l : List ℕ). AlikeIn next (a ++ x ∷ []) (l ++ x ∷ [])) (same_text kind a b old r) (reads_itself next (a ++ x ∷ []))
+
+given_alike : (kind next : Kind) (end : ending.Ending) (a b : List ℕ) (x : ℕ) → FitsEnding kind next end → AlikeIn kind a b → given end a x ≡ given end b x
+given_alike kind next ends.Nothing a b x fits r = refl
+given_alike kind next ends.Character a b x fits r = refl
+given_alike kind next ends.Executed a b x fits r = refl
+given_alike kind next ends.EscDispatch a b x fits r =
+    let reads = sequence_from kind (held_of (at kind a)) b fits.0 r in
+    ap (λ marks. EscDispatch marks x ∷ []) reads.marks
+given_alike kind next ends.CsiDispatch a b x fits r =
+    let reads = sequence_from kind (held_of (at kind a)) b fits.0 r in
+    ap (λ (t : Table). CsiDispatch t.groups (marks_of a) x ∷ []) reads.table ∙ ap (λ marks. CsiDispatch (table_of (parameter_text b)).groups marks x ∷ []) reads.marks
+given_alike kind next ends.OscDispatch a b x fits r = ap (λ text. OscDispatch (parts_of text) ∷ []) (same_text kind a b fits.0 r)
+given_alike kind next ends.OscDispatchAndExecuted a b x fits r = ap (λ text. OscDispatch (parts_of text) ∷ Executed x ∷ []) (same_text kind a b fits.0 r)
+
+after_alike : (kind : Kind) (a b : List ℕ) (x : ℕ) (turn : Turn) → Fits kind turn → AlikeIn kind a b → Same (after kind a x turn) (after kind b x turn)
+after_alike kind a b x (Collect next) fits r = record { alike = record { kind = refl; reads = collects_alike kind next a b x fits r }; events = refl }
+after_alike kind a b x Drop fits r = record { alike = record { kind = refl; reads = r }; events = refl }
+after_alike kind a b x Execute fits r = record { alike = record { kind = refl; reads = r }; events = refl }
+after_alike kind a b x (End next end) fits r = record { alike = itself (at next []); events = given_alike kind next end a b x fits r }
+
+in_table : (kind : Kind) (a b : List ℕ) (x : ℕ) → kind ≢ Ground → AlikeIn kind a b → Same (step_in kind a x) (step_in kind b x)
+in_table kind a b x other r =
+    rw (step_in-table kind a x other, step_in-table kind b x other)
+    (after_alike kind a b x (turn_of kind (class_of x)) (turn_fits kind (class_of x)) r)
+
+ground_or_not : (kind : Kind) → (kind ≡ Ground) ⊎ (kind ≢ Ground)
+ground_or_not kind = search rules
+
+step_alike : (kind : Kind) (a b : List ℕ) (x : ℕ) → AlikeIn kind a b → Same (step_in kind a x) (step_in kind b x)
+step_alike kind a b x r =
+    ⊎_elim
+    (λ (is : kind ≡ Ground).
+    let same : a ≡ b = subst (λ (k : Kind). AlikeIn k a b) is r in
+    subst (λ (l : List ℕ). Same (step_in kind a x) (step_in kind l x)) same (same_itself (step_in kind a x)))
+    (λ (other : kind ≢ Ground). in_table kind a b x other r)
+    (ground_or_not kind)
+
+-- many bytes
+pub runs_alike : (s t : State) (bytes : List ℕ) → Alike s t → Same (run s bytes) (run t bytes)
+runs_alike s t [] e = record { alike = e; events = refl }
+runs_alike s t (x ∷ bytes) e =
+    let first = step_in s.kind s.collected x in
+    let other = step_in t.kind t.collected x in
+    let step : Same first other = rw (sym e.kind) (step_alike s.kind s.collected t.collected x e.reads) in
+    let rest = runs_alike first.state other.state bytes step.alike in
+    record { alike = rest.alike; events = ap (λ l. l ++ (run first.state bytes).events) step.events ∙ ap (λ l. other.events ++ l) rest.events }
