@@ -11,6 +11,7 @@ use Rattle.vt_cells.specs.declared.attrs.Attrs.{Attrs}
 use Rattle.vt_rows.specs.Cells.{at, IsPaired, ends_blank, blanks, erased, marked_at, put_cells, column_of}
 use Rattle.vt_rows.specs.Row.{RowValue, with_cells}
 use Rattle.vt_rows.proofs.Columns.{put_columns, same_columns}
+use Rattle.vt_rows.proofs.Pairs.{is_wide-marked}
 use Rattle.vt_rows.proofs.Rows.{IsRow-erased, length-erased}
 use Rattle.vt_rows.proofs.Steps.{at-set}
 use Rattle.vt_grid.specs.Page.{Page, IsPage, cursor_row, with_row}
@@ -18,7 +19,7 @@ use Rattle.vt_grid.specs.Printing.{wrapped_page, glyph_put, mark_column, takes_m
 use Rattle.vt_grid.specs.Canvas.{carries}
 use Rattle.vt_grid.specs.Keeping.{IsSized, IsMarkPlace, lifted_page}
 use Rattle.vt_grid.proofs.Pages.{page_cursor_cells, IsRow-cursor_row}
-use Rattle.vt_grid.proofs.Marks.{cursor_row_put, mark_place, wide_marked}
+use Rattle.vt_grid.proofs.Marks.{cursor_row_put, mark_place}
 use Rattle.vt_grid.proofs.Sized.{sized}
 
 -- ---- what is known of a glyph that is carried
@@ -188,7 +189,7 @@ carried_is mark attrs page pos c p =
     let before = place.narrow c.narrow in
     let last : k + 1 ≡ length (cursor_row page).cells = omega (arith, before, c.pending, row.columns) in
     let here = cell_marked k mark page place.inside p in
-    let narrow : is_wide (at (cursor_row q).cells k) ≡ false = ap is_wide here ∙ (wide_marked mark (at (cursor_row page).cells k) ∙ c.narrow) in
+    let narrow : is_wide (at (cursor_row q).cells k) ≡ false = ap is_wide here ∙ (is_wide-marked mark (at (cursor_row page).cells k) ∙ c.narrow) in
     let columns : nat_lt 1 page.width ≡ true = let h = c.columns in grind (arith, nat_tests) in
     let wide : (is_wide_text (text_of (at (cursor_row q).cells k)) && nat_lt 1 page.width) ≡ true = rw (here, c.wide, columns) refl in
     let pending : nat_lt page.column page.width ≡ false = let h = c.pending in grind (arith, nat_tests) in
@@ -226,7 +227,7 @@ stays_before mark page p inside s t f n w =
     let k = mark_column page in
     let x = at (cursor_row page).cells k in
     let here = cell_marked k mark page inside p in
-    let narrow : is_wide x ≡ false = sym (wide_marked mark x) ∙ (sym (ap is_wide here) ∙ n) in
+    let narrow : is_wide x ≡ false = sym (is_wide-marked mark x) ∙ (sym (ap is_wide here) ∙ n) in
     let wide : (is_wide_text (text_of (marked mark x)) && nat_lt 1 page.width) ≡ true = ap (λ (y : CellValue). is_wide_text (text_of y) && nat_lt 1 page.width) (sym here) ∙ w in
     let apart = untested (is_selector mark) (takes_mark x) (is_wide x) (is_wide_text (text_of (marked mark x))) (nat_lt 1 page.width) (page.column == page.width) s t narrow wide f in
     let h = p.cursor_column in

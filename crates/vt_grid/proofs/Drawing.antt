@@ -7,11 +7,11 @@ use Rattle.vt_grid.specs.Canvas.{Canvas, and_then, drawn, drawn_all}
 abbrev pub Draws : List Op → Canvas → Canvas → Type 0
 Draws ops a b = drawn_all ops a ≡ Some b
 
-and_then-assoc : {A B C : Type 0} (f : A → Option B) (g : B → Option C) (x : Option A) → and_then (λ a. and_then g (f a)) x ≡ and_then g (and_then f x)
+pub and_then-assoc : {A B C : Type 0} (f : A → Option B) (g : B → Option C) (x : Option A) → and_then (λ a. and_then g (f a)) x ≡ and_then g (and_then f x)
 and_then-assoc f g None = refl
 and_then-assoc f g (Some x) = refl
 
-and_then-same : {A B : Type 0} (f g : A → Option B) → ((a : A) → f a ≡ g a) → (x : Option A) → and_then f x ≡ and_then g x
+pub and_then-same : {A B : Type 0} (f g : A → Option B) → ((a : A) → f a ≡ g a) → (x : Option A) → and_then f x ≡ and_then g x
 and_then-same f g h None = refl
 and_then-same f g h (Some x) = h x
 

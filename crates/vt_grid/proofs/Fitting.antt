@@ -9,6 +9,7 @@ use Rattle.unicode_width.proofs.Computing.{unicode_width}
 use Rattle.vt_cells.specs.Attrs.{default_attrs, same_attrs}
 use Rattle.vt_cells.specs.Cell.{CellValue, blank, glyph, right_half, IsCell, attrs_of, same_cell}
 use Rattle.vt_cells.specs.Glyph.{columns_of, IsMark, IsGlyphText}
+use Rattle.vt_cells.proofs.Glyphs.{IsGlyphText-spelled}
 use Rattle.vt_cells.specs.Op.{Op, MoveTo, MoveRight, NextRow, ChangeAttrs, Print, FitsAttrs}
 use Rattle.vt_cells.specs.declared.attrs.Attrs.{Attrs}
 use Rattle.vt_rows.specs.Row.{RowValue, IsRow}
@@ -17,7 +18,6 @@ use Rattle.vt_grid.specs.Canvas.{Canvas}
 use Rattle.vt_grid.specs.Fits.{Fits, IsPrintable, IsPrintableText, IsColored}
 use Rattle.vt_grid.specs.Script.{Written, after, pen_at, going, changing, run, erase_run, columns, cells_written, rows_written, cursor_written, redraw_of, redraw}
 use Rattle.vt_grid.specs.declared.pen.Pen.{Pen}
-use Rattle.vt_grid.proofs.Glyphs.{Joins-spells}
 use Rattle.vt_grid.proofs.Row.{run_bound}
 
 -- U+FFFD takes a column, so it is no mark
@@ -42,7 +42,7 @@ printable_marks (mark ∷ marks) h =
 pub printable_text : (text : List ℕ) (wide : Bool) → IsGlyphText text wide → IsPrintableText text
 printable_text text wide g = record {
   characters = g.first ∷ g.marks;
-  spelled = sym (Joins-spells (encode_utf8 g.first) g.marks text g.spelled);
+  spelled = sym (IsGlyphText-spelled text wide g);
   printable = (record { scalar = g.scalar; shown = g.shown; reported = g.reported }, printable_marks g.marks g.are_marks);
 }
 

@@ -2,7 +2,7 @@
 use Rattle.std.proofs.Common.{◌≡◌, ◌≢◌, ℕ, zero, suc, ◌+◌, ◌-◌, ◌<◌, ◌≤◌, ◌==◌, ◌&&◌, nat_lt, Bool, true, false, List, [], ◌∷◌, ◌++◌, length, refl, inl, inr, sym, ap, subst, ◌∙◌, arith}
 use Rattle.std.specs.Prelude.{if◌then◌else◌, Option, Some, None}
 use Rattle.std.specs.Char.{encode_utf8, IsScalar}
-use Rattle.std.specs.List.{list_any, AllByRecursion}
+use Rattle.std.specs.List.{list_any}
 use Rattle.std.proofs.lemmas.Bool.{ltb-true, cases_lt}
 use Rattle.std.proofs.lemmas.Bool.Decides.{nat_tests}
 use Rattle.std.proofs.lemmas.Grind.{get_or-set_at}
@@ -10,14 +10,14 @@ use Rattle.std.proofs.lemmas.List.{length-set}
 use Rattle.std.proofs.lemmas.List.Folds.{list_any-append}
 use Rattle.std.proofs.lemmas.List.Elements.{All-get_or}
 use Rattle.vt_cells.specs.Cell.{CellValue, blank, glyph, right_half, default_blank, is_wide, is_blank, is_right_half, text_of, marked, widened, redrawn, IsCell}
-use Rattle.vt_cells.specs.Glyph.{IsGlyphText, IsMark, Joins, is_selector, has_room, is_wide_text, columns_of}
+use Rattle.vt_cells.specs.Glyph.{IsGlyphText, IsMark, is_selector, has_room, is_wide_text, columns_of}
 use Rattle.vt_cells.specs.declared.attrs.Attrs.{Attrs}
-use Rattle.vt_cells.proofs.Glyphs.{IsGlyphText-first}
+use Rattle.vt_cells.proofs.Glyphs.{IsGlyphText-first, longer}
 use Rattle.vt_cells.proofs.Widths.{columns_of-le}
 use Rattle.vt_rows.specs.Cells.{at, IsPaired, marked_at, widened_at, narrowed_at, erased}
 use Rattle.vt_rows.specs.Row.{RowValue, with_cells}
 use Rattle.vt_rows.proofs.Columns.{at-past}
-use Rattle.vt_rows.proofs.Pairs.{not_both}
+use Rattle.vt_rows.proofs.Pairs.{is_right_half-marked, is_wide-marked, not_both}
 use Rattle.vt_cells.proofs.Cells.{IsCell-space, IsCell-marked}
 use Rattle.vt_rows.proofs.Rows.{IsRow-marked_at, IsRow-widened_at, IsRow-narrowed_at, IsRow-erased}
 use Rattle.vt_grid.specs.Keeping.{IsMarkPlace, IsSelected}
@@ -67,16 +67,6 @@ mark_place page p pos =
 
 -- ---- a mark
 
-pub wide_marked : (mark : ℕ) (x : CellValue) → is_wide (marked mark x) ≡ is_wide x
-wide_marked mark (blank attrs) = refl
-wide_marked mark (glyph text wide attrs) = refl
-wide_marked mark right_half = refl
-
-pub right_marked : (mark : ℕ) (x : CellValue) → is_right_half (marked mark x) ≡ is_right_half x
-right_marked mark (blank attrs) = refl
-right_marked mark (glyph text wide attrs) = refl
-right_marked mark right_half = refl
-
 pub blank_marked : (mark : ℕ) (x : CellValue) → is_right_half x ≡ false → is_blank (marked mark x) ≡ false
 blank_marked mark (blank attrs) h = refl
 blank_marked mark (glyph text wide attrs) h = refl
@@ -91,30 +81,12 @@ page_mark_put k mark page m h p =
 
 -- ---- U+FE0F
 
-Joins-push : (text marks whole : List ℕ) (mark : ℕ) → Joins text marks whole → has_room whole ≡ true → Joins text (marks ++ mark ∷ []) (whole ++ encode_utf8 mark)
-Joins-push text [] whole mark e room = (rw e room, ap (λ t. t ++ encode_utf8 mark) e)
-Joins-push text (m ∷ marks) whole mark (first, more) room = (first, Joins-push (text ++ encode_utf8 m) marks whole mark more room)
-
-are_marks-push : (marks : List ℕ) (mark : ℕ) → AllByRecursion IsMark marks → IsMark mark → AllByRecursion IsMark (marks ++ mark ∷ [])
-are_marks-push [] mark all here = (here, tt)
-are_marks-push (m ∷ marks) mark (first, more) here = (first, are_marks-push marks mark more here)
-
 any_push : (marks : List ℕ) (mark : ℕ) → is_selector mark ≡ true → list_any is_selector (marks ++ mark ∷ []) ≡ false → ⊥
 any_push marks mark s e = let both = list_any-append is_selector marks (mark ∷ []) in grind (arith, both)
 
 -- with U+FE0F among its marks a glyph may be wide or narrow
 pub selected_text : (text : List ℕ) (was wide : Bool) (mark : ℕ) → IsGlyphText text was → IsMark mark → is_selector mark ≡ true → has_room text ≡ true → IsGlyphText (text ++ encode_utf8 mark) wide
-selected_text text was wide mark old is_mark selector room = record {
-  first = old.first;
-  marks = old.marks ++ mark ∷ [];
-  scalar = old.scalar;
-  drawn = old.drawn;
-  shown = old.shown;
-  reported = old.reported;
-  are_marks = are_marks-push old.marks mark old.are_marks is_mark;
-  spelled = Joins-push (encode_utf8 old.first) old.marks text mark old.spelled room;
-  width = λ none. absurd (any_push old.marks mark selector none);
-}
+selected_text text was wide mark old is_mark selector room = longer text was wide mark old is_mark room (λ none. absurd (any_push old.marks mark selector none))
 
 pub selected_cell : (mark : ℕ) (wide : Bool) (x : CellValue) → IsMark mark → is_selector mark ≡ true → takes_mark x ≡ true → IsCell x → IsCell (widened wide (marked mark x))
 selected_cell mark wide (blank attrs) m s t h = selected_text (0x20 ∷ []) false wide mark (IsCell-space attrs) m s refl
@@ -197,8 +169,8 @@ marked_selected k mark page m s t place p =
     let e : (cursor_row (mark_put k mark page)).cells ≡ new = ap (λ (row : RowValue). row.cells) (cursor_row_put new page p) in
     let here : at new k ≡ marked mark x = get_or-set_at cells k k (marked mark x) default_blank refl place.inside in
     let l : length new ≡ length cells = length-set cells k (marked mark x) in
-    let w : is_wide (at new k) ≡ is_wide x = ap is_wide here ∙ wide_marked mark x in
-    let r : is_right_half (at new k) ≡ is_right_half x = ap is_right_half here ∙ right_marked mark x in
+    let w : is_wide (at new k) ≡ is_wide x = ap is_wide here ∙ is_wide-marked mark x in
+    let r : is_right_half (at new k) ≡ is_right_half x = ap is_right_half here ∙ is_right_half-marked mark x in
     record {
       place = subst (λ (cs : List CellValue). IsMarkPlace cs page.column k) (sym e) (record {
         inside = rw l place.inside;

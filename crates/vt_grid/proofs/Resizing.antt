@@ -11,6 +11,7 @@ use Rattle.vt_cells.specs.Attrs.{default_attrs}
 use Rattle.vt_cells.specs.Cell.{default_blank}
 use Rattle.vt_rows.specs.Cells.{at, blanks, resized}
 use Rattle.vt_rows.specs.Row.{RowValue, IsRow, blank_row, resized_row}
+use Rattle.vt_rows.proofs.Columns.{at-blanks}
 use Rattle.vt_rows.proofs.Moves.{IsRow-resized_row, moved_is}
 use Rattle.vt_rows.proofs.Rows.{IsRow-blank_row}
 use Rattle.vt_cells.specs.declared.pos.Pos.{Pos}
@@ -24,11 +25,6 @@ use Rattle.vt_grid.proofs.Pages.{IsRow-row_or}
 use Rattle.vt_grid.proofs.Scrolling.{IsScrollback-pushed}
 
 -- ---- a blank row of another size is a blank row
-
-at-blanks : (v k : ℕ) → at (blanks default_attrs v) k ≡ default_blank
-at-blanks zero k = refl
-at-blanks (suc v) zero = refl
-at-blanks (suc v) (suc k) = at-blanks v k
 
 resized-blanks : (v w : ℕ) → resized w (blanks default_attrs v) ≡ blanks default_attrs w
 unfolding resized

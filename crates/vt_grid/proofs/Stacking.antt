@@ -2,10 +2,11 @@
 use Rattle.std.proofs.Common.{◌≡◌, ℕ, suc, ◌+◌, ◌-◌, ◌≤◌, ◌==◌, min, List, [], ◌∷◌, ◌++◌, length, take, drop, map, sym, ap, subst, ◌∙◌, append_assoc, arith}
 use Rattle.std.proofs.Math.Seq.{take-add}
 use Rattle.std.proofs.lemmas.List.{drop-append-le, take-append-le, drop-drop, length-append, length-drop, length-map}
-use Rattle.std.proofs.lemmas.List.Elements.{All-append, All-drop, All-map, All-weaker}
+use Rattle.std.proofs.lemmas.List.Elements.{All-append, All-cons, All-drop, All-map, All-nil, All-weaker}
 use Rattle.std.specs.Prelude.{All, if◌then◌else◌}
 use Rattle.std.specs.List.{FoldsTo}
 use Rattle.vt_rows.specs.Row.{RowValue, IsRow, trimmed_row}
+use Rattle.vt_rows.proofs.Folds.{folds_then}
 use Rattle.vt_rows.proofs.Trims.{IsRow-trimmed_row}
 use Rattle.vt_grid.specs.Scrollback.{Scrollback, IsScrollback, last_of, before_last, stacked, kept_after}
 
@@ -26,10 +27,6 @@ before_then c xs ys =
     ∙ (ap (λ (zs : List _). zs ++ take n (drop m (xs ++ ys))) (take-append-le m xs ys (omega arith))
     ∙ ap (λ (zs : List _). before_last c xs ++ before_last c zs) (sym whole)))
 
-folds_then : {P A : Type 0} (R : P → A → P → Type 0) (p q r : P) (xs ys : List A) → FoldsTo R p xs q → FoldsTo R q ys r → FoldsTo R p (xs ++ ys) r
-folds_then R p q r [] ys a b = subst (λ (z : _). FoldsTo R z ys r) (sym a) b
-folds_then R p q r (x ∷ xs) ys a b = (a.0, a.1, folds_then R a.0 q r xs ys a.2 b)
-
 -- one row was pushed, and the rest is to come
 pub row_kept : (c : ℕ) (kept next rest : List RowValue) (row : RowValue) → next ≡ last_of c (kept ++ row ∷ []) → last_of c (next ++ rest) ≡ last_of c (kept ++ (row ∷ rest))
 row_kept c kept next rest row e =
@@ -39,7 +36,7 @@ pub row_sent : {S : Type 0} (leaves : S → RowValue → S → Type 0) (c : ℕ)
     next ≡ last_of c (kept ++ row ∷ []) → FoldsTo leaves p (before_last c (kept ++ row ∷ [])) q → FoldsTo leaves q (before_last c (next ++ rest)) r →
     FoldsTo leaves p (before_last c (kept ++ (row ∷ rest))) r
 row_sent leaves c kept next rest row p q r e a b =
-    let two = folds_then leaves p q r (before_last c (kept ++ row ∷ [])) (before_last c (last_of c (kept ++ row ∷ []) ++ rest)) a (subst (λ (zs : List RowValue). FoldsTo leaves q (before_last c (zs ++ rest)) r) e b) in
+    let two = folds_then leaves (before_last c (kept ++ row ∷ [])) (before_last c (last_of c (kept ++ row ∷ []) ++ rest)) p q r a (subst (λ (zs : List RowValue). FoldsTo leaves q (before_last c (zs ++ rest)) r) e b) in
     let all = sym (before_then c (kept ++ row ∷ []) rest) ∙ ap (before_last c) (append_assoc kept (row ∷ []) rest) in
     subst (λ (zs : List RowValue). FoldsTo leaves p zs r) all two
 
@@ -60,6 +57,12 @@ pub All-stacked : (w : ℕ) (gone rows : List RowValue) → All (IsRow w) gone �
 All-stacked w gone rows g r =
     let t : All (λ row. IsRow (length (trimmed_row row).cells) (trimmed_row row)) gone = All-weaker (IsRow w) (λ row. IsRow (length (trimmed_row row).cells) (trimmed_row row)) (IsRow-trimmed_row w) gone g in
     All-append (λ row. IsRow (length row.cells) row) rows (map trimmed_row gone) r (All-map (λ row. IsRow (length row.cells) row) trimmed_row gone t)
+
+pub All-pushed : (c : ℕ) (kept next : List RowValue) (row : RowValue) → next ≡ last_of c (kept ++ trimmed_row row ∷ []) → IsRow (length row.cells) row → All (λ row. IsRow (length row.cells) row) kept → All (λ row. IsRow (length row.cells) row) next
+All-pushed c kept next row e r k =
+    let P : RowValue → Type 0 = λ row. IsRow (length row.cells) row in
+    let one : All P (trimmed_row row ∷ []) = All-cons P (trimmed_row row) [] (IsRow-trimmed_row (length row.cells) row r) (All-nil P) in
+    subst (All P) (sym e) (All-drop P (length (kept ++ trimmed_row row ∷ []) - c) (kept ++ trimmed_row row ∷ []) (All-append P kept (trimmed_row row ∷ []) k one))
 
 pub IsScrollback-kept_after : (w : ℕ) (gone : List RowValue) (above : Scrollback) → All (IsRow w) gone → IsScrollback above → IsScrollback (kept_after gone above)
 unfolding kept_after

@@ -66,8 +66,8 @@ reported [] above = []
 reported (row ∷ gone) above = before_last above.capacity (stacked (row ∷ gone) above)
 
 -- rows are moved into scrollback, which takes memory
-abbrev pub Takes : List RowValue → Scrollback → Type 0
-Takes gone above = (0 < length gone) × (0 < above.capacity)
+abbrev pub TakesMemory : List RowValue → Scrollback → Type 0
+TakesMemory gone above = (0 < length gone) × (0 < above.capacity)
 
 -- rows left: what scrollback is then, and what was reported one by one
 abbrev pub Sends : {S : Type 0} → (S → RowValue → S → Type 0) → (height width : ℕ) → List RowValue → Scrollback → S → Scrollback → S → Type 0

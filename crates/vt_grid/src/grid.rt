@@ -127,15 +127,6 @@ impl Grid {
         self.sheet.rows()
     }
 
-    /// The row at a place, if the page has it.
-    #[inline]
-    pub fn drawing_row(&self, row: u16) -> Option<&Row>
-        ensures inside { IsSome result ↔ (row < length self.now.rows) }
-        ensures value { IfSome result (λ found. found.now ≡ row_at self.now row) }
-    {
-        self.sheet.row(row)
-    }
-
     /// The cell at a position, if it is on the page.
     #[inline]
     pub fn drawing_cell(&self, pos: Pos) -> Option<&Cell>

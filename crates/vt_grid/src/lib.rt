@@ -5,6 +5,7 @@ pub mod grid;
 pub mod laws;
 pub mod pen;
 pub mod redraw;
+mod row_lists;
 pub mod scrollback;
 mod sheet;
 pub mod size;

@@ -7,9 +7,10 @@ ghost use Rattle.std.specs.VecDeque.{deque_capacity, deque_len};
 ghost use Rattle.vt_cells.specs.Attrs.{default_attrs};
 ghost use Rattle.vt_rows.specs.Row.{RowValue, IsRow, blank_row, resized_row, trimmed_row};
 ghost use Rattle.vt_grid.specs.Resize.{out_of_view, taken_back};
-ghost use Rattle.vt_grid.specs.Scrollback.{IsScrollback, Sends, Takes, before_last, cleared, grown_row, kept_after, last_of, no_scrollback, viewed, visible};
+ghost use Rattle.vt_grid.specs.Scrollback.{IsScrollback, Sends, TakesMemory, before_last, cleared, grown_row, kept_after, last_of, no_scrollback, viewed, visible};
 ghost use Rattle.vt_grid.specs.Spare.{AreSpare, grown_from, in_view, narrow_rows, window_from};
 
+use crate::row_lists::blank_rows;
 use crate::size::Size;
 use std::alloc::Global;
 use std::collections::VecDeque;
@@ -17,6 +18,9 @@ use std::marker::Model;
 use std::mem;
 use vt_cells::Error;
 use vt_rows::{Leaving, Row};
+
+#[cfg(test)]
+pub(crate) mod tests;
 
 /// The rows that left a page at its top, at most as many as its capacity, and
 /// how many of them are in view (the offset).
@@ -123,7 +127,7 @@ impl Scrollback {
         ensures len { OnOk result (length rows.new ≡ length rows.old) }
         ensures rows { OnOk result (All (IsRow size.cols) rows.new) }
         ensures err { OnErr result ((self.new ≡ self.old) × ((rows.new ≡ rows.old) × (leaving.new ≡ leaving.old))) }
-        ensures grows { IsErr result → Takes rows.old self.old }
+        ensures grows { IsErr result → TakesMemory rows.old self.old }
         ensures memory { IfErr result (λ error. error ≡ Error.OutOfMemory) }
     {
         if rows.is_empty() {
@@ -151,7 +155,7 @@ impl Scrollback {
         ensures len { OnOk result (length rows.new ≡ length rows.old) }
         ensures rows { OnOk result (All (IsRow size.cols) rows.new) }
         ensures err { OnErr result ((self.new ≡ self.old) × ((rows.new ≡ rows.old) × (leaving.new ≡ leaving.old))) }
-        ensures grows { IsErr result → Takes rows.old self.old }
+        ensures grows { IsErr result → TakesMemory rows.old self.old }
         ensures memory { IfErr result (λ error. error ≡ Error.OutOfMemory) }
     {
         let offset = self.offset;
@@ -184,6 +188,7 @@ impl Scrollback {
     fn pass<L: Leaving>(&mut self, rows: &[Row], leaving: &mut L)
         requires none { self.old.capacity ≡ 0 }
         requires some { 0 < length rows.now }
+        requires sound { All (λ row. IsRow (length row.cells) row) rows.now }
         ensures { (height width : ℕ) → Sends L.leaves height width rows.now self.old leaving.old self.new leaving.new }
     {
         report_trimmed(rows, leaving);
@@ -290,20 +295,6 @@ impl Scrollback {
     }
 }
 
-/// Rows of default blanks.
-fn blank_rows(alloc: Global, columns: usize, count: usize) -> Result<Vec<Row>, Error>
-    ensures ok { IfOk result (λ rows. rows.items ≡ replicate count (blank_row default_attrs columns)) }
-    ensures memory { IfErr result (λ error. error ≡ Error.OutOfMemory) }
-{
-    let Ok(mut rows) = Vec::with_capacity(alloc, count) else {
-        return Err(Error::OutOfMemory);
-    };
-    for _row in 0..count {
-        rows.push_reserved(Row::new(alloc, columns)?);
-    }
-    Ok(rows)
-}
-
 /// Copies of rows.
 fn copied_rows(rows: &VecDeque<Row>, alloc: Global) -> Result<VecDeque<Row>, Error>
     ensures ok { IfOk result (λ copies. copies.items ≡ rows.now.items) }
@@ -319,6 +310,7 @@ fn copied_rows(rows: &VecDeque<Row>, alloc: Global) -> Result<VecDeque<Row>, Err
 
 /// Gives up and reports all rows, older first.
 fn report_all<L: Leaving>(rows: &mut VecDeque<Row>, leaving: &mut L)
+    requires { All (λ row. IsRow (length row.cells) row) rows.old.items }
     ensures rows { rows.new.items ≡ [] }
     ensures reported { FoldsTo L.leaves leaving.old rows.old.items leaving.new }
 {
@@ -329,6 +321,7 @@ fn report_all<L: Leaving>(rows: &mut VecDeque<Row>, leaving: &mut L)
 
 /// Reports rows without the default blanks at their ends.
 fn report_trimmed<L: Leaving>(rows: &[Row], leaving: &mut L)
+    requires { All (λ row. IsRow (length row.cells) row) rows.now }
     ensures { FoldsTo L.leaves leaving.old (map trimmed_row rows.now) leaving.new }
 {
     for row in rows {
@@ -349,6 +342,8 @@ fn take_over<L: Leaving>(
     requires inside { length kept.old.items ≤ capacity }
     requires room { length kept.old.items + min (length rows.old) (capacity - length kept.old.items) ≤ deque_capacity kept.old }
     requires as_many { length blanks.items ≡ length rows.old }
+    requires sound { All (λ row. IsRow (length row.cells) row) rows.old }
+    requires sound_kept { All (λ row. IsRow (length row.cells) row) kept.old.items }
     ensures rows { rows.new ≡ blanks.items }
     ensures kept { kept.new.items ≡ last_of capacity (kept.old.items ++ map trimmed_row rows.old) }
     ensures reported { FoldsTo L.leaves leaving.old (before_last capacity (kept.old.items ++ map trimmed_row rows.old)) leaving.new }
@@ -362,6 +357,8 @@ fn push_rows<L: Leaving>(gone: Vec<Row>, kept: &mut VecDeque<Row>, capacity: usi
     requires some { 0 < capacity }
     requires inside { length kept.old.items ≤ capacity }
     requires room { length kept.old.items + min (length gone.items) (capacity - length kept.old.items) ≤ deque_capacity kept.old }
+    requires sound { All (λ row. IsRow (length row.cells) row) gone.items }
+    requires sound_kept { All (λ row. IsRow (length row.cells) row) kept.old.items }
     ensures rows { kept.new.items ≡ last_of capacity (kept.old.items ++ map trimmed_row gone.items) }
     ensures reported { FoldsTo L.leaves leaving.old (before_last capacity (kept.old.items ++ map trimmed_row gone.items)) leaving.new }
 {
@@ -376,6 +373,7 @@ fn push_row<L: Leaving>(mut row: Row, kept: &mut VecDeque<Row>, capacity: usize,
     requires some { 0 < capacity }
     requires inside { length kept.old.items ≤ capacity }
     requires room { length kept.old.items < capacity → deque_len kept.old < deque_capacity kept.old }
+    requires sound { All (λ row. IsRow (length row.cells) row) kept.old.items }
     ensures rows { kept.new.items ≡ last_of capacity (kept.old.items ++ trimmed_row row ∷ []) }
     ensures reported { FoldsTo L.leaves leaving.old (before_last capacity (kept.old.items ++ trimmed_row row ∷ [])) leaving.new }
     ensures capacity { deque_capacity kept.new ≡ deque_capacity kept.old }
@@ -471,93 +469,5 @@ fn grow_row(row: &mut Row, columns: usize, spare: &mut Vec<Row>)
     if let Some(blank) = spare.pop() {
         let from = mem::replace(row, blank);
         row.refit(from);
-    }
-}
-
-#[cfg(test)]
-pub(crate) mod tests {
-    use super::*;
-    use vt_cells::{Attrs, Color};
-    use vt_rows::RowContents;
-
-    // How many rows have left.
-    #[derive(Drop)]
-    pub(crate) struct Counter {
-        pub(crate) rows: u32,
-    }
-
-    impl Leaving for Counter {
-        ghost use Rattle.std.specs.Prelude.{◌≡◌, ◌+◌, min};
-
-        ghost leaves = { λ old _ new. new.rows ≡ min (old.rows + 1) 4294967295 };
-
-        fn leave(&mut self, _row: RowContents<'_>) {
-            self.rows = self.rows.saturating_add(1);
-        }
-    }
-
-    const SIZE: Size = Size { rows: 3, cols: 2 };
-
-    // A row of blanks in a colour.
-    #[tactic(auto, using(crate::proofs::Scrolling::sound_blanks))]
-    fn row_in(alloc: Global, color: u8) -> Result<Row, Error>
-        ensures { IfOk result (λ row. IsRow 2 row) }
-    {
-        let mut row = Row::new(alloc, 2)?;
-        let mut attrs = Attrs::new();
-        attrs.bgcolor = Color::Idx(color);
-        row.clear(attrs);
-        Ok(row)
-    }
-
-    // The colour of the last column of a row of two; 0 for a default one.
-    fn color_of(row: Option<&Row>) -> u8 {
-        match row.and_then(|row| row.get(1)).map(|cell| cell.bgcolor()) {
-            Some(Color::Idx(color)) => color,
-            _ => 0,
-        }
-    }
-
-    #[test]
-    fn rows_are_kept_reported_and_shown(rt: HostRuntime) {
-        let mut counter = Counter { rows: 0 };
-        let mut above = Scrollback::new(rt.alloc(), 3);
-        let page = [
-            row_in(rt.alloc(), 91).expect(&rt, "memory"),
-            row_in(rt.alloc(), 92).expect(&rt, "memory"),
-            row_in(rt.alloc(), 93).expect(&rt, "memory"),
-        ];
-        for (color, followed, wanted, shown, reported) in [
-            (1, 0, 0, [91, 92, 93], 0),
-            (2, 0, 1, [2, 91, 92], 0),
-            (3, 2, 2, [2, 3, 91], 0),
-            (4, 3, 9, [2, 3, 4], 1),
-        ] {
-            let mut rows = [row_in(rt.alloc(), color).expect(&rt, "memory")];
-            let pushed = above.push(&mut rows, SIZE, &mut counter);
-            assert!(rt; pushed.is_ok(), "memory for {color}");
-            assert_eq!(rt; above.offset(), followed, "offset after {color}");
-            let set = above.set_offset(wanted, SIZE);
-            assert!(rt; set.is_ok(), "memory for an offset after {color}");
-            assert_eq!(rt;
-                color_of(above.visible_row(&page, 0)),
-                shown[0],
-                "first row after {color}"
-            );
-            assert_eq!(rt;
-                color_of(above.visible_row(&page, 1)),
-                shown[1],
-                "second row after {color}"
-            );
-            assert_eq!(rt;
-                color_of(above.visible_row(&page, 2)),
-                shown[2],
-                "third row after {color}"
-            );
-            assert_eq!(rt; counter.rows, reported, "reported after {color}");
-        }
-        above.clear(&mut counter);
-        assert_eq!(rt; counter.rows, 4, "reported when given up");
-        assert_eq!(rt; above.len() + above.offset(), 0, "what is left");
     }
 }

@@ -8,11 +8,12 @@ ghost use Rattle.vt_rows.specs.Row.{RowValue, IsRow, blank_row, deleted_row, ins
 ghost use Rattle.vt_grid.specs.Keeping.{cleared_row};
 ghost use Rattle.vt_grid.specs.Page.{rows_up};
 ghost use Rattle.vt_grid.specs.Shifts.{rows_down};
-ghost use Rattle.vt_grid.specs.Scrollback.{Sends, Takes};
+ghost use Rattle.vt_grid.specs.Scrollback.{Sends, TakesMemory};
 ghost use Rattle.vt_grid.specs.Sheet.{blank_sheet, sheet_flagged, sheet_row, with_sheet_row, with_row_cells};
 
 mod resizing;
 
+use crate::row_lists::{blank_rows, copied_rows};
 use crate::scrollback::Scrollback;
 use crate::size::Size;
 use std::alloc::Global;
@@ -44,15 +45,8 @@ impl Sheet {
         ensures ok { IfOk result (λ sheet. sheet ≡ blank_sheet size.rows size.cols) }
         ensures memory { IfErr result (λ error. error ≡ Error.OutOfMemory) }
     {
-        let height = usize::from(size.rows);
-        let Ok(mut rows) = Vec::with_capacity(alloc, height) else {
-            return Err(Error::OutOfMemory);
-        };
-        for _row in 0..height {
-            rows.push_reserved(Row::new(alloc, usize::from(size.cols))?);
-        }
         Ok(Sheet {
-            rows,
+            rows: blank_rows(alloc, usize::from(size.cols), usize::from(size.rows))?,
             width: size.cols,
         })
     }
@@ -65,7 +59,7 @@ impl Sheet {
         ensures memory { IfErr result (λ error. error ≡ Error.OutOfMemory) }
     {
         Ok(Sheet {
-            rows: copied_rows(&self.rows, alloc)?,
+            rows: copied_rows(alloc, &self.rows)?,
             width: self.width,
         })
     }
@@ -359,7 +353,7 @@ impl Sheet {
         ensures rows { OnOk result (self.new ≡ record self.old { rows = rows_up self.old.width 0 bottom count self.old.rows }) }
         ensures sent { OnOk result (Sends L.leaves size.rows size.cols (take (min count (bottom + 1)) self.old.rows) above.old leaving.old above.new leaving.new) }
         ensures err { OnErr result ((self.new ≡ self.old) × ((above.new ≡ above.old) × (leaving.new ≡ leaving.old))) }
-        ensures grows { IsErr result → Takes (take (min count (bottom + 1)) self.old.rows) above.old }
+        ensures grows { IsErr result → TakesMemory (take (min count (bottom + 1)) self.old.rows) above.old }
         ensures memory { IfErr result (λ error. error ≡ Error.OutOfMemory) }
     {
         send_rows(
@@ -372,18 +366,6 @@ impl Sheet {
         )?;
         Ok(())
     }
-}
-
-/// Copies of rows.
-fn copied_rows(rows: &[Row], alloc: Global) -> Result<Vec<Row>, Error>
-    ensures ok { IfOk result (λ copies. copies.items ≡ rows.now) }
-    ensures memory { IfErr result (λ error. error ≡ Error.OutOfMemory) }
-{
-    let mut copies = Vec::with_capacity(alloc, rows.len())?;
-    for row in rows {
-        copies.push_reserved(row.try_clone(alloc)?);
-    }
-    Ok(copies)
 }
 
 /// Moves rows up by `count` and hands those that leave to scrollback; see
@@ -401,7 +383,7 @@ fn send_rows<L: Leaving>(
     ensures rows { OnOk result (rows.new ≡ rows_up size.cols 0 bottom count rows.old) }
     ensures sent { OnOk result (Sends L.leaves size.rows size.cols (take (min count (bottom + 1)) rows.old) above.old leaving.old above.new leaving.new) }
     ensures err { OnErr result ((rows.new ≡ rows.old) × ((above.new ≡ above.old) × (leaving.new ≡ leaving.old))) }
-    ensures grows { IsErr result → Takes (take (min count (bottom + 1)) rows.old) above.old }
+    ensures grows { IsErr result → TakesMemory (take (min count (bottom + 1)) rows.old) above.old }
     ensures memory { IfErr result (λ error. error ≡ Error.OutOfMemory) }
 {
     let count = count.min(bottom + 1);

@@ -9,7 +9,7 @@ ghost use Rattle.vt_grid.specs.Keeping.{IsSelected, lifted_page, mark_out, room_
 ghost use Rattle.vt_grid.specs.Outgoing.{printed_out};
 ghost use Rattle.vt_grid.specs.Page.{IsPage, cursor_row, with_row};
 ghost use Rattle.vt_grid.specs.Printing.{glyph_put, made_narrow, mark_column, mark_printed, mark_put, printed, room_made, takes_mark, width_followed, with_cursor_cells};
-ghost use Rattle.vt_grid.specs.Scrollback.{Sends, Takes};
+ghost use Rattle.vt_grid.specs.Scrollback.{Sends, TakesMemory};
 
 use super::Grid;
 use crate::scrollback::Scrollback;
@@ -41,7 +41,7 @@ impl Grid {
         ensures page { OnOk result (self.new ≡ printed c attrs self.old) }
         ensures sent { OnOk result (Sends L.leaves (length self.old.rows) self.old.width (printed_out c attrs self.old) above.old leaving.old above.new leaving.new) }
         ensures err { OnErr result ((self.new ≡ self.old) × ((above.new ≡ above.old) × (leaving.new ≡ leaving.old))) }
-        ensures grows { IsErr result → Takes (printed_out c attrs self.old) above.old }
+        ensures grows { IsErr result → TakesMemory (printed_out c attrs self.old) above.old }
         ensures memory { IfErr result (λ error. error ≡ Error.OutOfMemory) }
     {
         self.print_columns(c, columns(c), attrs, above, leaving)
@@ -63,7 +63,7 @@ impl Grid {
         ensures page { OnOk result (self.new ≡ printed c attrs self.old) }
         ensures sent { OnOk result (Sends L.leaves (length self.old.rows) self.old.width (printed_out c attrs self.old) above.old leaving.old above.new leaving.new) }
         ensures err { OnErr result ((self.new ≡ self.old) × ((above.new ≡ above.old) × (leaving.new ≡ leaving.old))) }
-        ensures grows { IsErr result → Takes (printed_out c attrs self.old) above.old }
+        ensures grows { IsErr result → TakesMemory (printed_out c attrs self.old) above.old }
         ensures memory { IfErr result (λ error. error ≡ Error.OutOfMemory) }
     {
         let Some(width) = width else {
@@ -92,7 +92,7 @@ impl Grid {
         ensures page { OnOk result (self.new ≡ glyph_put (encode_utf8 c) false attrs (room_made 1 self.old)) }
         ensures sent { OnOk result (Sends L.leaves (length self.old.rows) self.old.width (room_out 1 self.old) above.old leaving.old above.new leaving.new) }
         ensures err { OnErr result ((self.new ≡ self.old) × ((above.new ≡ above.old) × (leaving.new ≡ leaving.old))) }
-        ensures grows { IsErr result → Takes (room_out 1 self.old) above.old }
+        ensures grows { IsErr result → TakesMemory (room_out 1 self.old) above.old }
         ensures memory { IfErr result (λ error. error ≡ Error.OutOfMemory) }
     {
         self.make_room(1, above, leaving)?;
@@ -112,7 +112,7 @@ impl Grid {
         ensures page { OnOk result (self.new ≡ room_made columns self.old) }
         ensures sent { OnOk result (Sends L.leaves (length self.old.rows) self.old.width (room_out columns self.old) above.old leaving.old above.new leaving.new) }
         ensures err { OnErr result ((self.new ≡ self.old) × ((above.new ≡ above.old) × (leaving.new ≡ leaving.old))) }
-        ensures grows { IsErr result → Takes (room_out columns self.old) above.old }
+        ensures grows { IsErr result → TakesMemory (room_out columns self.old) above.old }
         ensures memory { IfErr result (λ error. error ≡ Error.OutOfMemory) }
         ensures some { 0 < self.old.width }
     {
@@ -137,7 +137,7 @@ impl Grid {
         ensures page { OnOk result (self.new ≡ (if self.old.column == 0 then self.old else mark_printed mark attrs self.old)) }
         ensures sent { OnOk result (Sends L.leaves (length self.old.rows) self.old.width (if self.old.column == 0 then [] else mark_out mark attrs self.old) above.old leaving.old above.new leaving.new) }
         ensures err { OnErr result ((self.new ≡ self.old) × ((above.new ≡ above.old) × (leaving.new ≡ leaving.old))) }
-        ensures grows { IsErr result → Takes (if self.old.column == 0 then [] else mark_out mark attrs self.old) above.old }
+        ensures grows { IsErr result → TakesMemory (if self.old.column == 0 then [] else mark_out mark attrs self.old) above.old }
         ensures memory { IfErr result (λ error. error ≡ Error.OutOfMemory) }
     {
         if self.pos.col == 0 {
@@ -292,7 +292,7 @@ impl Grid {
         ensures page { OnOk result (self.new ≡ mark_printed mark attrs self.old) }
         ensures sent { OnOk result (Sends L.leaves (length self.old.rows) self.old.width (mark_out mark attrs self.old) above.old leaving.old above.new leaving.new) }
         ensures err { OnErr result ((self.new ≡ self.old) × ((above.new ≡ above.old) × (leaving.new ≡ leaving.old))) }
-        ensures grows { IsErr result → Takes (mark_out mark attrs self.old) above.old }
+        ensures grows { IsErr result → TakesMemory (mark_out mark attrs self.old) above.old }
         ensures memory { IfErr result (λ error. error ≡ Error.OutOfMemory) }
     {
         let col = self.mark_col();
@@ -381,7 +381,7 @@ impl Grid {
         ensures page { OnOk result (self.new ≡ (if nat_lt 1 self.old.width then glyph_put (encode_utf8 c) true attrs (room_made 2 self.old) else self.old)) }
         ensures sent { OnOk result (Sends L.leaves (length self.old.rows) self.old.width (if nat_lt 1 self.old.width then room_out 2 self.old else []) above.old leaving.old above.new leaving.new) }
         ensures err { OnErr result ((self.new ≡ self.old) × ((above.new ≡ above.old) × (leaving.new ≡ leaving.old))) }
-        ensures grows { IsErr result → Takes (if nat_lt 1 self.old.width then room_out 2 self.old else []) above.old }
+        ensures grows { IsErr result → TakesMemory (if nat_lt 1 self.old.width then room_out 2 self.old else []) above.old }
         ensures memory { IfErr result (λ error. error ≡ Error.OutOfMemory) }
     {
         if self.size.cols == 1 {

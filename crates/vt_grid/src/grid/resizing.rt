@@ -6,7 +6,7 @@ ghost use Rattle.std.specs.List.{FoldsTo};
 ghost use Rattle.vt_grid.specs.Page.{blank_page};
 ghost use Rattle.vt_grid.specs.Resize.{page_resized, resize_reports, row_resized, scrollback_resized};
 ghost use Rattle.vt_grid.specs.Resize as resize;
-ghost use Rattle.vt_grid.specs.Scrollback.{Takes};
+ghost use Rattle.vt_grid.specs.Scrollback.{TakesMemory};
 ghost use Rattle.vt_grid.specs.Sheet.{blank_sheet};
 
 use super::Grid;
@@ -43,7 +43,7 @@ impl Grid {
         ensures above { OnOk result (above.new ≡ scrollback_resized (length fresh.rows) self.old above.old) }
         ensures reported { OnOk result (FoldsTo L.leaves leaving.old (resize_reports (length fresh.rows) self.old above.old) leaving.new) }
         ensures err { OnErr result ((self.new ≡ self.old) × ((above.new ≡ above.old) × (leaving.new ≡ leaving.old))) }
-        ensures grows { IsErr result → Takes (take (resize.leaving (length fresh.rows) self.old) self.old.rows) above.old }
+        ensures grows { IsErr result → TakesMemory (take (resize.leaving (length fresh.rows) self.old) self.old.rows) above.old }
         ensures memory { IfErr result (λ error. error ≡ Error.OutOfMemory) }
     {
         self.fill(fresh.sheet, above, leaving)?;
@@ -66,7 +66,7 @@ impl Grid {
         ensures above { OnOk result (above.new ≡ scrollback_resized (length fresh.rows) self.old above.old) }
         ensures reported { OnOk result (FoldsTo L.leaves leaving.old (resize_reports (length fresh.rows) self.old above.old) leaving.new) }
         ensures err { OnErr result ((self.new ≡ self.old) × ((above.new ≡ above.old) × (leaving.new ≡ leaving.old))) }
-        ensures grows { IsErr result → Takes (take (resize.leaving (length fresh.rows) self.old) self.old.rows) above.old }
+        ensures grows { IsErr result → TakesMemory (take (resize.leaving (length fresh.rows) self.old) self.old.rows) above.old }
         ensures memory { IfErr result (λ error. error ≡ Error.OutOfMemory) }
     {
         let size = fresh.size();

@@ -7,7 +7,7 @@ ghost use Rattle.vt_grid.specs.Moves.{line_feed};
 ghost use Rattle.vt_grid.specs.Outgoing.{fed_out, scrolled_out};
 ghost use Rattle.vt_grid.specs.Page.{IsPage, cursor_row, scrolled_up};
 ghost use Rattle.vt_grid.specs.Printing.{flagged_left, goes_down, wrapped_page};
-ghost use Rattle.vt_grid.specs.Scrollback.{Sends, Takes};
+ghost use Rattle.vt_grid.specs.Scrollback.{Sends, TakesMemory};
 
 use super::Grid;
 use crate::scrollback::Scrollback;
@@ -33,7 +33,7 @@ impl Grid {
         ensures page { OnOk result (self.new ≡ scrolled_up count self.old) }
         ensures sent { OnOk result (Sends L.leaves (length self.old.rows) self.old.width (scrolled_out count self.old) above.old leaving.old above.new leaving.new) }
         ensures err { OnErr result ((self.new ≡ self.old) × ((above.new ≡ above.old) × (leaving.new ≡ leaving.old))) }
-        ensures grows { IsErr result → Takes (scrolled_out count self.old) above.old }
+        ensures grows { IsErr result → TakesMemory (scrolled_out count self.old) above.old }
         ensures memory { IfErr result (λ error. error ≡ Error.OutOfMemory) }
     {
         if self.scroll_top == 0 {
@@ -63,7 +63,7 @@ impl Grid {
         ensures page { OnOk result (self.new ≡ line_feed self.old) }
         ensures sent { OnOk result (Sends L.leaves (length self.old.rows) self.old.width (fed_out self.old) above.old leaving.old above.new leaving.new) }
         ensures err { OnErr result ((self.new ≡ self.old) × ((above.new ≡ above.old) × (leaving.new ≡ leaving.old))) }
-        ensures grows { IsErr result → Takes (fed_out self.old) above.old }
+        ensures grows { IsErr result → TakesMemory (fed_out self.old) above.old }
         ensures memory { IfErr result (λ error. error ≡ Error.OutOfMemory) }
     {
         if self.pos.row == self.scroll_bottom {
@@ -96,7 +96,7 @@ impl Grid {
         ensures page { OnOk result (self.new ≡ wrapped_page self.old) }
         ensures sent { OnOk result (Sends L.leaves (length self.old.rows) self.old.width (fed_out self.old) above.old leaving.old above.new leaving.new) }
         ensures err { OnErr result ((self.new ≡ self.old) × ((above.new ≡ above.old) × (leaving.new ≡ leaving.old))) }
-        ensures grows { IsErr result → Takes (fed_out self.old) above.old }
+        ensures grows { IsErr result → TakesMemory (fed_out self.old) above.old }
         ensures memory { IfErr result (λ error. error ≡ Error.OutOfMemory) }
     {
         let left = left_row(self.pos.row, self.scroll_top, self.scroll_bottom);

@@ -5,7 +5,7 @@ ghost use Rattle.vt_cells.specs.Attrs.{default_attrs};
 ghost use Rattle.vt_rows.specs.Row.{RowValue, IsRow, blank_row, resized_row};
 ghost use Rattle.vt_grid.specs.Keeping.{refilled};
 ghost use Rattle.vt_grid.specs.Resize.{out_of_view, rows_resized, taken_back, window};
-ghost use Rattle.vt_grid.specs.Scrollback.{Sends, Takes};
+ghost use Rattle.vt_grid.specs.Scrollback.{Sends, TakesMemory};
 ghost use Rattle.vt_grid.specs.Sheet.{blank_sheet};
 
 use super::Sheet;
@@ -37,7 +37,7 @@ impl Sheet {
         ensures others { OnOk result (drop count self.new.rows ≡ drop count self.old.rows) }
         ensures rows { OnOk result (All (IsRow self.old.width) self.new.rows) }
         ensures err { OnErr result ((self.new ≡ self.old) × ((above.new ≡ above.old) × (leaving.new ≡ leaving.old))) }
-        ensures grows { IsErr result → Takes (take count self.old.rows) above.old }
+        ensures grows { IsErr result → TakesMemory (take count self.old.rows) above.old }
         ensures memory { IfErr result (λ error. error ≡ Error.OutOfMemory) }
     {
         send_first(&mut self.rows, usize::from(count), size, above, leaving)
@@ -86,7 +86,7 @@ fn send_first<L: Leaving>(
     ensures others { OnOk result (drop count rows.new ≡ drop count rows.old) }
     ensures rows { OnOk result (All (IsRow size.cols) rows.new) }
     ensures err { OnErr result ((rows.new ≡ rows.old) × ((above.new ≡ above.old) × (leaving.new ≡ leaving.old))) }
-    ensures grows { IsErr result → Takes (take count rows.old) above.old }
+    ensures grows { IsErr result → TakesMemory (take count rows.old) above.old }
     ensures memory { IfErr result (λ error. error ≡ Error.OutOfMemory) }
 {
     above.push_out_of_view(&mut rows[..count], size, leaving)

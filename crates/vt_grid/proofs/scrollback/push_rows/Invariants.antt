@@ -1,8 +1,9 @@
 use Rattle.std.proofs.Common.{◌≡◌, ◌+◌, ◌-◌, ◌≤◌, ◌++◌, length, map, min}
+use Rattle.std.specs.Prelude.{All}
 use Rattle.std.specs.List.{FoldsTo}
 use Rattle.std.specs.Vec.Iter.{into_iter_items}
 use Rattle.std.specs.VecDeque.{deque_capacity}
-use Rattle.vt_rows.specs.Row.{trimmed_row}
+use Rattle.vt_rows.specs.Row.{IsRow, trimmed_row}
 use Rattle.vt_grid.specs.Scrollback.{before_last, last_of}
 use Rattle.vt_grid.proofs.scrollback.push_rows.Given as goal
 
@@ -17,4 +18,6 @@ invariant-loop-row g l =
           → FoldsTo g.L.Leaving.leaves l.fn.leaving (before_last l.capacity (l.fn.kept.items ++ map trimmed_row l.fn.gone.items)) z;
       inside : length l.kept.items ≤ l.capacity;
       room : length l.kept.items + min (length (into_iter_items l.row-iterator)) (l.capacity - length l.kept.items) ≤ deque_capacity l.kept;
+      sound : All (λ row. IsRow (length row.cells) row) (into_iter_items l.row-iterator);
+      sound_kept : All (λ row. IsRow (length row.cells) row) l.kept.items;
     }

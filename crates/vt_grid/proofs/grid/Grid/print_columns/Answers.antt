@@ -2,7 +2,7 @@ use Rattle.std.proofs.Common.{◌≡◌, ◌∙◌, List, length, sym, subst}
 use Rattle.std.specs.Prelude.{IsErr, OnOk}
 use Rattle.vt_rows.specs.Row.{RowValue}
 use Rattle.vt_grid.specs.Page.{Page}
-use Rattle.vt_grid.specs.Scrollback.{Sends, Takes}
+use Rattle.vt_grid.specs.Scrollback.{Sends, TakesMemory}
 use Rattle.vt_grid.proofs.Dispatch.{no_columns, printed_mark}
 use Rattle.vt_grid.proofs.Outgoing.{out_mark}
 use Rattle.vt_grid.proofs.grid.Grid.print_columns.Goals as goal
@@ -25,4 +25,4 @@ returns-else-width-eq2-clause-sent g c =
 pub returns-else-width-eq2-clause-grows : goal.returns-else-width-eq2-clause-grows
 returns-else-width-eq2-clause-grows g c =
     let e = no_columns c.args.c c.in-Some.width (sym c.requires.columns ∙ c.in-Some.is) c.if-width-eq1.false c.if-width-eq2.false in
-    subst (λ (out : List RowValue). IsErr c.print_mark.result → Takes out c.args.above.now) (sym (out_mark c.args.c c.args.attrs c.args.self.now e)) c.print_mark.ensures.grows
+    subst (λ (out : List RowValue). IsErr c.print_mark.result → TakesMemory out c.args.above.now) (sym (out_mark c.args.c c.args.attrs c.args.self.now e)) c.print_mark.ensures.grows
