@@ -18,7 +18,7 @@ use Rattle.vt_grid.proofs.Scrolling.{IsScrollback-pushed, IsScrollback-viewed}
 use Rattle.vt_grid.specs.Page.{Page, IsPage, blank_page, cursor_row, row_or}
 use Rattle.vt_grid.proofs.Pages.{page_blank, IsRow-cursor_row}
 use Rattle.vt_screen.proofs.Colored.{colored_blank}
-use Rattle.vt_grid.specs.Scrollback.{Scrollback, cleared, no_scrollback, grown_in_view, pushed, viewed, visible, reported, Takes}
+use Rattle.vt_grid.specs.Scrollback.{Scrollback, cleared, no_scrollback, grown_in_view, pushed, viewed, visible, reported, TakesMemory}
 use Rattle.std.proofs.lemmas.Bool.{false≢true}
 use Rattle.vt_grid.specs.Resize.{leaving, out_of_view, page_resized, returning, scrollback_resized, window}
 use Rattle.vt_grid.proofs.Resizing.{length-window, page_page_resized, scrollback_resized_is}
@@ -209,7 +209,7 @@ reported_if true gone active idle whole w n = reported_nothing gone active n.cap
 reported_if false gone active idle whole w n = ap (reported gone) (sym w)
 
 pub takes_if : (b : Bool) (gone : List RowValue) (active idle whole : Scrollback) → whole ≡ main_scrollback b active idle → IsNothing (alternate_scrollback b active idle)
-    → Takes gone active → Takes gone (if b then no_scrollback 0 else whole)
+    → TakesMemory gone active → TakesMemory gone (if b then no_scrollback 0 else whole)
 takes_if true gone active idle whole w n t = (t.0, rw (← n.capacity) t.1)
 takes_if false gone active idle whole w n t = rw w t
 

@@ -2,7 +2,7 @@
 use Rattle.std.proofs.Common.{◌≡◌, ℕ, zero, suc, ◌+◌, ◌-◌, ◌==◌, nat_lt, min, Bool, true, false, List, [], ◌∷◌, ◌++◌, length, take, drop, map, refl, arith}
 use Rattle.std.specs.Prelude.{if◌then◌else◌, All, Option, Some, None}
 use Rattle.std.specs.List.{list_all, range_with_len}
-use Rattle.std.proofs.lemmas.List.{length-append, length-take, length-drop, length-map}
+use Rattle.std.proofs.lemmas.List.{length-append, length-take, length-drop, length-map, nil_from_length}
 use Rattle.std.proofs.lemmas.List.Elements.{All-nil, All-cons, All-head, All-tail, All-append, All-take, All-drop, All-set, All-map, All-weaker}
 use Rattle.vt_cells.specs.Attrs.{default_attrs}
 use Rattle.vt_cells.specs.Cell.{CellValue, is_default_blank}
@@ -141,17 +141,13 @@ unfolding grown_in_view kept_after
 pushed_capacity height width [] above = refl
 pushed_capacity height width (row ∷ gone) above = refl
 
-none : (rows : List RowValue) → length rows ≡ 0 → rows ≡ []
-none [] e = refl
-none (row ∷ rows) e = absurd (omega (arith, e))
-
 pub grown_nothing : (height width : ℕ) (above : Scrollback) → length above.rows ≡ 0 → (grown_in_view height width above).rows ≡ []
 unfolding grown_in_view
 grown_nothing height width above e =
     let first = length above.rows - above.offset in
     let seen = take height (drop first above.rows) in
     let past = drop (first + height) above.rows in
-    none (take first above.rows ++ (map (grown_row width) seen ++ past)) (omega (
+    nil_from_length (take first above.rows ++ (map (grown_row width) seen ++ past)) (omega (
       arith,
       e,
       length-append (take first above.rows) (map (grown_row width) seen ++ past),

@@ -1,7 +1,5 @@
 pub mod ReadbackSgr
-pub mod ReadbackNumbers
-pub mod ReadbackBytes
-pub mod ReadbackCharacters
+pub mod ReadbackTexts
 pub mod Readback
 pub mod Redrawing
 pub mod Colored

@@ -1,44 +1,33 @@
 -- The bytes of a drawing operation, read by any screen, do what the operation draws.
-use Rattle.std.proofs.Common.{◌≡◌, ℕ, zero, suc, ◌+◌, ◌-◌, ◌<◌, ◌≤◌, Bool, true, false, ◌==◌, List, [], ◌∷◌, length, Option, Some, None, refl, sym, ap, subst, ◌∙◌, arith}
-use Rattle.std.specs.Prelude.{if◌then◌else◌, chars, encode_utf8_all}
+use Rattle.std.proofs.Common.{◌≡◌, ◌≢◌, ℕ, zero, suc, ◌+◌, ◌-◌, ◌<◌, ◌≤◌, ◌^◌, ◌⊎◌, inl, inr, ⊎_elim, Bool, true, false, ◌==◌, List, [], ◌∷◌, Option, Some, None, refl, sym, ap, subst, ◌∙◌, arith}
+use Rattle.std.specs.Prelude.{decimal, if◌then◌else◌, chars, encode_utf8_all}
 use Rattle.std.specs.List.{AllByRecursion}
 use Rattle.std.specs.Char.{encode_utf8}
 use Rattle.std.specs.Str.{all_scalars}
+use Rattle.std.proofs.lemmas.Bool.{cases_lt}
 use Rattle.std.proofs.lemmas.Bool.Decides.{nat_tests}
+use Rattle.std.proofs.lemmas.List.Elements.{All-from_recursion}
 use Rattle.std.proofs.lemmas.Str.{chars-encodes}
+use Rattle.unicode_width.specs.Width.{char_width}
 use Rattle.vt_cells.specs.Attrs.{default_attrs, same_attrs, changed_attrs}
-use Rattle.vt_cells.specs.Op.{Op, Hide, ClearAttrs, MoveTo, MoveRight, NextRow, LineFeed, Backspace, EraseBelow, EraseRest, EraseChars, SaveCursor, RestoreCursor, ChangeAttrs, Print, csi, counted, place, joined, change_numbers, change_text, bytes_of, bytes_of_all}
+use Rattle.vt_cells.specs.Glyph.{columns_of}
+use Rattle.vt_cells.specs.Op.{Op, Hide, ClearAttrs, MoveTo, MoveRight, NextRow, LineFeed, Backspace, EraseBelow, EraseRest, EraseChars, SaveCursor, RestoreCursor, ChangeAttrs, Print, csi, counted, place, joined, change_numbers, change_text, FitsAttrs, bytes_of, bytes_of_all}
 use Rattle.vt_cells.specs.declared.attrs.Attrs.{Attrs}
 use Rattle.vt_grid.specs.Canvas.{Canvas, and_then, drawn, drawn_all, drawn_text, pushes, fed, with_page as with_drawn}
+use Rattle.vt_grid.specs.Fits.{Fits, IsPrintable}
 use Rattle.vt_grid.specs.Moves.{carriage_return, line_feed, feeds_out}
-use Rattle.vt_scan.specs.Automaton.{Executed, start, fresh_step}
+use Rattle.vt_scan.specs.Automaton.{Character, Executed, start, fresh_step}
 use Rattle.vt_scan.specs.Parameters.{table_of, groups_of, numbers_of, number_of}
 use Rattle.vt_scan.specs.Table.{class_of}
+use Rattle.vt_scan.specs.Texts.{place_groups}
+use Rattle.vt_scan.proofs.Readback.{read_written}
+use Rattle.vt_scan.proofs.Written.{alone, empty_groups, decimal_groups, joined_groups, place_groups_are, decimal_is_parameter, joined_is_parameter, place_is_parameter}
 use Rattle.vt_screen.specs.Screen.{ScreenValue, canvas_of, with_canvas, with_page}
-use Rattle.vt_screen.specs.Steps.{plain_steps, counted_step, scrolling_steps, other_steps, page_erasing, row_erasing, control_steps, marked_steps, private_steps, mode_step, number_or, stepped}
+use Rattle.vt_screen.specs.Steps.{plain_steps, counted_step, scrolling_steps, other_steps, page_erasing, row_erasing, character_steps, control_steps, escape_steps, marked_steps, private_steps, mode_step, number_or, stepped}
 use Rattle.vt_screen.specs.Steps as steps
-use Rattle.vt_screen.specs.Reading.{quiet_steps, quiet_events, terminal, read_byte, read}
-use Rattle.vt_screen.proofs.ReadbackSgr.{IsColor, FewBytes, IsByte, groups_alone, sgr_change, sgr_clear, few_changes, some_changes}
-use Rattle.vt_screen.proofs.ReadbackNumbers.{IsSmall, table_of-joined, table_of-empty, parameters_joined}
-use Rattle.vt_screen.proofs.ReadbackBytes.{IsFinal, reads_then, last_byte, csi_read}
-use Rattle.vt_screen.proofs.ReadbackCharacters.{IsPrinted, character_read}
-
--- an operation that is read as it is meant: its numbers are not too large, and its characters are printed
-abbrev pub Fits : Op → Type 0
-Fits (Hide hidden) = Unit {0}
-Fits ClearAttrs = Unit {0}
-Fits (MoveTo row col) = (row < 65535) × (col < 65535)
-Fits (MoveRight count) = count ≤ 65535
-Fits NextRow = Unit {0}
-Fits LineFeed = Unit {0}
-Fits Backspace = Unit {0}
-Fits EraseBelow = Unit {0}
-Fits EraseRest = Unit {0}
-Fits (EraseChars count) = count ≤ 65535
-Fits SaveCursor = ⊥
-Fits RestoreCursor = ⊥
-Fits (ChangeAttrs was new) = IsColor new.fgcolor × IsColor new.bgcolor
-Fits (Print text) = (cs : List ℕ) × (text ≡ encode_utf8_all cs) × AllByRecursion IsPrinted cs
+use Rattle.vt_screen.specs.Reading.{quiet_step, quiet_steps, terminal, read_byte, read}
+use Rattle.vt_screen.proofs.ReadbackSgr.{sgr_change, sgr_clear, few_changes, some_changes}
+use Rattle.vt_screen.proofs.ReadbackTexts.{IsFinal, reads_then, event_read, csi_read}
 
 -- the text, read by the screen, leaves the canvas; only the last character is open
 abbrev pub Reads : List ℕ → ScreenValue → Canvas → Type 0
@@ -73,82 +62,67 @@ hidden_read false screen = refl
 -- without a number
 bare : (final : ℕ) (screen after : ScreenValue) → IsFinal final → quiet_steps (plain_steps ((0 ∷ []) ∷ []) final screen) screen ≡ Some after
     → read (terminal start screen) (csi [] final) ≡ Some (terminal start after)
-bare final screen after is_final quiet = csi_read [] final ((0 ∷ []) ∷ []) screen after tt is_final table_of-empty quiet
-
--- with numbers
-numbered : (n : ℕ) (ns : List ℕ) (final : ℕ) (screen after : ScreenValue) → length ns < 32 → AllByRecursion IsSmall (n ∷ ns) → IsFinal final
-    → quiet_steps (plain_steps (groups_alone (n ∷ ns)) final screen) screen ≡ Some after
-    → read (terminal start screen) (csi (joined (n ∷ ns)) final) ≡ Some (terminal start after)
-numbered n ns final screen after few small is_final quiet =
-    csi_read (joined (n ∷ ns)) final (groups_alone (n ∷ ns)) screen after (parameters_joined (n ∷ ns) small) is_final (table_of-joined n ns few small) quiet
+bare final screen after is_final quiet = csi_read [] final ((0 ∷ []) ∷ []) screen after tt is_final empty_groups quiet
 
 cleared_read : (screen : ScreenValue) → read (terminal start screen) (csi [] 0x6D) ≡ Some (terminal start (record screen { attrs = default_attrs }))
-unfolding class_of counted_step scrolling_steps other_steps page_erasing row_erasing
-cleared_read screen = bare 0x6D screen (record screen { attrs = default_attrs }) (record { entered = refl; behind = refl }) (sgr_clear screen)
+unfolding counted_step scrolling_steps other_steps
+cleared_read screen = bare 0x6D screen (record screen { attrs = default_attrs }) (omega arith, omega arith) (sgr_clear screen)
 
 erased_below_read : (screen : ScreenValue) → read (terminal start screen) (csi [] 0x4A) ≡ Some (terminal start (stepped steps.EraseBelow screen))
-unfolding class_of counted_step scrolling_steps other_steps page_erasing row_erasing
-erased_below_read screen = bare 0x4A screen (stepped steps.EraseBelow screen) (record { entered = refl; behind = refl }) refl
+unfolding counted_step scrolling_steps other_steps page_erasing
+erased_below_read screen = bare 0x4A screen (stepped steps.EraseBelow screen) (omega arith, omega arith) refl
 
 erased_rest_read : (screen : ScreenValue) → read (terminal start screen) (csi [] 0x4B) ≡ Some (terminal start (stepped steps.EraseRest screen))
-unfolding class_of counted_step scrolling_steps other_steps page_erasing row_erasing
-erased_rest_read screen = bare 0x4B screen (stepped steps.EraseRest screen) (record { entered = refl; behind = refl }) refl
+unfolding counted_step scrolling_steps other_steps row_erasing
+erased_rest_read screen = bare 0x4B screen (stepped steps.EraseRest screen) (omega arith, omega arith) refl
 
 -- a count that isn't 0 is itself
 count_read : (n : ℕ) (rest : List (List ℕ)) → 0 < n → number_or 1 0 ((n ∷ []) ∷ rest) ≡ n
 count_read n rest h = let t : (n == 0) ≡ false = grind (arith, nat_tests) in rw t refl
 
-moved_right_read : (n : ℕ) (screen : ScreenValue) → suc n ≤ 65535
-    → read (terminal start screen) (counted (suc n) 0x43) ≡ Some (terminal start (stepped (steps.MoveRight (suc n)) screen))
-unfolding class_of counted_step scrolling_steps other_steps page_erasing row_erasing
-moved_right_read zero screen h = bare 0x43 screen (stepped (steps.MoveRight 1) screen) (record { entered = refl; behind = refl }) refl
-moved_right_read (suc n) screen h =
-    numbered (suc (suc n)) [] 0x43 screen (stepped (steps.MoveRight (suc (suc n))) screen) (omega arith) (h, tt) (record { entered = refl; behind = refl })
-    (ap (λ (count : ℕ). Some (stepped (steps.MoveRight count) screen)) (count_read (suc (suc n)) [] (omega arith)))
+-- with a count: the step that the sequence is, with this count
+counted_read : (n final : ℕ) (step : ℕ → steps.Step) (screen : ScreenValue) → suc n < 2 ^ 16 → IsFinal final
+    → ((groups : List (List ℕ)) → quiet_steps (plain_steps groups final screen) screen ≡ Some (stepped (step (number_or 1 0 groups)) screen))
+    → read (terminal start screen) (counted (suc n) final) ≡ Some (terminal start (stepped (step (suc n)) screen))
+counted_read zero final step screen h is_final means = bare final screen (stepped (step 1) screen) is_final (means ((0 ∷ []) ∷ []))
+counted_read (suc n) final step screen h is_final means =
+    let count : ℕ = suc (suc n) in
+    let groups : List (List ℕ) = (count ∷ []) ∷ [] in
+    csi_read (decimal count) final groups screen (stepped (step count) screen) (decimal_is_parameter count (omega arith)) is_final (decimal_groups count (omega arith))
+    (means groups ∙ ap (λ (k : ℕ). Some (stepped (step k) screen)) (count_read count [] (omega arith)))
 
-erased_chars_read : (n : ℕ) (screen : ScreenValue) → suc n ≤ 65535
-    → read (terminal start screen) (counted (suc n) 0x58) ≡ Some (terminal start (stepped (steps.EraseChars (suc n)) screen))
-unfolding class_of counted_step scrolling_steps other_steps page_erasing row_erasing
-erased_chars_read zero screen h = bare 0x58 screen (stepped (steps.EraseChars 1) screen) (record { entered = refl; behind = refl }) refl
-erased_chars_read (suc n) screen h =
-    numbered (suc (suc n)) [] 0x58 screen (stepped (steps.EraseChars (suc (suc n))) screen) (omega arith) (h, tt) (record { entered = refl; behind = refl })
-    (ap (λ (count : ℕ). Some (stepped (steps.EraseChars count) screen)) (count_read (suc (suc n)) [] (omega arith)))
+moved_right_read : (n : ℕ) (screen : ScreenValue) → suc n < 2 ^ 16 → read (terminal start screen) (counted (suc n) 0x43) ≡ Some (terminal start (stepped (steps.MoveRight (suc n)) screen))
+unfolding counted_step
+moved_right_read n screen h = counted_read n 0x43 steps.MoveRight screen h (omega arith, omega arith) (λ groups. refl)
+
+erased_chars_read : (n : ℕ) (screen : ScreenValue) → suc n < 2 ^ 16 → read (terminal start screen) (counted (suc n) 0x58) ≡ Some (terminal start (stepped (steps.EraseChars (suc n)) screen))
+unfolding counted_step
+erased_chars_read n screen h = counted_read n 0x58 steps.EraseChars screen h (omega arith, omega arith) (λ groups. refl)
 
 -- a row or column counted from 1
 ordinal_read : (n : ℕ) → (if (n + 1) == 0 then 1 else n + 1) - 1 ≡ n
 ordinal_read n = let t : ((n + 1) == 0) ≡ false = grind (arith, nat_tests) in rw t (omega arith)
 
-placed : (row col : ℕ) (screen : ScreenValue) → row < 65535 → col < 65535
-    → read (terminal start screen) (csi (joined ((row + 1) ∷ (col + 1) ∷ [])) 0x48) ≡ Some (terminal start (stepped (steps.MoveTo row col) screen))
-unfolding class_of counted_step scrolling_steps other_steps page_erasing row_erasing
-placed row col screen low narrow =
-    numbered (row + 1) ((col + 1) ∷ []) 0x48 screen (stepped (steps.MoveTo row col) screen) (omega arith) (omega arith, (omega arith, tt)) (record { entered = refl; behind = refl })
-    (ap (λ (r : ℕ). Some (stepped (steps.MoveTo r ((if (col + 1) == 0 then 1 else col + 1) - 1)) screen)) (ordinal_read row)
-    ∙ ap (λ (c : ℕ). Some (stepped (steps.MoveTo row c) screen)) (ordinal_read col))
+placed : (row col : ℕ) (screen : ScreenValue) → quiet_steps (plain_steps (((row + 1) ∷ []) ∷ ((col + 1) ∷ []) ∷ []) 0x48 screen) screen ≡ Some (stepped (steps.MoveTo row col) screen)
+unfolding counted_step scrolling_steps other_steps
+placed row col screen =
+    ap (λ (r : ℕ). Some (stepped (steps.MoveTo r ((if (col + 1) == 0 then 1 else col + 1) - 1)) screen)) (ordinal_read row)
+    ∙ ap (λ (c : ℕ). Some (stepped (steps.MoveTo row c) screen)) (ordinal_read col)
+
+place_read : (row col : ℕ) (screen : ScreenValue) → quiet_steps (plain_steps (place_groups row col) 0x48 screen) screen ≡ Some (stepped (steps.MoveTo row col) screen)
+unfolding counted_step scrolling_steps other_steps
+place_read zero zero screen = refl
+place_read zero (suc col) screen = placed zero (suc col) screen
+place_read (suc row) col screen = placed (suc row) col screen
 
 moved_to_read : (row col : ℕ) (screen : ScreenValue) → row < 65535 → col < 65535
     → read (terminal start screen) (csi (place row col) 0x48) ≡ Some (terminal start (stepped (steps.MoveTo row col) screen))
-unfolding class_of counted_step scrolling_steps other_steps page_erasing row_erasing
-moved_to_read zero zero screen low narrow = bare 0x48 screen (stepped (steps.MoveTo 0 0) screen) (record { entered = refl; behind = refl }) refl
-moved_to_read zero (suc col) screen low narrow = placed zero (suc col) screen low narrow
-moved_to_read (suc row) zero screen low narrow = placed (suc row) zero screen low narrow
-moved_to_read (suc row) (suc col) screen low narrow = placed (suc row) (suc col) screen low narrow
+moved_to_read row col screen low narrow =
+    csi_read (place row col) 0x48 (place_groups row col) screen (stepped (steps.MoveTo row col) screen)
+    (place_is_parameter row col low narrow) (omega arith, omega arith) (place_groups_are row col low narrow) (place_read row col screen)
 
 -- ---- attributes
 
-small_bytes : (ns : List ℕ) → AllByRecursion IsByte ns → AllByRecursion IsSmall ns
-small_bytes [] h = tt
-small_bytes (n ∷ ns) (h, hs) = (omega arith, small_bytes ns hs)
-
-some_numbered : (ns : List ℕ) (screen after : ScreenValue) → 0 < length ns → FewBytes 14 ns
-    → quiet_steps (plain_steps (groups_alone ns) 0x6D screen) screen ≡ Some after → read (terminal start screen) (csi (joined ns) 0x6D) ≡ Some (terminal start after)
-unfolding class_of
-some_numbered [] screen after some few quiet = absurd (omega arith)
-some_numbered (n ∷ ns) screen after some few quiet =
-    let short = few.few in
-    numbered n ns 0x6D screen after (omega arith) (small_bytes (n ∷ ns) few.bytes) (record { entered = refl; behind = refl }) quiet
-
--- the text of a change, and what it changes
 text_same : (was new : Attrs) → same_attrs was new ≡ true → change_text was new ≡ []
 unfolding change_text
 text_same was new e = rw e refl
@@ -169,36 +143,40 @@ attrs_plain : (was new attrs : Attrs) → same_attrs was new ≡ false → same_
 unfolding changed_attrs
 attrs_plain was new attrs e f = rw (e, f) refl
 
-parts_read : (was new : Attrs) (screen : ScreenValue) → IsColor new.fgcolor → IsColor new.bgcolor → same_attrs was new ≡ false → same_attrs new default_attrs ≡ false
+parts_read : (was new : Attrs) (screen : ScreenValue) → FitsAttrs new → same_attrs was new ≡ false → same_attrs new default_attrs ≡ false
     → read (terminal start screen) (csi (joined (change_numbers was new)) 0x6D) ≡ Some (terminal start (record screen { attrs = changed_attrs was new (screen.attrs) }))
 unfolding counted_step scrolling_steps other_steps
-parts_read was new screen fg bg e f =
-    some_numbered (change_numbers was new) screen (record screen { attrs = changed_attrs was new (screen.attrs) }) (some_changes was new e) (few_changes was new fg bg)
-    (sgr_change was new fg bg e f screen)
+parts_read was new screen fits e f =
+    let ns : List ℕ = change_numbers was new in
+    let numbers = few_changes was new fits in
+    let short = numbers.few in
+    let small = All-from_recursion (λ n. n ≤ 65535) ns numbers.small in
+    csi_read (joined ns) 0x6D (alone ns) screen (record screen { attrs = changed_attrs was new (screen.attrs) })
+    (joined_is_parameter ns small) (omega arith, omega arith) (joined_groups ns (some_changes was new e) (omega arith) small) (sgr_change was new fits e f screen)
 
-changed_when : (was new : Attrs) (screen : ScreenValue) (same plain : Bool) → IsColor new.fgcolor → IsColor new.bgcolor → same_attrs was new ≡ same → same_attrs new default_attrs ≡ plain
+changed_when : (was new : Attrs) (screen : ScreenValue) (same plain : Bool) → FitsAttrs new → same_attrs was new ≡ same → same_attrs new default_attrs ≡ plain
     → read (terminal start screen) (change_text was new) ≡ Some (terminal start (record screen { attrs = changed_attrs was new (screen.attrs) }))
-changed_when was new screen true plain fg bg e f =
+changed_when was new screen true plain fits e f =
     ap (read (terminal start screen)) (text_same was new e)
     ∙ ap (λ (attrs : Attrs). Some (terminal start (record screen { attrs = attrs }))) (sym (attrs_same was new (screen.attrs) e))
-changed_when was new screen false true fg bg e f =
+changed_when was new screen false true fits e f =
     ap (read (terminal start screen)) (text_plain was new e f)
     ∙ (cleared_read screen
     ∙ ap (λ (attrs : Attrs). Some (terminal start (record screen { attrs = attrs }))) (sym (attrs_plain was new (screen.attrs) e f)))
-changed_when was new screen false false fg bg e f =
-    ap (read (terminal start screen)) (text_parts was new e f) ∙ parts_read was new screen fg bg e f
+changed_when was new screen false false fits e f =
+    ap (read (terminal start screen)) (text_parts was new e f) ∙ parts_read was new screen fits e f
 
-changed_read : (was new : Attrs) (screen : ScreenValue) → IsColor new.fgcolor → IsColor new.bgcolor
+changed_read : (was new : Attrs) (screen : ScreenValue) → FitsAttrs new
     → read (terminal start screen) (change_text was new) ≡ Some (terminal start (record screen { attrs = changed_attrs was new (screen.attrs) }))
-changed_read was new screen fg bg = changed_when was new screen (same_attrs was new) (same_attrs new default_attrs) fg bg refl refl
+changed_read was new screen fits = changed_when was new screen (same_attrs was new) (same_attrs new default_attrs) fits refl refl
 
 -- ---- line feeds
 
 fed_read : (screen : ScreenValue) (d : Canvas) → fed (canvas_of screen) ≡ Some d → read (terminal start screen) (0x0A ∷ []) ≡ Some (terminal start (with_canvas d screen))
 unfolding fresh_step class_of control_steps
 fed_read screen d h =
-    last_byte start start (Executed 0x0A ∷ []) screen (with_canvas d screen) 0x0A refl refl
-    (ap (λ (r : Option ScreenValue). and_then (quiet_events []) (and_then (quiet_steps []) r))
+    event_read (0x0A ∷ []) (Executed 0x0A) screen (with_canvas d screen) refl refl
+    (ap (and_then (quiet_steps []))
     (unless (feeds_out screen.page) (with_drawn (line_feed screen.page) (canvas_of screen)) d (stepped steps.LineFeed screen) (λ (c : Canvas). with_canvas c screen) h refl))
 
 returned_read : (screen : ScreenValue) (rest : List ℕ) → read (terminal start screen) (0x0D ∷ rest) ≡ read (terminal start (with_page (carriage_return screen.page) screen)) rest
@@ -209,13 +187,52 @@ left_read : (screen : ScreenValue) → read (terminal start screen) (0x08 ∷ []
 unfolding read_byte fresh_step class_of control_steps
 left_read screen = refl
 
+-- ---- the cursor saved and restored
+
+saved_read : (screen : ScreenValue) → read (terminal start screen) (bytes_of SaveCursor) ≡ Some (terminal start (stepped steps.SaveCursor screen))
+unfolding read_byte fresh_step class_of escape_steps
+saved_read screen = refl
+
+restored_read : (screen : ScreenValue) → read (terminal start screen) (bytes_of RestoreCursor) ≡ Some (terminal start (stepped steps.RestoreCursor screen))
+unfolding read_byte fresh_step class_of escape_steps
+restored_read screen = refl
+
+-- ---- characters
+
+hidden_low : (c : ℕ) → c < 0x20 → columns_of c ≡ None
+unfolding columns_of char_width
+hidden_low c h = grind (arith, nat_tests)
+
+hidden_high : (c : ℕ) → 0x7F ≤ c → c < 0xA0 → columns_of c ≡ None
+unfolding columns_of char_width
+hidden_high c low high = grind (arith, nat_tests)
+
+shown_range : (c : ℕ) → columns_of c ≢ None → ((0x20 ≤ c) × (c < 0x7F)) ⊎ (0xA0 ≤ c)
+shown_range c shown =
+    ⊎_elim (λ (h : c < 0x20). absurd (shown (hidden_low c h)))
+    (λ (low : 0x20 ≤ c). ⊎_elim (λ (h : c < 0x7F). inl (low, h))
+    (λ (middle : 0x7F ≤ c). ⊎_elim (λ (h : c < 0xA0). absurd (shown (hidden_high c middle h))) (λ (high : 0xA0 ≤ c). inr high) (cases_lt c 0xA0))
+    (cases_lt c 0x7F))
+    (cases_lt c 0x20)
+
+prints : (c : ℕ) → IsPrintable c → character_steps c ≡ steps.Print c ∷ []
+unfolding character_steps
+prints c p = let range = shown_range c p.shown in let other = p.reported in grind (arith, nat_tests)
+
+-- a character's bytes print it
+character_read : (c : ℕ) (screen after : ScreenValue) → IsPrintable c → quiet_step (steps.Print c) screen ≡ Some after → read (terminal start screen) (encode_utf8 c) ≡ Some (terminal start after)
+character_read c screen after p e =
+    let range = shown_range c p.shown in
+    event_read (encode_utf8 c) (Character c) screen after (read_written c p.scalar (grind (arith, range))) refl
+    (ap (λ (list : List steps.Step). quiet_steps list screen) (prints c p) ∙ ap (and_then (quiet_steps [])) e)
+
 -- ---- texts
 
 unpushed : (b : Bool) (cs : List ℕ) (e d : Canvas) → and_then (drawn_text cs) (if b then None else Some e) ≡ Some d → (b ≡ false) × (drawn_text cs e ≡ Some d)
 unpushed true cs e d h = absurd cc
 unpushed false cs e d h = (refl, h)
 
-reads_text : (cs : List ℕ) (screen : ScreenValue) (d : Canvas) → AllByRecursion IsPrinted cs → drawn_text cs (canvas_of screen) ≡ Some d → Reads (encode_utf8_all cs) screen d
+reads_text : (cs : List ℕ) (screen : ScreenValue) (d : Canvas) → AllByRecursion IsPrintable cs → drawn_text cs (canvas_of screen) ≡ Some d → Reads (encode_utf8_all cs) screen d
 reads_text [] screen d p h = known [] screen (canvas_of screen) d h refl
 reads_text (c ∷ cs) screen d (p, ps) h =
     let next : ScreenValue = stepped (steps.Print c) screen in
@@ -224,7 +241,7 @@ reads_text (c ∷ cs) screen d (p, ps) h =
     let more : Reads (encode_utf8_all cs) next d = reads_text cs next d ps both.1 in
     (more.0, reads_then (terminal start screen) (terminal start next) (terminal start (record (with_canvas d screen) { last = more.0 })) (encode_utf8 c) (encode_utf8_all cs) first more.1)
 
-all_scalar : (cs : List ℕ) → AllByRecursion IsPrinted cs → all_scalars cs ≡ true
+all_scalar : (cs : List ℕ) → AllByRecursion IsPrintable cs → all_scalars cs ≡ true
 all_scalar [] p = refl
 all_scalar (c ∷ cs) (p, ps) = rw p.scalar (all_scalar cs ps)
 
@@ -245,25 +262,26 @@ reads_op EraseBelow screen d f h = known (bytes_of EraseBelow) screen (canvas_of
 reads_op EraseRest screen d f h = known (bytes_of EraseRest) screen (canvas_of (stepped steps.EraseRest screen)) d h (erased_rest_read screen)
 reads_op (EraseChars zero) screen d f h = known [] screen (canvas_of screen) d h refl
 reads_op (EraseChars (suc n)) screen d f h = known (bytes_of (EraseChars (suc n))) screen (canvas_of (stepped (steps.EraseChars (suc n)) screen)) d h (erased_chars_read n screen f)
-reads_op SaveCursor screen d f h = absurd f
-reads_op RestoreCursor screen d f h = absurd f
-reads_op (ChangeAttrs was new) screen d (fg, bg) h =
-    known (change_text was new) screen (record (canvas_of screen) { attrs = changed_attrs was new (screen.attrs) }) d h (changed_read was new screen fg bg)
-reads_op (Print text) screen d (cs, spelled, printed) h =
-    let e : chars text ≡ cs = ap chars spelled ∙ chars-encodes cs (all_scalar cs printed) in
+reads_op SaveCursor screen d f h = known (bytes_of SaveCursor) screen (canvas_of (stepped steps.SaveCursor screen)) d h (saved_read screen)
+reads_op RestoreCursor screen d f h = known (bytes_of RestoreCursor) screen (canvas_of (stepped steps.RestoreCursor screen)) d h (restored_read screen)
+reads_op (ChangeAttrs was new) screen d f h =
+    known (change_text was new) screen (record (canvas_of screen) { attrs = changed_attrs was new (screen.attrs) }) d h (changed_read was new screen f.1)
+reads_op (Print text) screen d f h =
+    let cs : List ℕ = f.characters in
+    let e : chars text ≡ cs = ap chars (sym f.spelled) ∙ chars-encodes cs (all_scalar cs f.printable) in
     let drawn : drawn_text cs (canvas_of screen) ≡ Some d = subst (λ (ds : List ℕ). drawn_text ds (canvas_of screen) ≡ Some d) e h in
-    subst (λ (bytes : List ℕ). Reads bytes screen d) (sym spelled) (reads_text cs screen d printed drawn)
+    subst (λ (bytes : List ℕ). Reads bytes screen d) f.spelled (reads_text cs screen d f.printable drawn)
 
 -- ---- lists of operations
 
-known_then : {A B : Type 0} (f : A → Option B) (x : Option A) (b : B) → and_then f x ≡ Some b → (a : A) × (x ≡ Some a) × (f a ≡ Some b)
-known_then f None b h = absurd cc
-known_then f (Some a) b h = (a, refl, h)
+pub and_then-some : {A B : Type 0} (f : A → Option B) (x : Option A) (b : B) → and_then f x ≡ Some b → (a : A) × (x ≡ Some a) × (f a ≡ Some b)
+and_then-some f None b h = absurd cc
+and_then-some f (Some a) b h = (a, refl, h)
 
 pub reads_all : (ops : List Op) (screen : ScreenValue) (d : Canvas) → AllByRecursion Fits ops → drawn_all ops (canvas_of screen) ≡ Some d → Reads (bytes_of_all ops) screen d
 reads_all [] screen d f h = known [] screen (canvas_of screen) d h refl
 reads_all (op ∷ ops) screen d (f, fs) h =
-    let (e, first, more) = known_then (drawn_all ops) (drawn op (canvas_of screen)) d h in
+    let (e, first, more) = and_then-some (drawn_all ops) (drawn op (canvas_of screen)) d h in
     let here : Reads (bytes_of op) screen e = reads_op op screen e f first in
     let next : ScreenValue = record (with_canvas e screen) { last = here.0 } in
     let behind : Reads (bytes_of_all ops) next d = reads_all ops next d fs more in

@@ -1,16 +1,18 @@
 -- SGR read back: the numbers of a change of attributes, each in a group of its own, make that change.
-use Rattle.std.proofs.Common.{◌≡◌, ℕ, zero, suc, ◌+◌, ◌-◌, ◌<◌, ◌≤◌, Bool, true, false, nat_lt, if◌then◌else◌, List, [], ◌∷◌, ◌++◌, map, Some, refl, sym, ap, ◌∙◌, arith}
+use Rattle.std.proofs.Common.{◌≡◌, ℕ, zero, suc, ◌+◌, ◌-◌, ◌<◌, ◌≤◌, Bool, true, false, nat_lt, if◌then◌else◌, List, [], ◌∷◌, ◌++◌, Some, refl, sym, ap, ◌∙◌, arith}
+use Rattle.std.proofs.lemmas.Bool.{cond_both}
 use Rattle.std.proofs.lemmas.Bool.Decides.{nat_tests}
 use Rattle.std.proofs.lemmas.List.{map-append, append_assoc, append-nil, length-append}
 use Rattle.std.specs.List.{AllByRecursion}
 use Rattle.std.specs.Prelude.{◌&&◌, length}
-use Rattle.vt_cells.specs.Op.{foreground_numbers, background_numbers, intensity_number, part, change_numbers}
+use Rattle.vt_cells.specs.Op.{FitsColor, FitsAttrs, foreground_numbers, background_numbers, intensity_number, part, change_numbers}
 use Rattle.vt_cells.specs.Attrs.{default_attrs, same_attrs, same_color, same_intensity, same_bool, changed_attrs}
 use Rattle.vt_cells.specs.declared.attrs.Attrs.{Attrs}
 use Rattle.vt_cells.specs.declared.attrs.Intensity.{Intensity}
 use Rattle.vt_cells.specs.declared.attrs.Intensity.TheVariants.{Normal, Bold, Dim}
 use Rattle.vt_cells.specs.declared.color.Color.{Color}
 use Rattle.vt_cells.specs.declared.color.Color.TheVariants.{Default, Idx, Rgb}
+use Rattle.vt_scan.proofs.Written.{alone}
 use Rattle.vt_screen.specs.declared.sgr.Setting.{Setting}
 use Rattle.vt_screen.specs.declared.sgr.Setting.TheVariants.{Foreground, Background, Strength, Italic, Underline, Inverse}
 use Rattle.vt_screen.specs.declared.sgr.Layer.{Layer}
@@ -21,13 +23,6 @@ use Rattle.vt_screen.specs.Sgr.{GroupRead, group_read, number_read, setting_read
 use Rattle.vt_screen.specs.Screen.{ScreenValue}
 use Rattle.vt_screen.specs.Steps.{Step, sgr_from, sgr_steps, reading_steps}
 use Rattle.vt_screen.specs.Reading.{quiet_steps}
-
--- a group of one number
-abbrev pub alone : ℕ → List ℕ
-alone n = n ∷ []
-
-abbrev pub groups_alone : List ℕ → List (List ℕ)
-groups_alone ns = map alone ns
 
 -- ---- one group
 
@@ -89,7 +84,7 @@ background_high i low high =
 abbrev pub Renders : List ℕ → (Attrs → Attrs) → Type 0
 Renders ns f =
     (groups rest : List (List ℕ)) (screen : ScreenValue)
-    → quiet_steps (sgr_from groups Any (groups_alone ns ++ rest)) screen ≡ quiet_steps (sgr_from groups Any rest) (record screen { attrs = f (screen.attrs) })
+    → quiet_steps (sgr_from groups Any (alone ns ++ rest)) screen ≡ quiet_steps (sgr_from groups Any rest) (record screen { attrs = f (screen.attrs) })
 
 renders_nothing : Renders [] (λ a. a)
 renders_nothing groups rest screen = refl
@@ -101,8 +96,8 @@ renders_one n s e groups rest screen =
 renders_then : (ms ns : List ℕ) (f g : Attrs → Attrs) → Renders ms f → Renders ns g → Renders (ms ++ ns) (λ a. g (f a))
 renders_then ms ns f g p q groups rest screen =
     ap (λ (gs : List (List ℕ)). quiet_steps (sgr_from groups Any gs) screen)
-    (ap (λ (gs : List (List ℕ)). gs ++ rest) (map-append alone ms ns) ∙ append_assoc (groups_alone ms) (groups_alone ns) rest)
-    ∙ (p groups (groups_alone ns ++ rest) screen ∙ q groups rest (record screen { attrs = f (screen.attrs) }))
+    (ap (λ (gs : List (List ℕ)). gs ++ rest) (map-append (λ n. n ∷ []) ms ns) ∙ append_assoc (alone ms) (alone ns) rest)
+    ∙ (p groups (alone ns ++ rest) screen ∙ q groups rest (record screen { attrs = f (screen.attrs) }))
 
 -- ---- long colours
 
@@ -149,37 +144,27 @@ renders_rgb n layer r g b e red green blue groups rest screen =
 
 -- ---- the six parts
 
--- the numbers of a colour are bytes
-abbrev pub IsColor : Color → Type 0
-IsColor Default = Unit {0}
-IsColor (Idx i) = i < 256
-IsColor (Rgb r g b) = (r < 256) × (g < 256) × (b < 256)
-
-pub by_test : {A : Type 0} (P : A → Type 0) (b : Bool) (x y : A) → (b ≡ true → P x) → (b ≡ false → P y) → P (if b then x else y)
-by_test P true x y p q = p refl
-by_test P false x y p q = q refl
-
-renders_foreground : (color : Color) → IsColor color → Renders (foreground_numbers color) (λ a. record a { fgcolor = color })
+renders_foreground : (color : Color) → FitsColor color → Renders (foreground_numbers color) (λ a. record a { fgcolor = color })
 unfolding foreground_numbers number_read
 renders_foreground Default h = renders_one 39 (Foreground Default) refl
 renders_foreground (Idx i) h =
-    by_test (λ ns. Renders ns (λ a. record a { fgcolor = Idx i })) (nat_lt i 8) ((30 + i) ∷ []) (if nat_lt i 16 then (82 + i) ∷ [] else 38 ∷ 5 ∷ i ∷ [])
+    cond_both (nat_lt i 8) ((30 + i) ∷ []) (if nat_lt i 16 then (82 + i) ∷ [] else 38 ∷ 5 ∷ i ∷ []) (λ ns. Renders ns (λ a. record a { fgcolor = Idx i }))
     (λ (t : nat_lt i 8 ≡ true). renders_one (30 + i) (Foreground (Idx i)) (foreground_low i (grind (arith, nat_tests))))
-    (λ (t : nat_lt i 8 ≡ false). by_test (λ ns. Renders ns (λ a. record a { fgcolor = Idx i })) (nat_lt i 16) ((82 + i) ∷ []) (38 ∷ 5 ∷ i ∷ [])
+    (λ (t : nat_lt i 8 ≡ false). cond_both (nat_lt i 16) ((82 + i) ∷ []) (38 ∷ 5 ∷ i ∷ []) (λ ns. Renders ns (λ a. record a { fgcolor = Idx i }))
     (λ (u : nat_lt i 16 ≡ true). renders_one (82 + i) (Foreground (Idx i)) (foreground_high i (grind (arith, nat_tests)) (grind (arith, nat_tests))))
     (λ _. renders_index 38 Front i refl h))
-renders_foreground (Rgb r g b) (red, green, blue) = renders_rgb 38 Front r g b refl red green blue
+renders_foreground (Rgb r g b) (red, (green, blue)) = renders_rgb 38 Front r g b refl red green blue
 
-renders_background : (color : Color) → IsColor color → Renders (background_numbers color) (λ a. record a { bgcolor = color })
+renders_background : (color : Color) → FitsColor color → Renders (background_numbers color) (λ a. record a { bgcolor = color })
 unfolding background_numbers number_read
 renders_background Default h = renders_one 49 (Background Default) refl
 renders_background (Idx i) h =
-    by_test (λ ns. Renders ns (λ a. record a { bgcolor = Idx i })) (nat_lt i 8) ((40 + i) ∷ []) (if nat_lt i 16 then (92 + i) ∷ [] else 48 ∷ 5 ∷ i ∷ [])
+    cond_both (nat_lt i 8) ((40 + i) ∷ []) (if nat_lt i 16 then (92 + i) ∷ [] else 48 ∷ 5 ∷ i ∷ []) (λ ns. Renders ns (λ a. record a { bgcolor = Idx i }))
     (λ (t : nat_lt i 8 ≡ true). renders_one (40 + i) (Background (Idx i)) (background_low i (grind (arith, nat_tests))))
-    (λ (t : nat_lt i 8 ≡ false). by_test (λ ns. Renders ns (λ a. record a { bgcolor = Idx i })) (nat_lt i 16) ((92 + i) ∷ []) (48 ∷ 5 ∷ i ∷ [])
+    (λ (t : nat_lt i 8 ≡ false). cond_both (nat_lt i 16) ((92 + i) ∷ []) (48 ∷ 5 ∷ i ∷ []) (λ ns. Renders ns (λ a. record a { bgcolor = Idx i }))
     (λ (u : nat_lt i 16 ≡ true). renders_one (92 + i) (Background (Idx i)) (background_high i (grind (arith, nat_tests)) (grind (arith, nat_tests))))
     (λ _. renders_index 48 Back i refl h))
-renders_background (Rgb r g b) (red, green, blue) = renders_rgb 48 Back r g b refl red green blue
+renders_background (Rgb r g b) (red, (green, blue)) = renders_rgb 48 Back r g b refl red green blue
 
 renders_intensity : (intensity : Intensity) → Renders (intensity_number intensity ∷ []) (λ a. record a { intensity = intensity })
 unfolding number_read
@@ -204,12 +189,12 @@ renders_inverse false = renders_one 27 (Inverse false) refl
 
 -- each part: as it was where it stays
 
-part_foreground : (same : Bool) (color : Color) → IsColor color
+part_foreground : (same : Bool) (color : Color) → FitsColor color
     → Renders (part same (foreground_numbers color)) (λ a. record a { fgcolor = if same then a.fgcolor else color })
 part_foreground true color h = renders_nothing
 part_foreground false color h = renders_foreground color h
 
-part_background : (same : Bool) (color : Color) → IsColor color
+part_background : (same : Bool) (color : Color) → FitsColor color
     → Renders (part same (background_numbers color)) (λ a. record a { bgcolor = if same then a.bgcolor else color })
 part_background true color h = renders_nothing
 part_background false color h = renders_background color h
@@ -234,7 +219,7 @@ part_inverse false on = renders_inverse on
 -- ---- the whole change
 
 -- its numbers, one part after the other
-renders_changes : (was new : Attrs) → IsColor new.fgcolor → IsColor new.bgcolor → Renders (change_numbers was new) (λ a. record {
+renders_changes : (was new : Attrs) → FitsAttrs new → Renders (change_numbers was new) (λ a. record {
   fgcolor = if same_color was.fgcolor new.fgcolor then a.fgcolor else new.fgcolor;
   bgcolor = if same_color was.bgcolor new.bgcolor then a.bgcolor else new.bgcolor;
   intensity = if same_intensity was.intensity new.intensity then a.intensity else new.intensity;
@@ -243,7 +228,7 @@ renders_changes : (was new : Attrs) → IsColor new.fgcolor → IsColor new.bgco
   inverse = if same_bool was.inverse new.inverse then a.inverse else new.inverse;
 })
 unfolding change_numbers
-renders_changes was new fg bg =
+renders_changes was new fits =
     let fore : Attrs → Attrs = λ a. record a { fgcolor = if same_color was.fgcolor new.fgcolor then a.fgcolor else new.fgcolor } in
     let back : Attrs → Attrs = λ a. record a { bgcolor = if same_color was.bgcolor new.bgcolor then a.bgcolor else new.bgcolor } in
     let strength : Attrs → Attrs = λ a. record a { intensity = if same_intensity was.intensity new.intensity then a.intensity else new.intensity } in
@@ -257,9 +242,9 @@ renders_changes was new fg bg =
     let two : List ℕ = part (same_color was.bgcolor new.bgcolor) (background_numbers new.bgcolor) in
     let one : List ℕ = part (same_color was.fgcolor new.fgcolor) (foreground_numbers new.fgcolor) in
     renders_then one (two ++ (three ++ (four ++ (five ++ six)))) fore (λ a. swap (line (slant (strength (back a)))))
-    (part_foreground (same_color was.fgcolor new.fgcolor) new.fgcolor fg)
+    (part_foreground (same_color was.fgcolor new.fgcolor) new.fgcolor fits.0)
     (renders_then two (three ++ (four ++ (five ++ six))) back (λ a. swap (line (slant (strength a))))
-    (part_background (same_color was.bgcolor new.bgcolor) new.bgcolor bg)
+    (part_background (same_color was.bgcolor new.bgcolor) new.bgcolor fits.1)
     (renders_then three (four ++ (five ++ six)) strength (λ a. swap (line (slant a)))
     (part_intensity (same_intensity was.intensity new.intensity) new.intensity)
     (renders_then four (five ++ six) slant (λ a. swap (line a))
@@ -269,14 +254,14 @@ renders_changes was new fg bg =
     (part_inverse (same_bool was.inverse new.inverse) new.inverse)))))
 
 -- read alone, the numbers of a change make that change
-pub sgr_change : (was new : Attrs) → IsColor new.fgcolor → IsColor new.bgcolor → same_attrs was new ≡ false → same_attrs new default_attrs ≡ false
+pub sgr_change : (was new : Attrs) → FitsAttrs new → same_attrs was new ≡ false → same_attrs new default_attrs ≡ false
     → (screen : ScreenValue)
-    → quiet_steps (sgr_steps (groups_alone (change_numbers was new))) screen ≡ Some (record screen { attrs = changed_attrs was new (screen.attrs) })
+    → quiet_steps (sgr_steps (alone (change_numbers was new))) screen ≡ Some (record screen { attrs = changed_attrs was new (screen.attrs) })
 unfolding changed_attrs
-sgr_change was new fg bg differs plain screen =
+sgr_change was new fits differs plain screen =
     rw (differs, plain)
-    (ap (λ (gs : List (List ℕ)). quiet_steps (sgr_from (groups_alone (change_numbers was new)) Any gs) screen) (sym (append-nil (groups_alone (change_numbers was new))))
-    ∙ renders_changes was new fg bg (groups_alone (change_numbers was new)) [] screen)
+    (ap (λ (gs : List (List ℕ)). quiet_steps (sgr_from (alone (change_numbers was new)) Any gs) screen) (sym (append-nil (alone (change_numbers was new))))
+    ∙ renders_changes was new fits (alone (change_numbers was new)) [] screen)
 
 -- no number means default attributes
 pub sgr_clear : (screen : ScreenValue) → quiet_steps (sgr_steps ((0 ∷ []) ∷ [])) screen ≡ Some (record screen { attrs = default_attrs })
@@ -285,66 +270,63 @@ sgr_clear screen = refl
 
 -- ---- how many numbers there are, and how large
 
-abbrev pub IsByte : ℕ → Type 0
-IsByte n = n < 256
-
-pub record FewBytes (most : ℕ) (ns : List ℕ) : Type 0 where
+pub record FewNumbers (most : ℕ) (ns : List ℕ) : Type 0 where
   pub few : length ns ≤ most
-  pub bytes : AllByRecursion IsByte ns
+  pub small : AllByRecursion (λ n. n ≤ 65535) ns
 
-bytes_then : (ms ns : List ℕ) → AllByRecursion IsByte ms → AllByRecursion IsByte ns → AllByRecursion IsByte (ms ++ ns)
-bytes_then [] ns p q = q
-bytes_then (m ∷ ms) ns (p, ps) q = (p, bytes_then ms ns ps q)
+small_then : (ms ns : List ℕ) → AllByRecursion (λ n. n ≤ 65535) ms → AllByRecursion (λ n. n ≤ 65535) ns → AllByRecursion (λ n. n ≤ 65535) (ms ++ ns)
+small_then [] ns p q = q
+small_then (m ∷ ms) ns (p, ps) q = (p, small_then ms ns ps q)
 
-few_then : (k l : ℕ) (ms ns : List ℕ) → FewBytes k ms → FewBytes l ns → FewBytes (k + l) (ms ++ ns)
+few_then : (k l : ℕ) (ms ns : List ℕ) → FewNumbers k ms → FewNumbers l ns → FewNumbers (k + l) (ms ++ ns)
 few_then k l ms ns p q = record {
   few = let e = length-append ms ns in omega arith;
-  bytes = bytes_then ms ns p.bytes q.bytes;
+  small = small_then ms ns p.small q.small;
 }
 
-few_part : (k : ℕ) (same : Bool) (ns : List ℕ) → FewBytes k ns → FewBytes k (part same ns)
-few_part k true ns p = record { few = omega arith; bytes = tt }
+few_part : (k : ℕ) (same : Bool) (ns : List ℕ) → FewNumbers k ns → FewNumbers k (part same ns)
+few_part k true ns p = record { few = omega arith; small = tt }
 few_part k false ns p = p
 
-few_one : (n : ℕ) → n < 256 → FewBytes 1 (n ∷ [])
-few_one n h = record { few = omega arith; bytes = (h, tt) }
+few_one : (n : ℕ) → n ≤ 65535 → FewNumbers 1 (n ∷ [])
+few_one n h = record { few = omega arith; small = (h, tt) }
 
-few_foreground : (color : Color) → IsColor color → FewBytes 5 (foreground_numbers color)
+few_foreground : (color : Color) → FitsColor color → FewNumbers 5 (foreground_numbers color)
 unfolding foreground_numbers
-few_foreground Default h = record { few = omega arith; bytes = (omega arith, tt) }
+few_foreground Default h = record { few = omega arith; small = (omega arith, tt) }
 few_foreground (Idx i) h =
-    by_test (FewBytes 5) (nat_lt i 8) ((30 + i) ∷ []) (if nat_lt i 16 then (82 + i) ∷ [] else 38 ∷ 5 ∷ i ∷ [])
-    (λ (t : nat_lt i 8 ≡ true). record { few = omega arith; bytes = (grind (arith, nat_tests), tt) })
-    (λ _. by_test (FewBytes 5) (nat_lt i 16) ((82 + i) ∷ []) (38 ∷ 5 ∷ i ∷ [])
-    (λ (t : nat_lt i 16 ≡ true). record { few = omega arith; bytes = (grind (arith, nat_tests), tt) })
-    (λ _. record { few = omega arith; bytes = (omega arith, (omega arith, (h, tt))) }))
-few_foreground (Rgb r g b) (red, green, blue) = record { few = omega arith; bytes = (omega arith, (omega arith, (red, (green, (blue, tt))))) }
+    cond_both (nat_lt i 8) ((30 + i) ∷ []) (if nat_lt i 16 then (82 + i) ∷ [] else 38 ∷ 5 ∷ i ∷ []) (FewNumbers 5)
+    (λ (t : nat_lt i 8 ≡ true). record { few = omega arith; small = (grind (arith, nat_tests), tt) })
+    (λ _. cond_both (nat_lt i 16) ((82 + i) ∷ []) (38 ∷ 5 ∷ i ∷ []) (FewNumbers 5)
+    (λ (t : nat_lt i 16 ≡ true). record { few = omega arith; small = (grind (arith, nat_tests), tt) })
+    (λ _. record { few = omega arith; small = (omega arith, (omega arith, (omega arith, tt))) }))
+few_foreground (Rgb r g b) (red, (green, blue)) = record { few = omega arith; small = (omega arith, (omega arith, (omega arith, (omega arith, (omega arith, tt))))) }
 
-few_background : (color : Color) → IsColor color → FewBytes 5 (background_numbers color)
+few_background : (color : Color) → FitsColor color → FewNumbers 5 (background_numbers color)
 unfolding background_numbers
-few_background Default h = record { few = omega arith; bytes = (omega arith, tt) }
+few_background Default h = record { few = omega arith; small = (omega arith, tt) }
 few_background (Idx i) h =
-    by_test (FewBytes 5) (nat_lt i 8) ((40 + i) ∷ []) (if nat_lt i 16 then (92 + i) ∷ [] else 48 ∷ 5 ∷ i ∷ [])
-    (λ (t : nat_lt i 8 ≡ true). record { few = omega arith; bytes = (grind (arith, nat_tests), tt) })
-    (λ _. by_test (FewBytes 5) (nat_lt i 16) ((92 + i) ∷ []) (48 ∷ 5 ∷ i ∷ [])
-    (λ (t : nat_lt i 16 ≡ true). record { few = omega arith; bytes = (grind (arith, nat_tests), tt) })
-    (λ _. record { few = omega arith; bytes = (omega arith, (omega arith, (h, tt))) }))
-few_background (Rgb r g b) (red, green, blue) = record { few = omega arith; bytes = (omega arith, (omega arith, (red, (green, (blue, tt))))) }
+    cond_both (nat_lt i 8) ((40 + i) ∷ []) (if nat_lt i 16 then (92 + i) ∷ [] else 48 ∷ 5 ∷ i ∷ []) (FewNumbers 5)
+    (λ (t : nat_lt i 8 ≡ true). record { few = omega arith; small = (grind (arith, nat_tests), tt) })
+    (λ _. cond_both (nat_lt i 16) ((92 + i) ∷ []) (48 ∷ 5 ∷ i ∷ []) (FewNumbers 5)
+    (λ (t : nat_lt i 16 ≡ true). record { few = omega arith; small = (grind (arith, nat_tests), tt) })
+    (λ _. record { few = omega arith; small = (omega arith, (omega arith, (omega arith, tt))) }))
+few_background (Rgb r g b) (red, (green, blue)) = record { few = omega arith; small = (omega arith, (omega arith, (omega arith, (omega arith, (omega arith, tt))))) }
 
-few_intensity : (intensity : Intensity) → FewBytes 1 (intensity_number intensity ∷ [])
+few_intensity : (intensity : Intensity) → FewNumbers 1 (intensity_number intensity ∷ [])
 few_intensity Normal = few_one 22 (omega arith)
 few_intensity Bold = few_one 1 (omega arith)
 few_intensity Dim = few_one 2 (omega arith)
 
-few_either : (on : Bool) (m n : ℕ) → m < 256 → n < 256 → FewBytes 1 ((if on then m else n) ∷ [])
+few_either : (on : Bool) (m n : ℕ) → m ≤ 65535 → n ≤ 65535 → FewNumbers 1 ((if on then m else n) ∷ [])
 few_either true m n p q = few_one m p
 few_either false m n p q = few_one n q
 
-pub few_changes : (was new : Attrs) → IsColor new.fgcolor → IsColor new.bgcolor → FewBytes 14 (change_numbers was new)
+pub few_changes : (was new : Attrs) → FitsAttrs new → FewNumbers 14 (change_numbers was new)
 unfolding change_numbers
-few_changes was new fg bg =
-    few_then 5 9 _ _ (few_part 5 (same_color was.fgcolor new.fgcolor) _ (few_foreground new.fgcolor fg))
-    (few_then 5 4 _ _ (few_part 5 (same_color was.bgcolor new.bgcolor) _ (few_background new.bgcolor bg))
+few_changes was new fits =
+    few_then 5 9 _ _ (few_part 5 (same_color was.fgcolor new.fgcolor) _ (few_foreground new.fgcolor fits.0))
+    (few_then 5 4 _ _ (few_part 5 (same_color was.bgcolor new.bgcolor) _ (few_background new.bgcolor fits.1))
     (few_then 1 3 _ _ (few_part 1 (same_intensity was.intensity new.intensity) _ (few_intensity new.intensity))
     (few_then 1 2 _ _ (few_part 1 (same_bool was.italic new.italic) _ (few_either new.italic 3 23 (omega arith) (omega arith)))
     (few_then 1 1 _ _ (few_part 1 (same_bool was.underline new.underline) _ (few_either new.underline 4 24 (omega arith) (omega arith)))
@@ -360,16 +342,16 @@ some_foreground : (color : Color) → 0 < length (foreground_numbers color)
 unfolding foreground_numbers
 some_foreground Default = omega arith
 some_foreground (Idx i) =
-    by_test (λ (ns : List ℕ). 0 < length ns) (nat_lt i 8) ((30 + i) ∷ []) (if nat_lt i 16 then (82 + i) ∷ [] else 38 ∷ 5 ∷ i ∷ []) (λ _. omega arith)
-    (λ _. by_test (λ (ns : List ℕ). 0 < length ns) (nat_lt i 16) ((82 + i) ∷ []) (38 ∷ 5 ∷ i ∷ []) (λ _. omega arith) (λ _. omega arith))
+    cond_both (nat_lt i 8) ((30 + i) ∷ []) (if nat_lt i 16 then (82 + i) ∷ [] else 38 ∷ 5 ∷ i ∷ []) (λ (ns : List ℕ). 0 < length ns) (λ _. omega arith)
+    (λ _. cond_both (nat_lt i 16) ((82 + i) ∷ []) (38 ∷ 5 ∷ i ∷ []) (λ (ns : List ℕ). 0 < length ns) (λ _. omega arith) (λ _. omega arith))
 some_foreground (Rgb r g b) = omega arith
 
 some_background : (color : Color) → 0 < length (background_numbers color)
 unfolding background_numbers
 some_background Default = omega arith
 some_background (Idx i) =
-    by_test (λ (ns : List ℕ). 0 < length ns) (nat_lt i 8) ((40 + i) ∷ []) (if nat_lt i 16 then (92 + i) ∷ [] else 48 ∷ 5 ∷ i ∷ []) (λ _. omega arith)
-    (λ _. by_test (λ (ns : List ℕ). 0 < length ns) (nat_lt i 16) ((92 + i) ∷ []) (48 ∷ 5 ∷ i ∷ []) (λ _. omega arith) (λ _. omega arith))
+    cond_both (nat_lt i 8) ((40 + i) ∷ []) (if nat_lt i 16 then (92 + i) ∷ [] else 48 ∷ 5 ∷ i ∷ []) (λ (ns : List ℕ). 0 < length ns) (λ _. omega arith)
+    (λ _. cond_both (nat_lt i 16) ((92 + i) ∷ []) (48 ∷ 5 ∷ i ∷ []) (λ (ns : List ℕ). 0 < length ns) (λ _. omega arith) (λ _. omega arith))
 some_background (Rgb r g b) = omega arith
 
 some_last : (same : Bool) (n : ℕ) → same ≡ false → 0 < length (part same (n ∷ []))

@@ -111,7 +111,3 @@ pub told_rows : {S : Type 0} (does : CallValue → S → ScreenValue → S → S
     → FoldsTo (Told does) old (map (λ row. OnScroll row alternate) rows) new
 told_rows does alternate [] old new e = e
 told_rows does alternate (row ∷ rows) old new f = (f.0, f.1, told_rows does alternate rows f.0 new f.2)
-
-pub told_then : {S : Type 0} (does : CallValue → S → ScreenValue → S → ScreenValue → Type 0) (xs ys : List CallValue) (old mid new : S) → FoldsTo (Told does) old xs mid → FoldsTo (Told does) mid ys new → FoldsTo (Told does) old (xs ++ ys) new
-told_then {S} does [] ys old mid new e f = subst (λ (s : S). FoldsTo (Told does) s ys new) (sym e) f
-told_then does (x ∷ xs) ys old mid new e f = (e.0, e.1, told_then does xs ys e.0 mid new e.2 f)

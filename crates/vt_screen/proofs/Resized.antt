@@ -2,8 +2,10 @@
 use Rattle.std.proofs.Common.{◌≡◌, ℕ, zero, suc, ◌-◌, ◌<◌, ◌^◌, Bool, true, false, List, [], ◌++◌, length, take, Option, Some, None, refl, sym, subst, ap, ◌∙◌}
 use Rattle.std.specs.Prelude.{Result, Ok, Err, OnOk, is_ok, option_map}
 use Rattle.std.specs.List.{FoldsTo}
+use Rattle.std.proofs.Math.Seq.{take-nil}
 use Rattle.std.proofs.lemmas.Bool.{false≢true}
 use Rattle.vt_rows.specs.Row.{RowValue}
+use Rattle.vt_rows.proofs.Folds.{folds_then}
 use Rattle.vt_grid.specs.Page.{Page, blank_page}
 use Rattle.vt_grid.proofs.Resizing.{fresh_height, fresh_width}
 use Rattle.vt_grid.specs.Resize.{leaving, out_of_view, page_resized, resize_reports, returning, scrollback_resized, taken_back}
@@ -14,18 +16,14 @@ use Rattle.vt_screen.specs.Pages.{reports_of}
 use Rattle.vt_screen.specs.Run.{Hears, Told}
 use Rattle.vt_screen.specs.Screen.{ScreenValue}
 use Rattle.vt_screen.proofs.Asides.{kept_resized, nothing_pushed}
-use Rattle.vt_screen.proofs.Reporting.{told_rows, told_then}
+use Rattle.vt_screen.proofs.Reporting.{told_rows}
 
 pub if_ok : {A E : Type 0} (r : Result A E) (P : Type 0) → is_ok r ≡ true → OnOk r P → P
 if_ok (Ok x) P e h = h
 if_ok (Err e) P o h = absurd (false≢true o)
 
-take_none : (n : ℕ) (rows : List RowValue) → rows ≡ [] → take n rows ≡ []
-take_none zero rows e = refl
-take_none (suc n) rows e = rw e refl
-
 nothing_taken : (n : ℕ) (above : Scrollback) → IsNothing above → IsNothing (taken_back n above)
-nothing_taken n above k = record { capacity = k.capacity; rows = take_none (length above.rows - n) above.rows k.rows; offset = k.offset }
+nothing_taken n above k = record { capacity = k.capacity; rows = ap (take (length above.rows - n)) k.rows ∙ take-nil (length above.rows - n); offset = k.offset }
 
 pub nothing_resized : (height : ℕ) (page : Page) → IsNothing (scrollback_resized height page (no_scrollback 0))
 unfolding scrollback_resized
@@ -33,14 +31,10 @@ nothing_resized height page =
     nothing_taken (returning height (no_scrollback 0) page) (pushed (length page.rows) page.width (take (leaving height page) page.rows) (out_of_view (no_scrollback 0)))
     (nothing_pushed (length page.rows) page.width (take (leaving height page) page.rows) (out_of_view (no_scrollback 0)) (record { capacity = refl; rows = refl; offset = refl }))
 
-abbrev from_some : {A : Type 0} → A → Option A → A
-from_some d None = d
-from_some d (Some x) = x
-
 fresh_is : (o : Option Page) (p : Page) (f : Option Page) (s b : Page) → f ≡ option_map (λ _. b) o → o ≡ Some p → f ≡ Some s → s ≡ b
 fresh_is o p f s b e h k =
     let all : Some s ≡ Some b = sym k ∙ (e ∙ ap (option_map (λ _. b)) h) in
-    ap (from_some s) all
+    cc
 
 -- the alternate page
 pub record AlternateDone {S : Type 0} (does : CallValue → S → ScreenValue → S → ScreenValue → Type 0) (rows cols : ℕ) (o : Option Page) (new : Page) (after : Scrollback) (s t : S) : Type 0 where
@@ -100,5 +94,5 @@ pub told_by_steps : {S : Type 0} (does : CallValue → S → ScreenValue → S �
 told_by_steps {S} does rows cols v now active idle sheet s m t same w main fresh heard told =
     let whole : active ≡ v.scrollback = above_main v.is_alternate active idle v.scrollback w (ap (λ (x : ScreenValue). x.is_alternate) same ∙ main) in
     subst (λ (x : ScreenValue). FoldsTo (Told does) s (reports_of false rows (Some x.page) x.scrollback ++ reports_of true rows x.other (no_scrollback 0)) t) same
-    (told_then does (reports_of false rows (Some v.page) v.scrollback) (reports_of true rows v.other (no_scrollback 0)) s m t
+    (folds_then (Told does) (reports_of false rows (Some v.page) v.scrollback) (reports_of true rows v.other (no_scrollback 0)) s m t
     (subst (λ (z : Scrollback). FoldsTo (Told does) s (reports_of false rows (Some v.page) z) m) whole (main_done does rows cols v.page sheet active s m fresh heard)) told)

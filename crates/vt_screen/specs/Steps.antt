@@ -15,7 +15,7 @@ use Rattle.vt_grid.specs.Shifts.{reverse_index, scrolled_down, lines_inserted, l
 use Rattle.vt_grid.specs.Erasing.{erased_below, erased_above, erased_page, erased_rest, erased_start, erased_row, erased_chars}
 use Rattle.vt_grid.specs.Printing.{printed}
 use Rattle.vt_grid.specs.Outgoing.{printed_out, fed_out, scrolled_out}
-use Rattle.vt_grid.specs.Scrollback.{Takes, pushed, reported, cleared}
+use Rattle.vt_grid.specs.Scrollback.{TakesMemory, pushed, reported, cleared}
 use Rattle.vt_rows.specs.Row.{RowValue}
 use Rattle.vt_scan.specs.Automaton.{Event, Character, Executed, EscDispatch, CsiDispatch, OscDispatch}
 use Rattle.vt_screen.specs.Calls.{CallValue, AudibleBell, VisualBell, Resize, SetWindowIconName, SetWindowTitle, CopyToClipboard, PasteFromClipboard, UnhandledChar, UnhandledControl, UnhandledEscape, UnhandledCsi, UnhandledOsc}
@@ -201,7 +201,7 @@ reports step screen = reported (outgoing step screen) (above_page screen)
 abbrev pub Grows : Step → ScreenValue → Type 0
 Grows EnterAlternate screen = screen.other ≡ None
 Grows EnterFresh screen = screen.other ≡ None
-Grows step screen = Takes (outgoing step screen) (above_page screen)
+Grows step screen = TakesMemory (outgoing step screen) (above_page screen)
 
 -- ---- numbers
 

@@ -1,0 +1,120 @@
+-- Texts read one after the other, and a text read by the events that it gives.
+use Rattle.std.proofs.Common.{◌≡◌, ◌≢◌, ℕ, ◌≤◌, Bool, true, false, List, [], ◌∷◌, ◌++◌, Option, Some, None, refl, sym, ap, subst, ◌∙◌}
+use Rattle.std.specs.List.{AllByRecursion}
+use Rattle.vt_cells.specs.Op.{csi}
+use Rattle.vt_grid.specs.Canvas.{and_then}
+use Rattle.vt_grid.proofs.Drawing.{and_then-assoc, and_then-same}
+use Rattle.vt_scan.specs.Automaton.{State, Step, Event, CsiDispatch, OscDispatch, after, step_in, start}
+use Rattle.vt_scan.specs.Parameters.{table_of}
+use Rattle.vt_scan.specs.Run.{run}
+use Rattle.vt_scan.specs.Table.{class_of, turn_of}
+use Rattle.vt_scan.specs.Texts.{IsParameterText, back_with}
+use Rattle.vt_scan.specs.declared.table.Kind.{Kind}
+use Rattle.vt_scan.specs.declared.table.Kind.TheVariants.{Ground, OscString}
+use Rattle.vt_scan.specs.declared.table.Class.{Class}
+use Rattle.vt_scan.specs.declared.table.Class.TheVariants.{Bell, Cancel, Introducer, Control}
+use Rattle.vt_scan.proofs.Running.{behind}
+use Rattle.vt_scan.proofs.Sequences.{read_csi}
+use Rattle.vt_screen.specs.Screen.{ScreenValue}
+use Rattle.vt_screen.specs.Steps.{plain_steps, steps_of}
+use Rattle.vt_screen.specs.Reading.{quiet_steps, quiet_events, grows, Terminal, terminal, read_byte, read}
+
+-- ---- texts one after the other
+
+pub reads_append : (t : Terminal) (a b : List ℕ) → read t (a ++ b) ≡ and_then (λ u. read u b) (read t a)
+reads_append t [] b = refl
+reads_append t (x ∷ a) b =
+    and_then-same (λ (u : Terminal). read u (a ++ b)) (λ (u : Terminal). and_then (λ v. read v b) (read u a)) (λ (u : Terminal). reads_append u a b) (read_byte t x)
+    ∙ and_then-assoc (λ (u : Terminal). read u a) (λ (v : Terminal). read v b) (read_byte t x)
+
+-- one text and then another
+pub reads_then : (t u v : Terminal) (a b : List ℕ) → read t a ≡ Some u → read u b ≡ Some v → read t (a ++ b) ≡ Some v
+reads_then t u v a b p q = reads_append t a b ∙ (ap (λ (r : Option Terminal). and_then (λ w. read w b) r) p ∙ q)
+
+-- ---- a text and its events
+
+quiet_append : (a b : List Event) (screen : ScreenValue) → quiet_events (a ++ b) screen ≡ and_then (quiet_events b) (quiet_events a screen)
+quiet_append [] b screen = refl
+quiet_append (event ∷ a) b screen =
+    let first = quiet_steps (steps_of event screen) screen in
+    and_then-same (quiet_events (a ++ b)) (λ (x : ScreenValue). and_then (quiet_events b) (quiet_events a x)) (quiet_append a b) first ∙ and_then-assoc (quiet_events a) (quiet_events b) first
+
+-- an operating system command, the one sequence whose text takes memory
+abbrev pub is_command : Event → Bool
+is_command (OscDispatch parts) = true
+is_command _ = false
+
+abbrev pub NoCommands : List Event → Type 0
+NoCommands events = AllByRecursion (λ event. is_command event ≡ false) events
+
+later : (a b : List Event) → NoCommands (a ++ b) → NoCommands b
+later [] b none = none
+later (event ∷ a) b none = later a b none.1
+
+-- plain text again, and no such command was read
+pub record IsCalm (step : Step) : Type 0 where
+  pub plain : step.state.kind ≡ Ground
+  pub events : NoCommands step.events
+
+abbrev in_command : List ℕ → State
+in_command text = record { kind = OscString; collected = text }
+
+abbrev run_after : Step → List ℕ → Step
+run_after step bytes = behind step.events (run step.state bytes)
+
+-- a command that is begun is read, or goes on
+unended_by : (c : Class) (text : List ℕ) (b : ℕ) (bytes : List ℕ) → ((more : List ℕ) → IsCalm (run (in_command more) bytes) → ⊥)
+    → IsCalm (run_after (after OscString text b (turn_of OscString c)) bytes) → ⊥
+unended_by Bell text b bytes rest calm = let met : true ≡ false = calm.events.0 in cc
+unended_by Cancel text b bytes rest calm = let met : true ≡ false = calm.events.0 in cc
+unended_by Introducer text b bytes rest calm = let met : true ≡ false = calm.events.0 in cc
+unended_by Control text b bytes rest calm = rest text calm
+unended_by _ text b bytes rest calm = rest (text ++ b ∷ []) calm
+
+unended : (text bytes : List ℕ) → IsCalm (run (in_command text) bytes) → ⊥
+unended text [] calm = let same : OscString ≡ Ground = calm.plain in cc
+unended text (b ∷ bytes) calm = unended_by (class_of b) text b bytes (λ more. unended more bytes) calm
+
+-- a byte takes memory in such a command alone
+grows_not : (kind : Kind) (c : Class) → kind ≢ OscString → grows (turn_of kind c) ≡ false
+grows_not OscString _ n = absurd (n refl)
+grows_not _ Control n = refl
+grows_not _ _ n = refl
+
+-- a calm run is read: its events are performed, one after the other
+pub run_read : (s : State) (bytes : List ℕ) (screen : ScreenValue) → IsCalm (run s bytes)
+    → read (terminal s screen) bytes ≡ and_then (λ after. Some (terminal (run s bytes).state after)) (quiet_events (run s bytes).events screen)
+unfolding read_byte
+run_read s [] screen calm = refl
+run_read s (b ∷ bytes) screen calm =
+    let step = step_in s.kind s.collected b in
+    let rest = run step.state bytes in
+    let here = quiet_events step.events screen in
+    let finish = λ (x : ScreenValue). Some (terminal rest.state x) in
+    let still : grows (turn_of s.kind (class_of b)) ≡ false =
+    grows_not s.kind (class_of b) (λ (e : s.kind ≡ OscString). unended s.collected (b ∷ bytes) (subst (λ (k : Kind). IsCalm (run (record { kind = k; collected = s.collected }) (b ∷ bytes))) e calm)) in
+    let ends : IsCalm rest = record { plain = calm.plain; events = later step.events rest.events calm.events } in
+    rw still
+    (sym (and_then-assoc (λ (x : ScreenValue). Some (terminal step.state x)) (λ (u : Terminal). read u bytes) here)
+    ∙ and_then-same (λ (x : ScreenValue). read (terminal step.state x) bytes) (λ (x : ScreenValue). and_then finish (quiet_events rest.events x)) (λ x. run_read step.state bytes x ends) here
+    ∙ and_then-assoc (quiet_events rest.events) finish here
+    ∙ ap (and_then finish) (sym (quiet_append step.events rest.events screen)))
+
+-- a text that gives one event
+pub event_read : (text : List ℕ) (event : Event) (screen after : ScreenValue) → run start text ≡ back_with (event ∷ []) → is_command event ≡ false
+    → quiet_steps (steps_of event screen) screen ≡ Some after → read (terminal start screen) text ≡ Some (terminal start after)
+event_read text event screen after gives other quiet =
+    run_read start text screen (rw gives (record { plain = refl; events = (other, tt) }))
+    ∙ ap (λ (step : Step). and_then (λ (x : ScreenValue). Some (terminal step.state x)) (quiet_events step.events screen)) gives
+    ∙ ap (λ (r : Option ScreenValue). and_then (λ (x : ScreenValue). Some (terminal start x)) (and_then (quiet_events []) r)) quiet
+
+-- a final byte
+abbrev pub IsFinal : ℕ → Type 0
+IsFinal b = (0x40 ≤ b) × (b ≤ 0x7E)
+
+-- a control sequence of parameters alone
+pub csi_read : (text : List ℕ) (final : ℕ) (groups : List (List ℕ)) (screen after : ScreenValue) → IsParameterText text → IsFinal final → (table_of text).groups ≡ groups
+    → quiet_steps (plain_steps groups final screen) screen ≡ Some after → read (terminal start screen) (csi text final) ≡ Some (terminal start after)
+csi_read text final groups screen after is is_final table quiet =
+    event_read (csi text final) (CsiDispatch groups [] final) screen after
+    (read_csi text final is is_final.0 is_final.1 ∙ ap (λ (gs : List (List ℕ)). back_with (CsiDispatch gs [] final ∷ [])) table) refl quiet
