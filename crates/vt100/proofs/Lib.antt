@@ -3,5 +3,6 @@ pub mod Stepping
 pub mod Deciding
 pub mod Quiet
 pub mod Texts
-pub mod Groups2
+pub mod Remaining
 pub mod Dispatching
+pub mod Parting

@@ -20,6 +20,7 @@ use Rattle.vt_screen.specs.Run as act
 use Rattle.vt_screen.specs.Run.{Performs, Breaks, Hears, Refuses, StopsIn, Takes, state}
 use Rattle.vt_screen.specs.Steps.{Step, Print, CarriageReturn, LineFeed, ReverseIndex, MoveUp, MoveDown, MoveLeft, NextLine, PreviousLine, Tab, MoveToColumn, MoveToRow, SetRegion, UseOrigin, EraseAbove, ErasePage, EraseScrollback, EraseStart, EraseRow, InsertChars, DeleteChars, InsertLines, DeleteLines, ScrollDown, ScrollUp, MoveRight, MoveTo, EraseBelow, EraseRest, EraseChars, Render, HideCursor, UseApplicationCursor, UseBracketedPaste, SetMouseMode, ClearMouseMode, SetMouseEncoding, ClearMouseEncoding, SetCursorStyle, SaveCursor, RestoreCursor, EnterAlternate, EnterFresh, LeaveAlternate, LeaveRestoring, Reset, UseApplicationKeypad, Tell, Grows, outgoing, stepped, steps_of}
 use Rattle.vt_screen.specs.Reading.{Terminal, terminal, grows, quiet_step, quiet_steps, quiet_events, read, read_byte}
+use Rattle.vt_screen.proofs.Readback.{and_then-some}
 use Rattle.vt100.specs.Parser.{Parsing, Ran, Stopped, Collects, stage}
 use Rattle.vt100.proofs.Running.{folds_parted}
 
@@ -27,20 +28,12 @@ abbrev IsNone : {A : Type 0} → Option A → Type 0
 IsNone None = Unit {0}
 IsNone (Some x) = ⊥
 
-abbrev from_some : {A : Type 0} → A → Option A → A
-from_some d None = d
-from_some d (Some x) = x
-
 same_some : {A : Type 0} (x y : A) → Some x ≡ Some y → x ≡ y
-same_some x y e = ap (from_some x) e
+same_some x y e = cc
 
 some_of_cond : {A : Type 0} (b : Bool) (x y : A) → cond b None (Some x) ≡ Some y → x ≡ y
 some_of_cond true x y e = absurd (subst IsNone e tt)
 some_of_cond false x y e = same_some x y e
-
-and_then-some : {A B : Type 0} (f : A → Option B) (o : Option A) (y : B) → and_then f o ≡ Some y → (a : A) × (o ≡ Some a) × (f a ≡ Some y)
-and_then-some f None y e = absurd (subst IsNone e tt)
-and_then-some f (Some a) y e = (a, refl, e)
 
 -- ---- steps and events
 
@@ -142,7 +135,7 @@ quiet_performs does (event ∷ events) held screen after b e t =
 
 -- ---- nothing is refused
 
-never_grows : (gone : List RowValue) (above : Scrollback) → gone ≡ [] → room.Takes gone above → ⊥
+never_grows : (gone : List RowValue) (above : Scrollback) → gone ≡ [] → room.TakesMemory gone above → ⊥
 never_grows gone above none takes = let n : length gone ≡ 0 = ap length none in absurd (omega (arith, takes.0, n))
 
 quiet_holds : (x : Step) (screen after : ScreenValue) → quiet_step x screen ≡ Some after → Grows x screen → ⊥

@@ -2,6 +2,7 @@
 use Rattle.std.proofs.Common.{◌≡◌, ℕ, List, [], ◌∷◌, ◌++◌, ◌+◌, ◌<◌, length, take, drop, slice_index_or, Some, None, refl, sym, subst, ap, ◌∙◌, inl, inr}
 use Rattle.std.proofs.lemmas.List.{append-nil, drop_more, take-append-drop}
 use Rattle.std.specs.List.{FoldsTo}
+use Rattle.vt_rows.proofs.Folds.{folds_then}
 use Rattle.vt_scan.specs.Automaton.{State, step_in}
 use Rattle.vt_scan.specs.Run.{run}
 use Rattle.vt_scan.specs.Scanner.{Feeds, Held, StandsFor, events_in}
@@ -16,10 +17,6 @@ use Rattle.vt_screen.specs.Calls.{CallValue}
 use Rattle.vt_screen.specs.Screen.{ScreenValue}
 use Rattle.vt_screen.specs.Run.{Performs, Breaks, StopsIn}
 use Rattle.vt100.specs.Parser.{Parsing, Ran, StoppedWithin, Collects, joined, stage}
-
-pub folds_then : {P A : Type 0} (R : P → A → P → Type 0) (xs ys : List A) (p q r : P) → FoldsTo R p xs q → FoldsTo R q ys r → FoldsTo R p (xs ++ ys) r
-folds_then R [] ys p q r e t = subst (λ z. FoldsTo R z ys r) (sym e) t
-folds_then R (x ∷ xs) ys p q r s t = (s.0, s.1, folds_then R xs ys s.0 q r s.2 t)
 
 pub stops_first : {P A : Type 0} (R T : P → A → P → Type 0) (xs ys : List A) (p q : P) → StopsIn R T p xs q → StopsIn R T p (xs ++ ys) q
 stops_first R T [] ys p q h = absurd h

@@ -7,7 +7,8 @@ use Rattle.vt_screen.specs.Screen.{ScreenValue}
 use Rattle.vt_screen.specs.Run.{State, Takes, Refuses, StopsIn, state}
 use Rattle.vt_screen.specs.Steps.{Step, Print, CarriageReturn, LineFeed, ReverseIndex, MoveUp, MoveDown, MoveLeft, NextLine, PreviousLine, Tab, MoveToColumn, MoveToRow, SetRegion, UseOrigin, EraseAbove, ErasePage, EraseScrollback, EraseStart, EraseRow, InsertChars, DeleteChars, InsertLines, DeleteLines, ScrollDown, ScrollUp, MoveRight, MoveTo, EraseBelow, EraseRest, EraseChars, Render, HideCursor, UseApplicationCursor, UseBracketedPaste, SetMouseMode, ClearMouseMode, SetMouseEncoding, ClearMouseEncoding, SetCursorStyle, SaveCursor, RestoreCursor, EnterAlternate, EnterFresh, LeaveAlternate, LeaveRestoring, Reset, UseApplicationKeypad, Tell, Grows, alternate_step, fresh_step, stepped}
 use Rattle.vt100.specs.Keeping.{Does, Stops, is_own}
-use Rattle.vt100.proofs.Running.{folds_then, stops_first, stops_then}
+use Rattle.vt_rows.proofs.Folds.{folds_then}
+use Rattle.vt100.proofs.Running.{stops_first, stops_then}
 
 pub taken : {S : Type 0} (does : CallValue → S → ScreenValue → S → ScreenValue → Type 0) (x : Step) (s t : S) (d e : ScreenValue) → Takes does (state s d) x (state t e) → Does does s d (x ∷ []) t e
 taken does x s t d e h = (state t e, h, refl)

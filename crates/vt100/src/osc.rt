@@ -8,7 +8,7 @@ ghost use Rattle.vt_screen.specs.Steps.{clipboard_steps, is_base64, is_clipboard
 use vt_screen::{Callbacks, Screen};
 
 /// Calls what an operating system command says.
-#[tactic(auto, using(crate::proofs::Stepping::told, crate::proofs::Groups2::two_parts, crate::proofs::Groups2::three_parts, crate::proofs::Groups2::more_parts))]
+#[tactic(auto, using(crate::proofs::Stepping::told, crate::proofs::Remaining::two_parts, crate::proofs::Remaining::three_parts, crate::proofs::Remaining::more_parts))]
 pub fn perform<CB: Callbacks>(screen: &mut Screen, callbacks: &mut CB, parts: &[&[u8]])
     ensures { Does CB.does callbacks.old screen.old (osc_steps (map (λ part. part.now) parts.now)) callbacks.new screen.new }
 {

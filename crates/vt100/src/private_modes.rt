@@ -27,7 +27,7 @@ pub fn perform<CB: Callbacks>(
 }
 
 // One group: a mode if it is one number.
-#[tactic(auto, using(crate::proofs::Stepping::told, crate::proofs::Deciding::other_group, crate::proofs::Groups2::one_group))]
+#[tactic(auto, using(crate::proofs::Stepping::told, crate::proofs::Deciding::other_group, crate::proofs::Remaining::one_group))]
 fn perform_group<CB: Callbacks>(
     screen: &mut Screen,
     callbacks: &mut CB,

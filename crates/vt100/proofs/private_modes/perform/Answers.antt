@@ -1,7 +1,7 @@
 -- One more group is done, or stopped in.
 use Rattle.std.proofs.Common.{refl}
 use Rattle.vt100.specs.Keeping.{report_of}
-use Rattle.vt100.proofs.Groups2.{modes_left, modes_stop, nothing}
+use Rattle.vt100.proofs.Remaining.{modes_left, modes_stop, nothing}
 use Rattle.vt100.proofs.private_modes.perform.Goals as goal
 
 pub loop-group-preserved : goal.loop-group-preserved

@@ -30,7 +30,7 @@ loop-byte-preserved-then-is_plain g c =
     (ran_then g.CB.Callbacks.does (parsing c.args.scanner.now c.args.screen.now c.args.callbacks.now) before now (take c.loop-byte.byte-index c.args.bytes.now) (byte ∷ [])
     c.loop-byte.invariant
     (byte_ran g.CB.Callbacks.does before now byte (one_character c.from.result)
-    (plain_answer c.loop-byte.scanner byte c.from.result (c.if-is_plain.ensures refl) c.from.ensures) (stage now, c.in_ok-print.ensures.done, refl)))
+    (plain_answer c.loop-byte.scanner byte c.from.result (c.if-is_plain.ensures.feeds refl) c.from.ensures) (stage now, c.in_ok-print.ensures.done, refl)))
 
 pub returns-in_err-print-clause-stopped : goal.returns-in_err-print-clause-stopped
 returns-in_err-print-clause-stopped g c e =
@@ -39,4 +39,4 @@ returns-in_err-print-clause-stopped g c e =
     let byte = get_or c.args.bytes.now c.loop-byte.byte-index 0 in
     inr (stopped_within g.CB.Callbacks.does (parsing c.args.scanner.now c.args.screen.now c.args.callbacks.now) before now c.loop-byte.scanner c.args.bytes.now c.loop-byte.byte-index (one_character c.from.result)
     c.loop-byte-test.true c.loop-byte.invariant
-    (plain_answer c.loop-byte.scanner byte c.from.result (c.if-is_plain.ensures refl) c.from.ensures) (inl (c.in_err-print.ensures.stopped refl)))
+    (plain_answer c.loop-byte.scanner byte c.from.result (c.if-is_plain.ensures.feeds refl) c.from.ensures) (inl (c.in_err-print.ensures.stopped refl)))

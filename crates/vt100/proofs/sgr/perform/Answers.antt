@@ -1,6 +1,6 @@
 -- One more group is done.
 use Rattle.std.proofs.Common.{ℕ, List, Bor, map}
-use Rattle.vt100.proofs.Groups2.{settings_left, nothing}
+use Rattle.vt100.proofs.Remaining.{settings_left, nothing}
 use Rattle.vt100.proofs.sgr.perform.Goals as goal
 
 pub loop-group-preserved : goal.loop-group-preserved
