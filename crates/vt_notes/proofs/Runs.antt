@@ -14,7 +14,8 @@ use Rattle.vt_screen.specs.Run.{Hears, Performs, Scrolls, Takes, state}
 use Rattle.vt_screen.specs.Steps.{Step, Print, CarriageReturn, LineFeed, ReverseIndex, MoveUp, MoveDown, MoveRight, MoveLeft, NextLine, PreviousLine, Tab, MoveTo, MoveToColumn, MoveToRow, SetRegion, UseOrigin, EraseBelow, EraseAbove, ErasePage, EraseScrollback, EraseRest, EraseStart, EraseRow, EraseChars, InsertChars, DeleteChars, InsertLines, DeleteLines, ScrollUp, ScrollDown, Render, HideCursor, UseApplicationCursor, UseBracketedPaste, SetMouseMode, ClearMouseMode, SetMouseEncoding, ClearMouseEncoding, SetCursorStyle, SaveCursor, RestoreCursor, EnterAlternate, EnterFresh, LeaveAlternate, LeaveRestoring, Reset, UseApplicationKeypad, Tell, reports, scrolled, stepped, steps_of}
 use Rattle.vt_screen.specs.Telling.{calls_of, calls_of_all, stepped_all, steps_of_all, steps_in, calls_in, screen_in}
 use Rattle.vt100.specs.Parser.{Parsing, Ran, joined, parsing, stage}
-use Rattle.vt100.proofs.Running.{folds_then, ran_joined}
+use Rattle.vt_rows.proofs.Folds.{folds_then}
+use Rattle.vt100.proofs.Running.{ran_joined}
 use Rattle.vt_notes.specs.Noting.{Noted, NotesIt, nothing_noted, with_call, with_gap}
 
 -- something was done: what it makes of the screen, and that it noted these calls, if none is missing at the end

@@ -7,20 +7,16 @@ use Rattle.vt_cells.specs.Op.{bytes_of_all}
 use Rattle.vt_grid.specs.Script.{redraw}
 use Rattle.vt_scan.specs.Automaton.{start}
 use Rattle.vt_scan.specs.Run as scan
-use Rattle.vt_screen.specs.Calls.{CallValue}
 use Rattle.vt_screen.specs.Run.{Performs, state}
 use Rattle.vt_screen.specs.Screen.{ScreenValue, canvas_of, fresh_screen}
+use Rattle.vt100.specs.Parser.{quietly}
 use Rattle.vt_show.specs.declared.mode.Mode.{Mode}
 use Rattle.vt_show.specs.declared.mode.Mode.TheVariants.{Formatted}
-
--- callbacks that do nothing
-abbrev pub Silent : CallValue → Unit {0} → ScreenValue → Unit {0} → ScreenValue → Type 0
-Silent call old before new after = (new ≡ old) × (after ≡ before)
 
 -- the screen of a run over the input, from a fresh terminal of this size without scrollback
 abbrev pub ShowsAfter : ℕ → ℕ → List ℕ → ScreenValue → Type 0
 ShowsAfter rows cols input screen =
-    FoldsTo (Performs Silent) (state tt (fresh_screen rows cols 0)) (scan.run start input).events (state tt screen)
+    FoldsTo (Performs quietly) (state tt (fresh_screen rows cols 0)) (scan.run start input).events (state tt screen)
 
 abbrev pub text_of : Mode → ScreenValue → List ℕ
 text_of Formatted screen = bytes_of_all (redraw (canvas_of screen))

@@ -3,8 +3,8 @@
 ghost use Rattle.std.specs.Int.NonZero.{non_zero_u16_get};
 ghost use Rattle.std.specs.Io.KnownBytes.{Appends, IsAtEnd, Keeps};
 ghost use Rattle.std.specs.Prelude.{◌≡◌, ◌≢◌, true, IfOk, IfSome, IsErr, OnErr, OnOk, Err, string_bytes};
-ghost use Rattle.vt100.specs.Parser.{Ran};
-ghost use Rattle.vt_show.specs.Shown.{Silent, Writes, text_of};
+ghost use Rattle.vt100.specs.Parser.{Ran, quietly};
+ghost use Rattle.vt_show.specs.Shown.{Writes, text_of};
 ghost use Rattle.vt_show.specs.declared.faults.Fault.{Fault};
 
 use crate::faults::Fault;
@@ -48,7 +48,7 @@ pub fn run<R: Read, W: Write>(
 /// Reads the input to its end into the parser; `Memory` only where the parser failed.
 fn read_all<R: Read>(parser: &mut Parser, reader: &mut R) -> Result<(), Fault>
     ensures end { OnOk result (IsAtEnd (R.remaining reader.new)) }
-    ensures ran { OnOk result (IfSome (R.remaining reader.old) (λ input. Ran Silent parser.old input parser.new)) }
+    ensures ran { OnOk result (IfSome (R.remaining reader.old) (λ input. Ran quietly parser.old input parser.new)) }
     ensures whole { OnErr result (result ≢ Err Fault.Write) }
     ensures memory { result ≡ Err Fault.Memory → parser.new.is_failed ≡ true }
 {
