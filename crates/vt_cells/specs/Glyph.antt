@@ -40,7 +40,7 @@ abbrev pub Joins : List ℕ → List ℕ → List ℕ → Type 0
 Joins text [] whole = text ≡ whole
 Joins text (mark ∷ marks) whole = (has_room text ≡ true) × Joins (text ++ encode_utf8 mark) marks whole
 
--- what the width of a glyph may be: its first character's, unless U+FE0F is among its marks
+-- the columns of a narrow glyph, and of a wide one
 abbrev pub first_columns : Bool → ℕ
 first_columns wide = if wide then 2 else 1
 
@@ -54,4 +54,5 @@ pub record IsGlyphText (text : List ℕ) (wide : Bool) : Type 0 where
   pub reported : first ≢ 0xFFFD
   pub are_marks : AllByRecursion IsMark marks
   pub spelled : Joins (encode_utf8 first) marks text
+  -- its first character's width, unless U+FE0F is among its marks
   pub width : list_any is_selector marks ≡ false → columns_of first ≡ Some (first_columns wide)

@@ -131,6 +131,11 @@ mod tests {
     use super::*;
 
     #[test]
+    fn is_normal_at_first(rt: HostRuntime) {
+        assert_eq!(rt; Intensity::default(), Intensity::Normal);
+    }
+
+    #[test]
     fn sets_each_part(rt: HostRuntime) {
         let mut attrs = Attrs::default();
         assert_eq!(rt; attrs, Attrs::new());

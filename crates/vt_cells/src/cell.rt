@@ -1,10 +1,10 @@
 //! One cell of a screen.
 
-ghost use Rattle.std.specs.Prelude.{◌≡◌, ◌≢◌, ◌<◌, ◌≤◌, ◌==◌, ◌++◌, ◌+◌, ◌%◌, ◌↔◌, [], ◌∷◌, length, take, not, true, false, Some, if◌then◌else◌, IsTrue, encode_utf8};
+ghost use Rattle.std.specs.Prelude.{◌≡◌, ◌≢◌, ◌<◌, ◌≤◌, ◌++◌, ◌+◌, ◌%◌, ◌↔◌, [], ◌∷◌, length, take, false, Some, if◌then◌else◌, IsTrue, encode_utf8};
 ghost use Rattle.vt_cells.specs.Attrs.{default_attrs, is_bold, is_dim};
 ghost use Rattle.vt_cells.specs.Cell.{blank, glyph, right_half, cell_of, is_wide, is_blank, is_glyph, is_right_half, text_of, attrs_of, same_cell, marked, widened, redrawn, IsCell};
 ghost use Rattle.vt_cells.specs.CellKeeping.{spaced};
-ghost use Rattle.vt_cells.specs.Glyph.{columns_of, is_wide_text, marked_text};
+ghost use Rattle.vt_cells.specs.Glyph.{columns_of, is_wide_text};
 
 use crate::attrs::Attrs;
 use crate::color::Color;
@@ -16,7 +16,7 @@ use unicode_width::UnicodeWidthStr;
 mod tests;
 
 /// A cell whose text has this many bytes takes no further mark.
-const MARK_LIMIT: u8 = 18;
+pub const MARK_LIMIT: u8 = 18;
 
 /// The bytes of a cell's array: one character more than [`MARK_LIMIT`].
 const TEXT_ROOM: usize = 22;
@@ -151,8 +151,9 @@ impl Cell {
 
     /// Puts a mark, a character of width 0, on the cell.
     ///
-    /// A blank becomes a space glyph first, in its attributes. From 18 bytes
-    /// on nothing happens. A right half takes no mark: its left half does.
+    /// A blank becomes a space glyph first, in its attributes. From
+    /// [`MARK_LIMIT`] bytes on nothing happens. A right half takes no mark:
+    /// its left half does.
     pub fn append(&mut self, c: char)
         requires shown { is_right_half self.old ≡ false }
         requires mark { columns_of c ≡ Some 0 }

@@ -13,7 +13,7 @@ pub mod term;
 pub mod width;
 
 pub use attrs::{Attrs, Intensity};
-pub use cell::Cell;
+pub use cell::{Cell, MARK_LIMIT};
 pub use color::Color;
 pub use error::Error;
 pub use modes::{CursorStyle, MouseProtocolEncoding, MouseProtocolMode};

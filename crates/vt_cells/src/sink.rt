@@ -12,6 +12,9 @@ pub trait Sink {
     ghost text: { Self → List ℕ };
 
     /// Appends `s`. On `Ok` the sink's text is the one before, followed by `s`.
+    ///
+    /// What stands after an error is for each sink to say: a string stays as it was, and of any
+    /// other nothing is promised.
     fn write_str(&mut self, s: &str) -> Result<(), Self::Error>
         ensures { OnOk result (text self.new ≡ text self.old ++ s.now) };
 }

@@ -17,7 +17,7 @@ mod tests;
 
 pub use changes::{ChangeAttrs, ClearAttrs};
 pub use cursor::{Backspace, Crlf, HideCursor, LineFeed, RestoreCursor, SaveCursor};
-pub use erasing::{ClearBelow, ClearRowForward, ClearScreen, EraseChar};
+pub use erasing::{ClearRowForward, ClearScreen, EraseChar};
 pub use input::{
     ApplicationCursor, ApplicationKeypad, BracketedPaste, CursorStyle, MouseProtocolEncoding,
     MouseProtocolMode,

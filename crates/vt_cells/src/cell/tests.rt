@@ -2,6 +2,7 @@
 
 use super::*;
 use crate::width::columns;
+use std::test::Fail;
 
 // The cell in which a character and the marks after it come to stand.
 fn cell_of_text(text: &str) -> Cell {
@@ -50,10 +51,25 @@ fn keeps_a_character_and_its_marks(rt: HostRuntime) {
     assert_eq!(rt; nine.len(), 19);
 }
 
+// A heart that asks for the look of an emoji, and so is of either width.
+fn heart(wide: bool) -> Cell {
+    match (columns('\u{2764}'), columns('\u{fe0f}')) {
+        (Some(1), Some(0)) => {
+            let mut cell = Cell::glyph('\u{2764}', false, Attrs::new());
+            cell.append('\u{fe0f}');
+            cell.set_wide(wide);
+            cell
+        }
+        _ => Cell::new(),
+    }
+}
+
 #[test]
 fn compares_text_width_flags_and_attributes(rt: HostRuntime) {
     let mut bold = Attrs::new();
     bold.set_bold();
+    let mut red = Attrs::new();
+    red.fgcolor = Color::Idx(1);
     let mut shorter = cell_of_text("e\u{301}");
     shorter.clear(Attrs::new());
     for (cell, other, same) in [
@@ -65,9 +81,32 @@ fn compares_text_width_flags_and_attributes(rt: HostRuntime) {
         (cell_of_text("e"), cell_of_text("e"), true),
         (cell_of_text("e"), cell_of_text("e\u{301}"), false),
         (cell_of_text("e"), cell_of_text("f"), false),
+        (heart(true), heart(true), true),
+        (heart(true), heart(false), false),
+        (Cell::blank(bold), Cell::blank(bold), true),
+        (Cell::blank(red), Cell::blank(bold), false),
+        (Cell::space(bold), Cell::space(bold), true),
+        (Cell::space(bold), Cell::space(Attrs::new()), false),
+        (Cell::space(bold), Cell::space(red), false),
     ] {
         assert_eq!(rt; cell == other, same);
     }
+}
+
+#[test]
+fn is_cloned_whole(rt: HostRuntime) -> Result<(), Fail> {
+    let mut bold = Attrs::new();
+    bold.set_bold();
+    for cell in [
+        Cell::blank(bold),
+        Cell::space(bold),
+        Cell::right_half(),
+        cell_of_text("e\u{301}"),
+        cell_of_text("中"),
+    ] {
+        assert!(rt; cell.clone()? == cell);
+    }
+    Ok(())
 }
 
 #[test]

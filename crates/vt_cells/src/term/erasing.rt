@@ -1,6 +1,6 @@
 //! Sequences that erase; they move no cursor, but for the one that clears the screen.
 
-ghost use Rattle.std.specs.Prelude.{◌≡◌, ◌++◌, [], ◌∷◌, OnOk};
+ghost use Rattle.std.specs.Prelude.{[], ◌∷◌};
 ghost use Rattle.vt_cells.specs.Op as op;
 ghost use Rattle.vt_cells.specs.Op.{bytes_of, bytes_of_all};
 
@@ -17,18 +17,6 @@ impl BufWrite for ClearScreen {
 
     fn write_buf<S: Sink>(&self, sink: &mut S) -> Result<(), S::Error> {
         sink.write_str("\x1b[H\x1b[J")
-    }
-}
-
-/// Erases from the cursor to the end of the screen (ED).
-#[derive(Clone, Copy, Debug)]
-pub struct ClearBelow;
-
-impl BufWrite for ClearBelow {
-    ghost bytes = { λ _. bytes_of op.EraseBelow };
-
-    fn write_buf<S: Sink>(&self, sink: &mut S) -> Result<(), S::Error> {
-        sink.write_str("\x1b[J")
     }
 }
 

@@ -1,6 +1,5 @@
 //! Sequences that set modes of a terminal's input, and the look of its cursor.
 
-ghost use Rattle.std.specs.Prelude.{◌≡◌, ◌++◌, OnOk};
 ghost use Rattle.vt_cells.specs.InputModes.{keypad_text, application_cursor_text, bracketed_paste_text, mouse_mode_change, mouse_encoding_change, cursor_style_change};
 
 use crate::modes;

@@ -1,6 +1,5 @@
 //! Sequences that move the cursor to a column or a position.
 
-ghost use Rattle.std.specs.Prelude.{◌≡◌, ◌++◌, OnOk};
 ghost use Rattle.vt_cells.specs.Op as op;
 ghost use Rattle.vt_cells.specs.Op.{bytes_of, bytes_of_all, moving};
 

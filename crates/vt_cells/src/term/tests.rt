@@ -2,9 +2,9 @@
 
 use super::{
     ApplicationCursor, ApplicationKeypad, Backspace, BracketedPaste, BufWrite, ChangeAttrs,
-    ClearAttrs, ClearBelow, ClearRowForward, ClearScreen, Crlf, CursorStyle, EraseChar, HideCursor,
-    LineFeed, MouseProtocolEncoding, MouseProtocolMode, MoveFromTo, MoveRight, MoveTo,
-    RestoreCursor, SaveCursor,
+    ClearAttrs, ClearRowForward, ClearScreen, Crlf, CursorStyle, EraseChar, HideCursor, LineFeed,
+    MouseProtocolEncoding, MouseProtocolMode, MoveFromTo, MoveRight, MoveTo, RestoreCursor,
+    SaveCursor,
 };
 use crate::attrs::{Attrs, Intensity};
 use crate::color::Color;
@@ -25,7 +25,6 @@ fn fixed(rt: HostRuntime) -> Result<(), Fail> {
     let mut text = String::new(rt.alloc());
     ClearAttrs.write_buf(&mut text)?;
     ClearScreen.write_buf(&mut text)?;
-    ClearBelow.write_buf(&mut text)?;
     ClearRowForward.write_buf(&mut text)?;
     Crlf.write_buf(&mut text)?;
     LineFeed.write_buf(&mut text)?;
@@ -36,7 +35,7 @@ fn fixed(rt: HostRuntime) -> Result<(), Fail> {
     HideCursor { state: false }.write_buf(&mut text)?;
     assert_eq!(rt;
         text.as_str(),
-        "\x1b[m\x1b[H\x1b[J\x1b[J\x1b[K\r\n\n\x1b7\x08\x1b8\x1b[?25l\x1b[?25h"
+        "\x1b[m\x1b[H\x1b[J\x1b[K\r\n\n\x1b7\x08\x1b8\x1b[?25l\x1b[?25h"
     );
     Ok(())
 }
@@ -95,45 +94,73 @@ fn moves(rt: HostRuntime) -> Result<(), Fail> {
     Ok(())
 }
 
+const PLAIN: Attrs = Attrs {
+    fgcolor: Color::Default,
+    bgcolor: Color::Default,
+    intensity: Intensity::Normal,
+    italic: false,
+    underline: false,
+    inverse: false,
+};
+
+const BRIGHT: Attrs = Attrs {
+    fgcolor: Color::Idx(9),
+    ..PLAIN
+};
+
+const BOLD: Attrs = Attrs {
+    fgcolor: Color::Idx(1),
+    bgcolor: Color::Idx(4),
+    intensity: Intensity::Bold,
+    ..PLAIN
+};
+
+const RICH: Attrs = Attrs {
+    fgcolor: Color::Rgb(1, 2, 3),
+    italic: true,
+    underline: true,
+    inverse: true,
+    ..PLAIN
+};
+
+const DIM: Attrs = Attrs {
+    intensity: Intensity::Dim,
+    ..PLAIN
+};
+
+const BACK: Attrs = Attrs {
+    bgcolor: Color::Idx(200),
+    ..PLAIN
+};
+
+const LIGHT: Attrs = Attrs {
+    bgcolor: Color::Idx(15),
+    ..PLAIN
+};
+
+const LAST: Attrs = Attrs {
+    fgcolor: Color::Idx(255),
+    ..PLAIN
+};
+
+// What changes from the first attributes to the second.
+const CHANGES: [(Attrs, Attrs, &str); 11] = [
+    (PLAIN, PLAIN, ""),
+    (BOLD, BOLD, ""),
+    (PLAIN, BRIGHT, "\x1b[91m"),
+    (PLAIN, BOLD, "\x1b[31;44;1m"),
+    (BOLD, PLAIN, "\x1b[m"),
+    (PLAIN, RICH, "\x1b[38;2;1;2;3;3;4;7m"),
+    (RICH, DIM, "\x1b[39;2;23;24;27m"),
+    (DIM, BRIGHT, "\x1b[91;22m"),
+    (PLAIN, BACK, "\x1b[48;5;200m"),
+    (BACK, LIGHT, "\x1b[107m"),
+    (LIGHT, LAST, "\x1b[38;5;255;49m"),
+];
+
 #[test]
 fn attributes(rt: HostRuntime) -> Result<(), Fail> {
-    let mut bright = Attrs::new();
-    bright.fgcolor = Color::Idx(9);
-    let mut bold = Attrs::new();
-    bold.fgcolor = Color::Idx(1);
-    bold.bgcolor = Color::Idx(4);
-    bold.intensity = Intensity::Bold;
-    let mut rich = Attrs::new();
-    rich.fgcolor = Color::Rgb(1, 2, 3);
-    rich.italic = true;
-    rich.underline = true;
-    rich.inverse = true;
-    let mut plain = rich;
-    plain.fgcolor = Color::Default;
-    plain.intensity = Intensity::Dim;
-    plain.italic = false;
-    plain.underline = false;
-    plain.inverse = false;
-    let mut back = Attrs::new();
-    back.bgcolor = Color::Idx(200);
-    let mut light = back;
-    light.bgcolor = Color::Idx(15);
-    let mut none = light;
-    none.fgcolor = Color::Idx(255);
-    none.bgcolor = Color::Default;
-    for (was, new, want) in [
-        (Attrs::new(), Attrs::new(), ""),
-        (bold, bold, ""),
-        (Attrs::new(), bright, "\x1b[91m"),
-        (Attrs::new(), bold, "\x1b[31;44;1m"),
-        (bold, Attrs::new(), "\x1b[m"),
-        (Attrs::new(), rich, "\x1b[38;2;1;2;3;3;4;7m"),
-        (rich, plain, "\x1b[39;2;23;24;27m"),
-        (plain, bright, "\x1b[91;22m"),
-        (Attrs::new(), back, "\x1b[48;5;200m"),
-        (back, light, "\x1b[107m"),
-        (light, none, "\x1b[38;5;255;49m"),
-    ] {
+    for (was, new, want) in CHANGES {
         assert_eq!(rt;
             text_of(rt.alloc(), &ChangeAttrs { was, new })?.as_str(),
             want
