@@ -1,4 +1,4 @@
--- What the helpers of the edits leave; for private contracts and proofs only.
+-- What the helpers of the edits leave; for their contracts, that of `shifts::turn`, and proofs.
 use Rattle.std.specs.Prelude.{◌≡◌, ℕ, ◌+◌, ◌-◌, ◌<◌, ◌&&◌, nat_le, nat_lt, true, List, length, slice_set, if◌then◌else◌}
 use Rattle.vt_cells.specs.Cell.{CellValue, blank, is_wide, is_right_half, attrs_of}
 use Rattle.vt_rows.specs.Cells.{at}

@@ -1,8 +1,8 @@
 //! Rows made shorter or longer.
 
-ghost use Rattle.std.specs.Prelude.{◌≡◌, ◌<◌, ◌≤◌, ◌+◌, ◌-◌, All, length, take};
+ghost use Rattle.std.specs.Prelude.{◌≡◌, ◌≤◌, length, take};
 ghost use Rattle.vt_cells.specs.Attrs.{default_attrs};
-ghost use Rattle.vt_cells.specs.Cell.{IsCell, is_default_blank};
+ghost use Rattle.vt_cells.specs.Cell.{is_default_blank};
 ghost use Rattle.vt_rows.specs.Cells.{IsPaired, blanks, resized};
 ghost use Rattle.vt_rows.specs.Keeping.{end_blanked};
 ghost use Rattle.vt_rows.specs.Row.{trimmed};

@@ -1,6 +1,6 @@
 //! Moves of cells within a row: columns inserted and deleted.
 
-ghost use Rattle.std.specs.Prelude.{◌≡◌, ◌<◌, ◌≤◌, ◌+◌, ℕ, All, length, slice_index_or};
+ghost use Rattle.std.specs.Prelude.{◌≡◌, ◌≤◌, ◌+◌, ℕ, All, length, slice_index_or};
 ghost use Rattle.vt_cells.specs.Cell.{IsCell};
 ghost use Rattle.vt_rows.specs.Cells.{IsPaired, deleted, insert_column, inserted};
 ghost use Rattle.vt_rows.specs.Keeping.{turn_source};

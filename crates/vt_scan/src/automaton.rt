@@ -1,6 +1,6 @@
 //! The scanner: from bytes to events.
 
-ghost use Rattle.std.specs.Prelude.{◌≡◌, ◌≤◌, ◌↔◌, [], IfErr, IfOk, IsErr, IsTrue, None, OnErr, Some, length};
+ghost use Rattle.std.specs.Prelude.{◌≡◌, ◌≤◌, ◌↔◌, [], IfErr, IfOk, IsErr, IsTrue, None, OnErr, Some, false, length};
 ghost use Rattle.vt_scan.specs.Automaton.{State, parts_of, start};
 ghost use Rattle.vt_scan.specs.Scanner.{Feeds, ReadsItself, StandsFor};
 ghost use Rattle.vt_scan.specs.Table.{class_of, turn_of};
@@ -96,12 +96,14 @@ impl Scanner {
 
     /// Puts the groups of numbers of a control sequence, after its event, into
     /// an empty table of few, and says whether all have room there. Where they
-    /// do, that is cheaper than [`Scanner::groups`].
+    /// do, that is cheaper than [`Scanner::groups`]; where they do not, the
+    /// table stays empty.
     #[inline(always)]
     pub fn lend_groups<'a>(&'a self, few: &mut FewGroups<'a>) -> bool
         requires { few.old ≡ [] }
         ensures lent { IsTrue result → few.new ≡ self.now.table.groups }
         ensures few { IsTrue result ↔ (length self.now.table.groups ≤ 6) }
+        ensures many { result ≡ false → few.new ≡ [] }
     {
         self.registers.lend_groups(few)
     }

@@ -4,10 +4,16 @@ ghost use Rattle.std.specs.Prelude.{◌≡◌, ℕ, ◌<◌, ◌≤◌, List, []
 
 use std::marker::Model;
 
+/// How many numbers of a control sequence are kept; there are no more groups.
+pub(crate) const MAX_NUMBERS: usize = 32;
+
+/// How many groups the table of few has room for.
+pub(crate) const MAX_FEW: usize = 6;
+
 /// At most 32 groups, in a table of their own: no memory is taken.
 #[derive(Drop)]
 pub struct Groups<'a> {
-    table: [&'a [u16]; 32],
+    table: [&'a [u16]; MAX_NUMBERS],
     len: usize,
 }
 
@@ -26,7 +32,7 @@ impl<'a> Groups<'a> {
         ensures { result ≡ [] }
     {
         Groups {
-            table: [&[]; 32],
+            table: [&[]; MAX_NUMBERS],
             len: 0,
         }
     }
@@ -54,7 +60,7 @@ impl<'a> Groups<'a> {
 /// so is cheaper to make than that of [`Groups`].
 #[derive(Drop)]
 pub struct FewGroups<'a> {
-    table: [&'a [u16]; 6],
+    table: [&'a [u16]; MAX_FEW],
     len: usize,
 }
 
@@ -73,7 +79,7 @@ impl<'a> FewGroups<'a> {
         ensures { result ≡ [] }
     {
         FewGroups {
-            table: [&[]; 6],
+            table: [&[]; MAX_FEW],
             len: 0,
         }
     }

@@ -8,7 +8,7 @@ ghost use Rattle.std.specs.Char.{IsScalar, encode_utf8};
 ghost use Rattle.std.specs.List.{All, AllByRecursion};
 ghost use Rattle.std.specs.Prelude.{◌≡◌, ◌≢◌, ℕ, ◌<◌, ◌≤◌, List, [], ◌∷◌, ◌++◌, decimal, encode_utf8_all, length, map};
 ghost use Rattle.vt_cells.specs.Op.{csi, joined, place};
-ghost use Rattle.vt_scan.specs.Automaton.{Character, CsiDispatch, EscDispatch, Executed, State, Step, start};
+ghost use Rattle.vt_scan.specs.Automaton.{Character, CsiDispatch, EscDispatch, Executed, State, start};
 ghost use Rattle.vt_scan.specs.Parameters.{table_of};
 ghost use Rattle.vt_scan.specs.Run.{run};
 ghost use Rattle.vt_scan.specs.Scanner.{Held, StandsFor};

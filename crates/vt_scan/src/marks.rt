@@ -4,10 +4,13 @@ ghost use Rattle.std.specs.Prelude.{◌≡◌, ℕ, ◌≤◌, List, [], ◌∷�
 
 use std::marker::Model;
 
+/// How many marks are kept.
+const MAX_MARKS: usize = 2;
+
 /// The first two of the marks that were pushed.
 #[derive(Drop)]
 pub struct Marks {
-    bytes: [u8; 2],
+    bytes: [u8; MAX_MARKS],
     len: usize,
 }
 
@@ -25,7 +28,7 @@ impl Marks {
         ensures { result ≡ [] }
     {
         Marks {
-            bytes: [0; 2],
+            bytes: [0; MAX_MARKS],
             len: 0,
         }
     }
@@ -43,7 +46,7 @@ impl Marks {
     pub fn push(&mut self, byte: u8)
         ensures { (all : List ℕ) → self.old ≡ take 2 all → self.new ≡ take 2 (all ++ byte ∷ []) }
     {
-        if self.len < 2 {
+        if self.len < MAX_MARKS {
             self.bytes[self.len] = byte;
             self.len += 1;
         }

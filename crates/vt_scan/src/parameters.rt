@@ -1,20 +1,20 @@
 //! The numbers of a control sequence.
 
-ghost use Rattle.std.specs.Prelude.{◌≡◌, ℕ, ◌+◌, ◌*◌, ◌-◌, ◌<◌, ◌≤◌, ◌↔◌, List, [], ◌∷◌, ◌++◌, IsTrue, length, min, take, true};
+ghost use Rattle.std.specs.Prelude.{◌≡◌, ℕ, ◌+◌, ◌*◌, ◌<◌, ◌≤◌, ◌↔◌, List, [], ◌∷◌, ◌++◌, IsTrue, false, length, min, take, true};
 ghost use Rattle.vt_scan.specs.Parameters.{Table, table_of};
 ghost use Rattle.vt_scan.specs.Keeping.{Ascends, groups_from};
 
-use crate::groups::{FewGroups, Groups};
+use crate::groups::{FewGroups, Groups, MAX_FEW, MAX_NUMBERS};
 use std::marker::Model;
 
 /// The first 32 numbers of a parameter text, in their groups.
 #[derive(Drop)]
 pub struct Parameters {
-    numbers: [u16; 32],
+    numbers: [u16; MAX_NUMBERS],
     len: usize,
 
     // the places where the groups end, but for the last group
-    ends: [usize; 32],
+    ends: [usize; MAX_NUMBERS],
     closed: usize,
 
     // whether there were more numbers
@@ -35,9 +35,9 @@ impl Parameters {
         ensures { result ≡ table_of [] }
     {
         Parameters {
-            numbers: [0; 32],
+            numbers: [0; MAX_NUMBERS],
             len: 1,
-            ends: [0; 32],
+            ends: [0; MAX_NUMBERS],
             closed: 0,
             is_cut: false,
         }
@@ -84,7 +84,7 @@ impl Parameters {
     fn end_number(&mut self)
         ensures { (text : List ℕ) → self.old ≡ table_of text → self.new ≡ table_of (text ++ 0x3A ∷ []) }
     {
-        if self.len == 32 {
+        if self.len == MAX_NUMBERS {
             self.is_cut = true;
             return;
         }
@@ -95,7 +95,7 @@ impl Parameters {
     fn end_group(&mut self)
         ensures { (text : List ℕ) → self.old ≡ table_of text → self.new ≡ table_of (text ++ 0x3B ∷ []) }
     {
-        if self.len == 32 {
+        if self.len == MAX_NUMBERS {
             self.is_cut = true;
             return;
         }
@@ -122,14 +122,15 @@ impl Parameters {
     }
 
     /// Puts the groups into an empty table of few, and says whether all have
-    /// room there.
+    /// room there; where they have not, the table stays empty.
     #[inline(always)]
     pub fn lend<'a>(&'a self, few: &mut FewGroups<'a>) -> bool
         requires { few.old ≡ [] }
         ensures lent { IsTrue result → few.new ≡ self.now.groups }
         ensures few { IsTrue result ↔ (length self.now.groups ≤ 6) }
+        ensures many { result ≡ false → few.new ≡ [] }
     {
-        if self.closed >= 6 {
+        if self.closed >= MAX_FEW {
             return false;
         }
         let mut start = 0;

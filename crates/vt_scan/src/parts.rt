@@ -5,10 +5,13 @@ ghost use Rattle.vt_scan.specs.Automaton.{parts_of};
 
 use std::marker::Model;
 
+/// How many parts of an operating system command are kept.
+const MAX_PARTS: usize = 16;
+
 /// At most 16 parts, in a table of their own: no memory is taken.
 #[derive(Drop)]
 pub struct Parts<'a> {
-    table: [&'a [u8]; 16],
+    table: [&'a [u8]; MAX_PARTS],
     len: usize,
 }
 
@@ -26,7 +29,7 @@ impl<'a> Parts<'a> {
         ensures { result ≡ parts_of text.now }
     {
         let mut parts = Parts {
-            table: [&[]; 16],
+            table: [&[]; MAX_PARTS],
             len: 0,
         };
         let mut start = 0;
@@ -44,7 +47,7 @@ impl<'a> Parts<'a> {
     fn push(&mut self, part: &'a [u8])
         ensures { (all : List (List ℕ)) → self.old ≡ take 16 all → self.new ≡ take 16 (all ++ part.now ∷ []) }
     {
-        if self.len < 16 {
+        if self.len < MAX_PARTS {
             self.table[self.len] = part;
             self.len += 1;
         }

@@ -1,6 +1,6 @@
 //! What the scanner holds of the bytes that it has read.
 
-ghost use Rattle.std.specs.Prelude.{◌≡◌, ◌≢◌, ◌≤◌, ◌<◌, ◌↔◌, ℕ, List, [], ◌∷◌, ◌++◌, IfErr, IfOk, IsErr, IsTrue, None, OnErr, OnOk, Some, length};
+ghost use Rattle.std.specs.Prelude.{◌≡◌, ◌≢◌, ◌≤◌, ◌<◌, ◌↔◌, ℕ, List, [], ◌∷◌, ◌++◌, IfErr, IfOk, IsErr, IsTrue, None, OnErr, OnOk, Some, false, length};
 ghost use Rattle.vt_scan.specs.Automaton.{fresh_step, is_parameter, parts_of, start, step_in};
 ghost use Rattle.vt_scan.specs.Keeping.{Begins, Fits, answer_of};
 ghost use Rattle.vt_scan.specs.Scanner.{Feeds, Follows, Held, Reads, ReadsItself, StandsFor};
@@ -196,12 +196,13 @@ impl Registers {
     }
 
     /// Puts the groups into an empty table of few, and says whether all have
-    /// room there.
+    /// room there; where they have not, the table stays empty.
     #[inline(always)]
     pub fn lend_groups<'a>(&'a self, few: &mut FewGroups<'a>) -> bool
         requires { few.old ≡ [] }
         ensures lent { IsTrue result → few.new ≡ self.now.table.groups }
         ensures few { IsTrue result ↔ (length self.now.table.groups ≤ 6) }
+        ensures many { result ≡ false → few.new ≡ [] }
     {
         self.parameters.lend(few)
     }

@@ -132,11 +132,11 @@ fn writes_blank_rows_as_line_ends(rt: HostRuntime) -> Result<(), Fail> {
     Ok(())
 }
 
-// Takes a few pieces of text, and then no more.
+// Takes a few pieces of text, refuses the next, and takes all after it.
 #[derive(Drop)]
 struct Refusing {
     text: String,
-    pieces_left: usize,
+    pieces_left: Option<usize>,
 }
 
 impl Sink for Refusing {
@@ -147,10 +147,14 @@ impl Sink for Refusing {
     ghost text = { λ s. string_bytes s.text };
 
     fn write_str(&mut self, s: &str) -> Result<(), Error> {
-        if self.pieces_left == 0 {
-            return Err(Error::OutOfMemory);
+        match self.pieces_left {
+            Some(0) => {
+                self.pieces_left = None;
+                return Err(Error::OutOfMemory);
+            }
+            Some(pieces) => self.pieces_left = Some(pieces - 1),
+            None => {}
         }
-        self.pieces_left -= 1;
         self.text.write_str(s)
     }
 }
@@ -170,7 +174,7 @@ fn stays_where_a_row_is_refused(rt: HostRuntime) -> Result<(), Fail> {
         let mut state = written.clone()?;
         let mut sink = Refusing {
             text: String::new(rt.alloc()),
-            pieces_left,
+            pieces_left: Some(pieces_left),
         };
         let result = row.write_formatted_basic(&mut sink, &mut state);
         assert!(rt; want.starts_with(sink.text.as_str()));

@@ -3,17 +3,17 @@ use Rattle.std.proofs.Common.{arith, ◌∙◌, take}
 use Rattle.vt_scan.proofs.Tables.{step_ends, step_group, step_group_full}
 use Rattle.vt_scan.proofs.parameters.Parameters.end_group.Goals as goal
 
-pub returns-then-self-eq32 : goal.returns-then-self-eq32
-returns-then-self-eq32 c = λ text e.
+pub returns-then-self-eq-MAX_NUMBERS : goal.returns-then-self-eq-MAX_NUMBERS
+returns-then-self-eq-MAX_NUMBERS c = λ text e.
     step_group_full c.self.inside.numbers (take c.self.inside.closed c.self.inside.ends) c.self.inside.len c.self.inside.is_cut text
-    c.if-self-eq32.true (omega arith) c.self.invariant.2 (c.self.view_is ∙ e)
+    c.if-self-eq-MAX_NUMBERS.true (omega arith) c.self.invariant.2 (c.self.view_is ∙ e)
 
 pub invariant_of-self-2 : goal.invariant_of-self-2
 invariant_of-self-2 c = (
   omega arith,
   omega arith,
   step_ends c.self.inside.ends c.self.inside.closed c.self.inside.len (omega arith) c.self.invariant.2,
-  λ cuts. absurd (c.if-self-eq32.false (c.self.invariant.3 cuts)),
+  λ cuts. absurd (c.if-self-eq-MAX_NUMBERS.false (c.self.invariant.3 cuts)),
 )
 
 pub returns : goal.returns

@@ -19,8 +19,8 @@ slice_bounds-push-end c =
     let small : get_or c.self.inside.ends c.loop-i.i 0 < 32 = omega (arith, next.1) in
     search rules
 
-pub returns-then-self-ge6-clause-few : goal.returns-then-self-ge6-clause-few
-returns-then-self-ge6-clause-few c =
+pub returns-then-self-ge-MAX_FEW-clause-few : goal.returns-then-self-ge-MAX_FEW-clause-few
+returns-then-self-ge-MAX_FEW-clause-few c =
     let p = c.self.inside in
     let all : groups_from 0 (take p.closed p.ends) p.len p.numbers ≡ c.args.self.now.groups = ap (λ (t : Table). t.groups) c.self.view_is in
-    (λ f. cc, λ few. absurd (omega (arith, c.self.told, length-groups_from 0 (take p.closed p.ends) p.len p.numbers, ap length all, length-take p.closed p.ends, c.if-self-ge6.true, few)))
+    (λ f. cc, λ few. absurd (omega (arith, c.self.told, length-groups_from 0 (take p.closed p.ends) p.len p.numbers, ap length all, length-take p.closed p.ends, c.if-self-ge-MAX_FEW.true, few)))
