@@ -1,7 +1,6 @@
 -- Each operation of a redraw fits.
 use Rattle.std.proofs.Common.{◌≡◌, ◌≢◌, ℕ, zero, suc, ◌+◌, ◌-◌, ◌<◌, ◌^◌, ◌==◌, ◌&&◌, nat_lt, min, Bool, List, [], ◌∷◌, ◌++◌, length, drop, Some, refl, sym, ap, arith}
 use Rattle.std.specs.Prelude.{All}
-use Rattle.std.specs.Char.{encode_utf8}
 use Rattle.std.specs.List.{AllByRecursion}
 use Rattle.std.proofs.lemmas.Bool.{cond_both}
 use Rattle.std.proofs.lemmas.List.Elements.{recursion_from_All}

@@ -8,8 +8,8 @@ use Rattle.std.proofs.lemmas.List.Elements.{All-get_or}
 use Rattle.vt_cells.specs.Attrs.{default_attrs}
 use Rattle.vt_cells.specs.Cell.{blank}
 use Rattle.vt_rows.specs.Row.{RowValue, blank_row, resized_row, trimmed_row}
-use Rattle.vt_grid.specs.Scrollback.{Scrollback, IsScrollback, last_of, stacked, kept_after, grown_row}
-use Rattle.vt_grid.specs.Spare.{AreSpare, narrow_rows, window_from, grown_from, in_view}
+use Rattle.vt_grid.specs.Scrollback.{Scrollback, IsScrollback, last_of, stacked, kept_after, grown_row, narrow_rows}
+use Rattle.vt_grid.specs.Spare.{AreSpare, window_from, grown_from, in_view}
 use Rattle.vt_grid.proofs.Stacking.{length-stacked, length-last_of}
 
 -- ---- rows from k on

@@ -10,8 +10,8 @@ use Rattle.vt_cells.specs.declared.attrs.Attrs.{Attrs}
 use Rattle.vt_rows.specs.Row.{RowValue, IsRow, blank_row, resized_row, trimmed_row}
 use Rattle.vt_rows.proofs.Moves.{IsRow-resized_row}
 use Rattle.vt_rows.proofs.Rows.{IsRow-blank_row}
-use Rattle.vt_grid.specs.Scrollback.{Scrollback, IsScrollback, last_of, before_last, stacked, greatest, kept_after, grown_row, grown_in_view, pushed, reported, viewed}
-use Rattle.vt_grid.specs.Spare.{AreSpare, narrow_rows, window_from, grown_from, in_view}
+use Rattle.vt_grid.specs.Scrollback.{Scrollback, IsScrollback, last_of, before_last, stacked, greatest, kept_after, grown_row, grown_in_view, pushed, reported, viewed, narrow_rows}
+use Rattle.vt_grid.specs.Spare.{AreSpare, window_from, grown_from, in_view}
 use Rattle.vt_grid.proofs.Stacking.{All-stacked, IsScrollback-kept_after}
 
 -- ---- rows in view grow

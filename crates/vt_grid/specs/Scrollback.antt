@@ -3,7 +3,7 @@ use Rattle.std.specs.Prelude.{◌≡◌, ℕ, ◌+◌, ◌-◌, ◌==◌, ◌≤
 use Rattle.std.specs.List.{FoldsTo}
 use Rattle.vt_rows.specs.Row.{RowValue, IsRow, resized_row, trimmed_row}
 
--- the rows, older first; how many are kept at most; how many there would be without that limit; how many are in view
+-- the rows, older first; how many are kept at most; how many there would be without that limit; by how many a screen is scrolled back
 pub record Scrollback : Type 0 where
   pub rows : List RowValue
   pub capacity : ℕ
@@ -35,7 +35,7 @@ stacked gone above = above.rows ++ map trimmed_row gone
 abbrev pub greatest : ℕ
 greatest = 18446744073709551615
 
--- the rows that are kept; what is in view stays in view, as long as it is kept
+-- the rows that are kept; the rows that are shown stay where they are, as long as they are kept
 unfoldable pub kept_after : List RowValue → Scrollback → Scrollback
 kept_after gone above =
     let rows = last_of above.capacity (stacked gone above) in
@@ -45,9 +45,14 @@ kept_after gone above =
       offset = if above.offset == 0 then 0 else min (above.offset + length gone) (length rows);
     }
 
--- a row in view has at least as many columns as the screen
+-- a row that is shown has at least as many columns as the screen
 abbrev pub grown_row : ℕ → RowValue → RowValue
 grown_row width row = if nat_lt (length row.cells) width then resized_row width row else row
+
+-- how many rows have fewer columns
+abbrev pub narrow_rows : ℕ → List RowValue → ℕ
+narrow_rows width [] = 0
+narrow_rows width (row ∷ rows) = (if nat_lt (length row.cells) width then 1 else 0) + narrow_rows width rows
 
 -- of the newest rows that the offset brings into view, those that a screen of this height has room for are grown
 unfoldable pub grown_in_view : (height width : ℕ) → Scrollback → Scrollback
@@ -73,14 +78,18 @@ TakesMemory gone above = (0 < length gone) × (0 < above.capacity)
 abbrev pub Sends : {S : Type 0} → (S → RowValue → S → Type 0) → (height width : ℕ) → List RowValue → Scrollback → S → Scrollback → S → Type 0
 Sends leaves height width gone above old after new = (after ≡ pushed height width gone above) × FoldsTo leaves old (reported gone above) new
 
--- the newest n rows come into view, at most all (the offset)
+-- a screen of this height and width is scrolled back by n rows, at most by all (the offset)
 unfoldable pub viewed : (height width : ℕ) → ℕ → Scrollback → Scrollback
 viewed height width n above = grown_in_view height width (record above { offset = min n (length above.rows) })
+
+-- scrolled back by n rows, one that a screen of this height and width shows has to grow, which takes memory
+abbrev pub ViewTakesMemory : (height width : ℕ) → ℕ → Scrollback → Type 0
+ViewTakesMemory height width n above = 0 < narrow_rows width (take height (last_of n above.rows))
 
 -- the rows are given up, and forgotten
 abbrev pub cleared : Scrollback → Scrollback
 cleared above = no_scrollback above.capacity
 
--- the rows that a screen shows: those of scrollback that are in view, and the page's below them, as many as the page has
+-- the rows that a screen shows: the newest of scrollback, as many as the offset, and the page's below them, in all as many as the page has
 abbrev pub visible : Scrollback → List RowValue → List RowValue
 visible above rows = take (length rows) (last_of above.offset above.rows ++ rows)

@@ -1,13 +1,8 @@
 -- How scrollback makes the memory for what is to grow before it changes anything; for its private contracts only.
-use Rattle.std.specs.Prelude.{◌≡◌, ℕ, ◌+◌, ◌-◌, ◌≤◌, nat_lt, List, [], ◌∷◌, ◌++◌, length, All, take, drop, map, if◌then◌else◌}
+use Rattle.std.specs.Prelude.{◌≡◌, ℕ, ◌+◌, ◌-◌, ◌≤◌, List, ◌++◌, length, All, take, drop, map}
 use Rattle.vt_cells.specs.Attrs.{default_attrs}
 use Rattle.vt_rows.specs.Row.{RowValue, blank_row}
-use Rattle.vt_grid.specs.Scrollback.{Scrollback, grown_row}
-
--- how many rows have fewer columns
-abbrev pub narrow_rows : ℕ → List RowValue → ℕ
-narrow_rows width [] = 0
-narrow_rows width (row ∷ rows) = (if nat_lt (length row.cells) width then 1 else 0) + narrow_rows width rows
+use Rattle.vt_grid.specs.Scrollback.{Scrollback, grown_row, narrow_rows}
 
 -- the rows from `first` on, as many as a screen of this height shows
 abbrev pub window_from : (first height : ℕ) → List RowValue → List RowValue
@@ -17,7 +12,7 @@ window_from first height rows = take height (drop first rows)
 abbrev pub grown_from : (first height width : ℕ) → List RowValue → List RowValue
 grown_from first height width rows = take first rows ++ (map (grown_row width) (window_from first height rows) ++ drop (first + height) rows)
 
--- the rows in view
+-- the rows of scrollback that a screen of this height shows
 abbrev pub in_view : ℕ → Scrollback → List RowValue
 in_view height above = window_from (length above.rows - above.offset) height above.rows
 

@@ -193,47 +193,53 @@ mod tests {
         true
     }
 
+    // A glyph with twelve marks, of which it takes nine.
+    const TWELVE: &str =
+        "e\u{301}\u{301}\u{301}\u{301}\u{301}\u{301}\u{301}\u{301}\u{301}\u{301}\u{301}\u{301}";
+
+    const NINE: &str = "e\u{301}\u{301}\u{301}\u{301}\u{301}\u{301}\u{301}\u{301}\u{301}|.";
+
+    // Rows and columns of a page, what is played, a row and the texts of its
+    // cells, the cursor's column, and whether the row goes on below.
+    const PLAYED: [(u16, u16, &str, u16, &str, u16, bool); 25] = [
+        (2, 4, "abcd", 0, "a|b|c|d", 4, false),
+        (2, 4, "abcd\n", 0, "a|b|c|d", 4, false),
+        (2, 4, "abcdx", 0, "a|b|c|d", 1, true),
+        (2, 2, "a中", 0, "a|.", 2, false),
+        (2, 2, "a中", 1, "中|>", 2, false),
+        (2, 2, "abcde", 0, "c|d", 1, true),
+        (1, 4, "@中<中", 0, "中|>|.|.", 2, false),
+        (1, 4, TWELVE, 0, NINE, 1, false),
+        (1, 4, "e\u{301}", 0, "e\u{301}|.", 1, false),
+        (1, 4, "\u{301}", 0, ".|.", 0, false),
+        (
+            1,
+            3,
+            "\u{2764}\u{fe0f}",
+            0,
+            "\u{2764}\u{fe0f}|>|.",
+            2,
+            false,
+        ),
+        (2, 1, "\u{2764}\u{fe0f}", 0, "\u{2764}\u{fe0f}", 1, false),
+        (2, 2, "!\u{2764}\u{fe0f}", 0, ".|.", 2, false),
+        (2, 2, "!\u{2764}\u{fe0f}", 1, "\u{2764}\u{fe0f}|>", 2, false),
+        (1, 2, "a\u{2764}\u{fe0f}", 0, "\u{2764}\u{fe0f}|>", 2, false),
+        (2, 1, "中", 0, ".", 0, false),
+        (1, 6, "中ab@x", 0, ".|x|a|b|.|.", 2, false),
+        (1, 6, "中ab<x", 0, "x| |a|b|.|.", 1, false),
+        (1, 4, "abcdX", 0, "a|b|c|d", 4, false),
+        (1, 4, "abcdK", 0, "a|b|c|d", 4, false),
+        (1, 4, "abcd>", 0, "a|b|c|d", 3, false),
+        (2, 2, "abcd@J", 0, "a|.", 1, false),
+        (2, 2, "abcd@J", 1, ".|.", 1, false),
+        (2, 4, "a\r\nb\r\nc", 0, "b|.|.|.", 1, false),
+        (2, 2, "\u{7f}\u{85}", 0, ".|.", 0, false),
+    ];
+
     #[test]
     fn prints_moves_and_erases(rt: HostRuntime) {
-        let twelve =
-            "e\u{301}\u{301}\u{301}\u{301}\u{301}\u{301}\u{301}\u{301}\u{301}\u{301}\u{301}\u{301}";
-        let nine = "e\u{301}\u{301}\u{301}\u{301}\u{301}\u{301}\u{301}\u{301}\u{301}|.";
-        for (rows, cols, text, row, texts, col, wrapped) in [
-            (2, 4, "abcd", 0, "a|b|c|d", 4, false),
-            (2, 4, "abcd\n", 0, "a|b|c|d", 4, false),
-            (2, 4, "abcdx", 0, "a|b|c|d", 1, true),
-            (2, 2, "a中", 0, "a|.", 2, false),
-            (2, 2, "a中", 1, "中|>", 2, false),
-            (2, 2, "abcde", 0, "c|d", 1, true),
-            (1, 4, "@中<中", 0, "中|>|.|.", 2, false),
-            (1, 4, twelve, 0, nine, 1, false),
-            (1, 4, "e\u{301}", 0, "e\u{301}|.", 1, false),
-            (1, 4, "\u{301}", 0, ".|.", 0, false),
-            (
-                1,
-                3,
-                "\u{2764}\u{fe0f}",
-                0,
-                "\u{2764}\u{fe0f}|>|.",
-                2,
-                false,
-            ),
-            (2, 1, "\u{2764}\u{fe0f}", 0, "\u{2764}\u{fe0f}", 1, false),
-            (2, 2, "!\u{2764}\u{fe0f}", 0, ".|.", 2, false),
-            (2, 2, "!\u{2764}\u{fe0f}", 1, "\u{2764}\u{fe0f}|>", 2, false),
-            (1, 2, "a\u{2764}\u{fe0f}", 0, "\u{2764}\u{fe0f}|>", 2, false),
-            (2, 1, "中", 0, ".", 0, false),
-            (1, 6, "中ab@x", 0, ".|x|a|b|.|.", 2, false),
-            (1, 6, "中ab<x", 0, "x| |a|b|.|.", 1, false),
-            (1, 4, "abcdX", 0, "a|b|c|d", 4, false),
-            (1, 4, "abcdK", 0, "a|b|c|d", 4, false),
-            (1, 4, "abcd>", 0, "a|b|c|d", 3, false),
-            (2, 2, "abcd@J", 0, "a|.", 1, false),
-            (2, 2, "abcd@J", 1, ".|.", 1, false),
-            (2, 4, "a\r\nb\r\nc", 0, "b|.|.|.", 1, false),
-            (2, 2, "\u{7f}\u{85}", 0, ".|.", 0, false),
-        ] {
-            let (rows, cols): (u16, u16) = (rows, cols);
+        for (rows, cols, text, row, texts, col, wrapped) in PLAYED {
             let size = Size {
                 rows: rows.max(1),
                 cols: cols.max(1),

@@ -1,8 +1,8 @@
 //! The full redraw: a text that makes a terminal show a screen, whatever it
 //! showed before.
 
-ghost use Rattle.std.specs.Prelude.{◌≡◌, ◌++◌, ◌+◌, ◌<◌, ◌≤◌, [], ◌∷◌, All, false, drop, IfOk, OnOk, length};
-ghost use Rattle.vt_cells.specs.Cell.{attrs_of, is_blank, is_right_half, is_wide, text_of};
+ghost use Rattle.std.specs.Prelude.{◌≡◌, ◌++◌, ◌+◌, ◌<◌, ◌≤◌, [], ◌∷◌, All, drop, IfOk, OnOk, length};
+ghost use Rattle.vt_cells.specs.Cell.{attrs_of, is_wide, text_of};
 ghost use Rattle.vt_cells.specs.Op.{bytes_of, bytes_of_all, Print};
 ghost use Rattle.vt_rows.specs.Cells.{IsPaired};
 ghost use Rattle.vt_rows.specs.Row.{IsRow};

@@ -1,6 +1,6 @@
 //! Rows made anew, all of whose memory is taken at once.
 
-ghost use Rattle.std.specs.Prelude.{◌≡◌, IfErr, IfOk, replicate};
+ghost use Rattle.std.specs.Prelude.{◌≡◌, ◌<◌, IfErr, IfOk, IsErr, replicate};
 ghost use Rattle.vt_cells.specs.Attrs.{default_attrs};
 ghost use Rattle.vt_rows.specs.Row.{blank_row};
 
@@ -11,6 +11,7 @@ use vt_rows::Row;
 /// Rows of default blanks.
 pub fn blank_rows(alloc: Global, columns: usize, count: usize) -> Result<Vec<Row>, Error>
     ensures ok { IfOk result (λ rows. rows.items ≡ replicate count (blank_row default_attrs columns)) }
+    ensures grows { IsErr result → 0 < count }
     ensures memory { IfErr result (λ error. error ≡ Error.OutOfMemory) }
 {
     let mut rows = Vec::with_capacity(alloc, count)?;

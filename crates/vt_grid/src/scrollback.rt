@@ -1,14 +1,14 @@
 //! The rows that left a page at its top, as far as they are kept (xterm's
 //! saved lines).
 
-ghost use Rattle.std.specs.Prelude.{◌≡◌, ◌+◌, ◌-◌, ◌^◌, ◌==◌, ◌<◌, ◌≤◌, ◌↔◌, ◌++◌, ◌∷◌, [], ℕ, List, All, IfErr, IfOk, IfSome, IsErr, IsSome, OnErr, OnOk, if◌then◌else◌, length, map, min, nat_le, nat_lt, replicate, slice_index_or, take};
+ghost use Rattle.std.specs.Prelude.{◌≡◌, ◌+◌, ◌-◌, ◌^◌, ◌==◌, ◌<◌, ◌≤◌, ◌↔◌, ◌++◌, ◌∷◌, [], ℕ, List, All, IfErr, IfOk, IfSome, IsErr, IsSome, OnErr, OnOk, if◌then◌else◌, length, map, min, nat_le, nat_lt, slice_index_or, take};
 ghost use Rattle.std.specs.List.{FoldsTo};
 ghost use Rattle.std.specs.VecDeque.{deque_capacity, deque_len};
 ghost use Rattle.vt_cells.specs.Attrs.{default_attrs};
 ghost use Rattle.vt_rows.specs.Row.{RowValue, IsRow, blank_row, resized_row, trimmed_row};
 ghost use Rattle.vt_grid.specs.Resize.{out_of_view, taken_back};
-ghost use Rattle.vt_grid.specs.Scrollback.{IsScrollback, Sends, TakesMemory, before_last, cleared, grown_row, kept_after, last_of, no_scrollback, viewed, visible};
-ghost use Rattle.vt_grid.specs.Spare.{AreSpare, grown_from, in_view, narrow_rows, window_from};
+ghost use Rattle.vt_grid.specs.Scrollback.{IsScrollback, Sends, TakesMemory, ViewTakesMemory, before_last, cleared, grown_row, kept_after, last_of, narrow_rows, no_scrollback, viewed, visible};
+ghost use Rattle.vt_grid.specs.Spare.{AreSpare, grown_from, in_view, window_from};
 
 use crate::row_lists::blank_rows;
 use crate::size::Size;
@@ -23,7 +23,10 @@ use vt_rows::{Leaving, Row};
 pub(crate) mod tests;
 
 /// The rows that left a page at its top, at most as many as its capacity, and
-/// how many of them are in view (the offset).
+/// by how many rows a screen is scrolled back (the offset).
+///
+/// It shows the newest rows, as many as the offset, from the oldest of them
+/// on, and the page's below them, as far as it has room.
 #[derive(Debug, Drop)]
 pub struct Scrollback {
     alloc: Global,
@@ -98,7 +101,8 @@ impl Scrollback {
         self.theoretical
     }
 
-    /// How many rows are in view.
+    /// By how many rows a screen is scrolled back; they may be more than it has
+    /// room for.
     #[inline]
     pub fn offset(&self) -> usize
         ensures { result ≡ self.now.offset }
@@ -110,9 +114,10 @@ impl Scrollback {
     /// first, without the default blanks at their ends; in their places rows
     /// of the page's width stand.
     ///
-    /// The rows that are too many are reported, older first. Rows in view stay
-    /// in view as long as they are kept, and are at least as long as the page
-    /// is wide.
+    /// The rows that are too many are reported, older first. An offset other
+    /// than 0 grows by the rows that left, at most to all that are kept: the
+    /// rows that are shown stay where they are as long as they are kept. Those
+    /// that are shown then grow to the page's width where they are shorter.
     ///
     /// Fails where memory is refused, and then nothing has changed and nothing
     /// was reported. No row, or a capacity of 0, takes no memory.
@@ -140,7 +145,7 @@ impl Scrollback {
         self.keep(rows, size, leaving)
     }
 
-    /// Takes over rows as `push` does, and brings all rows out of view before.
+    /// Takes over rows as `push` does, with an offset of 0 before.
     ///
     /// Fails where memory is refused, and then nothing has changed and nothing
     /// was reported.
@@ -171,8 +176,8 @@ impl Scrollback {
     /// the last of them those of the newest. Where there are too few rows, the
     /// first of the blank ones stay as they are.
     ///
-    /// All of them count as given back, also those that were not kept. No row
-    /// may be in view.
+    /// All of them count as given back, also those that were not kept. The
+    /// offset must be 0.
     pub fn give_back(&mut self, fresh: &mut [Row])
         requires hidden { self.old.offset ≡ 0 }
         requires blank { All (λ row. row ≡ blank_row default_attrs (length row.cells)) fresh.old }
@@ -227,8 +232,8 @@ impl Scrollback {
         Ok(())
     }
 
-    /// At most how many rows in view are too short once `count` rows have
-    /// been taken over.
+    /// At most how many of the rows that are shown are too short once `count`
+    /// rows have been taken over.
     fn growths(&self, count: usize, size: Size) -> usize
         requires { count < 2 ^ 63 }
         ensures { (gone : List RowValue) → length gone ≡ count → narrow_rows size.cols (in_view size.rows (kept_after gone self.now)) ≤ result }
@@ -243,13 +248,15 @@ impl Scrollback {
         narrow_rows(&self.rows, first, size) + below.min(end).saturating_sub(len)
     }
 
-    /// Brings the newest `n` rows into view, at most all. Rows in view are at
-    /// least as long as the page, which has this size, is wide.
+    /// Scrolls back by `n` rows, at most by all (the offset). Those that a
+    /// screen of this size then shows grow to its width where they are shorter.
     ///
-    /// Fails where memory is refused, and then nothing has changed.
+    /// Fails where memory is refused, and then nothing has changed. Where no
+    /// row grows it takes no memory.
     pub fn set_offset(&mut self, n: usize, size: Size) -> Result<(), Error>
         ensures ok { OnOk result (self.new ≡ viewed size.rows size.cols n self.old) }
         ensures err { OnErr result (self.new ≡ self.old) }
+        ensures grows { IsErr result → ViewTakesMemory size.rows size.cols n self.old }
         ensures memory { IfErr result (λ error. error ≡ Error.OutOfMemory) }
     {
         let offset = n.min(self.rows.len());
@@ -260,7 +267,7 @@ impl Scrollback {
         Ok(())
     }
 
-    /// Brings all rows out of view.
+    /// Scrolls back by no row.
     pub fn leave_view(&mut self)
         ensures { self.new ≡ out_of_view self.old }
     {
@@ -278,8 +285,8 @@ impl Scrollback {
         self.offset = 0;
     }
 
-    /// The row that is shown at a place, if there is one: above are the rows
-    /// in view, and below them `rows`, those of the page.
+    /// The row that is shown at a place, if there is one: above are the newest
+    /// rows, as many as the offset, and below them `rows`, those of the page.
     pub fn visible_row<'a>(&'a self, rows: &'a [Row], row: u16) -> Option<&'a Row>
         ensures inside { IsSome result ↔ (row < length rows.now) }
         ensures value { (d : RowValue) → IfSome result (λ found. found.now ≡ slice_index_or (visible self.now rows.now) row d) }
@@ -407,7 +414,7 @@ fn give_rows(kept: &mut VecDeque<Row>, fresh: &mut [Row])
     }
 }
 
-/// The offset after rows were taken over: what was in view stays in view.
+/// The offset after `count` rows were taken over and `len` in all are kept.
 fn followed(offset: usize, count: usize, len: usize) -> usize
     ensures { result ≡ (if offset == 0 then 0 else min (offset + count) len) }
 {
@@ -440,8 +447,9 @@ fn narrow(row: &Row, columns: usize) -> usize
     if row.cols() < columns { 1 } else { 0 }
 }
 
-/// Grows the rows in view that are shorter than the screen is wide. The spare
-/// rows are blank, and as wide as the screen.
+/// Grows the rows that a screen of this size shows, scrolled back by `offset`,
+/// where they are shorter than it is wide. The spare rows are blank, and as
+/// wide as the screen.
 fn grow_in_view(rows: &mut VecDeque<Row>, offset: usize, size: Size, mut spare: Vec<Row>)
     requires inside { offset ≤ length rows.old.items }
     requires sound { All (λ row. IsRow (length row.cells) row) rows.old.items }

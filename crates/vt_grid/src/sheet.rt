@@ -4,7 +4,7 @@ ghost use Rattle.std.specs.Prelude.{◌≡◌, ◌≢◌, ◌+◌, ◌-◌, ◌^
 ghost use Rattle.vt_cells.specs.Cell.{IsCell, attrs_of, is_blank, is_right_half, is_wide, text_of, widened};
 ghost use Rattle.vt_cells.specs.Glyph.{columns_of};
 ghost use Rattle.vt_rows.specs.Cells.{IsPaired, at, ends_blank, erased, marked_at, narrowed_at, put_narrow, put_wide, widened_at};
-ghost use Rattle.vt_rows.specs.Row.{RowValue, IsRow, blank_row, deleted_row, inserted_row, with_cells};
+ghost use Rattle.vt_rows.specs.Row.{RowValue, IsRow, blank_row, deleted_row, inserted_row};
 ghost use Rattle.vt_grid.specs.Keeping.{cleared_row};
 ghost use Rattle.vt_grid.specs.Page.{rows_up};
 ghost use Rattle.vt_grid.specs.Shifts.{rows_down};

@@ -49,9 +49,36 @@ pub enum Call<'a> {
 /// to the screen that it is lent; an implementation may resize, scroll or
 /// replace that screen. Each function has a body that hands the call to
 /// [`Callbacks::otherwise`], so an implementation writes that one and
-/// [`Callbacks::on_scroll`], and of the others those that it likes.
+/// [`Callbacks::on_scroll`], and of the others those that it likes:
+///
+/// ```
+/// struct Tally {
+///     bells: u64,
+///     titles: u64,
+///     rows: u64,
+/// }
+///
+/// impl Callbacks for Tally {
+///     ghost use Rattle.std.specs.Prelude.{◌≡◌};
+///
+///     // The screen stays as it is.
+///     ghost does = { λ _ _ before _ after. after ≡ before };
+///
+///     fn otherwise(&mut self, _screen: &mut Screen, call: Call<'_>) {
+///         match call {
+///             Call::AudibleBell => self.bells = self.bells.saturating_add(1),
+///             Call::SetWindowTitle(_) => self.titles = self.titles.saturating_add(1),
+///             _ => {}
+///         }
+///     }
+///
+///     fn on_scroll(&mut self, _row: RowContents<'_>, _alternate: bool) {
+///         self.rows = self.rows.saturating_add(1);
+///     }
+/// }
+/// ```
 pub trait Callbacks {
-    ghost use Rattle.std.specs.Prelude.{Bool, map};
+    ghost use Rattle.std.specs.Prelude.{map};
     ghost use Rattle.vt_screen.specs.Calls as calls;
     ghost use Rattle.vt_screen.specs.Calls.{CallValue};
     ghost use Rattle.vt_screen.specs.Meanings.{call_of};
@@ -63,80 +90,99 @@ pub trait Callbacks {
     fn otherwise(&mut self, screen: &mut Screen, call: Call<'_>)
         ensures { does (call_of call.entry) self.old screen.old self.new screen.new };
 
-    /// Called for each row that leaves a page at its top and isn't kept in
-    /// scrollback, and for rows that scrollback gives up, older ones first.
-    /// `alternate`: the row is from the alternate page.
+    /// Called for each row that leaves a page at its top and isn't kept, for
+    /// each that scrollback drops to make room, and for each that ED 3
+    /// (`CSI 3 J` of xterm's control sequences) gives up, older ones first.
+    /// `alternate`: the row is from the alternate page, which keeps none.
+    ///
+    /// A row comes from the page without the default blanks at its end. One
+    /// that wasn't kept comes back to the page blank where a resize brings it
+    /// back, and is then a row like any other: where it leaves again it is
+    /// reported again, blank. RIS, [`Screen::clear_scrollback`] and
+    /// [`Screen::set_size`] tell nobody.
     fn on_scroll(&mut self, row: RowContents<'_>, alternate: bool)
         ensures { (screen : ScreenValue) → does (calls.OnScroll row.entry alternate) self.old screen self.new screen };
 
-    /// Called for BEL.
+    /// Called for BEL (ECMA-48).
     fn audible_bell(&mut self, screen: &mut Screen)
         ensures { does calls.AudibleBell self.old screen.old self.new screen.new }
     {
         self.otherwise(screen, Call::AudibleBell);
     }
 
-    /// Called for the escape sequence `g`.
+    /// Called for the escape sequence `ESC g` (GNU Screen's manual: visual
+    /// bell).
     fn visual_bell(&mut self, screen: &mut Screen)
         ensures { does calls.VisualBell self.old screen.old self.new screen.new }
     {
         self.otherwise(screen, Call::VisualBell);
     }
 
-    /// Called where a program asks for a size, as rows and columns; nothing is
-    /// resized before. A number that the program left out is the screen's own.
+    /// Called for `CSI 8 ; rows ; cols t` (xterm's control sequences), with the
+    /// rows and columns that a program asks for; nothing is resized before.
+    ///
+    /// Only a group that is missing at the end is the screen's own number; one
+    /// that is there and empty is 0.
     fn resize(&mut self, screen: &mut Screen, size: (u16, u16))
         ensures { does (calls.Resize size.0 size.1) self.old screen.old self.new screen.new }
     {
         self.otherwise(screen, Call::Resize(size));
     }
 
-    /// Called with a new name for the window's icon.
+    /// Called with a new name for the window's icon (OSC 0 and 1 of xterm's
+    /// control sequences). For OSC 0 the title follows.
     fn set_window_icon_name(&mut self, screen: &mut Screen, name: &[u8])
         ensures { does (calls.SetWindowIconName name.now) self.old screen.old self.new screen.new }
     {
         self.otherwise(screen, Call::SetWindowIconName(name));
     }
 
-    /// Called with a new title for the window.
+    /// Called with a new title for the window (OSC 0 and 2 of xterm's control
+    /// sequences).
     fn set_window_title(&mut self, screen: &mut Screen, title: &[u8])
         ensures { does (calls.SetWindowTitle title.now) self.old screen.old self.new screen.new }
     {
         self.otherwise(screen, Call::SetWindowTitle(title));
     }
 
-    /// Called where a program writes to the clipboards that the letters of
-    /// `kind` name; the text is in Base64.
+    /// Called where a program writes to clipboards (OSC 52 of xterm's control
+    /// sequences): each byte of `kind` names one, by `c`, `p`, `q`, `s` or a
+    /// digit from 0 to 7. The text is of the characters of Base64, as it was
+    /// sent.
     fn copy_to_clipboard(&mut self, screen: &mut Screen, kind: &[u8], text: &[u8])
         ensures { does (calls.CopyToClipboard kind.now text.now) self.old screen.old self.new screen.new }
     {
         self.otherwise(screen, Call::CopyToClipboard(kind, text));
     }
 
-    /// Called where a program asks for the text of a clipboard.
+    /// Called where a program asks for the text of a clipboard (OSC 52 of
+    /// xterm's control sequences, with `?` as its text); `kind` is as in
+    /// [`Callbacks::copy_to_clipboard`].
     fn paste_from_clipboard(&mut self, screen: &mut Screen, kind: &[u8])
         ensures { does (calls.PasteFromClipboard kind.now) self.old screen.old self.new screen.new }
     {
         self.otherwise(screen, Call::PasteFromClipboard(kind));
     }
 
-    /// Called for U+FFFD, which stands for bytes that are no character, and for
-    /// U+0080 to U+009F.
+    /// Called for U+FFFD, which stands for bytes that are no character (the
+    /// Unicode Standard's Table 3-7), and for U+0080 to U+009F, the controls of
+    /// ECMA-48's set C1.
     fn unhandled_char(&mut self, screen: &mut Screen, code: char)
         ensures { does (calls.UnhandledChar code) self.old screen.old self.new screen.new }
     {
         self.otherwise(screen, Call::UnhandledChar(code));
     }
 
-    /// Called for a control function of one byte that the screen doesn't know.
+    /// Called for a control function of one byte (ECMA-48's set C0) that the
+    /// screen doesn't know.
     fn unhandled_control(&mut self, screen: &mut Screen, byte: u8)
         ensures { does (calls.UnhandledControl byte) self.old screen.old self.new screen.new }
     {
         self.otherwise(screen, Call::UnhandledControl(byte));
     }
 
-    /// Called for an escape sequence that the screen doesn't know, with its
-    /// first two intermediates and its last byte.
+    /// Called for an escape sequence (ECMA-48) that the screen doesn't know,
+    /// with its first two intermediates and its final byte.
     fn unhandled_escape(
         &mut self,
         screen: &mut Screen,
@@ -149,9 +195,13 @@ pub trait Callbacks {
         self.otherwise(screen, Call::UnhandledEscape(first, second, byte));
     }
 
-    /// Called for a control sequence, or a part of one, that the screen doesn't
-    /// know: with the first two of its marker and intermediates, all its
-    /// groups of numbers, and its final byte.
+    /// Called for a control sequence (ECMA-48) that the screen doesn't know,
+    /// and for each setting of SGR and each private mode that it doesn't know:
+    /// with the first two of the sequence's marker and intermediates, the
+    /// groups of its first 32 numbers, and its final byte.
+    ///
+    /// For a sequence behind a space, `first` and `second` are None, unless the
+    /// final byte is `q` (DECSCUSR).
     fn unhandled_csi(
         &mut self,
         screen: &mut Screen,
@@ -165,8 +215,8 @@ pub trait Callbacks {
         self.otherwise(screen, Call::UnhandledCsi(first, second, groups, byte));
     }
 
-    /// Called for an operating system command that the screen doesn't know,
-    /// with all its parts.
+    /// Called for an operating system command (ECMA-48) that the screen doesn't
+    /// know, with its parts between semicolons, at most the first 16.
     fn unhandled_osc(&mut self, screen: &mut Screen, parts: &[&[u8]])
         ensures { does (calls.UnhandledOsc (map (λ part. part.now) parts.now)) self.old screen.old self.new screen.new }
     {

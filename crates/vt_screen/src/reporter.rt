@@ -6,7 +6,10 @@ use vt_rows::{Leaving, RowContents};
 /// Callbacks that are told of the rows of one page.
 #[derive(Drop)]
 pub struct Reporter<'a, CB: Callbacks> {
+    /// Who is told.
     pub callbacks: &'a mut CB,
+
+    /// Whether the rows are those of the alternate page.
     pub alternate: bool,
 }
 

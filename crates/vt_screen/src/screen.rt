@@ -22,7 +22,7 @@ use std::alloc::Global;
 use std::marker::Model;
 use std::num::NonZeroU16;
 use vt_cells::{
-    Attrs, Cell, Color, CursorStyle, Error, MouseProtocolEncoding, MouseProtocolMode, Pos, Sink,
+    Attrs, Cell, Color, CursorStyle, Error, MouseProtocolEncoding, MouseProtocolMode, Sink,
 };
 use vt_grid::redraw::write_contents_formatted;
 use vt_grid::{Grid, Scrollback, Size};
@@ -142,7 +142,8 @@ impl Screen {
         (non_zero(size.rows), non_zero(size.cols))
     }
 
-    /// The cell at a row and a column of what is shown, counted from 0. A row
+    /// The cell at a row and a column of what is shown, counted from 0: None
+    /// outside of the rows that are shown, and past the end of that row. A row
     /// of scrollback may have more columns than the screen.
     #[inline]
     pub fn cell(&self, row: u16, col: u16) -> Option<&Cell>
@@ -301,14 +302,17 @@ impl Screen {
 
 // Texts that redraw the screen.
 impl Screen {
-    /// A text that makes a terminal of the same size show what this screen
-    /// shows, whatever that showed before: the cells, the cursor, the current
-    /// attributes, and whether the cursor is hidden. Flags of rows are not in
-    /// it, and a pending wrap is the last column.
+    /// A text that redraws the active page on a terminal of the same size,
+    /// whatever that showed before: the cells, the cursor, the current
+    /// attributes, and whether the cursor is hidden. Rows of scrollback that
+    /// are in view, and flags of rows, are not in it, and a pending wrap is the
+    /// last column.
     ///
     /// The terminal is to have its scroll region on all of its page and origin
-    /// mode off, and to be in the midst of no sequence. Fails where memory for
-    /// the text is refused.
+    /// mode off, and to be in the midst of no sequence. The clause `redraws`
+    /// is for pages without flags and without a pending wrap, whose glyphs are
+    /// single characters of one column. Fails where memory for the text is
+    /// refused.
     pub fn contents_formatted(&self) -> Result<String, Error>
         ensures text { IfOk result (λ text. string_bytes text ≡ bytes_of_all (redraw (canvas_of self.now))) }
         ensures redraws { IfOk result (λ text. IsSimple self.now.page → Redraws self.now (string_bytes text)) }

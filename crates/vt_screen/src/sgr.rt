@@ -1,6 +1,6 @@
 //! Select Graphic Rendition: what the groups of numbers of an SGR sequence set.
 
-ghost use Rattle.std.specs.Prelude.{◌≡◌, ℕ, ◌<◌, MatchOption};
+ghost use Rattle.std.specs.Prelude.{◌≡◌, ℕ, MatchOption};
 ghost use Rattle.vt_screen.specs.Sgr.{rendered, colored, silent, set, unknown, number_read, three_read, five_read, rgb_read, index_read, setting_read, form_read, part_read, group_read};
 ghost use Rattle.vt_screen.specs.declared.sgr.GroupRead.{GroupRead};
 

@@ -1,6 +1,6 @@
 //! Moves of the cursor, the scroll region and origin mode.
 
-ghost use Rattle.std.specs.Prelude.{◌≡◌, ◌+◌, ◌-◌, ◌<◌, ◌⊎◌, if◌then◌else◌, length};
+ghost use Rattle.std.specs.Prelude.{◌≡◌, ◌+◌, ◌<◌, ◌⊎◌, if◌then◌else◌, length};
 ghost use Rattle.vt_grid.specs.Moves.{carriage_return, cursor_restored, cursor_saved, moved_left, moved_right, moved_to, target_row};
 ghost use Rattle.vt_grid.specs.Regions.{in_region, last_row, moved_down, moved_to_column, moved_to_row, moved_up, next_line, origin_set, previous_line, region_set, tabbed};
 
@@ -45,7 +45,7 @@ impl Grid {
     /// Moves the cursor to the next column that is a multiple of 8, at most to
     /// the last one, also from a pending wrap (HT).
     #[inline]
-    pub fn tab(&mut self)
+    pub fn col_tab(&mut self)
         ensures { self.new ≡ tabbed self.old }
     {
         let ahead = 8 - self.pos.col % 8;
@@ -58,7 +58,7 @@ impl Grid {
     /// to the first row.
     #[tactic(auto, unfolding(crate::specs::Regions::moved_up))]
     #[inline]
-    pub fn row_dec(&mut self, count: u16)
+    pub fn row_dec_clamp(&mut self, count: u16)
         ensures { self.new ≡ moved_up count self.old }
     {
         self.pos.row = self.pos.row.saturating_sub(count).max(self.upper_edge());
@@ -70,7 +70,7 @@ impl Grid {
     /// else to the last row.
     #[tactic(auto, unfolding(crate::specs::Regions::moved_down))]
     #[inline]
-    pub fn row_inc(&mut self, count: u16)
+    pub fn row_inc_clamp(&mut self, count: u16)
         ensures { self.new ≡ moved_down count self.old }
     {
         self.pos.row = self.pos.row.saturating_add(count).min(self.lower_edge());
@@ -85,21 +85,21 @@ impl Grid {
         self.pos.row = row.min(self.size.rows - 1);
     }
 
-    /// Moves the cursor down, as `row_inc` does, and to the first column (CNL).
+    /// Moves the cursor down, as `row_inc_clamp` does, and to the first column (CNL).
     #[inline]
     pub fn next_line(&mut self, count: u16)
         ensures { self.new ≡ next_line count self.old }
     {
-        self.row_inc(count);
+        self.row_inc_clamp(count);
         self.cr();
     }
 
-    /// Moves the cursor up, as `row_dec` does, and to the first column (CPL).
+    /// Moves the cursor up, as `row_dec_clamp` does, and to the first column (CPL).
     #[inline]
     pub fn previous_line(&mut self, count: u16)
         ensures { self.new ≡ previous_line count self.old }
     {
-        self.row_dec(count);
+        self.row_dec_clamp(count);
         self.cr();
     }
 
@@ -177,7 +177,7 @@ impl Grid {
 
     /// Whether the cursor is in the scroll region.
     #[inline]
-    pub(super) fn is_in_region(&self) -> bool
+    pub(super) fn in_scroll_region(&self) -> bool
         ensures { result ≡ in_region self.now }
     {
         self.scroll_top <= self.pos.row && self.pos.row <= self.scroll_bottom
@@ -188,7 +188,7 @@ impl Grid {
     fn upper_edge(&self) -> u16
         ensures { result ≡ (if in_region self.now then self.now.top else 0) }
     {
-        if self.is_in_region() {
+        if self.in_scroll_region() {
             self.scroll_top
         } else {
             0
@@ -200,7 +200,7 @@ impl Grid {
     fn lower_edge(&self) -> u16
         ensures { result ≡ (if in_region self.now then self.now.bottom else last_row self.now) }
     {
-        if self.is_in_region() {
+        if self.in_scroll_region() {
             self.scroll_bottom
         } else {
             self.size.rows - 1

@@ -14,7 +14,7 @@ ghost use Rattle.vt_grid.specs.Scrollback.{Sends, TakesMemory};
 use super::Grid;
 use crate::scrollback::Scrollback;
 use vt_cells::width::columns;
-use vt_cells::{Attrs, Cell, Error};
+use vt_cells::{Attrs, Cell, Error, MARK_LIMIT};
 use vt_rows::Leaving;
 
 impl Grid {
@@ -227,7 +227,7 @@ impl Grid {
         requires { col < length (cursor_row self.now).cells }
         ensures { result ≡ takes_mark (at (cursor_row self.now).cells col) }
     {
-        self.sheet.cell(self.pos.row, col).contents().len() < 18
+        self.sheet.cell(self.pos.row, col).contents().len() < usize::from(MARK_LIMIT)
     }
 
     /// Puts a mark on the cell at a column of the cursor's row.

@@ -42,7 +42,7 @@ impl Grid {
     pub fn insert_lines(&mut self, count: u16)
         ensures { self.new ≡ lines_inserted count self.old }
     {
-        if self.is_in_region() {
+        if self.in_scroll_region() {
             self.sheet
                 .scroll_down(self.pos.row, self.scroll_bottom, count);
         }
@@ -54,7 +54,7 @@ impl Grid {
     pub fn delete_lines(&mut self, count: u16)
         ensures { self.new ≡ lines_deleted count self.old }
     {
-        if self.is_in_region() {
+        if self.in_scroll_region() {
             self.sheet
                 .scroll_up(self.pos.row, self.scroll_bottom, count);
         }

@@ -45,6 +45,15 @@ fn color_of(row: Option<&Row>) -> u8 {
     }
 }
 
+// The colour of a row that leaves, the offset after it, the offset that is set
+// then, the colours that are shown, and how many rows have been reported.
+const PUSHED: [(u8, usize, usize, [u8; 3], u32); 4] = [
+    (1, 0, 0, [91, 92, 93], 0),
+    (2, 0, 1, [2, 91, 92], 0),
+    (3, 2, 2, [2, 3, 91], 0),
+    (4, 3, 9, [2, 3, 4], 1),
+];
+
 #[test]
 fn rows_are_kept_reported_and_shown(rt: HostRuntime) {
     let mut counter = Counter { rows: 0 };
@@ -54,12 +63,7 @@ fn rows_are_kept_reported_and_shown(rt: HostRuntime) {
         row_in(rt.alloc(), 92).expect(&rt, "memory"),
         row_in(rt.alloc(), 93).expect(&rt, "memory"),
     ];
-    for (color, followed, wanted, shown, reported) in [
-        (1, 0, 0, [91, 92, 93], 0),
-        (2, 0, 1, [2, 91, 92], 0),
-        (3, 2, 2, [2, 3, 91], 0),
-        (4, 3, 9, [2, 3, 4], 1),
-    ] {
+    for (color, followed, wanted, shown, reported) in PUSHED {
         let mut rows = [row_in(rt.alloc(), color).expect(&rt, "memory")];
         let pushed = above.push(&mut rows, SIZE, &mut counter);
         assert!(rt; pushed.is_ok(), "memory for {color}");

@@ -1,6 +1,6 @@
 //! Another size of a sheet: fresh rows take over the old ones.
 
-ghost use Rattle.std.specs.Prelude.{◌≡◌, ◌+◌, ◌-◌, ◌<◌, ◌≤◌, ℕ, All, IfErr, IsErr, OnErr, OnOk, drop, if◌then◌else◌, length, map, nat_lt, slice_index_or, take};
+ghost use Rattle.std.specs.Prelude.{◌≡◌, ◌+◌, ◌<◌, ◌≤◌, ℕ, All, IfErr, IsErr, OnErr, OnOk, drop, if◌then◌else◌, length, nat_lt, slice_index_or, take};
 ghost use Rattle.vt_cells.specs.Attrs.{default_attrs};
 ghost use Rattle.vt_rows.specs.Row.{RowValue, IsRow, blank_row, resized_row};
 ghost use Rattle.vt_grid.specs.Keeping.{refilled};

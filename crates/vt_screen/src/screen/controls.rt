@@ -71,7 +71,7 @@ impl Screen {
     pub fn tab(&mut self)
         ensures { self.new ≡ stepped step.Tab self.old }
     {
-        self.grid.tab();
+        self.grid.col_tab();
     }
 
     /// Moves the cursor up by one row, its column as it is: at the scroll
@@ -87,7 +87,7 @@ impl Screen {
     pub fn cuu(&mut self, count: u16)
         ensures { self.new ≡ stepped (step.MoveUp count) self.old }
     {
-        self.grid.row_dec(count);
+        self.grid.row_dec_clamp(count);
     }
 
     /// Moves the cursor down, its column as it is: from within the scroll
@@ -95,7 +95,7 @@ impl Screen {
     pub fn cud(&mut self, count: u16)
         ensures { self.new ≡ stepped (step.MoveDown count) self.old }
     {
-        self.grid.row_inc(count);
+        self.grid.row_inc_clamp(count);
     }
 
     /// Moves the cursor to the left, at most to the first column (CUB).

@@ -1,7 +1,7 @@
 //! Another size of the screen.
 
 ghost use Rattle.std.specs.List.{FoldsTo};
-ghost use Rattle.std.specs.Prelude.{◌≡◌, ◌<◌, ◌++◌, IfErr, IfOk, IsErr, OnErr, OnOk, Some, false, length, option_map, true};
+ghost use Rattle.std.specs.Prelude.{◌≡◌, ◌<◌, ◌++◌, IfErr, IfOk, IsErr, OnErr, OnOk, Some, false, option_map, true};
 ghost use Rattle.vt_grid.specs.Page.{blank_page};
 ghost use Rattle.vt_grid.specs.Resize.{page_resized};
 ghost use Rattle.vt_grid.specs.Scrollback.{no_scrollback};
@@ -20,8 +20,9 @@ use vt_grid::{Grid, Scrollback, Size};
 
 impl Screen {
     /// Gives the screen another number of rows and columns, as xterm's resize
-    /// does, on both pages. An equal size changes nothing and takes no memory.
-    /// Nobody is told of the rows that leave.
+    /// does, on both pages. On each the scroll region becomes the whole page
+    /// and a pending wrap ends, and scrollback leaves view. Nobody is told of
+    /// the rows that leave. An equal size changes nothing and takes no memory.
     ///
     /// Fails where memory is refused; then nothing has changed.
     pub fn set_size(&mut self, rows: NonZeroU16, cols: NonZeroU16) -> Result<(), Error>
@@ -35,9 +36,9 @@ impl Screen {
     }
 
     /// Gives the screen another size, as [`Screen::set_size`] does, and tells
-    /// the callbacks of the rows that leave the pages at their tops and aren't
-    /// kept: first those of the main page, then those of the alternate one,
-    /// each older ones first.
+    /// the callbacks of the rows that aren't kept (see
+    /// [`Callbacks::on_scroll`]): first those of scrollback and the main page,
+    /// then those of the alternate one, each older ones first.
     ///
     /// Fails where memory is refused; then nothing has changed, and nothing was
     /// told.

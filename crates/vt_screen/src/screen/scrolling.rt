@@ -2,6 +2,7 @@
 
 ghost use Rattle.std.specs.Prelude.{◌≡◌, ◌≢◌, IfErr, IsErr, OnErr, OnOk, Some, false, length};
 ghost use Rattle.vt_cells.specs.Glyph.{columns_of};
+ghost use Rattle.vt_grid.specs.Scrollback.{ViewTakesMemory};
 ghost use Rattle.vt_screen.specs.Run.{Refuses, Takes, state};
 ghost use Rattle.vt_screen.specs.Screen.{above_page, scrolled_back};
 ghost use Rattle.vt_screen.specs.Steps as step;
@@ -107,16 +108,20 @@ impl Screen {
         self.scrollback.clear(&mut reporter);
     }
 
-    /// Brings the newest `rows` rows of scrollback into view, at most all; 0
-    /// is the page alone. On the alternate page, which has no scrollback,
-    /// nothing happens.
+    /// Scrolls the view back by `rows` rows of scrollback, at most by all; 0 is
+    /// the page alone. The number may exceed the screen's height: of the rows
+    /// from there on the screen shows as many as it has room for. On the
+    /// alternate page, which has no scrollback, nothing happens.
     ///
-    /// Rows that come into view are grown to the screen's columns. Fails where
-    /// memory for that is refused; then nothing has changed.
+    /// Rows of scrollback that are then shown are grown to the screen's
+    /// columns, and those that are grown go on no more in the row below; both
+    /// stay when the view is left. Fails where memory for that is refused; then
+    /// nothing has changed. Where no row has to grow, as on the way back to the
+    /// page alone, it takes no memory.
     pub fn set_scrollback(&mut self, rows: usize) -> Result<(), Error>
         ensures ok { OnOk result (self.new ≡ scrolled_back rows self.old) }
         ensures err { OnErr result (self.new ≡ self.old) }
-        ensures grows { IsErr result → self.old.is_alternate ≡ false }
+        ensures grows { IsErr result → (self.old.is_alternate ≡ false) × ViewTakesMemory (length self.old.page.rows) self.old.page.width rows self.old.scrollback }
         ensures memory { IfErr result (λ error. error ≡ Error.OutOfMemory) }
     {
         if self.is_alternate {
@@ -133,7 +138,8 @@ impl Screen {
         self.scrollback.clear(&mut ());
     }
 
-    /// How many rows of scrollback are in view; none on the alternate page.
+    /// By how many rows of scrollback the view is scrolled back, which may be
+    /// more than the screen has room for; 0 on the alternate page.
     pub fn scrollback(&self) -> usize
         ensures { result ≡ (above_page self.now).offset }
     {

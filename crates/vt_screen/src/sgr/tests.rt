@@ -42,6 +42,27 @@ fn strong(intensity: Intensity) -> Attrs {
     }
 }
 
+fn italic() -> Attrs {
+    Attrs {
+        italic: true,
+        ..Attrs::new()
+    }
+}
+
+fn underlined() -> Attrs {
+    Attrs {
+        underline: true,
+        ..Attrs::new()
+    }
+}
+
+fn inverse() -> Attrs {
+    Attrs {
+        inverse: true,
+        ..Attrs::new()
+    }
+}
+
 #[test]
 fn reads_single_numbers(rt: HostRuntime) {
     let none = Attrs::new();
@@ -51,29 +72,11 @@ fn reads_single_numbers(rt: HostRuntime) {
         (&[&[1], &[2]], strong(Intensity::Dim)),
         (&[&[1], &[22]], none),
         (&[&[2], &[22]], none),
-        (
-            &[&[3]],
-            Attrs {
-                italic: true,
-                ..none
-            },
-        ),
+        (&[&[3]], italic()),
         (&[&[3], &[23]], none),
-        (
-            &[&[4]],
-            Attrs {
-                underline: true,
-                ..none
-            },
-        ),
+        (&[&[4]], underlined()),
         (&[&[4], &[24]], none),
-        (
-            &[&[7]],
-            Attrs {
-                inverse: true,
-                ..none
-            },
-        ),
+        (&[&[7]], inverse()),
         (&[&[7], &[27]], none),
         (&[&[30]], front(Color::Idx(0))),
         (&[&[37], &[47]], colored(Color::Idx(7), Color::Idx(7))),
@@ -130,14 +133,7 @@ fn stops_or_goes_on(rt: HostRuntime) {
         (&[&[38, 5], &[9]], none, 2),
         (&[&[38, 2, 0, 1, 2, 3], &[1]], strong(Intensity::Bold), 1),
         (&[&[38, 7, 1], &[1]], strong(Intensity::Bold), 1),
-        (
-            &[&[21], &[1, 1], &[4]],
-            Attrs {
-                underline: true,
-                ..none
-            },
-            2,
-        ),
+        (&[&[21], &[1, 1], &[4]], underlined(), 2),
         (&[&[108], &[98], &[29]], none, 3),
     ];
     for (groups, attrs, unknown) in cut {

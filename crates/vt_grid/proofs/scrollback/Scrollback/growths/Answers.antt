@@ -1,6 +1,6 @@
 use Rattle.std.proofs.Common.{◌≡◌, ◌+◌, ◌-◌, ◌≤◌, length, subst, ◌∙◌, arith}
-use Rattle.vt_grid.specs.Scrollback.{Scrollback, kept_after}
-use Rattle.vt_grid.specs.Spare.{in_view, narrow_rows}
+use Rattle.vt_grid.specs.Scrollback.{Scrollback, kept_after, narrow_rows}
+use Rattle.vt_grid.specs.Spare.{in_view}
 use Rattle.vt_grid.proofs.Growing.{none_in_view, growths_enough}
 use Rattle.vt_grid.proofs.scrollback.Scrollback.growths.Goals as goal
 

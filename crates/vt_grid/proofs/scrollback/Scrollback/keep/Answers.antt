@@ -1,6 +1,6 @@
 use Rattle.std.proofs.Common.{◌∙◌, ◌≤◌, refl, sym, subst}
-use Rattle.vt_grid.specs.Scrollback.{Scrollback, IsScrollback, Sends, kept_after}
-use Rattle.vt_grid.specs.Spare.{in_view, narrow_rows}
+use Rattle.vt_grid.specs.Scrollback.{Scrollback, IsScrollback, Sends, kept_after, narrow_rows}
+use Rattle.vt_grid.specs.Spare.{in_view}
 use Rattle.vt_grid.proofs.Scrolling.{All-blanks, All-kept, IsScrollback-pushed, kept_by_steps, pushed_is, spare_made, told_by_steps}
 use Rattle.vt_grid.proofs.scrollback.Scrollback.keep.Goals as goal
 
