@@ -3,7 +3,7 @@
 ghost use Rattle.std.specs.Prelude.{◌≡◌, ◌-◌, ◌<◌, IfOk, IsErr, None, Some, length, map, IfErr};
 ghost use Rattle.vt100.specs.Keeping.{Does, MadeIf, Stops, report_of};
 ghost use Rattle.vt_screen.specs.Calls.{UnhandledCsi};
-ghost use Rattle.vt_screen.specs.Steps.{counted_step, csi_steps, marked_steps, number_at, number_or, other_steps, scrolling_steps, page_erasing, plain_steps, private_steps, repeated, row_erasing, size_or, space_steps, stepped, style_of, style_steps, window_steps};
+ghost use Rattle.vt_screen.specs.Steps.{counted_step, csi_steps, marked_steps, number_at, number_or, other_steps, scrolling_steps, page_erasing, plain_steps, private_steps, repeated, row_erasing, size_or, space_steps, stepped, style_of, window_steps};
 ghost use Rattle.vt_screen.specs.Steps as step;
 
 use crate::sequence::Sequence;

@@ -46,10 +46,18 @@ impl Parser {
     /// How many columns the default screen has.
     pub const DEFAULT_COLS: u16 = 80;
 
-    /// A parser with a fresh screen and no callbacks. `scrollback_capacity`
-    /// is how many rows that leave the page are kept.
+    /// A parser with a fresh screen and no callbacks. Of the rows that leave
+    /// the page at its top at most `scrollback_capacity` are kept, the last
+    /// ones.
     ///
     /// Fails where memory for the screen is refused.
+    ///
+    /// ```text
+    /// let rows = NonZeroU16::new(24).unwrap();
+    /// let cols = NonZeroU16::new(80).unwrap();
+    /// let parser = Parser::new(rt.alloc(), rows, cols, 0)?;
+    /// assert_eq!(parser.screen().size(), (rows, cols));
+    /// ```
     pub fn new(
         alloc: Global,
         rows: NonZeroU16,
@@ -78,8 +86,9 @@ impl Parser {
 }
 
 impl<CB: Callbacks> Parser<CB> {
-    /// A parser with a fresh screen and these callbacks. `scrollback_capacity`
-    /// is how many rows that leave the page are kept.
+    /// A parser with a fresh screen and these callbacks. Of the rows that leave
+    /// the page at its top at most `scrollback_capacity` are kept, the last
+    /// ones.
     ///
     /// Fails where memory for the screen is refused.
     pub fn new_with_callbacks(
@@ -115,6 +124,15 @@ impl<CB: Callbacks> Parser<CB> {
     /// steps before the refused one were taken, that one changed nothing and
     /// called nobody, and from then on the parser reads nothing and answers
     /// `Failed`. Its screen can still be read.
+    ///
+    /// ```text
+    /// parser.process(b"this text is \x1b[31mRED\x1b[m")?;
+    /// let redraw = parser.screen().contents_formatted()?;
+    /// assert_eq!(
+    ///     redraw.as_str(),
+    ///     "\x1b[?25h\x1b[m\x1b[H\x1b[Jthis text is \x1b[31mRED\x1b[m",
+    /// );
+    /// ```
     pub fn process(&mut self, bytes: &[u8]) -> Result<(), Error>
         ensures ran { IfOk result (λ _. Ran CB.does self.old bytes.now self.new) }
         ensures memory { result ≡ Err Error.OutOfMemory → Stopped CB.does self.old bytes.now self.new }
@@ -200,6 +218,10 @@ impl<CB: Callbacks> Parser<CB> {
     }
 
     /// The screen and the callbacks, to change both.
+    ///
+    /// Of the parser afterwards nothing is promised beyond what its type
+    /// promises, also not whether it has failed. [`Parser::screen_mut`] and
+    /// [`Parser::callbacks_mut`] promise that nothing else of it changes.
     #[inline]
     pub fn screen_and_callbacks_mut(&mut self) -> (&mut Screen, &mut CB)
         ensures screen { result.0.now ≡ self.old.screen }

@@ -1,6 +1,5 @@
 //! A control sequence as callbacks are told of it.
 
-ghost use Rattle.std.specs.Prelude.{map};
 ghost use Rattle.vt100.specs.Keeping.{report_of};
 
 use vt_screen::{Callbacks, Screen};

@@ -2,8 +2,10 @@
 
 ghost use Rattle.std.specs.Io.{WritesAtMost};
 ghost use Rattle.std.specs.Io.KnownBytes.{WriteAppends};
-ghost use Rattle.std.specs.Prelude.{◌≡◌, ◌↔◌, IfOk, IsErr, None, Ok, length, true};
-ghost use Rattle.vt100.specs.Parser.{Ran, quietly};
+ghost use Rattle.std.specs.IoError.{error_kind};
+ghost use Rattle.std.specs.Prelude.{◌≡◌, ◌↔◌, IfErr, IfOk, IsErr, None, Ok, false, length, true};
+ghost use Rattle.std.specs.declared.io.ErrorKind.TheVariants.{Other, OutOfMemory};
+ghost use Rattle.vt100.specs.Parser.{Ran, Stopped, quietly};
 
 use crate::parser::Parser;
 use std::io;
@@ -22,7 +24,10 @@ impl Write for Parser<()> {
         ensures whole { IfOk result (λ count. count ≡ length buf.now) }
         ensures ran { IfOk result (λ _. Ran quietly self.old buf.now self.new) }
         ensures for_good { self.new.is_failed ≡ true ↔ IsErr result }
+        ensures stopped { self.old.is_failed ≡ false → IsErr result → Stopped quietly self.old buf.now self.new }
+        ensures refused { self.old.is_failed ≡ false → IfErr result (λ error. error_kind error ≡ OutOfMemory) }
         ensures failed { self.old.is_failed ≡ true → self.new ≡ self.old }
+        ensures after { self.old.is_failed ≡ true → IfErr result (λ error. error_kind error ≡ Other) }
     {
         match self.process(buf) {
             Ok(()) => Ok(buf.len()),

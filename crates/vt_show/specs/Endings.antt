@@ -7,7 +7,7 @@ abbrev pub line_of : Option Fault → List ℕ
 line_of (Some Memory) = codes "vtshow: out of memory"
 line_of (Some Read) = codes "vtshow: read failed"
 line_of (Some Write) = codes "vtshow: write failed"
-line_of None = codes "usage: vtshow ROWS COLS formatted"
+line_of None = codes "usage: vtshow ROWS COLS plain|formatted|basic"
 
 -- 1 for a fault, 2 for wrong arguments
 abbrev pub status_of : Option Fault → ℕ

@@ -20,9 +20,11 @@ const BUFFER_SIZE: usize = 8192;
 /// Reads the input to its end into a fresh terminal of this size without
 /// scrollback, and writes the text that the mode names, and nothing else.
 ///
-/// Any error of a read is `Read`, any error of a write, and of the flush at
-/// the end, is `Write`; after `Memory` and `Read` nothing was written, after
-/// `Write` the whole input was read, and it is not said how much was written.
+/// Any error of a read is `Read`, an interrupted one as well. Any error of
+/// `write_all`, which tries an interrupted write again, is `Write`, and so is
+/// any error of the flush at the end. After `Memory` and `Read` nothing was
+/// written; after `Write` the whole input was read, and it is not said how much
+/// was written.
 pub fn run<R: Read, W: Write>(
     alloc: Global,
     reader: &mut R,

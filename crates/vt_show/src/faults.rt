@@ -30,6 +30,6 @@ pub fn ending(fault: Option<Fault>) -> (&'static str, u8)
         Some(Fault::Memory) => ("vtshow: out of memory", 1),
         Some(Fault::Read) => ("vtshow: read failed", 1),
         Some(Fault::Write) => ("vtshow: write failed", 1),
-        None => ("usage: vtshow ROWS COLS formatted", 2),
+        None => ("usage: vtshow ROWS COLS plain|formatted|basic", 2),
     }
 }

@@ -1,22 +1,28 @@
 //! What no clause says: that runs succeed, and the words of the program.
 
 use crate::{Fault, Mode, arguments, ending, run};
+use std::alloc::Global;
 use std::io;
 use std::io::{Read, Write};
 use std::num::NonZeroU16;
 use std::test::Fail;
 
-/// Gives its bytes at the first read, and fails at the second.
+/// Gives its bytes at the first read, and fails at the second, with this kind
+/// of error.
 #[derive(Drop)]
-struct Broken<'a>(&'a [u8], bool);
+struct Broken<'a> {
+    bytes: &'a [u8],
+    kind: io::ErrorKind,
+    is_read: bool,
+}
 
 impl Read for Broken<'_> {
     fn read(&mut self, buf: &mut [u8]) -> io::Result<usize> {
-        if self.1 {
-            return Err(io::Error::from(io::ErrorKind::Other));
+        if self.is_read {
+            return Err(io::Error::from(self.kind));
         }
-        self.1 = true;
-        self.0.read(buf)
+        self.is_read = true;
+        self.bytes.read(buf)
     }
 }
 
@@ -35,8 +41,31 @@ impl Write for Closed {
     }
 }
 
+/// Takes every write, and refuses to flush.
+#[derive(Drop)]
+struct Unflushed(Vec<u8>);
+
+impl Write for Unflushed {
+    fn write(&mut self, buf: &[u8]) -> io::Result<usize> {
+        self.0.write(buf)
+    }
+
+    fn flush(&mut self) -> io::Result<()> {
+        Err(io::Error::from(io::ErrorKind::Other))
+    }
+}
+
 fn size(n: u16) -> Result<NonZeroU16, Fail> {
     Ok(NonZeroU16::new(n).ok_or("no size")?)
+}
+
+/// A run on 2 rows and 4 columns.
+fn run_small<R: Read, W: Write>(
+    alloc: Global,
+    reader: &mut R,
+    writer: &mut W,
+) -> Result<Result<(), Fault>, Fail> {
+    Ok(run(alloc, reader, writer, size(2)?, size(4)?, Mode::Formatted))
 }
 
 #[test]
@@ -58,29 +87,34 @@ fn runs(rt: HostRuntime) -> Result<(), Fail> {
 }
 
 #[test]
-fn faults(rt: HostRuntime) -> Result<(), Fail> {
-    let mut written = Vec::new(rt.alloc());
-    let read = run(
-        rt.alloc(),
-        &mut Broken(b"ab", false),
-        &mut written,
-        size(2)?,
-        size(4)?,
-        Mode::Formatted,
-    );
-    assert_eq!(rt; read, Err(Fault::Read));
-    assert_eq!(rt; written.len(), 0);
+fn reads_fail(rt: HostRuntime) -> Result<(), Fail> {
+    for kind in [io::ErrorKind::Other, io::ErrorKind::Interrupted] {
+        let mut broken = Broken {
+            bytes: b"ab",
+            kind,
+            is_read: false,
+        };
+        let mut written = Vec::new(rt.alloc());
+        let done = run_small(rt.alloc(), &mut broken, &mut written)?;
+        assert_eq!(rt; done, Err(Fault::Read));
+        assert_eq!(rt; written.len(), 0);
+    }
+    Ok(())
+}
+
+#[test]
+fn writes_fail(rt: HostRuntime) -> Result<(), Fail> {
     let mut closed = Closed(0);
-    let write = run(
-        rt.alloc(),
-        &mut b"ab".as_slice(),
-        &mut closed,
-        size(2)?,
-        size(4)?,
-        Mode::Formatted,
-    );
-    assert_eq!(rt; write, Err(Fault::Write));
+    let done = run_small(rt.alloc(), &mut b"ab".as_slice(), &mut closed)?;
+    assert_eq!(rt; done, Err(Fault::Write));
     assert_eq!(rt; closed.0, 1);
+    let mut unflushed = Unflushed(Vec::new(rt.alloc()));
+    let done = run_small(rt.alloc(), &mut b"ab".as_slice(), &mut unflushed)?;
+    assert_eq!(rt; done, Err(Fault::Write));
+    assert_eq!(rt;
+        unflushed.0.as_slice(),
+        b"\x1b[?25h\x1b[m\x1b[H\x1b[Jab".as_slice()
+    );
     Ok(())
 }
 
@@ -90,6 +124,7 @@ fn words(rt: HostRuntime) -> Result<(), Fail> {
     assert_eq!(rt; arguments(&["24", "80", "formatted"]), taken);
     assert_eq!(rt; arguments(&["024", "0080", "formatted"]), taken);
     for words in [
+        ["0", "80", "plain"],
         ["0", "80", "formatted"],
         ["24", "65536", "formatted"],
         ["+24", "80", "formatted"],
@@ -106,7 +141,7 @@ fn words(rt: HostRuntime) -> Result<(), Fail> {
         (Some(Fault::Memory), "vtshow: out of memory", 1),
         (Some(Fault::Read), "vtshow: read failed", 1),
         (Some(Fault::Write), "vtshow: write failed", 1),
-        (None, "usage: vtshow ROWS COLS formatted", 2),
+        (None, "usage: vtshow ROWS COLS plain|formatted|basic", 2),
     ] {
         assert_eq!(rt; ending(fault), (line, status));
     }

@@ -11,7 +11,8 @@ use std::num::NonZeroU16;
 /// Rows, columns and mode, from exactly three words; `None` for other words.
 ///
 /// Rows and columns are decimal digits with a value from 1 to 65535, leading
-/// zeros allowed.
+/// zeros allowed. The one mode that is there is `formatted`; `plain` and
+/// `basic`, which the usage line names as well, are other words so far.
 ///
 /// ```text
 /// assert_eq!(arguments(&["0", "80", "formatted"]), None);
