@@ -10,9 +10,6 @@ pub struct Case<'a> {
     pub name: &'a str,
     pub rows: NonZeroU16,
     pub cols: NonZeroU16,
-
-    /// What the port has to have for the case to be replayed.
-    pub need: &'a str,
     pub bytes: Vec<u8>,
 
     /// The lines about the screen and the callbacks, each with its line end.
@@ -28,14 +25,13 @@ impl<'a> Case<'a> {
         let mut lines = block.lines();
         let head = lines.next().context("a case without a first line")?;
         let words: Vec<&str> = head.split_whitespace().collect(alloc)?;
-        let [name, rows, cols, need] = words.as_slice() else {
+        let [name, rows, cols] = words.as_slice() else {
             bail!("a case that begins with {head:?}");
         };
         let mut case = Case {
             name,
             rows: rows.parse::<NonZeroU16>()?,
             cols: cols.parse::<NonZeroU16>()?,
-            need,
             bytes: Vec::new(alloc),
             shown: String::new(alloc),
             redraw: None,

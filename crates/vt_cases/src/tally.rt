@@ -6,7 +6,6 @@ use std::fmt;
 #[derive(Clone, Copy, Default)]
 pub struct Tally {
     run: u64,
-    later: u64,
 
     /// Those of `run` that did not do what they say.
     pub differ: u64,
@@ -20,19 +19,11 @@ impl Tally {
             self.differ = self.differ.saturating_add(1);
         }
     }
-
-    /// Counts a case whose need was not asked for.
-    pub fn leave(&mut self) {
-        self.later = self.later.saturating_add(1);
-    }
 }
 
 impl fmt::Display for Tally {
     fn fmt<W: fmt::Write>(&self, f: &mut fmt::Formatter<W>) -> fmt::Result {
-        let Tally { run, later, differ } = *self;
-        write!(
-            f,
-            "cases: {run} run, {later} left for later, {differ} differ"
-        )
+        let Tally { run, differ } = *self;
+        write!(f, "cases: {run} run, {differ} differ")
     }
 }

@@ -3,6 +3,10 @@
 #![tactic(auto)]
 
 #[cfg(test)]
+mod callbacks_tests;
+#[cfg(test)]
+mod counter;
+#[cfg(test)]
 mod noted;
 #[cfg(test)]
 mod pages_tests;
@@ -10,5 +14,7 @@ mod pages_tests;
 mod scrolling_tests;
 #[cfg(test)]
 mod seen;
+#[cfg(test)]
+mod steps;
 #[cfg(test)]
 mod tests;

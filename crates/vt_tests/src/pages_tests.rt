@@ -1,136 +1,13 @@
-use crate::seen::{read_keeping, seen, shown};
+use crate::seen::{Example, expect_at_each_cut, expect_each, read_keeping, shown};
+use crate::steps::Step::{GiveUp, Resize, ResizeParser, Text, View};
+use crate::steps::{Pieces, Step, taken};
 use std::alloc::Global;
-use std::num::NonZeroU16;
 use std::test::Fail;
 use vt_notes::Notes;
-use vt100::{Error, Parser, Screen};
-
-// What is done to a parser or its screen.
-#[derive(Clone, Copy)]
-enum Step {
-    // The parser reads a text.
-    Text(&'static str),
-
-    // The screen gets another size.
-    Resize(u16, u16),
-
-    // The parser gets another size.
-    ResizeParser(u16, u16),
-
-    // So many rows of scrollback are brought into view.
-    View(usize),
-
-    // Scrollback is given up.
-    GiveUp,
-}
-
-use Step::{GiveUp, Resize, ResizeParser, Text, View};
-
-// How a text is read: in two pieces, of which the first has at most so many bytes, or byte by byte.
-#[derive(Clone, Copy)]
-enum Pieces {
-    Two(usize),
-    Single,
-}
-
-fn feed(parser: &mut Parser<Notes>, bytes: &[u8], pieces: Pieces) -> Result<(), Error> {
-    match pieces {
-        Pieces::Two(most) => {
-            let cut = most.min(bytes.len());
-            parser.process(&bytes[..cut])?;
-            parser.process(&bytes[cut..])
-        }
-        Pieces::Single => {
-            for piece in bytes.chunks(1) {
-                parser.process(piece)?;
-            }
-            Ok(())
-        }
-    }
-}
-
-fn take(parser: &mut Parser<Notes>, step: Step, pieces: Pieces) -> Result<(), Fail> {
-    match step {
-        Text(text) => feed(parser, text.as_bytes(), pieces)?,
-        Resize(rows, cols) => {
-            let rows = NonZeroU16::new(rows).ok_or("no rows")?;
-            let cols = NonZeroU16::new(cols).ok_or("no columns")?;
-            parser.screen_mut().set_size(rows, cols)?;
-        }
-        ResizeParser(rows, cols) => {
-            let rows = NonZeroU16::new(rows).ok_or("no rows")?;
-            let cols = NonZeroU16::new(cols).ok_or("no columns")?;
-            parser.set_size(rows, cols)?;
-        }
-        View(rows) => parser.screen_mut().set_scrollback(rows)?,
-        GiveUp => parser.screen_mut().clear_scrollback(),
-    }
-    Ok(())
-}
-
-// A fresh parser of this size, whose scrollback keeps `capacity` rows, after these steps.
-fn taken(
-    alloc: Global,
-    size: (u16, u16),
-    capacity: usize,
-    steps: &[Step],
-    pieces: Pieces,
-) -> Result<Parser<Notes>, Fail> {
-    let mut parser = read_keeping(alloc, size, capacity, &[])?;
-    for step in steps {
-        take(&mut parser, *step, pieces)?;
-    }
-    Ok(parser)
-}
-
-// The length of the longest text among these steps.
-fn longest(steps: &[Step]) -> usize {
-    let mut longest: usize = 0;
-    for step in steps {
-        if let Text(text) = step {
-            longest = longest.max(text.len());
-        }
-    }
-    longest
-}
-
-fn expect(parser: &Parser<Notes>, alloc: Global, text: &str, wanted: &str) -> Result<(), Fail> {
-    let found = seen(alloc, parser)?;
-    if found.as_str() != wanted {
-        return Err(Fail::new(format_args!("{text:?}: {found}and not {wanted}")));
-    }
-    Ok(())
-}
-
-// The first text of these steps, by which a failure can be told.
-fn first_text(steps: &[Step]) -> &'static str {
-    for step in steps {
-        if let Text(text) = step {
-            return text;
-        }
-    }
-    ""
-}
-
-// Fails where these steps, each text in two pieces or byte by byte, give something else.
-fn expect_at_each_cut(
-    alloc: Global,
-    size: (u16, u16),
-    capacity: usize,
-    steps: &[Step],
-    wanted: &str,
-) -> Result<(), Fail> {
-    let name = first_text(steps);
-    for most in 0..=longest(steps) {
-        let parser = taken(alloc, size, capacity, steps, Pieces::Two(most))?;
-        expect(&parser, alloc, name, wanted)?;
-    }
-    let parser = taken(alloc, size, capacity, steps, Pieces::Single)?;
-    expect(&parser, alloc, name, wanted)
-}
+use vt100::{Parser, Screen};
 
 #[rattlefmt::skip]
-const PAGES: [((u16, u16), usize, &[Step], &str); 41] = [
+const PAGES: [Example; 41] = [
     // The alternate page, entered fresh, and left with all restored.
     ((2, 4), 0, &[Text("ab\x1b[?1049hxy")], "0:xy @0,2 alternate\n"),
     ((2, 4), 0, &[Text("ab\x1b[?1049hxy"), Text("\x1b[?1049l")], "0:ab @0,2\n"),
@@ -201,14 +78,11 @@ const PAGES: [((u16, u16), usize, &[Step], &str); 41] = [
 
 #[test]
 fn changes_pages_at_every_cut(rt: HostRuntime) -> Result<(), Fail> {
-    for (size, capacity, steps, wanted) in PAGES {
-        expect_at_each_cut(rt.alloc(), size, capacity, steps, wanted)?;
-    }
-    Ok(())
+    expect_each(rt.alloc(), &PAGES)
 }
 
 #[rattlefmt::skip]
-const RESIZED: [((u16, u16), usize, &[Step], &str); 32] = [
+const RESIZED: [Example; 32] = [
     // Rows come back from scrollback, and blank ones for those that were lost.
     (
         (2, 4),
@@ -315,10 +189,7 @@ const RESIZED: [((u16, u16), usize, &[Step], &str); 32] = [
 
 #[test]
 fn resizes_at_every_cut(rt: HostRuntime) -> Result<(), Fail> {
-    for (size, capacity, steps, wanted) in RESIZED {
-        expect_at_each_cut(rt.alloc(), size, capacity, steps, wanted)?;
-    }
-    Ok(())
+    expect_each(rt.alloc(), &RESIZED)
 }
 
 // Rows that move down: the last row of the region doesn't go on.
@@ -337,8 +208,8 @@ const MOVED_DOWN: [((u16, u16), &str, &str); 9] = [
 
 #[test]
 fn moves_rows_down_at_every_cut(rt: HostRuntime) -> Result<(), Fail> {
-    for (size, text, wanted) in MOVED_DOWN {
-        expect_at_each_cut(rt.alloc(), size, 0, &[Text(text)], wanted)?;
+    for (size, text, wanted) in &MOVED_DOWN {
+        expect_at_each_cut(rt.alloc(), *size, 0, &[Text(text)], wanted)?;
     }
     Ok(())
 }
@@ -391,7 +262,7 @@ const MODES: [(&str, &str); 35] = [
 
 #[test]
 fn sets_modes_at_every_cut(rt: HostRuntime) -> Result<(), Fail> {
-    for (text, wanted) in MODES {
+    for (text, wanted) in &MODES {
         expect_at_each_cut(rt.alloc(), (2, 4), 0, &[Text(text)], wanted)?;
     }
     Ok(())
@@ -399,7 +270,7 @@ fn sets_modes_at_every_cut(rt: HostRuntime) -> Result<(), Fail> {
 
 #[test]
 fn ris_takes_back_each_mode(rt: HostRuntime) -> Result<(), Fail> {
-    for (text, _) in MODES {
+    for (text, _) in &MODES {
         let parser = read_keeping(rt.alloc(), (2, 4), 0, &[text.as_bytes(), b"\x1bc"])?;
         let found = shown(rt.alloc(), parser.screen())?;
         assert_eq!(rt; found.as_str(), "@0,0\n", "after {text:?}");
@@ -409,7 +280,7 @@ fn ris_takes_back_each_mode(rt: HostRuntime) -> Result<(), Fail> {
 
 // Texts that end in RIS, or go on after it.
 #[rattlefmt::skip]
-const RESET: [((u16, u16), usize, &[Step], &str); 11] = [
+const RESET: [Example; 11] = [
     ((2, 4), 10, &[Text("a\r\nb\r\nc\x1bc")], "@0,0\n"),
     ((2, 4), 10, &[Text("a\r\nb\r\nc"), View(1), Text("\x1bc")], "@0,0\n"),
     ((2, 4), 0, &[Text("a\r\nb\r\nc\x1bc"), Resize(3, 4)], "@0,0\nscroll 61 0\n"),
@@ -432,10 +303,7 @@ const RESET: [((u16, u16), usize, &[Step], &str); 11] = [
 
 #[test]
 fn resets_at_every_cut(rt: HostRuntime) -> Result<(), Fail> {
-    for (size, capacity, steps, wanted) in RESET {
-        expect_at_each_cut(rt.alloc(), size, capacity, steps, wanted)?;
-    }
-    Ok(())
+    expect_each(rt.alloc(), &RESET)
 }
 
 // How many rows scrollback has, shows and may keep.
@@ -447,19 +315,22 @@ fn counts(screen: &Screen) -> (usize, usize, usize) {
     )
 }
 
+// What is done in turn, and how many rows scrollback has, shows and may keep then.
+const COUNTED: [(Step, (usize, usize, usize)); 5] = [
+    (View(1), (1, 1, 10)),
+    (Text("\x1b[?47h"), (0, 0, 0)),
+    (View(1), (0, 0, 0)),
+    (Text("\x1b[?47l"), (1, 0, 10)),
+    (Text("\x1bc"), (0, 0, 10)),
+];
+
 #[test]
 fn counts_rows_of_the_main_page_alone(rt: HostRuntime) -> Result<(), Fail> {
     let mut parser = read_keeping(rt.alloc(), (2, 4), 10, &[b"a\r\nb\r\nc"])?;
-    parser.screen_mut().set_scrollback(1)?;
-    assert_eq!(rt; counts(parser.screen()), (1, 1, 10));
-    parser.process(b"\x1b[?47h")?;
-    assert_eq!(rt; counts(parser.screen()), (0, 0, 0));
-    parser.screen_mut().set_scrollback(1)?;
-    assert_eq!(rt; counts(parser.screen()), (0, 0, 0));
-    parser.process(b"\x1b[?47l")?;
-    assert_eq!(rt; counts(parser.screen()), (1, 0, 10));
-    parser.process(b"\x1bc")?;
-    assert_eq!(rt; counts(parser.screen()), (0, 0, 10));
+    for (step, wanted) in &COUNTED {
+        step.take(&mut parser, Pieces::Single)?;
+        assert!(rt; counts(parser.screen()) == *wanted, "after {step:?}");
+    }
     Ok(())
 }
 
@@ -565,8 +436,8 @@ fn expect_copied(
 
 #[test]
 fn a_copy_is_alike_and_goes_its_own_way(rt: HostRuntime) -> Result<(), Fail> {
-    for (size, capacity, steps) in CLONED {
-        expect_copied(rt.alloc(), size, capacity, steps)?;
+    for (size, capacity, steps) in &CLONED {
+        expect_copied(rt.alloc(), *size, *capacity, steps)?;
     }
     Ok(())
 }

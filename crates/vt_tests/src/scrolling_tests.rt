@@ -1,17 +1,8 @@
-use crate::seen::{read_keeping, seen};
-use std::alloc::Global;
+use crate::seen::{Example, expect, expect_at_each_cut, expect_each, read_keeping};
+use crate::steps::Step::{GiveUp, Resize, Text, View};
+use crate::steps::{Pieces, taken};
 use std::test::Fail;
-use vt_notes::{Note, Notes};
-use vt100::Parser;
-
-// Fails where this parser shows or called something else.
-fn expect(alloc: Global, parser: &Parser<Notes>, bytes: &str, wanted: &str) -> Result<(), Fail> {
-    let found = seen(alloc, parser)?;
-    if found.as_str() != wanted {
-        return Err(Fail::new(format_args!("{bytes:?} gives {found}and not {wanted}")));
-    }
-    Ok(())
-}
+use vt_notes::Note;
 
 #[rattlefmt::skip]
 const SHOWN: [((u16, u16), usize, &str, &str); 43] = [
@@ -85,104 +76,72 @@ const SHOWN: [((u16, u16), usize, &str, &str); 43] = [
     ((4, 2), 0, "\x1b[2;3r\x1b[2;1H\x1b[9B", "@2,0\n"),
 ];
 
-// Fails where this text, in two pieces or byte by byte, gives something else.
-fn expect_at_each_cut(
-    alloc: Global,
-    size: (u16, u16),
-    capacity: usize,
-    text: &str,
-    wanted: &str,
-) -> Result<(), Fail> {
-    let bytes = text.as_bytes();
-    for cut in 0..=bytes.len() {
-        let parser = read_keeping(alloc, size, capacity, &[&bytes[..cut], &bytes[cut..]])?;
-        expect(alloc, &parser, text, wanted)?;
-    }
-    let single: Vec<&[u8]> = bytes.chunks(1).collect(alloc)?;
-    let parser = read_keeping(alloc, size, capacity, single.as_slice())?;
-    expect(alloc, &parser, text, wanted)
-}
-
 #[test]
 fn scrolls_at_every_cut(rt: HostRuntime) -> Result<(), Fail> {
-    for (size, capacity, text, wanted) in SHOWN {
-        expect_at_each_cut(rt.alloc(), size, capacity, text, wanted)?;
+    for (size, capacity, text, wanted) in &SHOWN {
+        expect_at_each_cut(rt.alloc(), *size, *capacity, &[Text(text)], wanted)?;
     }
     Ok(())
 }
 
-// A text, how many rows are then to be in view, and a text that follows.
 #[rattlefmt::skip]
-const LOOKED_BACK: [((u16, u16), usize, (&str, usize, &str), &str); 9] = [
-    ((2, 4), 10, ("a\r\nb\r\nc", 0, ""), "0:b 1:c @1,1 kept 1\n"),
-    ((2, 4), 10, ("a\r\nb\r\nc", 1, ""), "0:a 1:b @1,1 kept 1 in view 1\n"),
-    ((2, 4), 10, ("a\r\nb\r\nc", 5, ""), "0:a 1:b @1,1 kept 1 in view 1\n"),
-    ((2, 4), 0, ("a", 5, ""), "0:a @0,1\n"),
+const LOOKED_BACK: [Example; 9] = [
+    ((2, 4), 10, &[Text("a\r\nb\r\nc"), View(0)], "0:b 1:c @1,1 kept 1\n"),
+    ((2, 4), 10, &[Text("a\r\nb\r\nc"), View(1)], "0:a 1:b @1,1 kept 1 in view 1\n"),
+    ((2, 4), 10, &[Text("a\r\nb\r\nc"), View(5)], "0:a 1:b @1,1 kept 1 in view 1\n"),
+    ((2, 4), 0, &[Text("a"), View(5)], "0:a @0,1\n"),
 
     // What is in view stays in view, as long as it is kept.
-    ((2, 4), 10, ("a\r\nb\r\nc", 1, "\r\nd"), "0:a 1:b @1,1 kept 2 in view 2\n"),
+    ((2, 4), 10, &[Text("a\r\nb\r\nc"), View(1), Text("\r\nd")], "0:a 1:b @1,1 kept 2 in view 2\n"),
     (
         (2, 4),
         1,
-        ("a\r\nb\r\nc", 1, "\r\nd"),
+        &[Text("a\r\nb\r\nc"), View(1), Text("\r\nd")],
         "0:b 1:c @1,1 kept 1 in view 1\nscroll 61 0\n",
     ),
     (
         (2, 1),
         1,
-        ("z\r\na\r\nb\x1b[2S", 1, ""),
+        &[Text("z\r\na\r\nb\x1b[2S"), View(1)],
         "0:b @1,1 kept 1 in view 1\nscroll 7a 0\nscroll 61 0\n",
     ),
     (
         (2, 1),
         3,
-        ("a\r\nb\r\nc\r\nd", 2, "\x1b[3J"),
+        &[Text("a\r\nb\r\nc\r\nd"), View(2), Text("\x1b[3J")],
         "0:c 1:d @1,1\nscroll 61 0\nscroll 62 0\n",
     ),
 
     // A row that is kept goes on in the next one as before.
-    ((2, 2), 10, ("abcde", 1, ""), "0:ab/ 1:cd/ @1,1 kept 1 in view 1\n"),
+    ((2, 2), 10, &[Text("abcde"), View(1)], "0:ab/ 1:cd/ @1,1 kept 1 in view 1\n"),
 ];
-
-// Fails where this text in two pieces, so many rows in view and then more text, byte by byte, give
-// something else.
-fn expect_in_view(
-    alloc: Global,
-    size: (u16, u16),
-    capacity: usize,
-    (text, in_view, more): (&str, usize, &str),
-    wanted: &str,
-) -> Result<(), Fail> {
-    let bytes = text.as_bytes();
-    for cut in 0..=bytes.len() {
-        let pieces = [&bytes[..cut], &bytes[cut..]];
-        let mut parser = read_keeping(alloc, size, capacity, &pieces)?;
-        parser.screen_mut().set_scrollback(in_view)?;
-        for piece in more.as_bytes().chunks(1) {
-            parser.process(piece)?;
-        }
-        expect(alloc, &parser, text, wanted)?;
-    }
-    Ok(())
-}
 
 #[test]
 fn looks_back_at_every_cut(rt: HostRuntime) -> Result<(), Fail> {
-    for (size, capacity, texts, wanted) in LOOKED_BACK {
-        expect_in_view(rt.alloc(), size, capacity, texts, wanted)?;
-    }
-    Ok(())
+    expect_each(rt.alloc(), &LOOKED_BACK)
 }
 
 #[test]
 fn gives_up_scrollback_in_silence(rt: HostRuntime) -> Result<(), Fail> {
-    let text = "a\r\nb\r\nc\r\nd";
-    let mut parser = read_keeping(rt.alloc(), (2, 1), 3, &[text.as_bytes()])?;
-    parser.screen_mut().set_scrollback(2)?;
-    parser.screen_mut().clear_scrollback();
-    expect(rt.alloc(), &parser, text, "0:c 1:d @1,1\n")?;
+    let steps = [Text("a\r\nb\r\nc\r\nd"), View(2), GiveUp];
+    let parser = taken(rt.alloc(), (2, 1), 3, &steps, Pieces::Two(0))?;
+    expect(rt.alloc(), &parser, &steps, "0:c 1:d @1,1\n")?;
     assert_eq!(rt; parser.screen().scrollback_len(), 0);
     assert_eq!(rt; parser.screen().scrollback_capacity(), 3);
+    Ok(())
+}
+
+#[test]
+fn has_cells_to_the_end_of_each_row(rt: HostRuntime) -> Result<(), Fail> {
+    let steps = [Text("abcdef\r\nghi\r\nj"), Resize(2, 3), View(1)];
+    let parser = taken(rt.alloc(), (2, 6), 10, &steps, Pieces::Two(0))?;
+    let screen = parser.screen();
+    let last = screen.cell(0, 5).ok_or("no cell")?;
+    assert_eq!(rt; last.contents(), "f");
+    for (row, col) in [(0, 6), (1, 3), (2, 0)] {
+        assert!(rt; screen.cell(row, col).is_none(), "a cell at {row}, {col}");
+    }
+    assert!(rt; !screen.row_wrapped(2));
     Ok(())
 }
 

@@ -1,13 +1,54 @@
-//! What a parser shows and called, as one text.
+//! What a parser shows and called, as one text, and what is expected of it.
 
+use crate::steps::{Pieces, Step, longest, size_of, taken};
 use std::alloc::{AllocError, Global};
-use std::num::NonZeroU16;
 use std::test::Fail;
 use vt_notes::Notes;
 use vt100::{Cell, Color, CursorStyle, MouseProtocolEncoding, MouseProtocolMode, Parser, Screen};
 
-/// What a parser shows, as a line, and the lines of its calls.
-pub(crate) fn seen(alloc: Global, parser: &Parser<Notes>) -> Result<String, Fail> {
+/// A fresh parser's size, how many rows its scrollback keeps, what is done, and what is seen then.
+pub(crate) type Example = ((u16, u16), usize, &'static [Step], &'static str);
+
+/// Fails where one of these examples gives something else, its bytes in two pieces or one by one.
+pub(crate) fn expect_each(alloc: Global, examples: &[Example]) -> Result<(), Fail> {
+    for (size, capacity, steps, wanted) in examples {
+        expect_at_each_cut(alloc, *size, *capacity, steps, wanted)?;
+    }
+    Ok(())
+}
+
+/// Fails where these steps, their bytes in two pieces or one by one, give something else.
+pub(crate) fn expect_at_each_cut(
+    alloc: Global,
+    size: (u16, u16),
+    capacity: usize,
+    steps: &[Step],
+    wanted: &str,
+) -> Result<(), Fail> {
+    for most in 0..=longest(steps) {
+        let parser = taken(alloc, size, capacity, steps, Pieces::Two(most))?;
+        expect(alloc, &parser, steps, wanted)?;
+    }
+    let parser = taken(alloc, size, capacity, steps, Pieces::Single)?;
+    expect(alloc, &parser, steps, wanted)
+}
+
+/// Fails where a parser after these steps shows or called something else.
+pub(crate) fn expect(
+    alloc: Global,
+    parser: &Parser<Notes>,
+    steps: &[Step],
+    wanted: &str,
+) -> Result<(), Fail> {
+    let found = seen(alloc, parser)?;
+    if found.as_str() != wanted {
+        return Err(Fail::new(format_args!("{steps:?} give {found}and not {wanted}")));
+    }
+    Ok(())
+}
+
+// What a parser shows, as a line, and the lines of its calls.
+fn seen(alloc: Global, parser: &Parser<Notes>) -> Result<String, Fail> {
     let mut text = shown(alloc, parser.screen())?;
     text.push_str(parser.callbacks().lines(alloc)?.as_str())?;
     Ok(text)
@@ -41,8 +82,7 @@ pub(crate) fn read(
     size: (u16, u16),
     pieces: &[&[u8]],
 ) -> Result<Parser<Notes>, Fail> {
-    let rows = NonZeroU16::new(size.0).ok_or("no rows")?;
-    let cols = NonZeroU16::new(size.1).ok_or("no columns")?;
+    let (rows, cols) = size_of(size)?;
     Ok(vt_notes::read(alloc, rows, cols, pieces)?)
 }
 
@@ -53,8 +93,7 @@ pub(crate) fn read_keeping(
     capacity: usize,
     pieces: &[&[u8]],
 ) -> Result<Parser<Notes>, Fail> {
-    let rows = NonZeroU16::new(size.0).ok_or("no rows")?;
-    let cols = NonZeroU16::new(size.1).ok_or("no columns")?;
+    let (rows, cols) = size_of(size)?;
     let mut parser = Parser::new_with_callbacks(alloc, rows, cols, capacity, Notes::new(alloc))?;
     for piece in pieces {
         parser.process(piece)?;

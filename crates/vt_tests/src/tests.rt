@@ -1,36 +1,10 @@
-use crate::seen::{read, seen};
+use crate::seen::{expect_at_each_cut, read};
+use crate::steps::Step::{Bytes, Text};
+use crate::steps::size_of;
 use std::alloc::Global;
 use std::io::Write;
-use std::num::NonZeroU16;
 use std::test::Fail;
 use vt100::{Color, Parser};
-
-/// The sequence that begins each redraw of a screen whose cursor is shown.
-const CLEAR: &str = "\x1b[?25h\x1b[m\x1b[H\x1b[J";
-
-// Fails where these pieces give something else.
-fn expect(alloc: Global, size: (u16, u16), pieces: &[&[u8]], wanted: &str) -> Result<(), Fail> {
-    let parser = read(alloc, size, pieces)?;
-    let found = seen(alloc, &parser)?;
-    if found.as_str() != wanted {
-        return Err(Fail::new(format_args!("{pieces:?} give {found}and not {wanted}")));
-    }
-    Ok(())
-}
-
-// Fails where these bytes, in two pieces or one by one, give something else.
-fn expect_at_each_cut(
-    alloc: Global,
-    size: (u16, u16),
-    bytes: &[u8],
-    wanted: &str,
-) -> Result<(), Fail> {
-    for cut in 0..=bytes.len() {
-        expect(alloc, size, &[&bytes[..cut], &bytes[cut..]], wanted)?;
-    }
-    let single: Vec<&[u8]> = bytes.chunks(1).collect(alloc)?;
-    expect(alloc, size, single.as_slice(), wanted)
-}
 
 #[rattlefmt::skip]
 const PRINTED: [((u16, u16), &str, &str); 41] = [
@@ -94,8 +68,8 @@ const PRINTED: [((u16, u16), &str, &str); 41] = [
 
 #[test]
 fn prints_at_every_cut(rt: HostRuntime) -> Result<(), Fail> {
-    for (size, text, wanted) in PRINTED {
-        expect_at_each_cut(rt.alloc(), size, text.as_bytes(), wanted)?;
+    for (size, text, wanted) in &PRINTED {
+        expect_at_each_cut(rt.alloc(), *size, 0, &[Text(text)], wanted)?;
     }
     Ok(())
 }
@@ -108,7 +82,8 @@ fn wraps_the_longest_row(rt: HostRuntime) -> Result<(), Fail> {
         wanted.push_str("20")?;
     }
     wanted.push_str("61 0\n")?;
-    expect_at_each_cut(rt.alloc(), (1, 65535), b"\x1b[1;65535Hab", wanted.as_str())
+    let steps = [Text("\x1b[1;65535Hab")];
+    expect_at_each_cut(rt.alloc(), (1, 65535), 0, &steps, wanted.as_str())
 }
 
 #[rattlefmt::skip]
@@ -185,36 +160,33 @@ const REPORTED: [(&[u8], &str); 44] = [
 
 #[test]
 fn calls_at_every_cut(rt: HostRuntime) -> Result<(), Fail> {
-    for (bytes, wanted) in REPORTED {
-        expect_at_each_cut(rt.alloc(), (24, 80), bytes, wanted)?;
+    for (bytes, wanted) in &REPORTED {
+        expect_at_each_cut(rt.alloc(), (24, 80), 0, &[Bytes(bytes)], wanted)?;
     }
     Ok(())
 }
 
-const REDRAWN: [((u16, u16), &str, &str); 3] = [
-    (
-        (24, 80),
-        "this text is \x1b[31mRED\x1b[m",
-        "this text is \x1b[31mRED\x1b[m",
-    ),
-    ((2, 4), "abcd\r\nx", "abcd\r\nx"),
-    (
-        (1, 4),
-        "\x1b[41m\x1b[1;2H\x1b[2X\x1b[m",
-        "\x1b[C\x1b[41m\x1b[2X\x1b[m",
-    ),
+// Each redraw of a screen begins with whether its cursor is shown, and clears the screen.
+#[rattlefmt::skip]
+const REDRAWN: [((u16, u16), &str, &str); 4] = [
+    ((24, 80), "this text is \x1b[31mRED\x1b[m", "\x1b[?25h\x1b[m\x1b[H\x1b[Jthis text is \x1b[31mRED\x1b[m"),
+    ((2, 4), "abcd\r\nx", "\x1b[?25h\x1b[m\x1b[H\x1b[Jabcd\r\nx"),
+    ((1, 4), "\x1b[41m\x1b[1;2H\x1b[2X\x1b[m", "\x1b[?25h\x1b[m\x1b[H\x1b[J\x1b[C\x1b[41m\x1b[2X\x1b[m"),
+    ((2, 4), "\x1b[?25lx", "\x1b[?25l\x1b[m\x1b[H\x1b[Jx"),
 ];
+
+// The redraw of a screen of this size that has read this text.
+fn redrawn(alloc: Global, size: (u16, u16), text: &str) -> Result<String, Fail> {
+    let parser = read(alloc, size, &[text.as_bytes()])?;
+    Ok(parser.screen().contents_formatted()?)
+}
 
 #[test]
 fn redraws(rt: HostRuntime) -> Result<(), Fail> {
-    for (size, bytes, wanted) in REDRAWN {
-        let parser = read(rt.alloc(), size, &[bytes.as_bytes()])?;
-        let redraw = parser.screen().contents_formatted()?;
-        assert_eq!(rt; redraw.as_str().strip_prefix(CLEAR), Some(wanted));
+    for (size, text, wanted) in &REDRAWN {
+        let redraw = redrawn(rt.alloc(), *size, text)?;
+        assert_eq!(rt; redraw.as_str(), *wanted);
     }
-    let parser = read(rt.alloc(), (2, 4), &[b"\x1b[?25lx"])?;
-    let redraw = parser.screen().contents_formatted()?;
-    assert_eq!(rt; redraw.as_str(), "\x1b[?25l\x1b[m\x1b[H\x1b[Jx");
     Ok(())
 }
 
@@ -228,9 +200,17 @@ fn colours_a_cell(rt: HostRuntime) -> Result<(), Fail> {
 }
 
 #[test]
+fn has_a_default_size(rt: HostRuntime) -> Result<(), Fail> {
+    assert!(rt; Parser::DEFAULT_ROWS == 24 && Parser::DEFAULT_COLS == 80);
+    let parser = Parser::default(rt.alloc())?;
+    let (rows, cols) = parser.screen().size();
+    assert!(rt; rows.get() == 24 && cols.get() == 80);
+    Ok(())
+}
+
+#[test]
 fn is_a_writer(rt: HostRuntime) -> Result<(), Fail> {
-    let rows = NonZeroU16::new(2).ok_or("no rows")?;
-    let cols = NonZeroU16::new(4).ok_or("no columns")?;
+    let (rows, cols) = size_of((2, 4))?;
     let mut parser = Parser::new(rt.alloc(), rows, cols, 0)?;
     assert_eq!(rt; parser.write(b"ab")?, 2);
     parser.flush()?;
