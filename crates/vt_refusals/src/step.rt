@@ -17,18 +17,23 @@ pub enum Step {
     /// `set_scrollback` of the screen to this many rows.
     SetScrollback(usize),
 
-    /// `set_size` of the parser to one row of four columns.
-    SetSize,
+    /// `set_size` of the parser to so many rows and columns.
+    SetSize(u16, u16),
 
-    /// `set_size` of the screen to one row of four columns.
-    SetScreenSize,
+    /// `set_size` of the screen to so many rows and columns.
+    SetScreenSize(u16, u16),
+}
+
+/// Rows and columns, each at least 1.
+pub fn size((rows, cols): (u16, u16)) -> (NonZeroU16, NonZeroU16) {
+    let rows = NonZeroU16::new(rows.max(1)).unwrap();
+    let cols = NonZeroU16::new(cols.max(1)).unwrap();
+    (rows, cols)
 }
 
 impl Step {
     /// Makes the call.
     pub fn make(self, parser: &mut Parser<Tally>) -> Answer {
-        let rows = NonZeroU16::new(1).unwrap();
-        let cols = NonZeroU16::new(4).unwrap();
         match self {
             Step::Process(bytes) => done(parser.process(bytes)),
             Step::Redraw => match parser.screen().contents_formatted() {
@@ -36,8 +41,14 @@ impl Step {
                 Err(error) => Answer::Refused(error),
             },
             Step::SetScrollback(rows) => done(parser.screen_mut().set_scrollback(rows)),
-            Step::SetSize => done(parser.set_size(rows, cols)),
-            Step::SetScreenSize => done(parser.screen_mut().set_size(rows, cols)),
+            Step::SetSize(rows, cols) => {
+                let (rows, cols) = size((rows, cols));
+                done(parser.set_size(rows, cols))
+            }
+            Step::SetScreenSize(rows, cols) => {
+                let (rows, cols) = size((rows, cols));
+                done(parser.screen_mut().set_size(rows, cols))
+            }
         }
     }
 }
@@ -56,8 +67,8 @@ impl fmt::Display for Step {
             Step::Process(bytes) => write!(f, "process {}", bytes.escape_ascii()),
             Step::Redraw => write!(f, "redraw"),
             Step::SetScrollback(rows) => write!(f, "set_scrollback {rows}"),
-            Step::SetSize => write!(f, "set_size 1 4"),
-            Step::SetScreenSize => write!(f, "screen set_size 1 4"),
+            Step::SetSize(rows, cols) => write!(f, "set_size {rows} {cols}"),
+            Step::SetScreenSize(rows, cols) => write!(f, "screen set_size {rows} {cols}"),
         }
     }
 }

@@ -1,0 +1,128 @@
+//! The calls that are made.
+
+use crate::pair::Act;
+use crate::step::Step;
+
+/// A parser, and its calls.
+#[derive(Clone, Copy)]
+pub struct Scene {
+    pub name: &'static str,
+
+    /// Rows and columns.
+    pub size: (u16, u16),
+
+    /// How many rows scrollback keeps.
+    pub scrollback: usize,
+    pub steps: &'static [Step],
+}
+
+/// The calls of one parser. Where a call can be refused and the parser has not failed by that, it is
+/// made twice, so that what comes after it is seen, too. What takes no memory says that the parser
+/// still reads, or that it does not.
+pub const SCENES: [Scene; 8] = [
+    Scene {
+        name: "a title, collected in memory that grows",
+        size: (1, 4),
+        scrollback: 0,
+        steps: &[
+            Step::Process(b"x"),
+            Step::Process(b"\x1b]2;a title of many words\x07"),
+            Step::Process(b"y"),
+        ],
+    },
+    Scene {
+        name: "a redraw",
+        size: (1, 4),
+        scrollback: 0,
+        steps: &[Step::Process(b"x"), Step::Redraw, Step::Redraw],
+    },
+    Scene {
+        name: "rows that are pushed, and shown longer",
+        size: (1, 4),
+        scrollback: 1,
+        steps: &[
+            Step::Process(b"x"),
+            Step::Process(b"\r\n"),
+            Step::Process(b"y"),
+            Step::Process(b"\r\n"),
+            Step::SetScrollback(1),
+            Step::SetScrollback(1),
+            Step::Process(b"z"),
+            Step::Process(b"\r\n"),
+            Step::SetScrollback(0),
+            Step::Process(b"w"),
+        ],
+    },
+    Scene {
+        name: "a repetition that wraps",
+        size: (1, 2),
+        scrollback: 10,
+        steps: &[Step::Process(b"a\x1b[5b"), Step::Process(b"z")],
+    },
+    Scene {
+        name: "rows that are scrolled up together",
+        size: (2, 4),
+        scrollback: 10,
+        steps: &[
+            Step::Process(b"a\r\nb"),
+            Step::Process(b"\x1b[2S"),
+            Step::Process(b"z"),
+        ],
+    },
+    Scene {
+        name: "a glyph that becomes wide at a pending wrap",
+        size: (1, 4),
+        scrollback: 1,
+        steps: &[
+            Step::Process(b"abc\xe2\x9d\xa4"),
+            Step::Process(b"\xef\xb8\x8f"),
+            Step::Process(b"z"),
+        ],
+    },
+    Scene {
+        name: "another size while scrollback is in view",
+        size: (2, 4),
+        scrollback: 2,
+        steps: &[
+            Step::Process(b"a\r\nb\r\nc"),
+            Step::SetScrollback(1),
+            Step::SetScrollback(1),
+            Step::SetSize(1, 4),
+            Step::SetSize(1, 4),
+            Step::Process(b"z"),
+        ],
+    },
+    Scene {
+        name: "another size once memory was refused",
+        size: (1, 4),
+        scrollback: 0,
+        steps: &[
+            Step::Process(b"\x1b]2;t\x07"),
+            Step::SetSize(1, 2),
+            Step::Process(b"z"),
+        ],
+    },
+];
+
+/// The calls of two parsers.
+///
+/// The first one enters the alternate page amid other modes, and then the parsers exchange their
+/// screens, so that the second one, which has not failed, reads on with that screen: it says which
+/// cursor was saved, writes on the alternate page and leaves it. As it is resized, a row of the main
+/// page moves into scrollback, and one of the alternate page is reported. The first parser, now with
+/// the other screen, enters the alternate page, too, and its screen is resized; a row of the main
+/// page moves into scrollback. In the end it gets a copy of the screen of the second parser.
+pub const ACTS: [Act; 12] = [
+    Act::First(Step::Process(b"x")),
+    Act::First(Step::Process(b"\x1b[2;3H\x1b[?1;1049;2004h")),
+    Act::Exchange,
+    Act::Second(Step::Process(b"\x1b8")),
+    Act::Second(Step::Process(b"a\r\nb\x1b[?1049l")),
+    Act::Second(Step::SetSize(1, 4)),
+    Act::First(Step::Process(b"y\r\n")),
+    Act::First(Step::Process(b"\x1b[?47h")),
+    Act::First(Step::Process(b"c\r\nd")),
+    Act::First(Step::SetScreenSize(1, 4)),
+    Act::First(Step::Process(b"\x1b[?47l")),
+    Act::Copy,
+];

@@ -1,0 +1,99 @@
+//! Growths of what stands on a parser, and of one in the default size.
+
+use crate::step;
+use std::io;
+use std::io::Write;
+use vt_notes::Notes;
+use vt_show::{Fault, Mode};
+use vt100::Parser;
+
+/// A parser of the default size.
+pub fn run_default<R: AllocGlobal + Print>(rt: &R) -> io::Result<()> {
+    println!(rt; "-- a parser of the default size")?;
+    match Parser::default(rt.alloc()) {
+        Ok(parser) => {
+            let (rows, cols) = parser.screen().size();
+            println!(rt; "default: ok; {rows} rows, {cols} columns")
+        }
+        Err(_) => println!(rt; "default: refused"),
+    }
+}
+
+/// A parser as a writer; a title is collected in memory.
+pub fn run_writer<R: AllocGlobal + Print>(rt: &R) -> io::Result<()> {
+    println!(rt; "-- a parser as a writer")?;
+    let (rows, cols) = step::size((1, 4));
+    let Ok(mut parser) = Parser::new(rt.alloc(), rows, cols, 0) else {
+        return println!(rt; "new: refused");
+    };
+    for bytes in [b"\x1b]2;t\x07", b"abcdef"] {
+        match parser.write(bytes).map_err(|error| error.kind()) {
+            Ok(count) => println!(rt; "write: {count} bytes")?,
+            Err(io::ErrorKind::OutOfMemory) => println!(rt; "write: out of memory")?,
+            Err(io::ErrorKind::Other) => println!(rt; "write: other")?,
+            Err(_) => println!(rt; "write: another kind")?,
+        }
+    }
+    Ok(())
+}
+
+/// A parser that notes its calls: the bell, a title and a row that is not kept.
+pub fn run_notes<R: AllocGlobal + Print>(rt: &R) -> io::Result<()> {
+    println!(rt; "-- calls that are noted")?;
+    let (rows, cols) = step::size((1, 4));
+    let notes = Notes::new(rt.alloc());
+    let Ok(mut parser) = Parser::new_with_callbacks(rt.alloc(), rows, cols, 0, notes) else {
+        return println!(rt; "new: refused");
+    };
+    for bytes in [b"\x07".as_slice(), b"\x1b]2;t\x07", b"a\r\n"] {
+        let answer = match parser.process(bytes) {
+            Ok(()) => "ok",
+            Err(vt100::Error::OutOfMemory) => "refused",
+            Err(vt100::Error::Failed) => "failed",
+        };
+        let notes = parser.callbacks();
+        let (count, complete) = (notes.calls().len(), notes.is_complete());
+        println!(rt;
+            "process {}: {answer}; {count} noted, all of them: {complete}",
+            bytes.escape_ascii()
+        )?;
+    }
+    Ok(())
+}
+
+/// Takes every write, and counts the bytes.
+#[derive(Drop)]
+struct Counted(usize);
+
+impl Write for Counted {
+    fn write(&mut self, buf: &[u8]) -> io::Result<usize> {
+        self.0 = self.0.saturating_add(buf.len());
+        Ok(buf.len())
+    }
+
+    fn flush(&mut self) -> io::Result<()> {
+        Ok(())
+    }
+}
+
+/// From an input to a text.
+pub fn run_show<R: AllocGlobal + Print>(rt: &R) -> io::Result<()> {
+    println!(rt; "-- from an input to a text")?;
+    let (rows, cols) = step::size((1, 4));
+    let mut written = Counted(0);
+    let input = b"x\x1b]2;t\x07";
+    let answer = match vt_show::run(
+        rt.alloc(),
+        &mut input.as_slice(),
+        &mut written,
+        rows,
+        cols,
+        Mode::Formatted,
+    ) {
+        Ok(()) => "ok",
+        Err(Fault::Memory) => "memory",
+        Err(Fault::Read) => "read",
+        Err(Fault::Write) => "write",
+    };
+    println!(rt; "run: {answer}; {} bytes", written.0)
+}
