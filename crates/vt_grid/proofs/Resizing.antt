@@ -320,6 +320,3 @@ fresh_height height width page e = ap (λ (p : Page). length p.rows) e ∙ lengt
 
 pub fresh_width : (height width : ℕ) (page : Page) → page ≡ blank_page height width → page.width ≡ width
 fresh_width height width page e = ap (λ (p : Page). p.width) e
-
-pub fresh_page : (height width : ℕ) (page : Page) → page ≡ blank_page height width → page ≡ blank_page (length page.rows) page.width
-fresh_page height width page e = e ∙ λ i. blank_page (sym (fresh_height height width page e) i) (sym (fresh_width height width page e) i)

@@ -141,7 +141,3 @@ passed_reports gone above a z s =
     let none : above.rows ≡ [] = nil_from_length above.rows (omega (arith, a.kept)) in
     let whole : stacked gone above ≡ map trimmed_row gone = ap (λ (xs : List RowValue). xs ++ map trimmed_row gone) none in
     reported_some gone above s ∙ (take_all (length (stacked gone above) - above.capacity) (stacked gone above) (omega arith) ∙ whole)
-
--- a row of blanks is sound, under a name that code can cite
-pub sound_blanks : (attrs : Attrs) (width : ℕ) → IsRow width (blank_row attrs width)
-sound_blanks attrs width = IsRow-blank_row attrs width

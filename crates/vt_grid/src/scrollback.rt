@@ -19,9 +19,6 @@ use std::mem;
 use vt_cells::Error;
 use vt_rows::{Leaving, Row};
 
-#[cfg(test)]
-pub(crate) mod tests;
-
 /// The rows that left a page at its top, at most as many as its capacity, and
 /// by how many rows a screen is scrolled back (the offset).
 ///

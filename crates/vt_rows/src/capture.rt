@@ -11,9 +11,6 @@ use std::marker::Model;
 use vt_cells::term::{BufWrite, ChangeAttrs, LineFeed};
 use vt_cells::{Attrs, Cell, Sink};
 
-#[cfg(test)]
-mod tests;
-
 /// The contents of a row: its cells, and whether its text goes on in the row
 /// below. It is as a row of a page is, in its own width.
 #[derive(Drop)]

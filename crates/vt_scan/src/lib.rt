@@ -16,6 +16,3 @@ pub use automaton::Scanner;
 pub use event::{Event, Events};
 pub use groups::{FewGroups, Groups};
 pub use parts::Parts;
-
-#[cfg(test)]
-mod tests;

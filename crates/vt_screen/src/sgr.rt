@@ -7,9 +7,6 @@ ghost use Rattle.vt_screen.specs.declared.sgr.GroupRead.{GroupRead};
 use vt_cells::attrs::{Attrs, Intensity};
 use vt_cells::color::Color;
 
-#[cfg(test)]
-mod tests;
-
 /// One change of the current attributes.
 #[derive(Clone, Copy, PartialEq, Eq, Debug)]
 pub enum Setting {

@@ -5,11 +5,15 @@
 #[cfg(test)]
 mod callbacks_tests;
 #[cfg(test)]
+mod capture_tests;
+#[cfg(test)]
 mod counter;
 #[cfg(test)]
 mod noted;
 #[cfg(test)]
 mod pages_tests;
+#[cfg(test)]
+mod rendition_tests;
 #[cfg(test)]
 mod scrolling_tests;
 #[cfg(test)]

@@ -82,7 +82,7 @@ fn changes_pages_at_every_cut(rt: HostRuntime) -> Result<(), Fail> {
 }
 
 #[rattlefmt::skip]
-const RESIZED: [Example; 32] = [
+const RESIZED: [Example; 35] = [
     // Rows come back from scrollback, and blank ones for those that were lost.
     (
         (2, 4),
@@ -98,6 +98,8 @@ const RESIZED: [Example; 32] = [
     ),
     ((3, 4), 10, &[Text("a\r\nb\r\nc"), Resize(2, 4)], "0:b 1:c @1,1 kept 1\n"),
     ((3, 4), 10, &[Text("a\r\nb\r\nc"), Resize(2, 4), Resize(3, 4)], "0:a 1:b 2:c @2,1\n"),
+    ((2, 4), 3, &[Text("a\r\nb\r\nc\r\nd"), Resize(3, 4)], "0:b 1:c 2:d @2,1 kept 1\n"),
+    ((3, 4), 5, &[Text("a\r\nb\r\nc"), Resize(1, 4)], "0:c @0,1 kept 2\n"),
     ((2, 4), 10, &[Text("a\r\nb\r\nc"), View(1), Resize(2, 5)], "0:b 1:c @1,1 kept 1\n"),
 
     // Rows leave at the top, where those below the cursor aren't enough.
@@ -154,6 +156,7 @@ const RESIZED: [Example; 32] = [
 
     // Columns: a left half in the last one is blanked, and no row but an equally long one goes on.
     ((2, 4), 0, &[Text("ab中"), Resize(2, 3)], "0:ab @0,2\n"),
+    ((2, 4), 0, &[Text("ab中x"), Resize(2, 3)], "0:ab 1:x @1,1\n"),
     ((3, 2), 0, &[Text("abcde"), Resize(2, 2)], "0:cd/ 1:e @1,1\n"),
     ((3, 2), 0, &[Text("abcde\x1b[H"), Resize(2, 2)], "0:ab/ 1:cd @0,0\n"),
     ((3, 2), 0, &[Text("abcde"), Resize(3, 3)], "0:ab 1:cd 2:e @2,1\n"),

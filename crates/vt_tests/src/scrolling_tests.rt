@@ -5,7 +5,7 @@ use std::test::Fail;
 use vt_notes::Note;
 
 #[rattlefmt::skip]
-const SHOWN: [((u16, u16), usize, &str, &str); 43] = [
+const SHOWN: [((u16, u16), usize, &str, &str); 44] = [
     // Rows that leave the page are kept, and those for which there is no room are reported.
     ((2, 4), 10, "a\r\nb\r\nc", "0:b 1:c @1,1 kept 1\n"),
     ((2, 4), 1, "a\r\nb\r\nc\r\nd", "0:c 1:d @1,1 kept 1\nscroll 61 0\n"),
@@ -54,6 +54,7 @@ const SHOWN: [((u16, u16), usize, &str, &str); 43] = [
     ((1, 4), 0, "abcd\x1b[X", "0:abcd @0,4\n"),
     ((1, 4), 0, "abcd\x1b[K", "0:abcd @0,4\n"),
     ((1, 4), 0, "abcd\x1b[1K", "@0,4\n"),
+    ((2, 2), 0, "abcd\x1b[1;2H\x1b[J", "0:a @0,1\n"),
     ((2, 4), 0, "abcd\x1b[J", "0:abcd @0,4\n"),
     ((2, 4), 0, "\x1b[2;1Hx\x1b[Habcd\x1b[J", "0:abcd @0,4\n"),
 
@@ -85,7 +86,7 @@ fn scrolls_at_every_cut(rt: HostRuntime) -> Result<(), Fail> {
 }
 
 #[rattlefmt::skip]
-const LOOKED_BACK: [Example; 9] = [
+const LOOKED_BACK: [Example; 11] = [
     ((2, 4), 10, &[Text("a\r\nb\r\nc"), View(0)], "0:b 1:c @1,1 kept 1\n"),
     ((2, 4), 10, &[Text("a\r\nb\r\nc"), View(1)], "0:a 1:b @1,1 kept 1 in view 1\n"),
     ((2, 4), 10, &[Text("a\r\nb\r\nc"), View(5)], "0:a 1:b @1,1 kept 1 in view 1\n"),
@@ -98,6 +99,18 @@ const LOOKED_BACK: [Example; 9] = [
         1,
         &[Text("a\r\nb\r\nc"), View(1), Text("\r\nd")],
         "0:b 1:c @1,1 kept 1 in view 1\nscroll 61 0\n",
+    ),
+    (
+        (3, 1),
+        3,
+        &[Text("a\r\nb\r\nc\r\nd\r\ne"), View(1), Text("\r\nf")],
+        "0:b 1:c 2:d @2,1 kept 3 in view 2\n",
+    ),
+    (
+        (3, 1),
+        3,
+        &[Text("a\r\nb\r\nc\r\nd\r\ne"), View(1), Text("\r\nf\r\ng"), View(9)],
+        "0:b 1:c 2:d @2,1 kept 3 in view 3\nscroll 61 0\n",
     ),
     (
         (2, 1),

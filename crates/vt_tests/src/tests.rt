@@ -7,15 +7,18 @@ use std::test::Fail;
 use vt100::{Color, Parser};
 
 #[rattlefmt::skip]
-const PRINTED: [((u16, u16), &str, &str); 41] = [
+const PRINTED: [((u16, u16), &str, &str); 45] = [
     // A pending wrap.
     ((2, 4), "abcd", "0:abcd @0,4\n"),
+    ((2, 4), "abcd\n", "0:abcd @1,4\n"),
     ((2, 4), "abcdx", "0:abcd/ 1:x @1,1\n"),
+    ((2, 2), "abcde", "0:cd/ 1:e @1,1\nscroll 6162 0\n"),
     ((1, 1), "ab", "0:b @0,1\nscroll 61 0\n"),
 
     // Wide characters.
     ((2, 1), "中", "@0,0\n"),
     ((2, 2), "a中", "0:a 1:[中] @1,2\n"),
+    ((2, 4), "abc中", "0:abc 1:[中] @1,2\n"),
     ((1, 4), "\x1b[1;2H中\x1b[H中", "0:[中] @0,2\n"),
     ((1, 6), "中ab\x1b[1;2Hx", "0:.xab @0,2\n"),
     ((1, 6), "中ab\x1b[Hx", "0:x ab @0,1\n"),
@@ -38,6 +41,7 @@ const PRINTED: [((u16, u16), &str, &str); 41] = [
     ((2, 1), "\u{2764}\u{fe0f}", "0:\u{2764}\u{fe0f} @0,1\n"),
     ((2, 1), "\x1b[2;1H\u{2764}\u{fe0f}", "1:\u{2764}\u{fe0f} @1,1\n"),
     ((1, 1), "\u{2764}\u{fe0f}", "0:\u{2764}\u{fe0f} @0,1\n"),
+    ((1, 2), "a\u{2764}\u{fe0f}", "0:[\u{2764}\u{fe0f}] @0,2\nscroll 61 0\n"),
     ((2, 2), "\u{2764}\u{fe0f}", "0:[\u{2764}\u{fe0f}] @0,2\n"),
     ((2, 2), "\x1b[1;2H\u{2764}\u{fe0f}", "1:[\u{2764}\u{fe0f}] @1,2\n"),
     ((2, 2), "\x1b[2;1H\u{2764}\u{fe0f}", "1:[\u{2764}\u{fe0f}] @1,2\n"),
@@ -87,7 +91,7 @@ fn wraps_the_longest_row(rt: HostRuntime) -> Result<(), Fail> {
 }
 
 #[rattlefmt::skip]
-const REPORTED: [(&[u8], &str); 44] = [
+const REPORTED: [(&[u8], &str); 61] = [
     // Attributes.
     (b"\x1b[1;31;44m", "@0,0 foreground Idx(1) background Idx(4) bold\n"),
     (b"\x1b[38;5;9m", "@0,0 foreground Idx(9)\n"),
@@ -113,13 +117,42 @@ const REPORTED: [(&[u8], &str); 44] = [
     (b"\x1b[1 p", "@0,0\nunhandled_csi(None, None, [[1]], 'p')\n"),
     (b"\x1b[>c", "@0,0\nunhandled_csi(Some(62), None, [[0]], 'c')\n"),
     (b"\x1b(B", "@0,0\nunhandled_escape(Some(40), None, 66)\n"),
+    (b"\x1b7\x1b\\", "@0,0\nunhandled_escape(None, None, 92)\n"),
+    (b"\x1b[? !#p", "@0,0\nunhandled_csi(Some(63), Some(32), [[0]], 'p')\n"),
     (b"\x1b[?>1hA", "0:A @0,1\n"),
     (b"\x1b[1 2qA", "0:A @0,1\n"),
     (b"\x1b[8;;50t", "@0,0\nresize(0, 50)\n"),
     (b"\x1b[8t", "@0,0\nresize(24, 80)\n"),
 
+    // Within a sequence: a control, bytes that nobody reads, and another sequence.
+    (b"ab\x1b[2\r\x80\x7fC", "0:ab @0,2\n"),
+    (b"\x1b[1\r;2\x80\x7fH", "@0,1\n"),
+    (b"\x1b[1\x1b[2C", "@0,2\n"),
+
+    // Numbers stop at the largest, and so does their count.
+    (b"\x1b[99999;1H\x1b[99999999999999999999C", "@23,79\n"),
+    (b"\x1b[99999;99999999999999999999z", "@0,0\nunhandled_csi(None, None, [[65535], [65535]], 'z')\n"),
+    (
+        b"\x1b[0;0;0;0;0;0;0;0;0;0;0;0;0;0;0;0;0;0;0;0;0;0;0;0;0;0;0;0;0;0;0;0;0;0;0;0;0;0;0;1z",
+        "@0,0\nunhandled_csi(None, None, [[0], [0], [0], [0], [0], [0], [0], [0], [0], [0], [0], [0], [0], [0], [0], [0], [0], [0], [0], [0], [0], [0], [0], [0], [0], [0], [0], [0], [0], [0], [0], [0]], 'z')\n",
+    ),
+    (
+        b"\x1b[0;0;0;0;0;0;0;0;0;0;0;0;0;0;0;0;0;0;0;0;0;0;0;0;0;0;0;0;0;0;0;1;0z",
+        "@0,0\nunhandled_csi(None, None, [[0], [0], [0], [0], [0], [0], [0], [0], [0], [0], [0], [0], [0], [0], [0], [0], [0], [0], [0], [0], [0], [0], [0], [0], [0], [0], [0], [0], [0], [0], [0], [1]], 'z')\n",
+    ),
+    (
+        b"\x1b[0;0;0;0;0;0;0;0;0;0;0;0;0;0;0;0;0;0;0;0;0;0;0;0;0;0;0;0;0;0;0;1:2z",
+        "@0,0\nunhandled_csi(None, None, [[0], [0], [0], [0], [0], [0], [0], [0], [0], [0], [0], [0], [0], [0], [0], [0], [0], [0], [0], [0], [0], [0], [0], [0], [0], [0], [0], [0], [0], [0], [0], [1]], 'z')\n",
+    ),
+    (
+        b"\x1b[0;0;0;0;0;0;0;0;0;0;0;0;0;0;0;0;0;0;0;0;0;0;0;0;0;0;0;0;0;0;0;70000z",
+        "@0,0\nunhandled_csi(None, None, [[0], [0], [0], [0], [0], [0], [0], [0], [0], [0], [0], [0], [0], [0], [0], [0], [0], [0], [0], [0], [0], [0], [0], [0], [0], [0], [0], [0], [0], [0], [0], [65535]], 'z')\n",
+    ),
+
     // Operating system commands and other strings.
     (b"\x1b]2;title\x07", "@0,0\nset_window_title(\"title\")\n"),
+    (b"\x1b]2;\xc3\xa4\x07", "@0,0\nset_window_title(\"\\xc3\\xa4\")\n"),
+    (b"\x1b]\x07", "@0,0\nunhandled_osc(\"\")\n"),
     (
         b"\x1b]0;t\x18",
         "@0,0\nset_window_icon_name(\"t\")\nset_window_title(\"t\")\nunhandled_control(24)\n",
@@ -134,17 +167,24 @@ const REPORTED: [(&[u8], &str); 44] = [
     ),
     (b"\x1bP1$qx\x1b\\A", "0:A @0,1\nunhandled_escape(None, None, 92)\n"),
     (b"\x1bPx\x9cy\x1b\\A", "0:A @0,1\nunhandled_escape(None, None, 92)\n"),
+    (b"\x1bP\x1aA", "0:A @0,1\nunhandled_control(26)\n"),
 
     // UTF-8.
     (b"\xe4\xb8\xad", "0:[\u{4e2d}] @0,2\n"),
+    (b"\xc3\xa9\xe4\xb8\xad\xf0\x9f\x98\x80", "0:\u{e9}[\u{4e2d}][\u{1f600}] @0,5\n"),
     (b"\xe4\xb8\x41", "0:A @0,1\nunhandled_char(65533)\n"),
     (b"\xf0\x9f\x18", "@0,0\nunhandled_char(65533)\nunhandled_control(24)\n"),
+    (b"\xf0\x9f\x1bM", "@0,0\nunhandled_char(65533)\n"),
     (b"\xe0\x80\x41", "0:A @0,1\nunhandled_char(65533)\nunhandled_char(65533)\n"),
     (
         b"\xed\xa0\x80",
         "@0,0\nunhandled_char(65533)\nunhandled_char(65533)\nunhandled_char(65533)\n",
     ),
     (b"\x80A", "0:A @0,1\nunhandled_char(65533)\n"),
+    (
+        b"\xc0\xc1\xf5\x80",
+        "@0,0\nunhandled_char(65533)\nunhandled_char(65533)\nunhandled_char(65533)\nunhandled_char(65533)\n",
+    ),
     (b"\x9fA", "0:A @0,1\nunhandled_char(65533)\n"),
     (b"\x9b1mA", "0:1mA @0,3\nunhandled_char(65533)\n"),
     (b"\xc2\x80", "@0,0\nunhandled_char(128)\n"),
@@ -168,11 +208,23 @@ fn calls_at_every_cut(rt: HostRuntime) -> Result<(), Fail> {
 
 // Each redraw of a screen begins with whether its cursor is shown, and clears the screen.
 #[rattlefmt::skip]
-const REDRAWN: [((u16, u16), &str, &str); 4] = [
+const REDRAWN: [((u16, u16), &str, &str); 10] = [
+    ((24, 80), "", "\x1b[?25h\x1b[m\x1b[H\x1b[J"),
     ((24, 80), "this text is \x1b[31mRED\x1b[m", "\x1b[?25h\x1b[m\x1b[H\x1b[Jthis text is \x1b[31mRED\x1b[m"),
+    (
+        (24, 80),
+        "this text is \x1b[31mRED\x1b[m\x1b[1;14H\x1b[32mGREEN",
+        "\x1b[?25h\x1b[m\x1b[H\x1b[Jthis text is \x1b[32mGREEN",
+    ),
     ((2, 4), "abcd\r\nx", "\x1b[?25h\x1b[m\x1b[H\x1b[Jabcd\r\nx"),
     ((1, 4), "\x1b[41m\x1b[1;2H\x1b[2X\x1b[m", "\x1b[?25h\x1b[m\x1b[H\x1b[J\x1b[C\x1b[41m\x1b[2X\x1b[m"),
     ((2, 4), "\x1b[?25lx", "\x1b[?25l\x1b[m\x1b[H\x1b[Jx"),
+
+    // A cursor on a blank screen.
+    ((2, 4), "\x1b[1;2H", "\x1b[?25h\x1b[m\x1b[H\x1b[J\x1b[C"),
+    ((2, 4), "\x1b[?25l\x1b[2;1H", "\x1b[?25l\x1b[m\x1b[H\x1b[J\r\n"),
+    ((2, 4), "\x1b[?25l\x1b[2;3H", "\x1b[?25l\x1b[m\x1b[H\x1b[J\x1b[2;3H"),
+    ((2, 4), "\x1b[41m\x1b[1;4H", "\x1b[?25h\x1b[m\x1b[H\x1b[J\x1b[3C\x1b[41m"),
 ];
 
 // The redraw of a screen of this size that has read this text.

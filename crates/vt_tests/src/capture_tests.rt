@@ -3,11 +3,10 @@
 ghost use Rattle.std.specs.Prelude.{◌≡◌, false, IfOk, length};
 ghost use Rattle.vt_rows.specs.Row.{IsRow};
 
-use super::{BasicFormattedCaptureState, RowContents};
-use crate::row::Row;
 use std::alloc::Global;
 use std::test::Fail;
 use vt_cells::{Attrs, Color, Error, Sink, columns};
+use vt_rows::{BasicFormattedCaptureState, Row, RowContents};
 
 fn red() -> Attrs {
     let mut attrs = Attrs::new();
