@@ -125,33 +125,3 @@ impl Default for Attrs {
         Attrs::new()
     }
 }
-
-#[cfg(test)]
-mod tests {
-    use super::*;
-
-    #[test]
-    fn is_normal_at_first(rt: HostRuntime) {
-        assert_eq!(rt; Intensity::default(), Intensity::Normal);
-    }
-
-    #[test]
-    fn sets_each_part(rt: HostRuntime) {
-        let mut attrs = Attrs::default();
-        assert_eq!(rt; attrs, Attrs::new());
-        attrs.set_bold();
-        assert!(rt; attrs.bold() && !attrs.dim());
-        attrs.set_dim();
-        assert!(rt; attrs.dim() && !attrs.bold());
-        attrs.set_normal_intensity();
-        assert!(rt; !attrs.dim() && !attrs.bold());
-        attrs.set_italic(true);
-        attrs.set_underline(true);
-        attrs.set_inverse(true);
-        assert!(rt; attrs.italic && attrs.underline && attrs.inverse);
-        attrs.set_italic(false);
-        attrs.set_underline(false);
-        attrs.set_inverse(false);
-        assert_eq!(rt; attrs, Attrs::new());
-    }
-}

@@ -12,9 +12,6 @@ use std::marker::Model;
 use std::str;
 use unicode_width::UnicodeWidthStr;
 
-#[cfg(test)]
-mod tests;
-
 /// A cell whose text has this many bytes takes no further mark.
 pub const MARK_LIMIT: u8 = 18;
 

@@ -13,13 +13,3 @@ pub enum Color {
     /// A colour by its red, green and blue parts.
     Rgb(u8, u8, u8),
 }
-
-#[cfg(test)]
-mod tests {
-    use super::*;
-
-    #[test]
-    fn is_the_terminals_own_at_first(rt: HostRuntime) {
-        assert_eq!(rt; Color::default(), Color::Default);
-    }
-}

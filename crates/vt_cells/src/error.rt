@@ -41,21 +41,3 @@ impl fmt::Display for Error {
 }
 
 impl std::error::Error for Error {}
-
-#[cfg(test)]
-mod tests {
-    use super::*;
-    use std::test::Fail;
-
-    #[test]
-    fn displays_its_words(rt: HostRuntime) -> Result<(), Fail> {
-        for (error, words) in [
-            (Error::OutOfMemory, "out of memory"),
-            (Error::Failed, "parser failed"),
-            (Error::from(AllocError), "out of memory"),
-        ] {
-            assert_eq!(rt; error.to_string(rt.alloc())?.as_str(), words);
-        }
-        Ok(())
-    }
-}

@@ -59,18 +59,3 @@ pub enum CursorStyle {
     /// A steady vertical bar.
     SteadyVerticalBar,
 }
-
-#[cfg(test)]
-mod tests {
-    use super::*;
-
-    #[test]
-    fn are_off_at_first(rt: HostRuntime) {
-        assert_eq!(rt; MouseProtocolMode::default(), MouseProtocolMode::None);
-        assert_eq!(rt;
-            MouseProtocolEncoding::default(),
-            MouseProtocolEncoding::Default
-        );
-        assert_eq!(rt; CursorStyle::default(), CursorStyle::Default);
-    }
-}

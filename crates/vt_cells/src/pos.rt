@@ -9,13 +9,3 @@ pub struct Pos {
     /// The column, from the left; one past the last column is a pending wrap.
     pub col: u16,
 }
-
-#[cfg(test)]
-mod tests {
-    use super::*;
-
-    #[test]
-    fn is_home_at_first(rt: HostRuntime) {
-        assert_eq!(rt; Pos::default(), Pos { row: 0, col: 0 });
-    }
-}

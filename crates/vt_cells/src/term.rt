@@ -12,8 +12,6 @@ mod erasing;
 mod input;
 mod moves;
 mod sgr;
-#[cfg(test)]
-mod tests;
 
 pub use changes::{ChangeAttrs, ClearAttrs};
 pub use cursor::{Backspace, Crlf, HideCursor, LineFeed, RestoreCursor, SaveCursor};

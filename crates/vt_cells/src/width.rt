@@ -22,23 +22,3 @@ pub fn columns(c: char) -> Option<u8>
         None => if code < 0x100 { None } else { Some(1) },
     }
 }
-
-#[cfg(test)]
-mod tests {
-    use super::*;
-
-    #[test]
-    fn counts_columns(rt: HostRuntime) {
-        for (c, want) in [
-            ('a', Some(1)),
-            ('~', Some(1)),
-            ('中', Some(2)),
-            ('\u{301}', Some(0)),
-            ('\u{fe0f}', Some(0)),
-            ('\u{7f}', None),
-            ('\u{85}', None),
-        ] {
-            assert_eq!(rt; columns(c), want, "at {c}");
-        }
-    }
-}

@@ -5,8 +5,6 @@
 #[cfg(test)]
 mod callbacks_tests;
 #[cfg(test)]
-mod capture_tests;
-#[cfg(test)]
 mod counter;
 #[cfg(test)]
 mod noted;

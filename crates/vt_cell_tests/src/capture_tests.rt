@@ -1,5 +1,3 @@
-//! Basic texts of rows, as the rule for them says.
-
 ghost use Rattle.std.specs.Prelude.{◌≡◌, false, IfOk, length};
 ghost use Rattle.vt_rows.specs.Row.{IsRow};
 

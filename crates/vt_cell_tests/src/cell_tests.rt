@@ -1,8 +1,5 @@
-//! Cells, by examples.
-
-use super::*;
-use crate::width::columns;
 use std::test::Fail;
+use vt_cells::{Attrs, Cell, Color, columns};
 
 // The cell in which a character and the marks after it come to stand.
 fn cell_of_text(text: &str) -> Cell {
@@ -22,33 +19,39 @@ fn cell_of_text(text: &str) -> Cell {
     cell
 }
 
+// A letter with the nine marks that it takes, and with twelve.
+const NINE: &str = "e\u{301}\u{301}\u{301}\u{301}\u{301}\u{301}\u{301}\u{301}\u{301}";
+
+const TWELVE: &str =
+    "e\u{301}\u{301}\u{301}\u{301}\u{301}\u{301}\u{301}\u{301}\u{301}\u{301}\u{301}\u{301}";
+
+// A text, what the cell holds of it, whether the cell is wide, and whether its text is.
+const KEPT: [(&str, &str, bool, bool); 8] = [
+    ("", "", false, false),
+    ("a", "a", false, false),
+    ("e\u{301}", "e\u{301}", false, false),
+    (TWELVE, NINE, false, false),
+    ("\u{301}", " \u{301}", false, false),
+    ("中", "中", true, true),
+    ("\u{2764}", "\u{2764}", false, false),
+    ("\u{2764}\u{fe0f}", "\u{2764}\u{fe0f}", false, true),
+];
+
 #[test]
 fn keeps_a_character_and_its_marks(rt: HostRuntime) {
-    let nine = "e\u{301}\u{301}\u{301}\u{301}\u{301}\u{301}\u{301}\u{301}\u{301}";
-    let twelve =
-        "e\u{301}\u{301}\u{301}\u{301}\u{301}\u{301}\u{301}\u{301}\u{301}\u{301}\u{301}\u{301}";
-    for (text, contents, wide, wide_text) in [
-        ("", "", false, false),
-        ("a", "a", false, false),
-        ("e\u{301}", "e\u{301}", false, false),
-        (twelve, nine, false, false),
-        ("\u{301}", " \u{301}", false, false),
-        ("中", "中", true, true),
-        ("\u{2764}", "\u{2764}", false, false),
-        ("\u{2764}\u{fe0f}", "\u{2764}\u{fe0f}", false, true),
-    ] {
+    for (text, contents, wide, wide_text) in &KEPT {
         let cell = cell_of_text(text);
-        assert_eq!(rt; cell.contents(), contents, "contents of {text}");
+        assert_eq!(rt; cell.contents(), *contents, "contents of {text}");
         assert_eq!(rt;
             cell.has_contents(),
             !contents.is_empty(),
             "has contents: {text}"
         );
         assert_eq!(rt; cell.is_blank(), contents.is_empty(), "is blank: {text}");
-        assert_eq!(rt; cell.is_wide(), wide, "is wide: {text}");
-        assert_eq!(rt; cell.is_wide_text(), wide_text, "wide text: {text}");
+        assert_eq!(rt; cell.is_wide(), *wide, "is wide: {text}");
+        assert_eq!(rt; cell.is_wide_text(), *wide_text, "wide text: {text}");
     }
-    assert_eq!(rt; nine.len(), 19);
+    assert_eq!(rt; NINE.len(), 19);
 }
 
 // A heart that asks for the look of an emoji, and so is of either width.
@@ -72,7 +75,7 @@ fn compares_text_width_flags_and_attributes(rt: HostRuntime) {
     red.fgcolor = Color::Idx(1);
     let mut shorter = cell_of_text("e\u{301}");
     shorter.clear(Attrs::new());
-    for (cell, other, same) in [
+    for (cell, other, same) in &[
         (Cell::new(), Cell::blank(Attrs::new()), true),
         (shorter, Cell::new(), true),
         (Cell::new(), Cell::blank(bold), false),
@@ -89,7 +92,7 @@ fn compares_text_width_flags_and_attributes(rt: HostRuntime) {
         (Cell::space(bold), Cell::space(Attrs::new()), false),
         (Cell::space(bold), Cell::space(red), false),
     ] {
-        assert_eq!(rt; cell == other, same);
+        assert_eq!(rt; cell == other, *same);
     }
 }
 
@@ -97,14 +100,14 @@ fn compares_text_width_flags_and_attributes(rt: HostRuntime) {
 fn is_cloned_whole(rt: HostRuntime) -> Result<(), Fail> {
     let mut bold = Attrs::new();
     bold.set_bold();
-    for cell in [
+    for cell in &[
         Cell::blank(bold),
         Cell::space(bold),
         Cell::right_half(),
         cell_of_text("e\u{301}"),
         cell_of_text("中"),
     ] {
-        assert!(rt; cell.clone()? == cell);
+        assert!(rt; cell.clone()? == *cell);
     }
     Ok(())
 }

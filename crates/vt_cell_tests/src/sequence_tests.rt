@@ -1,0 +1,257 @@
+use std::alloc::Global;
+use std::test::Fail;
+use vt_cells::term::{
+    ApplicationCursor, ApplicationKeypad, Backspace, BracketedPaste, BufWrite, ChangeAttrs,
+    ClearAttrs, ClearRowForward, ClearScreen, Crlf, CursorStyle, EraseChar, HideCursor, LineFeed,
+    MouseProtocolEncoding, MouseProtocolMode, MoveFromTo, MoveRight, MoveTo, RestoreCursor,
+    SaveCursor,
+};
+use vt_cells::{
+    Attrs, Color, CursorStyle as Style, Error, Intensity, MouseProtocolEncoding as Encoding,
+    MouseProtocolMode as Mode, Pos,
+};
+
+// The text of a sequence.
+fn text_of<W: BufWrite>(alloc: Global, sequence: &W) -> Result<String, Error> {
+    let mut text = String::new(alloc);
+    sequence.write_buf(&mut text)?;
+    Ok(text)
+}
+
+fn pos_of((row, col): (u16, u16)) -> Pos {
+    Pos { row, col }
+}
+
+#[test]
+fn fixed(rt: HostRuntime) -> Result<(), Fail> {
+    let mut text = String::new(rt.alloc());
+    ClearAttrs.write_buf(&mut text)?;
+    ClearScreen.write_buf(&mut text)?;
+    ClearRowForward.write_buf(&mut text)?;
+    Crlf.write_buf(&mut text)?;
+    LineFeed.write_buf(&mut text)?;
+    SaveCursor.write_buf(&mut text)?;
+    Backspace.write_buf(&mut text)?;
+    RestoreCursor.write_buf(&mut text)?;
+    HideCursor { state: true }.write_buf(&mut text)?;
+    HideCursor { state: false }.write_buf(&mut text)?;
+    assert_eq!(rt;
+        text.as_str(),
+        "\x1b[m\x1b[H\x1b[J\x1b[K\r\n\n\x1b7\x08\x1b8\x1b[?25l\x1b[?25h"
+    );
+    Ok(())
+}
+
+const POSITIONS: [(u16, u16, &str); 4] = [
+    (0, 0, "\x1b[H"),
+    (2, 0, "\x1b[3;1H"),
+    (0, 4, "\x1b[1;5H"),
+    (65535, 65535, "\x1b[65536;65536H"),
+];
+
+#[test]
+fn positions(rt: HostRuntime) -> Result<(), Fail> {
+    for (row, col, want) in &POSITIONS {
+        let pos = pos_of((*row, *col));
+        assert_eq!(rt; text_of(rt.alloc(), &MoveTo { pos })?.as_str(), *want);
+    }
+    Ok(())
+}
+
+// A number of columns, a move to the right by them, and an erasure of them.
+const COUNTS: [(u16, &str, &str); 4] = [
+    (0, "", ""),
+    (1, "\x1b[C", "\x1b[X"),
+    (5, "\x1b[5C", "\x1b[5X"),
+    (65535, "\x1b[65535C", "\x1b[65535X"),
+];
+
+#[test]
+fn counts(rt: HostRuntime) -> Result<(), Fail> {
+    for (count, right, erased) in &COUNTS {
+        let (move_right, erase) = (MoveRight { count: *count }, EraseChar { count: *count });
+        assert_eq!(rt; text_of(rt.alloc(), &move_right)?.as_str(), *right);
+        assert_eq!(rt; text_of(rt.alloc(), &erase)?.as_str(), *erased);
+    }
+    Ok(())
+}
+
+const MOVES: [((u16, u16), (u16, u16), &str); 10] = [
+    ((3, 7), (3, 7), ""),
+    ((3, 7), (4, 0), "\r\n"),
+    ((3, 7), (3, 8), "\x1b[C"),
+    ((3, 7), (3, 12), "\x1b[5C"),
+    ((3, 7), (3, 6), "\x1b[4;7H"),
+    ((3, 7), (4, 1), "\x1b[5;2H"),
+    ((3, 7), (5, 0), "\x1b[6;1H"),
+    ((3, 7), (3, 0), "\x1b[4;1H"),
+    ((3, 7), (0, 0), "\x1b[H"),
+    ((65535, 1), (0, 0), "\x1b[H"),
+];
+
+#[test]
+fn moves(rt: HostRuntime) -> Result<(), Fail> {
+    for (from, to, want) in &MOVES {
+        let (from, to) = (pos_of(*from), pos_of(*to));
+        let text = text_of(rt.alloc(), &MoveFromTo { from, to })?;
+        assert_eq!(rt; text.as_str(), *want);
+    }
+    Ok(())
+}
+
+const PLAIN: Attrs = Attrs {
+    fgcolor: Color::Default,
+    bgcolor: Color::Default,
+    intensity: Intensity::Normal,
+    italic: false,
+    underline: false,
+    inverse: false,
+};
+
+const BRIGHT: Attrs = Attrs {
+    fgcolor: Color::Idx(9),
+    ..PLAIN
+};
+
+const BOLD: Attrs = Attrs {
+    fgcolor: Color::Idx(1),
+    bgcolor: Color::Idx(4),
+    intensity: Intensity::Bold,
+    ..PLAIN
+};
+
+const RICH: Attrs = Attrs {
+    fgcolor: Color::Rgb(1, 2, 3),
+    italic: true,
+    underline: true,
+    inverse: true,
+    ..PLAIN
+};
+
+const DIM: Attrs = Attrs {
+    intensity: Intensity::Dim,
+    ..PLAIN
+};
+
+const BACK: Attrs = Attrs {
+    bgcolor: Color::Idx(200),
+    ..PLAIN
+};
+
+const LIGHT: Attrs = Attrs {
+    bgcolor: Color::Idx(15),
+    ..PLAIN
+};
+
+const LAST: Attrs = Attrs {
+    fgcolor: Color::Idx(255),
+    ..PLAIN
+};
+
+// What changes from the first attributes to the second.
+const CHANGES: [(Attrs, Attrs, &str); 11] = [
+    (PLAIN, PLAIN, ""),
+    (BOLD, BOLD, ""),
+    (PLAIN, BRIGHT, "\x1b[91m"),
+    (PLAIN, BOLD, "\x1b[31;44;1m"),
+    (BOLD, PLAIN, "\x1b[m"),
+    (PLAIN, RICH, "\x1b[38;2;1;2;3;3;4;7m"),
+    (RICH, DIM, "\x1b[39;2;23;24;27m"),
+    (DIM, BRIGHT, "\x1b[91;22m"),
+    (PLAIN, BACK, "\x1b[48;5;200m"),
+    (BACK, LIGHT, "\x1b[107m"),
+    (LIGHT, LAST, "\x1b[38;5;255;49m"),
+];
+
+#[test]
+fn attributes(rt: HostRuntime) -> Result<(), Fail> {
+    for (was, new, want) in &CHANGES {
+        let (was, new) = (*was, *new);
+        let text = text_of(rt.alloc(), &ChangeAttrs { was, new })?;
+        assert_eq!(rt; text.as_str(), *want);
+    }
+    Ok(())
+}
+
+// Whether a mode is on, and the texts for a keypad, cursor keys and pasting.
+const SWITCHES: [(bool, &str, &str, &str); 2] = [
+    (true, "\x1b=", "\x1b[?1h", "\x1b[?2004h"),
+    (false, "\x1b>", "\x1b[?1l", "\x1b[?2004l"),
+];
+
+#[test]
+fn switches(rt: HostRuntime) -> Result<(), Fail> {
+    for (state, keypad, cursor, paste) in &SWITCHES {
+        let state = *state;
+        let text = text_of(rt.alloc(), &ApplicationKeypad { state })?;
+        assert_eq!(rt; text.as_str(), *keypad);
+        let text = text_of(rt.alloc(), &ApplicationCursor { state })?;
+        assert_eq!(rt; text.as_str(), *cursor);
+        let text = text_of(rt.alloc(), &BracketedPaste { state })?;
+        assert_eq!(rt; text.as_str(), *paste);
+    }
+    Ok(())
+}
+
+const MOUSE_MODES: [(Mode, Mode, &str); 10] = [
+    (Mode::None, Mode::None, ""),
+    (Mode::None, Mode::Press, "\x1b[?9h"),
+    (Mode::Press, Mode::PressRelease, "\x1b[?1000h"),
+    (Mode::PressRelease, Mode::PressRelease, ""),
+    (Mode::None, Mode::ButtonMotion, "\x1b[?1002h"),
+    (Mode::None, Mode::AnyMotion, "\x1b[?1003h"),
+    (Mode::Press, Mode::None, "\x1b[?9l"),
+    (Mode::PressRelease, Mode::None, "\x1b[?1000l"),
+    (Mode::ButtonMotion, Mode::None, "\x1b[?1002l"),
+    (Mode::AnyMotion, Mode::None, "\x1b[?1003l"),
+];
+
+#[test]
+fn mouse_modes(rt: HostRuntime) -> Result<(), Fail> {
+    for (was, new, want) in &MOUSE_MODES {
+        let (was, new) = (*was, *new);
+        let text = text_of(rt.alloc(), &MouseProtocolMode { was, new })?;
+        assert_eq!(rt; text.as_str(), *want);
+    }
+    Ok(())
+}
+
+const MOUSE_ENCODINGS: [(Encoding, Encoding, &str); 5] = [
+    (Encoding::Sgr, Encoding::Sgr, ""),
+    (Encoding::Default, Encoding::Sgr, "\x1b[?1006h"),
+    (Encoding::Sgr, Encoding::Utf8, "\x1b[?1005h"),
+    (Encoding::Utf8, Encoding::Default, "\x1b[?1005l"),
+    (Encoding::Sgr, Encoding::Default, "\x1b[?1006l"),
+];
+
+#[test]
+fn mouse_encodings(rt: HostRuntime) -> Result<(), Fail> {
+    for (was, new, want) in &MOUSE_ENCODINGS {
+        let (was, new) = (*was, *new);
+        let text = text_of(rt.alloc(), &MouseProtocolEncoding { was, new })?;
+        assert_eq!(rt; text.as_str(), *want);
+    }
+    Ok(())
+}
+
+const STYLES: [(Style, Style, &str); 9] = [
+    (Style::Default, Style::Default, ""),
+    (Style::SteadyBlock, Style::SteadyBlock, ""),
+    (Style::SteadyBlock, Style::Default, "\x1b[0 q"),
+    (Style::Default, Style::BlinkBlock, "\x1b[1 q"),
+    (Style::Default, Style::SteadyBlock, "\x1b[2 q"),
+    (Style::Default, Style::BlinkUnderline, "\x1b[3 q"),
+    (Style::Default, Style::SteadyUnderline, "\x1b[4 q"),
+    (Style::Default, Style::BlinkVerticalBar, "\x1b[5 q"),
+    (Style::Default, Style::SteadyVerticalBar, "\x1b[6 q"),
+];
+
+#[test]
+fn styles(rt: HostRuntime) -> Result<(), Fail> {
+    for (was, new, want) in &STYLES {
+        let (was, new) = (*was, *new);
+        let text = text_of(rt.alloc(), &CursorStyle { was, new })?;
+        assert_eq!(rt; text.as_str(), *want);
+    }
+    Ok(())
+}
