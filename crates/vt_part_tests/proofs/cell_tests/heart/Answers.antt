@@ -5,7 +5,7 @@ use Rattle.unicode_width.proofs.Computing.{unicode_width}
 use Rattle.vt_cells.specs.Cell.{CellValue, IsCell, marked, widened}
 use Rattle.vt_cells.specs.Glyph.{columns_of}
 use Rattle.vt_cells.proofs.Glyphs.{IsGlyphText-first, IsGlyphText-selector}
-use Rattle.vt_cell_tests.proofs.cell_tests.heart.Goals as goal
+use Rattle.vt_part_tests.proofs.cell_tests.heart.Goals as goal
 
 heart_columns : columns_of 0x2764 ≡ Some 1
 unfolding columns_of unicode_width

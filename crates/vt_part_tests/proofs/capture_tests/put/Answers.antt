@@ -4,7 +4,7 @@ use Rattle.vt_cells.specs.Glyph.{columns_of}
 use Rattle.vt_cells.proofs.Glyphs.{IsGlyphText-first}
 use Rattle.vt_rows.specs.Row.{IsRow}
 use Rattle.vt_rows.proofs.Rows.{IsRow-put_narrow, IsRow-put_wide, IsRow-erased}
-use Rattle.vt_cell_tests.proofs.capture_tests.put.Goals as goal
+use Rattle.vt_part_tests.proofs.capture_tests.put.Goals as goal
 
 pub returns-in-Some-eq1 : goal.returns-in-Some-eq1
 returns-in-Some-eq1 c =
