@@ -48,6 +48,11 @@ fn differing_cut(alloc: Global, case: &Case<'_>) -> Result<Option<usize>> {
 /// Whether these pieces give the lines of the case.
 fn is_shown(alloc: Global, case: &Case<'_>, pieces: &[&[u8]]) -> Result<bool> {
     let parser = fed(alloc, case, pieces)?;
+    shows(alloc, &parser, case)
+}
+
+/// Whether a parser shows and called what the case says.
+fn shows(alloc: Global, parser: &Parser<Notes>, case: &Case<'_>) -> Result<bool> {
     let mut lines = screen_lines(alloc, parser.screen())?;
     let calls = parser.callbacks().lines(alloc)?;
     for call in calls.lines() {
@@ -66,12 +71,31 @@ fn is_redrawn(alloc: Global, case: &Case<'_>) -> Result<bool> {
     let Some(expected) = &case.redraw else {
         return Ok(true);
     };
-    let parser = fed(alloc, case, &[case.bytes.as_slice()])?;
-    let redraw = parser.screen().contents_formatted()?;
-    let reader = fed(alloc, case, &[redraw.as_bytes()])?;
-    let again = reader.screen().contents_formatted()?;
-    let is_quiet = reader.callbacks().calls().is_empty();
-    Ok(is_quiet && redraw.as_bytes() == expected.as_slice() && again.as_str() == redraw.as_str())
+    let redraw = redraw_after(alloc, case, case.bytes.as_slice())?;
+    let again = redraw_after(alloc, case, redraw.text.as_bytes())?;
+    let is_same = again.text.as_str() == redraw.text.as_str();
+    Ok(again.is_quiet && is_same && redraw.text.as_bytes() == expected.as_slice())
+}
+
+/// The redraw of a screen.
+#[derive(Drop)]
+struct Redraw {
+    text: String,
+
+    /// Whether what was read before called nothing.
+    is_quiet: bool,
+}
+
+/// The redraw of a fresh parser of the size of a case, after these bytes.
+fn redraw_after(alloc: Global, case: &Case<'_>, bytes: &[u8]) -> Result<Redraw> {
+    let parser = fed(alloc, case, &[bytes])?;
+    redraw_of(&parser)
+}
+
+fn redraw_of(parser: &Parser<Notes>) -> Result<Redraw> {
+    let text = parser.screen().contents_formatted()?;
+    let is_quiet = parser.callbacks().calls().is_empty();
+    Ok(Redraw { text, is_quiet })
 }
 
 /// A fresh parser of the size of a case, after these pieces.

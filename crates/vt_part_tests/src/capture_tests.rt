@@ -1,22 +1,22 @@
 ghost use Rattle.std.specs.Prelude.{◌≡◌, false, IfOk, length};
 ghost use Rattle.vt_rows.specs.Row.{IsRow};
 
+use crate::attributes::PLAIN;
 use std::alloc::Global;
+use std::process::Abort;
 use std::test::Fail;
 use vt_cells::{Attrs, Color, Error, Sink, columns};
 use vt_rows::{BasicFormattedCaptureState, Row, RowContents};
 
-fn red() -> Attrs {
-    let mut attrs = Attrs::new();
-    attrs.fgcolor = Color::Idx(1);
-    attrs
-}
+const RED: Attrs = Attrs {
+    fgcolor: Color::Idx(1),
+    ..PLAIN
+};
 
-fn on_blue() -> Attrs {
-    let mut attrs = Attrs::new();
-    attrs.bgcolor = Color::Idx(4);
-    attrs
-}
+const ON_BLUE: Attrs = Attrs {
+    bgcolor: Color::Idx(4),
+    ..PLAIN
+};
 
 // Puts a character at a column, or a blank for one that takes no column.
 fn put(row: &mut Row, column: usize, c: char, attrs: Attrs)
@@ -76,39 +76,37 @@ fn begins_torn(row: &RowContents<'_>) -> bool
 
 #[test]
 fn lends_sound_rows(rt: HostRuntime) -> Result<(), Fail> {
-    let mut row = row_of(rt.alloc(), 3, &[(0, '中', red()), (2, '中', red())])?;
+    let mut row = row_of(rt.alloc(), 3, &[(0, '中', RED), (2, '中', RED)])?;
     assert!(rt; !begins_torn(&row.contents()));
-    put(&mut row, 1, 'a', red());
+    put(&mut row, 1, 'a', RED);
     assert!(rt; !begins_torn(&row.trimmed_contents()));
     Ok(())
 }
 
+// How many columns a row has, the characters that are put there, and what it is written as.
+const WRITTEN: [(usize, &[(usize, char, Attrs)], &str); 7] = [
+    (3, &[(0, 'a', RED), (2, 'b', PLAIN)], "\x1b[31ma \x1b[mb"),
+    (4, &[(0, 'a', PLAIN), (2, '\0', ON_BLUE)], "a \x1b[44m "),
+    (3, &[(0, '中', PLAIN), (2, 'a', PLAIN)], "中a"),
+    (4, &[(0, '中', RED), (3, 'a', RED)], "\x1b[31m中 a"),
+    (3, &[(0, '中', RED)], "\x1b[31m中"),
+    (1, &[], ""),
+    (1, &[(0, '\0', ON_BLUE)], "\x1b[44m "),
+];
+
 #[test]
 fn writes_cells_in_their_attributes(rt: HostRuntime) -> Result<(), Fail> {
-    let plain = Attrs::new();
-    for (columns, puts, want) in [
-        (
-            3,
-            &[(0, 'a', red()), (2, 'b', plain)][..],
-            "\x1b[31ma \x1b[mb",
-        ),
-        (4, &[(0, 'a', plain), (2, '\0', on_blue())], "a \x1b[44m "),
-        (3, &[(0, '中', plain), (2, 'a', plain)], "中a"),
-        (4, &[(0, '中', red()), (3, 'a', red())], "\x1b[31m中 a"),
-        (3, &[(0, '中', red())], "\x1b[31m中"),
-        (1, &[], ""),
-        (1, &[(0, '\0', on_blue())], "\x1b[44m "),
-    ] {
-        let row = row_of(rt.alloc(), columns, puts)?;
-        assert_eq!(rt; text_of(rt.alloc(), &[row.contents()])?.as_str(), want);
+    for (columns, puts, want) in &WRITTEN {
+        let row = row_of(rt.alloc(), *columns, puts)?;
+        assert_eq!(rt; text_of(rt.alloc(), &[row.contents()])?.as_str(), *want);
     }
     Ok(())
 }
 
 #[test]
 fn ends_a_row_before_the_next(rt: HostRuntime) -> Result<(), Fail> {
-    let mut first = row_of(rt.alloc(), 2, &[(0, 'a', red()), (1, 'b', red())])?;
-    let second = row_of(rt.alloc(), 2, &[(0, 'c', red()), (1, 'd', Attrs::new())])?;
+    let mut first = row_of(rt.alloc(), 2, &[(0, 'a', RED), (1, 'b', RED)])?;
+    let second = row_of(rt.alloc(), 2, &[(0, 'c', RED), (1, 'd', PLAIN)])?;
     let ended = text_of(rt.alloc(), &[first.contents(), second.contents()])?;
     assert_eq!(rt; ended.as_str(), "\x1b[31mab\nc\x1b[md");
     wrap(&mut first);
@@ -156,31 +154,49 @@ impl Sink for Refusing {
     }
 }
 
+// The state after this row, the first one.
+fn state_after(alloc: Global, row: &RowContents<'_>) -> Result<BasicFormattedCaptureState, Fail> {
+    let mut state = BasicFormattedCaptureState::new();
+    let mut text = String::new(alloc);
+    row.write_formatted_basic(&mut text, &mut state)?;
+    Ok(state)
+}
+
+// What a row is written as where none of its pieces is refused.
+const WHOLE: &str = "\n\x1b[mb\x1b[31mc";
+
+// Writes this row where so many pieces are taken, and says whether it was taken whole.
+fn is_taken(
+    rt: &impl Abort,
+    alloc: Global,
+    row: &RowContents<'_>,
+    state: &mut BasicFormattedCaptureState,
+    pieces: usize,
+) -> bool {
+    let mut sink = Refusing {
+        text: String::new(alloc),
+        pieces_left: Some(pieces),
+    };
+    let result = row.write_formatted_basic(&mut sink, state);
+    assert!(rt; WHOLE.starts_with(sink.text.as_str()));
+    assert!(rt; result.is_ok() == (sink.text.as_str() == WHOLE));
+    result.is_ok()
+}
+
 #[test]
 fn stays_where_a_row_is_refused(rt: HostRuntime) -> Result<(), Fail> {
-    let before = row_of(rt.alloc(), 1, &[(0, 'a', red())])?;
-    let row = row_of(rt.alloc(), 2, &[(0, 'b', Attrs::new()), (1, 'c', red())])?;
-    let want = "\n\x1b[mb\x1b[31mc";
-    let mut written = BasicFormattedCaptureState::new();
-    let mut text = String::new(rt.alloc());
-    before
-        .contents()
-        .write_formatted_basic(&mut text, &mut written)?;
-    let row = row.contents();
-    for (pieces_left, taken) in [(0, false), (1, false), (3, false), (100, true)] {
+    let before = row_of(rt.alloc(), 1, &[(0, 'a', RED)])?;
+    let row = row_of(rt.alloc(), 2, &[(0, 'b', PLAIN), (1, 'c', RED)])?;
+    let written = state_after(rt.alloc(), &before.contents())?;
+    for (pieces, taken) in [(0, false), (1, false), (3, false), (100, true)] {
         let mut state = written.clone()?;
-        let mut sink = Refusing {
-            text: String::new(rt.alloc()),
-            pieces_left: Some(pieces_left),
-        };
-        let result = row.write_formatted_basic(&mut sink, &mut state);
-        assert!(rt; want.starts_with(sink.text.as_str()));
-        assert_eq!(rt; result.is_ok(), taken);
-        assert_eq!(rt; sink.text.as_str() == want, taken);
-        if result.is_err() {
+        let found = is_taken(&rt, rt.alloc(), &row.contents(), &mut state, pieces);
+        assert_eq!(rt; found, taken);
+        if !taken {
             let mut again = String::new(rt.alloc());
-            row.write_formatted_basic(&mut again, &mut state)?;
-            assert_eq!(rt; again.as_str(), want);
+            row.contents()
+                .write_formatted_basic(&mut again, &mut state)?;
+            assert_eq!(rt; again.as_str(), WHOLE);
         }
     }
     Ok(())

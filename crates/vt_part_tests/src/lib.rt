@@ -3,6 +3,8 @@
 #![tactic(auto)]
 
 #[cfg(test)]
+mod attributes;
+#[cfg(test)]
 mod capture_tests;
 #[cfg(test)]
 mod cell_tests;

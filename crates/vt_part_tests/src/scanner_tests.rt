@@ -139,6 +139,22 @@ fn many_numbers(alloc: Global, zeros: u8, rest: &[u8]) -> Result<Vec<u8>, Fail> 
     Ok(bytes)
 }
 
+// A scanner after these bytes, which end in SGR.
+fn after_sgr(rt: &impl Abort, alloc: Global, bytes: &[u8]) -> Result<Scanner, Fail> {
+    let mut scanner = Scanner::new(alloc);
+    let mut text = String::new(alloc);
+    feed_all(&mut text, &mut scanner, bytes)?;
+    assert!(rt; text.as_str().ends_with("m,"));
+    Ok(scanner)
+}
+
+// Aborts where a scanner doesn't hold 32 groups, the last one of this number alone.
+fn expect_groups(rt: &impl Abort, scanner: &Scanner, last: u16) {
+    let groups = scanner.groups();
+    assert_eq!(rt; groups.as_slice().len(), 32);
+    assert_eq!(rt; groups.as_slice().last(), Some(&&[last][..]));
+}
+
 #[test]
 fn keeps_what_fits(rt: HostRuntime) -> Result<(), Fail> {
     for (zeros, rest, last) in [
@@ -148,17 +164,8 @@ fn keeps_what_fits(rt: HostRuntime) -> Result<(), Fail> {
         (31, &b"70000m"[..], 65535),
     ] {
         let bytes = many_numbers(rt.alloc(), zeros, rest)?;
-        let mut scanner = Scanner::new(rt.alloc());
-        let mut text = String::new(rt.alloc());
-        feed_all(&mut text, &mut scanner, &bytes)?;
-        assert!(rt; text.as_str().ends_with("m,"));
-        let groups = scanner.groups();
-        assert_eq!(rt; groups.as_slice().len(), 32, "{zeros} zeros");
-        assert_eq!(rt;
-            groups.as_slice().last(),
-            Some(&&[last][..]),
-            "{zeros} zeros"
-        );
+        let scanner = after_sgr(&rt, rt.alloc(), bytes.as_slice())?;
+        expect_groups(&rt, &scanner, last);
     }
     let text = shown(
         rt.alloc(),

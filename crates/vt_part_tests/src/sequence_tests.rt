@@ -1,3 +1,4 @@
+use crate::attributes::PLAIN;
 use std::alloc::Global;
 use std::test::Fail;
 use vt_cells::term::{
@@ -18,28 +19,32 @@ fn text_of<W: BufWrite>(alloc: Global, sequence: &W) -> Result<String, Error> {
     Ok(text)
 }
 
+// Fails where the text of a sequence is another one.
+fn expect_text<W: BufWrite>(alloc: Global, sequence: &W, want: &str) -> Result<(), Fail> {
+    let text = text_of(alloc, sequence)?;
+    if text.as_str() != want {
+        return Err(Fail::new(format_args!("{text:?} is not {want:?}")));
+    }
+    Ok(())
+}
+
 fn pos_of((row, col): (u16, u16)) -> Pos {
     Pos { row, col }
 }
 
 #[test]
 fn fixed(rt: HostRuntime) -> Result<(), Fail> {
-    let mut text = String::new(rt.alloc());
-    ClearAttrs.write_buf(&mut text)?;
-    ClearScreen.write_buf(&mut text)?;
-    ClearRowForward.write_buf(&mut text)?;
-    Crlf.write_buf(&mut text)?;
-    LineFeed.write_buf(&mut text)?;
-    SaveCursor.write_buf(&mut text)?;
-    Backspace.write_buf(&mut text)?;
-    RestoreCursor.write_buf(&mut text)?;
-    HideCursor { state: true }.write_buf(&mut text)?;
-    HideCursor { state: false }.write_buf(&mut text)?;
-    assert_eq!(rt;
-        text.as_str(),
-        "\x1b[m\x1b[H\x1b[J\x1b[K\r\n\n\x1b7\x08\x1b8\x1b[?25l\x1b[?25h"
-    );
-    Ok(())
+    let alloc = rt.alloc();
+    expect_text(alloc, &ClearAttrs, "\x1b[m")?;
+    expect_text(alloc, &ClearScreen, "\x1b[H\x1b[J")?;
+    expect_text(alloc, &ClearRowForward, "\x1b[K")?;
+    expect_text(alloc, &Crlf, "\r\n")?;
+    expect_text(alloc, &LineFeed, "\n")?;
+    expect_text(alloc, &SaveCursor, "\x1b7")?;
+    expect_text(alloc, &Backspace, "\x08")?;
+    expect_text(alloc, &RestoreCursor, "\x1b8")?;
+    expect_text(alloc, &HideCursor { state: true }, "\x1b[?25l")?;
+    expect_text(alloc, &HideCursor { state: false }, "\x1b[?25h")
 }
 
 const POSITIONS: [(u16, u16, &str); 4] = [
@@ -53,7 +58,7 @@ const POSITIONS: [(u16, u16, &str); 4] = [
 fn positions(rt: HostRuntime) -> Result<(), Fail> {
     for (row, col, want) in &POSITIONS {
         let pos = pos_of((*row, *col));
-        assert_eq!(rt; text_of(rt.alloc(), &MoveTo { pos })?.as_str(), *want);
+        expect_text(rt.alloc(), &MoveTo { pos }, want)?;
     }
     Ok(())
 }
@@ -70,8 +75,8 @@ const COUNTS: [(u16, &str, &str); 4] = [
 fn counts(rt: HostRuntime) -> Result<(), Fail> {
     for (count, right, erased) in &COUNTS {
         let (move_right, erase) = (MoveRight { count: *count }, EraseChar { count: *count });
-        assert_eq!(rt; text_of(rt.alloc(), &move_right)?.as_str(), *right);
-        assert_eq!(rt; text_of(rt.alloc(), &erase)?.as_str(), *erased);
+        expect_text(rt.alloc(), &move_right, right)?;
+        expect_text(rt.alloc(), &erase, erased)?;
     }
     Ok(())
 }
@@ -93,20 +98,10 @@ const MOVES: [((u16, u16), (u16, u16), &str); 10] = [
 fn moves(rt: HostRuntime) -> Result<(), Fail> {
     for (from, to, want) in &MOVES {
         let (from, to) = (pos_of(*from), pos_of(*to));
-        let text = text_of(rt.alloc(), &MoveFromTo { from, to })?;
-        assert_eq!(rt; text.as_str(), *want);
+        expect_text(rt.alloc(), &MoveFromTo { from, to }, want)?;
     }
     Ok(())
 }
-
-const PLAIN: Attrs = Attrs {
-    fgcolor: Color::Default,
-    bgcolor: Color::Default,
-    intensity: Intensity::Normal,
-    italic: false,
-    underline: false,
-    inverse: false,
-};
 
 const BRIGHT: Attrs = Attrs {
     fgcolor: Color::Idx(9),
@@ -167,8 +162,7 @@ const CHANGES: [(Attrs, Attrs, &str); 11] = [
 fn attributes(rt: HostRuntime) -> Result<(), Fail> {
     for (was, new, want) in &CHANGES {
         let (was, new) = (*was, *new);
-        let text = text_of(rt.alloc(), &ChangeAttrs { was, new })?;
-        assert_eq!(rt; text.as_str(), *want);
+        expect_text(rt.alloc(), &ChangeAttrs { was, new }, want)?;
     }
     Ok(())
 }
@@ -183,12 +177,9 @@ const SWITCHES: [(bool, &str, &str, &str); 2] = [
 fn switches(rt: HostRuntime) -> Result<(), Fail> {
     for (state, keypad, cursor, paste) in &SWITCHES {
         let state = *state;
-        let text = text_of(rt.alloc(), &ApplicationKeypad { state })?;
-        assert_eq!(rt; text.as_str(), *keypad);
-        let text = text_of(rt.alloc(), &ApplicationCursor { state })?;
-        assert_eq!(rt; text.as_str(), *cursor);
-        let text = text_of(rt.alloc(), &BracketedPaste { state })?;
-        assert_eq!(rt; text.as_str(), *paste);
+        expect_text(rt.alloc(), &ApplicationKeypad { state }, keypad)?;
+        expect_text(rt.alloc(), &ApplicationCursor { state }, cursor)?;
+        expect_text(rt.alloc(), &BracketedPaste { state }, paste)?;
     }
     Ok(())
 }
@@ -210,8 +201,7 @@ const MOUSE_MODES: [(Mode, Mode, &str); 10] = [
 fn mouse_modes(rt: HostRuntime) -> Result<(), Fail> {
     for (was, new, want) in &MOUSE_MODES {
         let (was, new) = (*was, *new);
-        let text = text_of(rt.alloc(), &MouseProtocolMode { was, new })?;
-        assert_eq!(rt; text.as_str(), *want);
+        expect_text(rt.alloc(), &MouseProtocolMode { was, new }, want)?;
     }
     Ok(())
 }
@@ -228,8 +218,7 @@ const MOUSE_ENCODINGS: [(Encoding, Encoding, &str); 5] = [
 fn mouse_encodings(rt: HostRuntime) -> Result<(), Fail> {
     for (was, new, want) in &MOUSE_ENCODINGS {
         let (was, new) = (*was, *new);
-        let text = text_of(rt.alloc(), &MouseProtocolEncoding { was, new })?;
-        assert_eq!(rt; text.as_str(), *want);
+        expect_text(rt.alloc(), &MouseProtocolEncoding { was, new }, want)?;
     }
     Ok(())
 }
@@ -250,8 +239,7 @@ const STYLES: [(Style, Style, &str); 9] = [
 fn styles(rt: HostRuntime) -> Result<(), Fail> {
     for (was, new, want) in &STYLES {
         let (was, new) = (*was, *new);
-        let text = text_of(rt.alloc(), &CursorStyle { was, new })?;
-        assert_eq!(rt; text.as_str(), *want);
+        expect_text(rt.alloc(), &CursorStyle { was, new }, want)?;
     }
     Ok(())
 }

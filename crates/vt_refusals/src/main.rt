@@ -19,6 +19,7 @@ use std::alloc::Global;
 use std::io;
 use std::io::Read;
 use std::num::NonZeroU16;
+use step::Step;
 use tally::Tally;
 use vt100::{Error, Parser};
 
@@ -54,13 +55,21 @@ fn has_warmed_up<R: AllocGlobal + Input>(rt: &R) -> io::Result<bool> {
 /// Makes a parser, and then its calls.
 fn run<R: AllocGlobal + Print>(rt: &R, scene: &Scene) -> io::Result<()> {
     println!(rt; "-- {}", scene.name)?;
-    let Ok(mut parser) = new_parser(rt.alloc(), scene.size, scene.scrollback) else {
-        return println!(rt; "new: refused");
-    };
-    println!(rt; "new: ok; {}", Shown(&parser))?;
-    for step in scene.steps {
-        let answer = step.make(&mut parser);
-        println!(rt; "{step}: {answer}; {}", Shown(&parser))?;
+    match new_parser(rt.alloc(), scene.size, scene.scrollback) {
+        Ok(mut parser) => make_steps(rt, &mut parser, scene.steps),
+        Err(_) => println!(rt; "new: refused"),
+    }
+}
+
+fn make_steps<R: AllocGlobal + Print>(
+    rt: &R,
+    parser: &mut Parser<Tally>,
+    steps: &[Step],
+) -> io::Result<()> {
+    println!(rt; "new: ok; {}", Shown(parser))?;
+    for step in steps {
+        let answer = step.make(parser);
+        println!(rt; "{step}: {answer}; {}", Shown(parser))?;
     }
     Ok(())
 }
@@ -68,13 +77,24 @@ fn run<R: AllocGlobal + Print>(rt: &R, scene: &Scene) -> io::Result<()> {
 /// Makes two parsers of two rows, each with room for one row in scrollback, and then their calls.
 fn run_pair<R: AllocGlobal + Print>(rt: &R) -> io::Result<()> {
     println!(rt; "-- pages, sizes and a copy")?;
-    let Ok(first) = new_parser(rt.alloc(), (2, 4), 1) else {
-        return println!(rt; "first new: refused");
+    match new_pair(rt.alloc()) {
+        Ok(mut pair) => make_acts(rt, &mut pair),
+        Err(name) => println!(rt; "{name} new: refused"),
+    }
+}
+
+/// Two parsers, or the name of the one that was refused.
+fn new_pair(alloc: Global) -> Result<Pair, &'static str> {
+    let Ok(first) = new_parser(alloc, (2, 4), 1) else {
+        return Err("first");
     };
-    let Ok(second) = new_parser(rt.alloc(), (2, 4), 1) else {
-        return println!(rt; "second new: refused");
-    };
-    let mut pair = Pair { first, second };
+    match new_parser(alloc, (2, 4), 1) {
+        Ok(second) => Ok(Pair { first, second }),
+        Err(_) => Err("second"),
+    }
+}
+
+fn make_acts<R: AllocGlobal + Print>(rt: &R, pair: &mut Pair) -> io::Result<()> {
     for act in &ACTS {
         let answer = pair.make(*act);
         println!(rt; "{act}: {answer}; {}", Shown(pair.changed_by(*act)))?;

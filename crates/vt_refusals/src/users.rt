@@ -1,31 +1,39 @@
 //! Growths of what stands on a parser, and of one in the default size.
 
 use crate::step;
+use std::alloc::Global;
 use std::io;
 use std::io::Write;
+use std::num::NonZeroU16;
 use vt_notes::Notes;
 use vt_show::{Fault, Mode};
-use vt100::Parser;
+use vt100::{Error, Parser};
 
 /// A parser of the default size.
 pub fn run_default<R: AllocGlobal + Print>(rt: &R) -> io::Result<()> {
     println!(rt; "-- a parser of the default size")?;
-    match Parser::default(rt.alloc()) {
-        Ok(parser) => {
-            let (rows, cols) = parser.screen().size();
-            println!(rt; "default: ok; {rows} rows, {cols} columns")
-        }
+    match default_size(rt.alloc()) {
+        Ok((rows, cols)) => println!(rt; "default: ok; {rows} rows, {cols} columns"),
         Err(_) => println!(rt; "default: refused"),
     }
+}
+
+fn default_size(alloc: Global) -> Result<(NonZeroU16, NonZeroU16), Error> {
+    let parser = Parser::default(alloc)?;
+    Ok(parser.screen().size())
 }
 
 /// A parser as a writer; a title is collected in memory.
 pub fn run_writer<R: AllocGlobal + Print>(rt: &R) -> io::Result<()> {
     println!(rt; "-- a parser as a writer")?;
     let (rows, cols) = step::size((1, 4));
-    let Ok(mut parser) = Parser::new(rt.alloc(), rows, cols, 0) else {
-        return println!(rt; "new: refused");
-    };
+    match Parser::new(rt.alloc(), rows, cols, 0) {
+        Ok(mut parser) => write_each(rt, &mut parser),
+        Err(_) => println!(rt; "new: refused"),
+    }
+}
+
+fn write_each<R: AllocGlobal + Print>(rt: &R, parser: &mut Parser) -> io::Result<()> {
     for bytes in [b"\x1b]2;t\x07", b"abcdef"] {
         match parser.write(bytes).map_err(|error| error.kind()) {
             Ok(count) => println!(rt; "write: {count} bytes")?,
@@ -42,14 +50,18 @@ pub fn run_notes<R: AllocGlobal + Print>(rt: &R) -> io::Result<()> {
     println!(rt; "-- calls that are noted")?;
     let (rows, cols) = step::size((1, 4));
     let notes = Notes::new(rt.alloc());
-    let Ok(mut parser) = Parser::new_with_callbacks(rt.alloc(), rows, cols, 0, notes) else {
-        return println!(rt; "new: refused");
-    };
+    match Parser::new_with_callbacks(rt.alloc(), rows, cols, 0, notes) {
+        Ok(mut parser) => process_each(rt, &mut parser),
+        Err(_) => println!(rt; "new: refused"),
+    }
+}
+
+fn process_each<R: AllocGlobal + Print>(rt: &R, parser: &mut Parser<Notes>) -> io::Result<()> {
     for bytes in [b"\x07".as_slice(), b"\x1b]2;t\x07", b"a\r\n"] {
         let answer = match parser.process(bytes) {
             Ok(()) => "ok",
-            Err(vt100::Error::OutOfMemory) => "refused",
-            Err(vt100::Error::Failed) => "failed",
+            Err(Error::OutOfMemory) => "refused",
+            Err(Error::Failed) => "failed",
         };
         let notes = parser.callbacks();
         let (count, complete) = (notes.calls().len(), notes.is_complete());

@@ -87,7 +87,7 @@ fn runs(rt: HostRuntime) -> Result<(), Fail> {
 }
 
 #[test]
-fn reads_fail(rt: HostRuntime) -> Result<(), Fail> {
+fn fails_where_a_read_fails(rt: HostRuntime) -> Result<(), Fail> {
     for kind in [io::ErrorKind::Other, io::ErrorKind::Interrupted] {
         let mut broken = Broken {
             bytes: b"ab",
@@ -103,11 +103,16 @@ fn reads_fail(rt: HostRuntime) -> Result<(), Fail> {
 }
 
 #[test]
-fn writes_fail(rt: HostRuntime) -> Result<(), Fail> {
+fn fails_where_a_write_is_refused(rt: HostRuntime) -> Result<(), Fail> {
     let mut closed = Closed(0);
     let done = run_small(rt.alloc(), &mut b"ab".as_slice(), &mut closed)?;
     assert_eq!(rt; done, Err(Fault::Write));
     assert_eq!(rt; closed.0, 1);
+    Ok(())
+}
+
+#[test]
+fn fails_where_a_flush_is_refused(rt: HostRuntime) -> Result<(), Fail> {
     let mut unflushed = Unflushed(Vec::new(rt.alloc()));
     let done = run_small(rt.alloc(), &mut b"ab".as_slice(), &mut unflushed)?;
     assert_eq!(rt; done, Err(Fault::Write));
@@ -119,31 +124,43 @@ fn writes_fail(rt: HostRuntime) -> Result<(), Fail> {
 }
 
 #[test]
-fn words(rt: HostRuntime) -> Result<(), Fail> {
+fn takes_words(rt: HostRuntime) -> Result<(), Fail> {
     let taken = Some((size(24)?, size(80)?, Mode::Formatted));
     assert_eq!(rt; arguments(&["24", "80", "formatted"]), taken);
     assert_eq!(rt; arguments(&["024", "0080", "formatted"]), taken);
-    for words in [
-        ["0", "80", "plain"],
-        ["0", "80", "formatted"],
-        ["24", "65536", "formatted"],
-        ["+24", "80", "formatted"],
-        ["24", "", "formatted"],
-        ["24", "8 0", "formatted"],
-        ["24", "80", "plain"],
-        ["24", "80", "Formatted"],
-    ] {
-        assert_eq!(rt; arguments(&words), None);
-    }
-    assert_eq!(rt; arguments(&["24", "80"]), None);
-    assert_eq!(rt; arguments(&["24", "80", "formatted", ""]), None);
-    for (fault, line, status) in [
-        (Some(Fault::Memory), "vtshow: out of memory", 1),
-        (Some(Fault::Read), "vtshow: read failed", 1),
-        (Some(Fault::Write), "vtshow: write failed", 1),
-        (None, "usage: vtshow ROWS COLS plain|formatted|basic", 2),
-    ] {
-        assert_eq!(rt; ending(fault), (line, status));
-    }
     Ok(())
+}
+
+const REFUSED: [&[&str]; 10] = [
+    &["0", "80", "plain"],
+    &["0", "80", "formatted"],
+    &["24", "65536", "formatted"],
+    &["+24", "80", "formatted"],
+    &["24", "", "formatted"],
+    &["24", "8 0", "formatted"],
+    &["24", "80", "plain"],
+    &["24", "80", "Formatted"],
+    &["24", "80"],
+    &["24", "80", "formatted", ""],
+];
+
+#[test]
+fn refuses_words(rt: HostRuntime) {
+    for words in &REFUSED {
+        assert_eq!(rt; arguments(words), None);
+    }
+}
+
+const ENDINGS: [(Option<Fault>, &str, u8); 4] = [
+    (Some(Fault::Memory), "vtshow: out of memory", 1),
+    (Some(Fault::Read), "vtshow: read failed", 1),
+    (Some(Fault::Write), "vtshow: write failed", 1),
+    (None, "usage: vtshow ROWS COLS plain|formatted|basic", 2),
+];
+
+#[test]
+fn ends_with_a_line_and_a_status(rt: HostRuntime) {
+    for (fault, line, status) in &ENDINGS {
+        assert_eq!(rt; ending(*fault), (*line, *status));
+    }
 }

@@ -27,6 +27,10 @@ const CALLED: [(&[u8], Function); 12] = [
 fn expect_one_call(alloc: Global, bytes: &[u8], function: Function) -> Result<(), Fail> {
     let (rows, cols) = size_of((24, 80))?;
     let mut parser = Parser::new_with_callbacks(alloc, rows, cols, 0, Counter::default())?;
+    expect_call(&mut parser, bytes, function)
+}
+
+fn expect_call(parser: &mut Parser<Counter>, bytes: &[u8], function: Function) -> Result<(), Fail> {
     parser.process(bytes)?;
     let counter = parser.callbacks();
     for (i, count) in counter.counts().iter().enumerate() {
@@ -50,18 +54,23 @@ fn calls_each_function_itself(rt: HostRuntime) -> Result<(), Fail> {
 
 #[test]
 fn lends_screen_and_callbacks(rt: HostRuntime) -> Result<(), Fail> {
-    let alloc = rt.alloc();
-    let (rows, cols) = size_of((3, 2))?;
-    let mut parser = read(alloc, (2, 4), &[b"ab\x1b]2;t"])?;
+    let mut parser = read(rt.alloc(), (2, 4), &[b"ab\x1b]2;t"])?;
+    change_screen_and_callbacks(rt.alloc(), &mut parser)
+}
+
+// Amid a title the screen gets another size, and the callbacks forget; then the title ends.
+fn change_screen_and_callbacks(alloc: Global, parser: &mut Parser<Notes>) -> Result<(), Fail> {
+    let size = size_of((3, 2))?;
     let (screen, notes) = parser.screen_and_callbacks_mut();
-    screen.set_size(rows, cols)?;
+    screen.set_size(size.0, size.1)?;
     *notes = Notes::new(alloc);
     parser.process(b"itle\x07c")?;
-    let (rows, cols) = parser.screen().size();
-    assert!(rt; rows.get() == 3 && cols.get() == 2);
+    if parser.screen().size() != size {
+        return Err(Fail::new("another size"));
+    }
     expect(
         alloc,
-        &parser,
+        parser,
         &[],
         "0:ac @0,2\nset_window_title(\"title\")\n",
     )
@@ -69,13 +78,17 @@ fn lends_screen_and_callbacks(rt: HostRuntime) -> Result<(), Fail> {
 
 #[test]
 fn lends_callbacks(rt: HostRuntime) -> Result<(), Fail> {
-    let alloc = rt.alloc();
-    let mut parser = read(alloc, (2, 4), &[b"a\x07b\x1b]2;t"])?;
+    let mut parser = read(rt.alloc(), (2, 4), &[b"a\x07b\x1b]2;t"])?;
+    forget(rt.alloc(), &mut parser)
+}
+
+// Amid a title the callbacks forget; then the title ends.
+fn forget(alloc: Global, parser: &mut Parser<Notes>) -> Result<(), Fail> {
     *parser.callbacks_mut() = Notes::new(alloc);
     parser.process(b"itle\x07c")?;
     expect(
         alloc,
-        &parser,
+        parser,
         &[],
         "0:abc @0,3\nset_window_title(\"title\")\n",
     )

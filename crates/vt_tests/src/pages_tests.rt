@@ -2,6 +2,7 @@ use crate::seen::{Example, expect_at_each_cut, expect_each, read_keeping, shown}
 use crate::steps::Step::{GiveUp, Resize, ResizeParser, Text, View};
 use crate::steps::{Pieces, Step, taken};
 use std::alloc::Global;
+use std::process::Abort;
 use std::test::Fail;
 use vt_notes::Notes;
 use vt100::{Parser, Screen};
@@ -274,11 +275,16 @@ fn sets_modes_at_every_cut(rt: HostRuntime) -> Result<(), Fail> {
 #[test]
 fn ris_takes_back_each_mode(rt: HostRuntime) -> Result<(), Fail> {
     for (text, _) in &MODES {
-        let parser = read_keeping(rt.alloc(), (2, 4), 0, &[text.as_bytes(), b"\x1bc"])?;
-        let found = shown(rt.alloc(), parser.screen())?;
+        let found = shown_after(rt.alloc(), &[text.as_bytes(), b"\x1bc"])?;
         assert_eq!(rt; found.as_str(), "@0,0\n", "after {text:?}");
     }
     Ok(())
+}
+
+// What a screen shows after these pieces.
+fn shown_after(alloc: Global, pieces: &[&[u8]]) -> Result<String, Fail> {
+    let parser = read_keeping(alloc, (2, 4), 0, pieces)?;
+    shown(alloc, parser.screen())
 }
 
 // Texts that end in RIS, or go on after it.
@@ -330,8 +336,12 @@ const COUNTED: [(Step, (usize, usize, usize)); 5] = [
 #[test]
 fn counts_rows_of_the_main_page_alone(rt: HostRuntime) -> Result<(), Fail> {
     let mut parser = read_keeping(rt.alloc(), (2, 4), 10, &[b"a\r\nb\r\nc"])?;
+    expect_counts(&rt, &mut parser)
+}
+
+fn expect_counts(rt: &impl Abort, parser: &mut Parser<Notes>) -> Result<(), Fail> {
     for (step, wanted) in &COUNTED {
-        step.take(&mut parser, Pieces::Single)?;
+        step.take(parser, Pieces::Single)?;
         assert!(rt; counts(parser.screen()) == *wanted, "after {step:?}");
     }
     Ok(())
@@ -414,7 +424,12 @@ const CLONED: [((u16, u16), usize, &[Step]); 12] = [
 const MORE: &[u8] = b"x\x1b[2b\x1b[?47hyz\x1b8q\x1b[?47l\r\nu\r\nv\r\nw\x1b[Hs\x1b8\x1b[7mt";
 
 // Fails where a copy of this parser's screen isn't like it, now and after it went on by itself.
-fn expect_copy(
+fn expect_copy(alloc: Global, parser: &mut Parser<Notes>) -> Result<(), Fail> {
+    let mut other = with_copy(alloc, parser.screen())?;
+    expect_like(alloc, parser, &mut other)
+}
+
+fn expect_like(
     alloc: Global,
     parser: &mut Parser<Notes>,
     other: &mut Parser<Notes>,
@@ -433,8 +448,7 @@ fn expect_copied(
     steps: &[Step],
 ) -> Result<(), Fail> {
     let mut parser = taken(alloc, size, capacity, steps, Pieces::Single)?;
-    let mut other = with_copy(alloc, parser.screen())?;
-    expect_copy(alloc, &mut parser, &mut other)
+    expect_copy(alloc, &mut parser)
 }
 
 #[test]

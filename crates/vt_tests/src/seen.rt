@@ -4,7 +4,9 @@ use crate::steps::{Pieces, Step, longest, size_of, taken};
 use std::alloc::{AllocError, Global};
 use std::test::Fail;
 use vt_notes::Notes;
-use vt100::{Cell, Color, CursorStyle, MouseProtocolEncoding, MouseProtocolMode, Parser, Screen};
+use vt100::{
+    Cell, Color, CursorStyle, Error, MouseProtocolEncoding, MouseProtocolMode, Parser, Screen,
+};
 
 /// A fresh parser's size, how many rows its scrollback keeps, what is done, and what is seen then.
 pub(crate) type Example = ((u16, u16), usize, &'static [Step], &'static str);
@@ -26,10 +28,21 @@ pub(crate) fn expect_at_each_cut(
     wanted: &str,
 ) -> Result<(), Fail> {
     for most in 0..=longest(steps) {
-        let parser = taken(alloc, size, capacity, steps, Pieces::Two(most))?;
-        expect(alloc, &parser, steps, wanted)?;
+        expect_after(alloc, size, capacity, steps, Pieces::Two(most), wanted)?;
     }
-    let parser = taken(alloc, size, capacity, steps, Pieces::Single)?;
+    expect_after(alloc, size, capacity, steps, Pieces::Single, wanted)
+}
+
+// Fails where these steps, their bytes read like this, give something else.
+fn expect_after(
+    alloc: Global,
+    size: (u16, u16),
+    capacity: usize,
+    steps: &[Step],
+    pieces: Pieces,
+    wanted: &str,
+) -> Result<(), Fail> {
+    let parser = taken(alloc, size, capacity, steps, pieces)?;
     expect(alloc, &parser, steps, wanted)
 }
 
@@ -95,10 +108,15 @@ pub(crate) fn read_keeping(
 ) -> Result<Parser<Notes>, Fail> {
     let (rows, cols) = size_of(size)?;
     let mut parser = Parser::new_with_callbacks(alloc, rows, cols, capacity, Notes::new(alloc))?;
+    process_each(&mut parser, pieces)?;
+    Ok(parser)
+}
+
+fn process_each(parser: &mut Parser<Notes>, pieces: &[&[u8]]) -> Result<(), Error> {
     for piece in pieces {
         parser.process(piece)?;
     }
-    Ok(parser)
+    Ok(())
 }
 
 fn write_row(text: &mut String, screen: &Screen, row: u16) -> Result<(), AllocError> {

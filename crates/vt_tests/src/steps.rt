@@ -81,10 +81,15 @@ pub(crate) fn taken(
     pieces: Pieces,
 ) -> Result<Parser<Notes>, Fail> {
     let mut parser = read_keeping(alloc, size, capacity, &[])?;
-    for step in steps {
-        step.take(&mut parser, pieces)?;
-    }
+    take_each(&mut parser, steps, pieces)?;
     Ok(parser)
+}
+
+fn take_each(parser: &mut Parser<Notes>, steps: &[Step], pieces: Pieces) -> Result<(), Fail> {
+    for step in steps {
+        step.take(parser, pieces)?;
+    }
+    Ok(())
 }
 
 /// The length of the longest text among these steps.

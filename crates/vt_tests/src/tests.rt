@@ -3,8 +3,9 @@ use crate::steps::Step::{Bytes, Text};
 use crate::steps::size_of;
 use std::alloc::Global;
 use std::io::Write;
+use std::process::Abort;
 use std::test::Fail;
-use vt100::{Color, Parser};
+use vt100::{Color, Parser, Screen};
 
 #[rattlefmt::skip]
 const PRINTED: [((u16, u16), &str, &str); 45] = [
@@ -230,7 +231,11 @@ const REDRAWN: [((u16, u16), &str, &str); 10] = [
 // The redraw of a screen of this size that has read this text.
 fn redrawn(alloc: Global, size: (u16, u16), text: &str) -> Result<String, Fail> {
     let parser = read(alloc, size, &[text.as_bytes()])?;
-    Ok(parser.screen().contents_formatted()?)
+    redraw_of(parser.screen())
+}
+
+fn redraw_of(screen: &Screen) -> Result<String, Fail> {
+    Ok(screen.contents_formatted()?)
 }
 
 #[test]
@@ -244,32 +249,47 @@ fn redraws(rt: HostRuntime) -> Result<(), Fail> {
 
 #[test]
 fn colours_a_cell(rt: HostRuntime) -> Result<(), Fail> {
-    let mut parser = Parser::default(rt.alloc())?;
-    parser.process(b"this text is \x1b[31mRED\x1b[m")?;
-    let color = parser.screen().cell(0, 13).map(|cell| cell.fgcolor());
-    assert_eq!(rt; color, Some(Color::Idx(1)));
+    let parser = read(rt.alloc(), (24, 80), &[b"this text is \x1b[31mRED\x1b[m"])?;
+    expect_color(&rt, parser.screen());
     Ok(())
+}
+
+fn expect_color(rt: &impl Abort, screen: &Screen) {
+    let color = screen.cell(0, 13).map(|cell| cell.fgcolor());
+    assert_eq!(rt; color, Some(Color::Idx(1)));
 }
 
 #[test]
 fn has_a_default_size(rt: HostRuntime) -> Result<(), Fail> {
     assert!(rt; Parser::DEFAULT_ROWS == 24 && Parser::DEFAULT_COLS == 80);
     let parser = Parser::default(rt.alloc())?;
-    let (rows, cols) = parser.screen().size();
-    assert!(rt; rows.get() == 24 && cols.get() == 80);
+    expect_default_size(&rt, parser.screen());
     Ok(())
+}
+
+fn expect_default_size(rt: &impl Abort, screen: &Screen) {
+    let (rows, cols) = screen.size();
+    assert!(rt; rows.get() == 24 && cols.get() == 80);
 }
 
 #[test]
 fn is_a_writer(rt: HostRuntime) -> Result<(), Fail> {
     let (rows, cols) = size_of((2, 4))?;
     let mut parser = Parser::new(rt.alloc(), rows, cols, 0)?;
+    write_letters(&rt, &mut parser)
+}
+
+fn write_letters(rt: &impl Abort, parser: &mut Parser) -> Result<(), Fail> {
     assert_eq!(rt; parser.write(b"ab")?, 2);
     parser.flush()?;
+    expect_letters(rt, parser.screen())
+}
+
+fn expect_letters(rt: &impl Abort, screen: &Screen) -> Result<(), Fail> {
     for (col, letter) in [(0, "a"), (1, "b")] {
-        let cell = parser.screen().cell(0, col).ok_or("no cell")?;
+        let cell = screen.cell(0, col).ok_or("no cell")?;
         assert_eq!(rt; cell.contents(), letter);
     }
-    assert_eq!(rt; parser.screen().cursor_position(), (0, 2));
+    assert_eq!(rt; screen.cursor_position(), (0, 2));
     Ok(())
 }
