@@ -1,12 +1,4 @@
-pub mod Examples
-pub mod Flat
 pub mod Drawing
-pub mod Glyphs
-pub mod Steps
-pub mod Row
-pub mod Rows
-pub mod Showing
-pub mod Fitting
 pub mod Dispatch
 pub mod Carries
 pub mod Marks
@@ -21,7 +13,6 @@ pub mod Shifting
 pub mod ShiftExamples
 pub mod Blanking
 pub mod Sized
-pub mod Writing
 pub mod Stacking
 pub mod Growing
 pub mod Scrolling

@@ -6,7 +6,6 @@ use Rattle.std.proofs.lemmas.Bool.{cond_both}
 use Rattle.std.proofs.lemmas.List.{take_all, drop_all, length-append, length-drop, length-take, length-map, length-replicate, nil_from_length}
 use Rattle.std.proofs.lemmas.List.Elements.{All-append, All-drop, All-take, All-map, All-replicate, All-same, All-weaker}
 use Rattle.vt_cells.specs.Attrs.{default_attrs}
-use Rattle.vt_cells.specs.declared.attrs.Attrs.{Attrs}
 use Rattle.vt_rows.specs.Row.{RowValue, IsRow, blank_row, resized_row, trimmed_row}
 use Rattle.vt_rows.proofs.Moves.{IsRow-resized_row}
 use Rattle.vt_rows.proofs.Rows.{IsRow-blank_row}

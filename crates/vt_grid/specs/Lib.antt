@@ -9,9 +9,5 @@ pub mod Resize
 pub mod Erasing
 pub mod Printing
 pub mod Canvas
-pub mod Script
-pub mod Simple
-pub mod Fits
 pub mod Keeping
 pub mod Sheet
-pub mod Leads

@@ -58,6 +58,15 @@ pub record IsPage (page : Page) : Type 0 where
   pub rows : All (IsRow page.width) page.rows
   pub last : (row_at page (length page.rows - 1)).wrapped ≡ false
 
+-- a page whose region is all of it, with origin mode off
+pub record IsPlainPage (page : Page) : Type 0 where
+  pub whole : IsWhole page
+  pub origin : page.origin ≡ false
+
+pub record SameSize (page other : Page) : Type 0 where
+  pub width : page.width ≡ other.width
+  pub height : length page.rows ≡ length other.rows
+
 -- a fresh page: default blanks, the cursor in the corner, the whole page as region
 abbrev pub blank_page : ℕ → ℕ → Page
 blank_page height width = record {

@@ -2,9 +2,6 @@
 #![tactic(auto)]
 
 pub mod grid;
-pub mod laws;
-pub mod pen;
-pub mod redraw;
 mod row_lists;
 pub mod scrollback;
 mod sheet;

@@ -22,7 +22,7 @@ use Rattle.vt_grid.specs.Scrollback.{Scrollback, cleared, no_scrollback, grown_i
 use Rattle.std.proofs.lemmas.Bool.{false≢true}
 use Rattle.vt_grid.specs.Resize.{leaving, out_of_view, page_resized, returning, scrollback_resized, window}
 use Rattle.vt_grid.proofs.Resizing.{length-window, page_page_resized, scrollback_resized_is}
-use Rattle.vt_grid.specs.Simple.{SameSize}
+use Rattle.vt_grid.specs.Page.{SameSize}
 use Rattle.vt_screen.specs.Keeping.{AreColored, Aside, IsAbove, IsKept, IsNothing, IsOther, main_scrollback, alternate_scrollback}
 use Rattle.vt_screen.proofs.Sizes.{same_back, same_through}
 use Rattle.vt_screen.proofs.ColoredScrollback.{colored_page_resized, colored_pushed, colored_scrollback_resized, colored_viewed, pushed_capacity, grown_nothing, pushed_nothing, reported_nothing, visible_nothing}

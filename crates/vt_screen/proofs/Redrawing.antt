@@ -1,10 +1,10 @@
 -- A redraw, read by a plain terminal of the same size, shows the screen.
 use Rattle.std.proofs.Common.{◌≡◌, ℕ, Option, Some}
 use Rattle.vt_cells.specs.Op.{bytes_of_all}
-use Rattle.vt_grid.specs.Fits.{IsColored}
+use Rattle.vt_redraw.specs.Fits.{IsColored}
 use Rattle.vt_grid.specs.Page.{IsPage}
 use Rattle.vt_grid.specs.Script.{redraw}
-use Rattle.vt_grid.specs.Simple.{IsSimple, IsPlain, SameSize, shown_on}
+use Rattle.vt_grid.specs.Page.{IsSimple, IsPlain, SameSize, shown_on}
 use Rattle.vt_grid.proofs.Fitting.{redraw_fits}
 use Rattle.vt_grid.proofs.Showing.{redraw_draws}
 use Rattle.vt_scan.specs.Automaton.{start}

@@ -14,7 +14,7 @@ use Rattle.vt_grid.specs.Regions.{in_region, last_row, moved_up, moved_down, nex
 use Rattle.vt_grid.specs.Shifts.{rows_down, scrolled_down, reverse_index, lines_inserted, lines_deleted, chars_inserted, chars_deleted}
 use Rattle.vt_grid.specs.Erasing.{erased_columns, erased_chars, erased_rest, blanked_below, erased_below, erased_start, erased_row, blanked_above, erased_above, erased_page}
 use Rattle.vt_grid.specs.Printing.{with_cursor_cells, left_row, goes_down, wrapped_page, lacks_room, room_made, glyph_put, mark_column, takes_mark, mark_put, carried, made_wide, made_narrow, width_followed, mark_printed, printed, printed_by}
-use Rattle.vt_grid.specs.Simple.{SameSize}
+use Rattle.vt_grid.specs.Page.{SameSize}
 use Rattle.vt_grid.proofs.Pages.{length-moved_rows}
 use Rattle.vt_grid.proofs.Prints.{width_line_feed, height_line_feed, width_wrapped_page, height_flagged_left}
 use Rattle.vt_grid.proofs.Shifting.{length-rows_down}

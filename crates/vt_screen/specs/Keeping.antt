@@ -6,7 +6,7 @@ use Rattle.vt_rows.specs.Row.{RowValue}
 use Rattle.vt_grid.specs.Page.{Page, IsPage}
 use Rattle.vt_grid.specs.Scrollback.{Scrollback, IsScrollback, no_scrollback}
 use Rattle.vt_grid.specs.Resize.{page_resized, scrollback_resized}
-use Rattle.vt_grid.specs.Simple.{SameSize}
+use Rattle.vt_grid.specs.Page.{SameSize}
 use Rattle.vt_screen.specs.Pages.{fresh_page, page_aside}
 use Rattle.vt_screen.specs.Screen.{ScreenValue}
 

@@ -2,7 +2,7 @@
 use Rattle.std.specs.Prelude.{◌≡◌, ◌==◌, ℕ, Bool, true, false, List, [], ◌∷◌, Option, Some, None, is_some, if◌then◌else◌}
 use Rattle.vt_grid.specs.Canvas.{and_then, pushes}
 use Rattle.vt_grid.specs.Moves.{feeds_out}
-use Rattle.vt_grid.specs.Simple.{IsPlain, SameSize}
+use Rattle.vt_grid.specs.Page.{IsPlain, SameSize}
 use Rattle.vt_screen.specs.Screen.{ScreenValue, IsScreen}
 use Rattle.vt_screen.specs.Steps.{Step, Print, LineFeed, ScrollUp, EraseScrollback, EnterAlternate, EnterFresh, Tell, stepped, steps_of}
 use Rattle.vt_scan.specs.Automaton.{State, Event, step_in, start}

@@ -7,7 +7,7 @@ use Rattle.vt_cells.specs.declared.modes.MouseProtocolEncoding.TheVariants as en
 use Rattle.vt_cells.specs.declared.modes.CursorStyle.TheVariants as style
 use Rattle.vt_rows.specs.Row.{RowValue}
 use Rattle.vt_grid.specs.Page.{Page, IsPage, blank_page, row_or}
-use Rattle.vt_grid.specs.Simple.{SameSize}
+use Rattle.vt_grid.specs.Page.{SameSize}
 use Rattle.vt_grid.specs.Canvas.{Canvas}
 use Rattle.vt_grid.specs.Scrollback.{Scrollback, IsScrollback, no_scrollback, viewed, visible}
 pub use Rattle.vt_screen.specs.declared.modes.Modes.{Modes}

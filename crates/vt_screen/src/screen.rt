@@ -3,11 +3,11 @@
 ghost use Rattle.std.specs.Prelude.{◌≡◌, ◌≢◌, ◌<◌, ◌↔◌, ◌++◌, IfErr, IfOk, IfSome, IsSome, None, OnOk, Some, false, length, string_bytes};
 ghost use Rattle.vt_cells.specs.Attrs.{is_bold, is_dim};
 ghost use Rattle.vt_cells.specs.Op.{bytes_of_all};
-ghost use Rattle.vt_grid.specs.Fits.{IsColored};
+ghost use Rattle.vt_redraw.specs.Fits.{IsColored};
 ghost use Rattle.vt_grid.specs.Page.{IsPage};
 ghost use Rattle.vt_rows.specs.Cells.{at};
 ghost use Rattle.vt_grid.specs.Script.{redraw};
-ghost use Rattle.vt_grid.specs.Simple.{IsSimple};
+ghost use Rattle.vt_grid.specs.Page.{IsSimple};
 ghost use Rattle.vt_screen.specs.Reading.{Redraws};
 ghost use Rattle.vt_screen.specs.Screen.{IsScreen, canvas_of, fresh_screen, visible_row};
 

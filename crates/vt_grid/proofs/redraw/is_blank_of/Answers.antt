@@ -1,7 +1,0 @@
-use Rattle.std.proofs.Common.{◌∙◌, sym}
-use Rattle.vt_grid.proofs.Writing.{is_blank_of-blank}
-use Rattle.vt_grid.proofs.redraw.is_blank_of.Goals as goal
-
-pub returns-then-is_blank : goal.returns-then-is_blank
-returns-then-is_blank c =
-    c.eq.ensures ∙ is_blank_of-blank c.args.attrs c.attrs.result c.args.cell.now (sym c.is_blank.ensures ∙ c.if-is_blank.true) c.attrs.ensures

@@ -1,0 +1,97 @@
+-- The difference of a picture with itself is empty, and only that one is.
+use Rattle.std.proofs.Common.{◌≡◌, ℕ, ◌+◌, ◌-◌, ◌&&◌, ◌||◌, Bool, true, false, not, List, [], ◌∷◌, length, Option, Some, None, refl, sym, ap, ◌∙◌, arith}
+use Rattle.std.proofs.lemmas.Bool.{cond_both}
+use Rattle.std.proofs.lemmas.Bool.Decides.{nat_tests}
+use Rattle.vt_cells.specs.Attrs.{default_attrs}
+use Rattle.vt_cells.specs.Cell.{CellValue}
+use Rattle.vt_cells.specs.Op.{Op}
+use Rattle.vt_cells.proofs.Same.{same_attrs-itself, same_bool-itself}
+use Rattle.vt_rows.specs.Row.{RowValue}
+use Rattle.vt_grid.specs.Canvas.{Canvas, drawn_all}
+use Rattle.vt_grid.specs.Page.{IsPlainPage}
+use Rattle.vt_redraw.specs.Script.{changing}
+use Rattle.vt_redraw.specs.declared.pen.Pen.{Pen}
+use Rattle.vt_redraw.specs.Picture.{Picture, IsPicture, SamePictureSize, picture_of}
+use Rattle.vt_redraw.specs.Steady.{IsSteady}
+use Rattle.vt_redraw.specs.Script.{Linked, unlinked, starts_other, linked, is_at}
+use Rattle.vt_redraw.specs.Redraw.{link_of, rows_below, rows_written, pen_of, cursor_written, script, difference}
+use Rattle.vt_redraw.proofs.Standing.{row_nothing, starts_none}
+use Rattle.vt_redraw.proofs.Difference.{difference_draws}
+
+-- ---- nothing differs
+
+neither : (b c : Bool) → c ≡ false → (not true || (b && c)) ≡ false
+neither b c h = grind (arith, h)
+
+link_nothing : (r : ℕ) (pen : Pen) (above : List CellValue) (flag : Bool) (xs : List CellValue) → linked r pen above true flag xs xs ≡ unlinked pen flag
+unfolding linked
+link_nothing r pen above flag xs = rw (neither (is_at pen r (length above)) (starts_other xs xs) (starts_none xs)) refl
+
+join_nothing : (r : ℕ) (pen : Pen) (above x : RowValue) → link_of r pen above above.wrapped x x ≡ unlinked pen x.wrapped
+join_nothing r pen above x =
+    cond_both above.wrapped (linked r pen above.cells above.wrapped x.wrapped x.cells x.cells) (unlinked pen x.wrapped) (λ (j : Linked). j ≡ unlinked pen x.wrapped)
+    (λ (t : above.wrapped ≡ true). rw t (link_nothing r pen above.cells x.wrapped x.cells)) (λ _. refl)
+
+below_nothing : (r : ℕ) (pen : Pen) (above : RowValue) (xs : List RowValue) → ((rows_below r pen above above.wrapped xs xs).ops ≡ []) × ((rows_below r pen above above.wrapped xs xs).pen ≡ pen)
+unfolding rows_below
+below_nothing r pen above [] = (refl, refl)
+below_nothing r pen above (x ∷ xs) = rw (join_nothing r pen above x, row_nothing (r + 1) 0 pen x) (below_nothing (r + 1) pen x xs)
+
+rows_nothing : (pen : Pen) (xs : List RowValue) → ((rows_written pen xs xs).ops ≡ []) × ((rows_written pen xs xs).pen ≡ pen)
+unfolding rows_written
+rows_nothing pen [] = (refl, refl)
+rows_nothing pen (x ∷ xs) = rw (row_nothing 0 0 pen x) (below_nothing 0 pen x xs)
+
+pub difference_self : (picture : Picture) → difference picture picture ≡ []
+unfolding difference script cursor_written changing
+difference_self picture =
+    let pen = pen_of picture in
+    let n = rows_nothing pen picture.rows in
+    let t : is_at pen picture.row picture.column ≡ true = grind (arith, nat_tests) in
+    rw (n.0, n.1, same_bool-itself picture.hidden, t, same_attrs-itself picture.attrs) refl
+
+-- ---- and nothing is left out
+
+-- a plain canvas that shows a picture
+abbrev pub showing : Picture → Canvas
+showing picture = record {
+  page = record {
+    rows = picture.rows;
+    row = picture.row;
+    column = picture.column;
+    saved_row = 0;
+    saved_column = 0;
+    top = 0;
+    bottom = length picture.rows - 1;
+    origin = false;
+    saved_origin = false;
+    width = picture.width;
+  };
+  attrs = picture.attrs;
+  saved_attrs = default_attrs;
+  hidden = picture.hidden;
+}
+
+pub showing_plain : (picture : Picture) → IsPicture picture → IsPlainPage (showing picture).page
+showing_plain picture is = let row = is.cursor_row in record { whole = (refl, omega arith); origin = refl }
+
+picture_or : Picture → Option Canvas → Picture
+picture_or other (Some canvas) = picture_of canvas
+picture_or other None = other
+
+-- the same but for a width that is the same too
+pub same_picture : (self other : Picture) (width : ℕ) → self.width ≡ width → record self { width = width } ≡ other → self ≡ other
+same_picture self other width e h = ap (λ (w : ℕ). record self { width = w }) e ∙ h
+
+-- two lists of operations that draw two pictures on one canvas are the same only if the pictures are
+pub draws_tell : (ops : List Op) (canvas one two : Canvas) → drawn_all ops canvas ≡ Some one → drawn_all ops canvas ≡ Some two → picture_of one ≡ picture_of two
+unfolding picture_or
+draws_tell ops canvas one two h k = ap (picture_or (picture_of one)) (sym h ∙ k)
+
+-- where nothing is to be drawn, both pictures are the same
+pub empty_only : (self prev : Picture) → IsPicture self → IsSteady self → IsPicture prev → SamePictureSize self prev → difference self prev ≡ [] → self ≡ prev
+empty_only self prev is steady other size e =
+    let any = showing prev in
+    let d = difference_draws self prev any is steady other size (showing_plain prev other) refl in
+    let none = ap (λ (ops : List Op). drawn_all ops any) (sym e) in
+    same_picture self prev prev.width size.width (sym (draws_tell (difference self prev) any any _ (sym none) d.1))

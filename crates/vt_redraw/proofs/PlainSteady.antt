@@ -1,0 +1,100 @@
+-- Glyphs that are steady: all without U+FE0F, whatever the widths of characters are, and U+2764 with it.
+use Rattle.std.proofs.Common.{◌≡◌, ℕ, suc, ◌≤◌, ◌||◌, nat_lt, Bool, true, false, List, [], ◌∷◌, ◌++◌, length, Option, Some, None, refl, sym, ap, ◌∙◌, append-nil, arith}
+use Rattle.std.specs.Prelude.{chars}
+use Rattle.std.specs.Char.{encode_utf8}
+use Rattle.std.specs.List.{list_any, AllByRecursion}
+use Rattle.std.proofs.lemmas.Bool.{lt-ltb}
+use Rattle.std.proofs.lemmas.Str.{chars-encodes}
+use Rattle.unicode_width.proofs.Computing.{unicode_width}
+use Rattle.unicode_width.specs.Width.{str_width}
+use Rattle.vt_cells.specs.Cell.{default_blank}
+use Rattle.vt_cells.specs.Glyph.{columns_of, is_selector, is_wide_text, has_room, Joins, IsMark, IsGlyphText}
+use Rattle.vt_cells.proofs.Glyphs.{IsGlyphText-chars, selector_columns, encode_bounds}
+use Rattle.vt_cells.specs.declared.attrs.Attrs.{Attrs}
+use Rattle.vt_cells.specs.Attrs.{default_attrs}
+use Rattle.vt_rows.specs.Cells.{blanks}
+use Rattle.vt_grid.specs.Page.{Page}
+use Rattle.vt_grid.specs.Canvas.{Canvas, with_page, and_then, drawn_text, drawn_all}
+use Rattle.vt_redraw.specs.Script.{columns}
+use Rattle.vt_redraw.specs.Steady.{blank_line, IsSteadyGlyph}
+use Rattle.vt_redraw.proofs.Spots.{Spot, glyph_put_here}
+use Rattle.vt_redraw.proofs.Texts.{next, Grows, Prints}
+use Rattle.vt_redraw.proofs.Printing.{print_draws}
+
+and_then_nothing : (x : Option Canvas) → and_then (drawn_all []) x ≡ x
+and_then_nothing None = refl
+and_then_nothing (Some canvas) = refl
+
+-- what prints on screens of a width is steady there
+pub prints_steady : (n : ℕ) (text : List ℕ) (wide : Bool) (attrs : Attrs) → Prints (suc n) text wide → IsSteadyGlyph (suc n) text wide attrs
+prints_steady n text wide attrs prints =
+    let base = blank_line (suc n) attrs in
+    let fits = prints.fits in
+    let spot : Spot base [] [] default_blank default_blank (blanks default_attrs n) false 0 0 wide = record { row = refl; col = refl; fits = omega arith; front = tt; sound = λ t. absurd (cc) } in
+    sym (and_then_nothing (drawn_text (chars text) base))
+    ∙ (print_draws base [] [] [] default_blank default_blank (blanks default_attrs n) false 0 0 text wide attrs prints spot
+    ∙ sym (ap (λ (p : Page). Some (with_page p base)) (glyph_put_here base [] [] [] default_blank default_blank (blanks default_attrs n) false 0 0 text wide attrs spot)))
+
+first_not : (a b : Bool) → (a || b) ≡ false → a ≡ false
+first_not true b h = h
+first_not false b h = refl
+
+rest_not : (a b : Bool) → (a || b) ≡ false → b ≡ false
+rest_not true b h = absurd (cc)
+rest_not false b h = h
+
+-- without U+FE0F the width stays
+grows_plain : (width : ℕ) (wide : Bool) (text ms whole : List ℕ) → AllByRecursion IsMark ms → Joins text ms whole → list_any is_selector ms ≡ false → Grows width wide text ms wide whole
+grows_plain width wide text [] whole marks joins none = (refl, joins)
+grows_plain width wide text (m ∷ ms) whole marks joins none =
+    let no = first_not (is_selector m) (list_any is_selector ms) none in
+    rw no ((marks.0, joins.0), ((λ t. t), grows_plain width wide (text ++ encode_utf8 m) ms whole marks.1 joins.1 (rest_not (is_selector m) (list_any is_selector ms) none)))
+
+pub plain_steady : (n : ℕ) (text : List ℕ) (wide : Bool) (attrs : Attrs) (g : IsGlyphText text wide) → list_any is_selector g.marks ≡ false → columns wide ≤ suc n → IsSteadyGlyph (suc n) text wide attrs
+plain_steady n text wide attrs g none le = prints_steady n text wide attrs (record {
+  first = g.first;
+  marks = g.marks;
+  start = wide;
+  is = IsGlyphText-chars text wide g;
+  columns = g.width none;
+  fits = le;
+  grows = grows_plain (suc n) wide (encode_utf8 g.first) g.marks text g.are_marks g.spelled none;
+})
+
+-- ---- U+2764 and U+FE0F
+
+abbrev heart : List ℕ
+heart = encode_utf8 0x2764 ++ encode_utf8 0xFE0F
+
+heart_columns : columns_of 0x2764 ≡ Some 1
+unfolding columns_of unicode_width
+heart_columns = refl
+
+heart_chars : chars heart ≡ 0x2764 ∷ 0xFE0F ∷ []
+heart_chars =
+    ap (λ (z : List ℕ). chars (encode_utf8 0x2764 ++ z)) (sym (append-nil (encode_utf8 0xFE0F))) ∙ chars-encodes (0x2764 ∷ 0xFE0F ∷ []) refl
+
+heart_width : str_width false (0x2764 ∷ 0xFE0F ∷ []) ≡ 2
+unfolding unicode_width
+heart_width = refl
+
+heart_wide : is_wide_text heart ≡ true
+unfolding is_wide_text
+heart_wide = ap (λ (cs : List ℕ). nat_lt 1 (str_width false cs)) heart_chars ∙ ap (nat_lt 1) heart_width
+
+heart_room : has_room (encode_utf8 0x2764) ≡ true
+heart_room = let bounds = encode_bounds 0x2764 in let most = bounds.1 in lt-ltb (length (encode_utf8 0x2764)) 18 (omega arith)
+
+pub heart_steady : (n : ℕ) (attrs : Attrs) → IsSteadyGlyph (suc (suc n)) heart true attrs
+heart_steady n attrs =
+    let two : nat_lt 1 (suc (suc n)) ≡ true = lt-ltb 1 (suc (suc n)) (omega arith) in
+    let widens : next (suc (suc n)) false (encode_utf8 0x2764) 0xFE0F ≡ true = rw (heart_wide, two) refl in
+    prints_steady (suc n) heart true attrs (record {
+      first = 0x2764;
+      marks = 0xFE0F ∷ [];
+      start = false;
+      is = heart_chars;
+      columns = heart_columns;
+      fits = omega arith;
+      grows = (((refl, selector_columns), heart_room), ((λ t. absurd (cc)), (widens, refl)));
+    })

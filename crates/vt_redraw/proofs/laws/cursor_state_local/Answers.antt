@@ -1,0 +1,5 @@
+use Rattle.vt_redraw.proofs.CursorAlone.{cursor_state_local}
+use Rattle.vt_redraw.proofs.laws.cursor_state_local.Goals as goal
+
+pub returns : goal.returns
+returns c = cursor_state_local

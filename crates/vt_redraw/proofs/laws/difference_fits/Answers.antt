@@ -1,0 +1,5 @@
+use Rattle.vt_redraw.proofs.Fitting.{difference_fits}
+use Rattle.vt_redraw.proofs.laws.difference_fits.Goals as goal
+
+pub returns : goal.returns
+returns c = difference_fits

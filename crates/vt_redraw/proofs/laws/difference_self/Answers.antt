@@ -1,0 +1,5 @@
+use Rattle.vt_redraw.proofs.Nothing.{difference_self}
+use Rattle.vt_redraw.proofs.laws.difference_self.Goals as goal
+
+pub returns : goal.returns
+returns c = difference_self

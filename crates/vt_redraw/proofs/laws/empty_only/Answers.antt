@@ -1,0 +1,5 @@
+use Rattle.vt_redraw.proofs.Nothing.{empty_only}
+use Rattle.vt_redraw.proofs.laws.empty_only.Goals as goal
+
+pub returns : goal.returns
+returns c = empty_only

@@ -1,0 +1,5 @@
+use Rattle.vt_redraw.proofs.Fitting.{redraw_fits}
+use Rattle.vt_redraw.proofs.laws.redraw_fits.Goals as goal
+
+pub returns : goal.returns
+returns c = redraw_fits

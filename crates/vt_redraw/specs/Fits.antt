@@ -1,0 +1,35 @@
+-- The operations whose texts read back as they were meant: numbers that a terminal keeps whole, and texts that it prints.
+use Rattle.std.specs.Prelude.{◌≡◌, ◌≢◌, ℕ, ◌<◌, ◌^◌, List, None, encode_utf8_all}
+use Rattle.std.specs.Char.{IsScalar}
+use Rattle.std.specs.List.{AllByRecursion}
+use Rattle.vt_cells.specs.Glyph.{columns_of}
+use Rattle.vt_cells.specs.Op.{Op, Hide, ClearAttrs, MoveTo, MoveRight, NextRow, LineFeed, Backspace, EraseBelow, EraseRest, EraseChars, SaveCursor, RestoreCursor, ChangeAttrs, Print, FitsAttrs}
+
+-- a character that is drawn, or joins the one before it
+pub record IsPrintable (c : ℕ) : Type 0 where
+  pub scalar : IsScalar c
+  pub shown : columns_of c ≢ None
+  pub reported : c ≢ 0xFFFD
+
+-- a text of such characters
+pub record IsPrintableText (text : List ℕ) : Type 0 where
+  pub characters : List ℕ
+  pub spelled : encode_utf8_all characters ≡ text
+  pub printable : AllByRecursion IsPrintable characters
+
+-- a row and a column are written from 1 on
+abbrev pub Fits : Op → Type 0
+Fits (Hide hidden) = Unit {0}
+Fits ClearAttrs = Unit {0}
+Fits (MoveTo row col) = (row < 65535) × (col < 65535)
+Fits (MoveRight count) = count < 2 ^ 16
+Fits NextRow = Unit {0}
+Fits LineFeed = Unit {0}
+Fits Backspace = Unit {0}
+Fits EraseBelow = Unit {0}
+Fits EraseRest = Unit {0}
+Fits (EraseChars count) = count < 2 ^ 16
+Fits SaveCursor = Unit {0}
+Fits RestoreCursor = Unit {0}
+Fits (ChangeAttrs was new) = FitsAttrs was × FitsAttrs new
+Fits (Print text) = IsPrintableText text

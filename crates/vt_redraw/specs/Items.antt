@@ -1,0 +1,57 @@
+-- One row written for itself: its columns from `start` up to `stop`, for a reader whose cursor is at (r, start) with default attributes.
+use Rattle.std.specs.Prelude.{ℕ, ◌-◌, ◌==◌, ◌&&◌, not, Bool, false, List, [], ◌∷◌, ◌++◌, length, take, drop, if◌then◌else◌}
+use Rattle.vt_cells.specs.Attrs.{default_attrs}
+use Rattle.vt_cells.specs.Cell.{CellValue, blank, glyph, right_half, default_blank}
+use Rattle.vt_rows.specs.Cells.{blanks}
+use Rattle.vt_rows.specs.Row.{RowValue}
+use Rattle.vt_redraw.specs.Script.{pen_at}
+use Rattle.vt_redraw.specs.Script.{Written, after, cells_written, first_written, going_behind, broken}
+
+-- the columns of a row in a range
+abbrev pub in_range : (start stop : ℕ) → List CellValue → List CellValue
+in_range start stop cells = take (stop - start) (drop start cells)
+
+-- a right half in the first column counts as a default blank, which differs from all but a right half
+abbrev pub begun : List CellValue → List CellValue
+begun [] = []
+begun (right_half ∷ xs) = default_blank ∷ xs
+begun (blank a ∷ xs) = blank a ∷ xs
+begun (glyph text wide a ∷ xs) = glyph text wide a ∷ xs
+
+abbrev pub begun_over : (xs ys : List CellValue) → List CellValue
+begun_over (right_half ∷ xs) (right_half ∷ ys) = default_blank ∷ ys
+begun_over (right_half ∷ xs) (blank a ∷ ys) = right_half ∷ ys
+begun_over (right_half ∷ xs) (glyph text wide a ∷ ys) = right_half ∷ ys
+begun_over _ ys = ys
+
+-- the cells of the range
+abbrev pub range_written : (r start stop : ℕ) → Bool → (xs ys : List CellValue) → Written
+range_written r start stop flag xs ys =
+    cells_written r start (pen_at r start default_attrs) flag 0 (begun (in_range start stop xs)) (begun_over (in_range start stop xs) (drop start ys))
+
+abbrev pub is_whole : (start stop width : ℕ) → Bool
+is_whole start stop width = (start == 0) && (stop == width)
+
+-- where the row is to go on below and the reader's does not, its last glyph is printed again
+abbrev pub marked_on : ℕ → Written → Bool → List CellValue → Written
+marked_on r w wanted cells =
+    if wanted && not w.flag then record { ops = w.ops ++ (going_behind r w.pen cells).ops; pen = (going_behind r w.pen cells).pen; flag = w.flag } else w
+
+-- an item of a difference: the range, and for a whole row whether it goes on
+abbrev pub item_of_difference : (r start stop : ℕ) → (x y : RowValue) → Written
+item_of_difference r start stop x y =
+    let w = range_written r start stop y.wrapped x.cells y.cells in
+    let b = broken r w.pen w.flag x.wrapped x.cells in
+    if is_whole start stop (length x.cells) then marked_on r (after w.ops b) x.wrapped x.cells else w
+
+-- a whole row under a row that goes on: its first cell as in a link
+abbrev pub linked_item : ℕ → List CellValue → Written
+linked_item r xs =
+    let first = first_written r (pen_at r 0 default_attrs) false xs (blanks default_attrs (length xs)) in
+    after first.ops (cells_written r 0 first.pen first.flag first.settled xs (blanks default_attrs (length xs)))
+
+-- an item of a redraw; linked: the row above goes on
+abbrev pub item_of_redraw : (r start stop : ℕ) → (linked : Bool) → RowValue → Written
+item_of_redraw r start stop linked x =
+    if is_whole start stop (length x.cells) && linked then linked_item r x.cells
+    else range_written r start stop false x.cells (blanks default_attrs (length x.cells))

@@ -1,0 +1,130 @@
+-- The difference of two pictures, and the redraw of one, as lists of operations.
+use Rattle.std.specs.Prelude.{ℕ, suc, zero, ◌+◌, ◌-◌, nat_lt, Bool, false, List, [], ◌∷◌, ◌++◌, length, replicate, Option, Some, None, if◌then◌else◌}
+use Rattle.vt_cells.specs.Attrs.{default_attrs, same_bool}
+use Rattle.vt_cells.specs.Cell.{CellValue, attrs_of, text_of}
+use Rattle.vt_cells.specs.Op.{Op, Hide, ClearAttrs, MoveTo, EraseBelow, EraseChars, LineFeed, Backspace, SaveCursor, RestoreCursor, Print}
+use Rattle.vt_cells.specs.declared.attrs.Attrs.{Attrs}
+use Rattle.vt_rows.specs.Cells.{at, ends_blank}
+use Rattle.vt_rows.specs.Row.{RowValue, blank_row}
+use Rattle.vt_grid.specs.Page.{row_or}
+use Rattle.vt_redraw.specs.Script.{pen_at, going, changing}
+use Rattle.vt_redraw.specs.declared.pen.Pen.{Pen}
+use Rattle.vt_redraw.specs.Picture.{Picture}
+use Rattle.vt_redraw.specs.Script.{Written, nothing, after, is_at, going_behind, last_column, last_glyph, cells_written, Linked, unlinked, linked, broken}
+
+-- ---- the rows from the top
+
+-- one row: its cells but for those that are settled, and the break
+unfoldable pub row_written : (r settled : ℕ) → Pen → Bool → RowValue → List CellValue → Written
+row_written r settled pen flag x ys =
+    let cells = cells_written r 0 pen flag settled x.cells ys in
+    after cells.ops (broken r cells.pen cells.flag x.wrapped x.cells)
+
+-- the link with row r
+abbrev pub link_of : ℕ → Pen → RowValue → Bool → RowValue → RowValue → Linked
+link_of r pen above on x y = if above.wrapped then linked r pen above.cells on y.wrapped x.cells y.cells else unlinked pen y.wrapped
+
+-- the rows under row r, which is `above`; on: the reader's row r goes on below
+unfoldable pub rows_below : ℕ → Pen → RowValue → Bool → (xs ys : List RowValue) → Written
+rows_below r pen above on [] ys = nothing pen on
+rows_below r pen above on (x ∷ xs) [] = nothing pen on
+rows_below r pen above on (x ∷ xs) (y ∷ ys) =
+    let link = link_of r pen above on x y in
+    let row = row_written (r + 1) link.settled link.pen link.flag x y.cells in
+    after (link.ops ++ row.ops) (rows_below (r + 1) row.pen x row.flag xs ys)
+
+unfoldable pub rows_written : Pen → (xs ys : List RowValue) → Written
+rows_written pen [] ys = nothing pen false
+rows_written pen (x ∷ xs) [] = nothing pen false
+rows_written pen (x ∷ xs) (y ∷ ys) =
+    let row = row_written 0 0 pen y.wrapped x y.cells in
+    after row.ops (rows_below 0 row.pen x row.flag xs ys)
+
+-- ---- the cursor
+
+-- the nearest row at or above row n that does not end blank
+abbrev pub nearest : ℕ → List RowValue → ℕ → Option ℕ
+nearest width rows zero = if ends_blank (row_or width rows 0).cells then None else Some 0
+nearest width rows (suc n) = if ends_blank (row_or width rows (suc n)).cells then nearest width rows n else Some (suc n)
+
+-- from the last column on, which is blank in these attributes: a space, which is then erased
+abbrev pub blank_passed : (was attrs : Attrs) → List Op
+blank_passed was attrs = Print (0x20 ∷ []) ∷ (changing was attrs ++ (SaveCursor ∷ Backspace ∷ EraseChars 1 ∷ RestoreCursor ∷ changing attrs was))
+
+-- a wrap pending at the end of row r, whose last column is blank in these attributes
+unfoldable pub over_blank : Pen → (r width : ℕ) → Attrs → List Op
+over_blank pen r width attrs = going pen r (width - 1) ++ blank_passed pen.attrs attrs
+
+-- a wrap pending at the end of row r: behind the last glyph of row i, and down from there
+unfoldable pub under_last : Pen → (i r : ℕ) → List CellValue → List Op
+under_last pen i r cells = (going_behind i pen cells).ops ++ (changing (going_behind i pen cells).pen.attrs pen.attrs ++ replicate (r - i) LineFeed)
+
+abbrev pub pending_at : Option ℕ → Pen → ℕ → List RowValue → ℕ → List Op
+pending_at None pen width rows r = over_blank pen r width (attrs_of (at (row_or width rows r).cells (width - 1)))
+pending_at (Some i) pen width rows r = under_last pen i r (row_or width rows i).cells
+
+-- the cursor goes where it is to be; the pen's attributes stay
+unfoldable pub cursor_written : Pen → ℕ → List RowValue → (row column : ℕ) → List Op
+cursor_written pen width rows row column =
+    if is_at pen row column then []
+    else if nat_lt column width then going pen row column
+    else pending_at (nearest width rows row) pen width rows row
+
+-- ---- the whole
+
+abbrev pub pen_of : Picture → Pen
+pen_of picture = pen_at picture.row picture.column picture.attrs
+
+-- rows, cursor and attributes
+unfoldable pub script : (self prev : Picture) → List Op
+script self prev =
+    let written = rows_written (pen_of prev) self.rows prev.rows in
+    written.ops ++ (cursor_written written.pen self.width self.rows self.row self.column ++ changing written.pen.attrs self.attrs)
+
+abbrev pub hiding : (self prev : Picture) → List Op
+hiding self prev = if same_bool self.hidden prev.hidden then [] else Hide self.hidden ∷ []
+
+unfoldable pub difference : (self prev : Picture) → List Op
+difference self prev = hiding self prev ++ script self prev
+
+-- a blank picture of the same size
+abbrev pub blank_like : Picture → Picture
+blank_like picture = record {
+  rows = replicate (length picture.rows) (blank_row default_attrs picture.width);
+  width = picture.width;
+  row = 0;
+  column = 0;
+  attrs = default_attrs;
+  hidden = picture.hidden;
+}
+
+unfoldable pub redraw : Picture → List Op
+redraw self = Hide self.hidden ∷ ClearAttrs ∷ MoveTo 0 0 ∷ EraseBelow ∷ script self (blank_like self)
+
+-- ---- the cursor alone, for a reader whose cursor may be anywhere
+
+abbrev pub pending_alone : Option ℕ → ℕ → List RowValue → ℕ → List Op
+pending_alone None width rows r = MoveTo r (width - 1) ∷ blank_passed default_attrs (attrs_of (at (row_or width rows r).cells (width - 1)))
+pending_alone (Some i) width rows r =
+    let cells = (row_or width rows i).cells in
+    MoveTo i (last_column cells)
+    ∷ (changing default_attrs (attrs_of (last_glyph cells))
+    ++ Print (text_of (last_glyph cells)) ∷ (changing (attrs_of (last_glyph cells)) default_attrs ++ replicate (r - i) LineFeed))
+
+-- hiding and the cursor, for a reader that shows the rest and draws with default attributes
+unfoldable pub cursor_state : Picture → List Op
+cursor_state self =
+    Hide self.hidden
+    ∷ (if nat_lt self.column self.width then MoveTo self.row self.column ∷ []
+    else pending_alone (nearest self.width self.rows self.row) self.width self.rows self.row)
+
+-- ---- one picture after the other
+
+-- each against the one before it
+abbrev pub differences : Picture → List Picture → List Op
+differences prev [] = []
+differences prev (x ∷ xs) = difference x prev ++ differences x xs
+
+abbrev pub last_picture : Picture → List Picture → Picture
+last_picture self [] = self
+last_picture self (x ∷ xs) = last_picture x xs

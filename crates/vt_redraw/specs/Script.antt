@@ -1,0 +1,172 @@
+-- What turns a row that the reader shows into another: its cells, its link with the row above, and the break to the row below.
+use Rattle.std.specs.Prelude.{ℕ, suc, zero, ◌+◌, ◌-◌, ◌==◌, ◌&&◌, ◌||◌, not, Bool, true, false, List, [], ◌∷◌, ◌++◌, length, drop, if◌then◌else◌}
+use Rattle.vt_cells.specs.Cell.{CellValue, blank, glyph, right_half, is_glyph, is_right_half, same_cell, text_of, attrs_of}
+use Rattle.std.specs.List.{prefix_len}
+use Rattle.vt_cells.specs.Attrs.{same_attrs}
+use Rattle.vt_cells.specs.Op.{Op, Backspace, ChangeAttrs, EraseChars, EraseRest, Print, moving}
+use Rattle.vt_cells.specs.declared.attrs.Attrs.{Attrs}
+use Rattle.vt_rows.specs.Cells.{at}
+use Rattle.vt_redraw.specs.declared.pen.Pen.{Pen}
+
+abbrev pub pen_at : ℕ → ℕ → Attrs → Pen
+pen_at row col attrs = record { row = row; col = col; attrs = attrs }
+
+-- from the pen to a position, and to other attributes
+unfoldable pub going : Pen → ℕ → ℕ → List Op
+going pen row col = moving pen.row pen.col row col
+
+unfoldable pub changing : Attrs → Attrs → List Op
+changing was new = if same_attrs was new then [] else ChangeAttrs was new ∷ []
+
+-- the cell is a blank in these attributes
+abbrev pub is_blank_of : Attrs → CellValue → Bool
+is_blank_of attrs (blank b) = same_attrs attrs b
+is_blank_of attrs (glyph text wide b) = false
+is_blank_of attrs right_half = false
+
+-- how many blanks of these attributes the cells begin with
+abbrev pub run : Attrs → List CellValue → ℕ
+run attrs cells = prefix_len (is_blank_of attrs) cells
+
+-- a run of n blanks: to the end of the row where nothing is behind it
+abbrev pub erase_run : ℕ → List CellValue → Op
+erase_run n [] = EraseRest
+erase_run n (x ∷ xs) = EraseChars n
+
+abbrev pub columns : Bool → ℕ
+columns wide = if wide then 2 else 1
+
+-- operations, where the reader's cursor is after them and with which attributes, and whether the reader's row goes on below
+pub record Written : Type 0 where
+  pub ops : List Op
+  pub pen : Pen
+  pub flag : Bool
+
+abbrev pub nothing : Pen → Bool → Written
+nothing pen flag = record { ops = []; pen = pen; flag = flag }
+
+abbrev pub after : List Op → Written → Written
+after ops written = record { ops = ops ++ written.ops; pen = written.pen; flag = written.flag }
+
+-- one operation at a place and in attributes
+abbrev pub doing : Pen → ℕ → ℕ → Attrs → Op → List Op
+doing pen row col attrs op = going pen row col ++ (changing pen.attrs attrs ++ op ∷ [])
+
+-- ---- the flag of the reader's row, by what is left of the cells that stood there
+
+abbrev pub is_nil : List CellValue → Bool
+is_nil [] = true
+is_nil (x ∷ xs) = false
+
+-- one right half is left, in the last column: its left half was overwritten, so it is no right half any more
+abbrev pub is_torn : List CellValue → Bool
+is_torn (right_half ∷ []) = true
+is_torn _ = false
+
+-- the reader's row still goes on below after a glyph: unless it is wide and leaves a torn half, which becomes blank
+abbrev pub flag_behind : Bool → Bool → List CellValue → Bool
+flag_behind flag wide rest = flag && not (wide && is_torn rest)
+
+-- and after a run of blanks: unless it reaches the last column, or leaves a torn half
+abbrev pub flag_past : Bool → List CellValue → Bool
+flag_past flag rest = flag && not (is_nil rest || is_torn rest)
+
+-- ---- the cells of a row, from left to right
+
+-- from column c on; the first `settled` cells need nothing, xs are the row's cells from there and ys those that the reader shows
+unfoldable pub cells_written : (r c : ℕ) → Pen → (flag : Bool) → (settled : ℕ) → (xs ys : List CellValue) → Written
+cells_written r c pen flag settled [] ys = nothing pen flag
+cells_written r c pen flag settled (x ∷ xs) [] = nothing pen flag
+cells_written r c pen flag (suc settled) (x ∷ xs) (y ∷ ys) = cells_written r (c + 1) pen flag settled xs ys
+cells_written r c pen flag zero (right_half ∷ xs) (y ∷ ys) = cells_written r (c + 1) pen flag zero xs ys
+cells_written r c pen flag zero (blank a ∷ xs) (y ∷ ys) =
+    if same_cell (blank a) y then cells_written r (c + 1) pen flag zero xs ys
+    else after (doing pen r c a (erase_run (suc (run a xs)) (drop (run a xs) ys)))
+    (cells_written r (c + 1) (pen_at r c a) (flag_past flag (drop (run a xs) ys)) (run a xs) xs ys)
+cells_written r c pen flag zero (glyph text wide a ∷ xs) (y ∷ ys) =
+    if same_cell (glyph text wide a) y then cells_written r (c + 1) pen flag (columns wide - 1) xs ys
+    else after (doing pen r c a (Print text))
+    (cells_written r (c + 1) (pen_at r (c + columns wide) a) (flag_behind flag wide (drop 1 ys)) (columns wide - 1) xs ys)
+
+-- ---- the last glyph of a row that does not end blank
+
+abbrev pub last_column : List CellValue → ℕ
+last_column cells = if is_right_half (at cells (length cells - 1)) then length cells - 2 else length cells - 1
+
+abbrev pub last_glyph : List CellValue → CellValue
+last_glyph cells = at cells (last_column cells)
+
+abbrev pub is_at : Pen → ℕ → ℕ → Bool
+is_at pen row col = (pen.row == row) && (pen.col == col)
+
+-- the pen behind the last glyph of row r, which is printed again where the pen isn't there
+abbrev pub behind : ℕ → List CellValue → Pen
+behind r cells = pen_at r (length cells) (attrs_of (last_glyph cells))
+
+abbrev pub going_behind : ℕ → Pen → List CellValue → Written
+going_behind r pen cells =
+    if is_at pen r (length cells) then nothing pen true
+    else record {
+      ops = doing pen r (last_column cells) (attrs_of (last_glyph cells)) (Print (text_of (last_glyph cells)));
+      pen = behind r cells;
+      flag = true;
+    }
+
+-- ---- the link of a row with a row above it that goes on
+
+-- the same as for a row, and how many of its first cells are settled
+pub record Linked : Type 0 where
+  pub ops : List Op
+  pub pen : Pen
+  pub flag : Bool
+  pub settled : ℕ
+
+abbrev pub unlinked : Pen → Bool → Linked
+unlinked pen flag = record { ops = []; pen = pen; flag = flag; settled = 0 }
+
+-- the first cell, with the cursor pending at the end of the row above: a blank is drawn as a space, which is erased
+abbrev pub first_written : ℕ → Pen → Bool → (xs ys : List CellValue) → Linked
+first_written r pen flag [] ys = unlinked pen flag
+first_written r pen flag (x ∷ xs) [] = unlinked pen flag
+first_written r pen flag (right_half ∷ xs) (y ∷ ys) = unlinked pen flag
+first_written r pen flag (blank a ∷ xs) (y ∷ ys) = record {
+  ops = changing pen.attrs a ++ Print (0x20 ∷ []) ∷ Backspace ∷ EraseChars 1 ∷ [];
+  pen = pen_at r 0 a;
+  flag = flag && not (is_nil ys);
+  settled = 1;
+}
+first_written r pen flag (glyph text wide a ∷ xs) (y ∷ ys) = record {
+  ops = changing pen.attrs a ++ Print text ∷ [];
+  pen = pen_at r (columns wide) a;
+  flag = flag_behind flag wide (drop 1 ys);
+  settled = columns wide;
+}
+
+-- the row begins with a glyph that the reader does not show there
+abbrev pub starts_other : List CellValue → List CellValue → Bool
+starts_other [] ys = false
+starts_other (x ∷ xs) [] = false
+starts_other (x ∷ xs) (y ∷ ys) = is_glyph x && not (same_cell x y)
+
+abbrev pub link_after : List Op → Linked → Linked
+link_after ops linked = record { ops = ops ++ linked.ops; pen = linked.pen; flag = linked.flag; settled = linked.settled }
+
+-- row r + 1 under the cells `above` of a row that goes on, of which the reader shows whether it goes on
+unfoldable pub linked : ℕ → Pen → (above : List CellValue) → (on : Bool) → (flag : Bool) → (xs ys : List CellValue) → Linked
+linked r pen above on flag xs ys =
+    if not on || (is_at pen r (length above) && starts_other xs ys)
+    then link_after (going_behind r pen above).ops (first_written (r + 1) (going_behind r pen above).pen flag xs ys)
+    else unlinked pen flag
+
+-- ---- the break to the row below
+
+-- the reader's row goes on below and is not to: its last glyph is erased and printed again
+abbrev pub breaking : ℕ → Pen → List CellValue → Written
+breaking r pen cells = record {
+  ops = going pen r (last_column cells) ++ (EraseChars 1 ∷ (changing pen.attrs (attrs_of (last_glyph cells)) ++ Print (text_of (last_glyph cells)) ∷ []));
+  pen = behind r cells;
+  flag = false;
+}
+
+unfoldable pub broken : ℕ → Pen → (flag wanted : Bool) → List CellValue → Written
+broken r pen flag wanted cells = if flag && not wanted then breaking r pen cells else nothing pen flag

@@ -1,0 +1,34 @@
+-- Pictures whose glyphs, printed again character by character, give themselves.
+use Rattle.std.specs.Prelude.{◌≡◌, ℕ, Bool, false, List, length, Some, All, chars}
+use Rattle.vt_cells.specs.Attrs.{default_attrs}
+use Rattle.vt_cells.specs.Cell.{CellValue, blank, glyph, right_half}
+use Rattle.vt_cells.specs.declared.attrs.Attrs.{Attrs}
+use Rattle.vt_grid.specs.Page.{blank_page}
+use Rattle.vt_grid.specs.Printing.{glyph_put}
+use Rattle.vt_grid.specs.Canvas.{Canvas, with_page, drawn_text}
+use Rattle.vt_redraw.specs.Picture.{Picture, IsPicture}
+
+-- a blank row, to be drawn on from its first column in these attributes
+abbrev pub blank_line : ℕ → Attrs → Canvas
+blank_line width attrs = record { page = blank_page 1 width; attrs = attrs; saved_attrs = default_attrs; hidden = false }
+
+-- printed on a blank row, the characters of the text give this glyph in the first columns and nothing else, the cursor behind it
+abbrev pub IsSteadyGlyph : ℕ → List ℕ → Bool → Attrs → Type 0
+IsSteadyGlyph width text wide attrs =
+    drawn_text (chars text) (blank_line width attrs)
+    ≡ Some (with_page (glyph_put text wide attrs (blank_page 1 width)) (blank_line width attrs))
+
+abbrev pub IsSteadyCell : ℕ → CellValue → Type 0
+IsSteadyCell width (glyph text wide attrs) = IsSteadyGlyph width text wide attrs
+IsSteadyCell width (blank attrs) = Unit {0}
+IsSteadyCell width right_half = Unit {0}
+
+abbrev pub IsSteady : Picture → Type 0
+IsSteady picture = All (λ row. All (IsSteadyCell picture.width) row.cells) picture.rows
+
+-- a steady picture of a size
+pub record IsOfSize (width height : ℕ) (picture : Picture) : Type 0 where
+  pub is : IsPicture picture
+  pub steady : IsSteady picture
+  pub columns : picture.width ≡ width
+  pub tall : length picture.rows ≡ height

@@ -1,0 +1,66 @@
+//! The writer's view of the terminal that reads a redraw.
+
+ghost use Rattle.std.specs.Prelude.{◌≡◌, ◌++◌, OnOk};
+ghost use Rattle.vt_cells.specs.Attrs.{default_attrs};
+ghost use Rattle.vt_cells.specs.Op.{bytes_of_all};
+ghost use Rattle.vt_redraw.specs.Script.{changing, going, pen_at};
+
+use vt_cells::term::{BufWrite, ChangeAttrs, MoveFromTo};
+use vt_cells::{Attrs, Pos, Sink};
+
+/// Where the reading terminal's cursor is, and what it draws with.
+#[derive(Clone, Copy, PartialEq, Eq, Debug)]
+pub struct Pen {
+    /// The row, from 0.
+    pub row: u16,
+
+    /// The column, from 0; one past the last column is a pending wrap.
+    pub col: u16,
+
+    /// The attributes that it draws with.
+    pub attrs: Attrs,
+}
+
+impl Pen {
+    /// The pen after a clear: in the corner, with default attributes.
+    pub fn new() -> Self
+        ensures { result ≡ pen_at 0 0 default_attrs }
+    {
+        Pen {
+            row: 0,
+            col: 0,
+            attrs: Attrs::new(),
+        }
+    }
+
+    /// Moves to a position, and writes the move.
+    #[tactic(auto, unfolding(crate::specs::Script::going))]
+    pub fn move_to<S: Sink>(&mut self, sink: &mut S, to: Pos) -> Result<(), S::Error>
+        ensures text { OnOk result (S.text sink.new ≡ S.text sink.old ++ bytes_of_all (going self.old to.row to.col)) }
+        ensures pen { OnOk result (self.new ≡ pen_at to.row to.col self.old.attrs) }
+    {
+        let from = Pos {
+            row: self.row,
+            col: self.col,
+        };
+        MoveFromTo { from, to }.write_buf(sink)?;
+        self.row = to.row;
+        self.col = to.col;
+        Ok(())
+    }
+
+    /// Takes other attributes, and writes the change.
+    #[tactic(auto, unfolding(crate::specs::Script::changing))]
+    pub fn change_attrs<S: Sink>(&mut self, sink: &mut S, new: Attrs) -> Result<(), S::Error>
+        ensures text { OnOk result (S.text sink.new ≡ S.text sink.old ++ bytes_of_all (changing self.old.attrs new)) }
+        ensures pen { OnOk result (self.new ≡ pen_at self.old.row self.old.col new) }
+    {
+        ChangeAttrs {
+            was: self.attrs,
+            new,
+        }
+        .write_buf(sink)?;
+        self.attrs = new;
+        Ok(())
+    }
+}
