@@ -2,15 +2,17 @@
 use Rattle.std.proofs.Common.{◌≡◌, ℕ, zero, suc, ◌+◌, ◌<◌, ◌≤◌, ◌||◌, Bool, true, false, List, [], ◌∷◌, ◌++◌, length, drop, refl, sym, ap, subst, ◌∙◌, arith, append_assoc, append-nil}
 use Rattle.std.proofs.lemmas.Bool.{cond-true, cond-false}
 use Rattle.std.proofs.lemmas.List.Concat.{flat_map-append}
-use Rattle.std.proofs.lemmas.List.{drop_more, drop_all, drop-drop}
+use Rattle.std.proofs.lemmas.List.{drop_more, drop_all, drop-drop, length-drop}
 use Rattle.std.proofs.Math.Numerals.{one-add}
 use Rattle.vt_cells.proofs.Same.{same_attrs-itself}
-use Rattle.vt_cells.specs.Attrs.{same_attrs}
+use Rattle.vt_cells.specs.Attrs.{default_attrs, same_attrs}
 use Rattle.vt_cells.specs.Cell.{CellValue, blank, glyph, right_half, default_blank, is_blank, is_right_half, is_wide, attrs_of, text_of, same_cell}
 use Rattle.vt_cells.specs.Op.{Op, Print, bytes_of, bytes_of_all}
 use Rattle.vt_cells.specs.declared.attrs.Attrs.{Attrs}
 use Rattle.vt_rows.specs.Cells.{at, IsPaired}
-use Rattle.vt_redraw.specs.Keeping.{Leads, cells_from}
+use Rattle.vt_redraw.specs.Items.{begun, begun_over}
+use Rattle.vt_cells.proofs.SameCells.{same_cell-itself}
+use Rattle.vt_redraw.specs.Keeping.{Leads, IsRange, cells_from}
 use Rattle.vt_redraw.proofs.Filling.{room}
 use Rattle.vt_redraw.specs.Script.{Written, after, nothing, doing, pen_at, run, erase_run, columns, flag_behind, flag_past, cells_written}
 use Rattle.vt_redraw.specs.declared.pen.Pen.{Pen}
@@ -64,15 +66,15 @@ settled_passed r c pen flag (suc k) (x ∷ xs) (y ∷ ys) = settled_passed r (c 
 -- ---- one cell, said on lists
 
 -- the right half behind a wide glyph that stands needs nothing either
-half_passed : (r c : ℕ) (pen : Pen) (flag : Bool) (xs ys : List CellValue) → is_right_half (at xs 0) ≡ true → cells_written r c pen flag 1 xs ys ≡ cells_written r c pen flag 0 xs ys
+half_passed : (r c : ℕ) (pen : Pen) (flag : Bool) (xs ys : List CellValue) → (0 < length xs → is_right_half (at xs 0) ≡ true) → cells_written r c pen flag 1 xs ys ≡ cells_written r c pen flag 0 xs ys
 unfolding cells_written
-half_passed r c pen flag [] ys h = absurd cc
-half_passed r c pen flag (blank a ∷ xs) ys h = absurd cc
-half_passed r c pen flag (glyph text wide a ∷ xs) ys h = absurd cc
+half_passed r c pen flag [] ys h = refl
+half_passed r c pen flag (blank a ∷ xs) ys h = let t = h (omega arith) in absurd cc
+half_passed r c pen flag (glyph text wide a ∷ xs) ys h = let t = h (omega arith) in absurd cc
 half_passed r c pen flag (right_half ∷ xs) [] h = refl
 half_passed r c pen flag (right_half ∷ xs) (y ∷ ys) h = refl
 
-passed : (r c : ℕ) (pen : Pen) (flag : Bool) (x : CellValue) (xs : List CellValue) (y : CellValue) (ys : List CellValue) → (is_right_half x || same_cell x y) ≡ true → (is_wide x ≡ true → is_right_half (at xs 0) ≡ true) →
+passed : (r c : ℕ) (pen : Pen) (flag : Bool) (x : CellValue) (xs : List CellValue) (y : CellValue) (ys : List CellValue) → (is_right_half x || same_cell x y) ≡ true → (is_wide x ≡ true → 0 < length xs → is_right_half (at xs 0) ≡ true) →
     cells_written r c pen flag 0 (x ∷ xs) (y ∷ ys) ≡ cells_written r (c + 1) pen flag 0 xs ys
 unfolding cells_written
 passed r c pen flag right_half xs y ys h paired = refl
@@ -141,20 +143,21 @@ at_column r c pen flag xs ys h le =
 behind : (c n : ℕ) (xs : List CellValue) → c < length xs → drop n (at xs c ∷ drop (c + 1) xs) ≡ drop (c + n) xs
 behind c n xs h = ap (drop n) (sym (from_column xs c h)) ∙ drop-drop n c xs
 
-first_half : (xs : List CellValue) (c : ℕ) → IsPaired xs → is_wide (at xs c) ≡ true → is_right_half (at (drop (c + 1) xs) 0) ≡ true
-first_half xs c paired h =
-    let e : at (drop (c + 1) xs) 0 ≡ at xs (c + 1) = head_at xs (c + 1) in
-    ap is_right_half e ∙ (sym (paired.halves c) ∙ h) where
-      head_at : (xs : List CellValue) (k : ℕ) → at (drop k xs) 0 ≡ at xs k
-      head_at xs zero = refl
-      head_at [] (suc k) = refl
-      head_at (x ∷ xs) (suc k) = head_at xs k
+head_at : (xs : List CellValue) (k : ℕ) → at (drop k xs) 0 ≡ at xs k
+head_at xs zero = refl
+head_at [] (suc k) = refl
+head_at (x ∷ xs) (suc k) = head_at xs k
 
-pub cell_passed : (r c : ℕ) (pen : Pen) (flag : Bool) (xs ys : List CellValue) (text : List ℕ) → c < length xs → length xs ≤ length ys → IsPaired xs → (is_right_half (at xs c) || same_cell (at xs c) (at ys c)) ≡ true →
+first_half : (xs ys : List CellValue) (c : ℕ) → IsRange xs ys → is_wide (at xs c) ≡ true → 0 < length (drop (c + 1) xs) → is_right_half (at (drop (c + 1) xs) 0) ≡ true
+first_half xs ys c range h some =
+    let size = length-drop (c + 1) xs in
+    ap is_right_half (head_at xs (c + 1)) ∙ range.halves c h (omega arith)
+
+pub cell_passed : (r c : ℕ) (pen : Pen) (flag : Bool) (xs ys : List CellValue) (text : List ℕ) → c < length xs → IsRange xs ys → (is_right_half (at xs c) || same_cell (at xs c) (at ys c)) ≡ true →
     Leads text (cells_from r (c + 1) pen flag xs ys) text (cells_from r c pen flag xs ys)
-cell_passed r c pen flag xs ys text h le paired same =
+cell_passed r c pen flag xs ys text h range same =
     leads_same text (cells_from r (c + 1) pen flag xs ys) (cells_from r c pen flag xs ys)
-    (at_column r c pen flag xs ys h le ∙ passed r c pen flag (at xs c) (drop (c + 1) xs) (at ys c) (drop (c + 1) ys) same (first_half xs c paired))
+    (at_column r c pen flag xs ys h range.inside ∙ passed r c pen flag (at xs c) (drop (c + 1) xs) (at ys c) (drop (c + 1) ys) same (first_half xs ys c range))
 
 pub next_glyph : (r c n : ℕ) (pen next : Pen) (flag then : Bool) (xs ys : List CellValue) (text longer : List ℕ) → c < length xs → length xs ≤ length ys →
     (is_right_half (at xs c) || same_cell (at xs c) (at ys c)) ≡ false → is_blank (at xs c) ≡ false → n ≡ columns (is_wide (at xs c)) →
@@ -196,12 +199,12 @@ run_some a xs c n h b same count =
     let all : n ≡ suc (run a (drop (c + 1) xs)) = count ∙ (ap (run a) (from_column xs c h) ∙ (ap (λ (z : CellValue). run a (z ∷ drop (c + 1) xs)) first ∙ run_first a (drop (c + 1) xs))) in
     omega arith
 
--- a glyph has its columns in the row
-pub glyph_inside : (xs : List CellValue) (c : ℕ) → c < length xs → IsPaired xs → c + columns (is_wide (at xs c)) ≤ length xs
-glyph_inside xs c h paired = by_width (is_wide (at xs c)) refl where
-  by_width : (w : Bool) → is_wide (at xs c) ≡ w → c + columns w ≤ length xs
-  by_width false e = omega arith
-  by_width true e = let r = room xs c paired e in omega arith
+-- a glyph has its columns in the row that the reader shows
+pub glyph_inside : (xs ys : List CellValue) (c : ℕ) → c < length xs → IsRange xs ys → c + columns (is_wide (at xs c)) ≤ length ys
+glyph_inside xs ys c h range = by_width (is_wide (at xs c)) refl where
+  by_width : (w : Bool) → is_wide (at xs c) ≡ w → c + columns w ≤ length ys
+  by_width false e = let le = range.inside in omega arith
+  by_width true e = let r = range.room c e in omega arith
 
 -- ---- the end of a row
 
@@ -219,3 +222,93 @@ glyph_leads r c n pen next flag then xs ys x text longer e h le other =
     subst (λ (z : CellValue). is_blank z ≡ false → n ≡ columns (is_wide z) → longer ≡ text ++ bytes_of_all (doing pen r c (attrs_of z) (Print (text_of z))) → next ≡ pen_at r (c + columns (is_wide z)) (attrs_of z) →
     then ≡ flag_behind flag (is_wide z) (drop (c + n) ys) → Leads longer (cells_from r (c + n) next then xs ys) text (cells_from r c pen flag xs ys))
     (sym e) (λ b count told pens flags. next_glyph r c n pen next flag then xs ys text longer h le other b count told pens flags)
+
+pub over_end : (r c : ℕ) (pen : Pen) (flag : Bool) (xs ys : List CellValue) → length ys ≤ c → cells_from r c pen flag xs ys ≡ nothing pen flag
+over_end r c pen flag xs ys h = ap (λ (zs : List CellValue). cells_written r c pen flag 0 (drop c xs) zs) (drop_all c ys h) ∙ nothing_left r c pen flag 0 (drop c xs)
+
+-- the cells of two rows of one width
+pub range_of : (xs ys : List CellValue) → length xs ≡ length ys → IsPaired xs → IsRange xs ys
+range_of xs ys same paired = record {
+  inside = omega arith;
+  halves = λ k wide inside. sym (paired.halves k) ∙ wide;
+  room = λ k wide. let r = room xs k paired wide in omega arith;
+}
+
+-- ---- the first column of a range
+
+-- a right half there, where the reader has one too
+pub half_stands : (r c : ℕ) (pen : Pen) (flag : Bool) (xs ys : List CellValue) (text : List ℕ) → c < length xs → length xs ≤ length ys → is_right_half (at xs c) ≡ true → is_right_half (at ys c) ≡ true →
+    Leads text (cells_from r (c + 1) pen flag xs ys) text (cells_written r c pen flag 0 (begun (drop c xs)) (begun_over (drop c xs) (drop c ys)))
+half_stands r c pen flag xs ys text h le e f =
+    leads_same text (cells_from r (c + 1) pen flag xs ys) (cells_written r c pen flag 0 (begun (drop c xs)) (begun_over (drop c xs) (drop c ys)))
+    (ap (λ (zs : List CellValue). cells_written r c pen flag 0 (begun zs) (begun_over zs (drop c ys))) (from_column xs c h)
+    ∙ (ap (λ (zs : List CellValue). cells_written r c pen flag 0 (begun (at xs c ∷ drop (c + 1) xs)) (begun_over (at xs c ∷ drop (c + 1) xs) zs)) (from_column ys c (omega arith))
+    ∙ both (at xs c) (drop (c + 1) xs) (at ys c) (drop (c + 1) ys) e f)) where
+      both : (x : CellValue) (more : List CellValue) (y : CellValue) (rest : List CellValue) → is_right_half x ≡ true → is_right_half y ≡ true →
+          cells_written r c pen flag 0 (begun (x ∷ more)) (begun_over (x ∷ more) (y ∷ rest)) ≡ cells_written r (c + 1) pen flag 0 more rest
+      both right_half more right_half rest e f = passed r c pen flag default_blank more default_blank rest (same_cell-itself default_blank) (λ w. absurd cc)
+      both right_half more (blank b) rest e f = absurd cc
+      both right_half more (glyph text wide b) rest e f = absurd cc
+      both (blank a) more y rest e f = absurd cc
+      both (glyph text wide a) more y rest e f = absurd cc
+
+-- another first column is as in a row
+pub begin_same : (r c : ℕ) (pen : Pen) (flag : Bool) (xs ys : List CellValue) (text : List ℕ) → is_right_half (at xs c) ≡ false →
+    Leads text (cells_from r c pen flag xs ys) text (cells_written r c pen flag 0 (begun (drop c xs)) (begun_over (drop c xs) (drop c ys)))
+begin_same r c pen flag xs ys text e =
+    leads_same text (cells_from r c pen flag xs ys) (cells_written r c pen flag 0 (begun (drop c xs)) (begun_over (drop c xs) (drop c ys)))
+    (ap (λ (zs : List CellValue). cells_written r c pen flag 0 zs (begun_over (drop c xs) (drop c ys))) (begun_is (drop c xs) other) ∙ ap (cells_written r c pen flag 0 (drop c xs)) (over_is (drop c xs) (drop c ys) other)) where
+      other : is_right_half (at (drop c xs) 0) ≡ false
+      other = ap is_right_half (head_at xs c) ∙ e
+
+      begun_is : (zs : List CellValue) → is_right_half (at zs 0) ≡ false → begun zs ≡ zs
+      begun_is [] h = refl
+      begun_is (blank a ∷ zs) h = refl
+      begun_is (glyph t w a ∷ zs) h = refl
+      begun_is (right_half ∷ zs) h = absurd cc
+
+      over_is : (zs ws : List CellValue) → is_right_half (at zs 0) ≡ false → begun_over zs ws ≡ ws
+      over_is [] ws h = refl
+      over_is (blank a ∷ zs) ws h = refl
+      over_is (glyph t w a ∷ zs) ws h = refl
+      over_is (right_half ∷ zs) ws h = absurd cc
+
+begun_erased : (r c m : ℕ) (pen : Pen) (flag : Bool) (more : List CellValue) (y : CellValue) (under : List CellValue) → m ≡ run default_attrs (default_blank ∷ more) →
+    cells_written r c pen flag 0 (default_blank ∷ more) (right_half ∷ under)
+    ≡ after (doing pen r c default_attrs (erase_run m (drop m (y ∷ under)))) (cells_written r (c + m) (pen_at r c default_attrs) (flag_past flag (drop m (y ∷ under))) 0 (drop m (right_half ∷ more)) (drop m (y ∷ under)))
+unfolding same_cell
+begun_erased r c m pen flag more y under e =
+    subst (λ (j : ℕ). cells_written r c pen flag 0 (default_blank ∷ more) (right_half ∷ under)
+    ≡ after (doing pen r c default_attrs (erase_run j (drop j (y ∷ under)))) (cells_written r (c + j) (pen_at r c default_attrs) (flag_past flag (drop j (y ∷ under))) 0 (drop j (right_half ∷ more)) (drop j (y ∷ under))))
+    (sym (e ∙ run_first default_attrs more))
+    (run_erased r c pen flag default_blank more right_half under (suc (run default_attrs more)) refl refl (sym (run_first default_attrs more)))
+
+one_erased : (r c m : ℕ) (pen : Pen) (flag : Bool) (x : CellValue) (more : List CellValue) (y : CellValue) (under : List CellValue) → is_right_half x ≡ true → is_right_half y ≡ false → m ≡ run default_attrs (default_blank ∷ more) →
+    cells_written r c pen flag 0 (begun (x ∷ more)) (begun_over (x ∷ more) (y ∷ under))
+    ≡ after (doing pen r c default_attrs (erase_run m (drop m (y ∷ under)))) (cells_written r (c + m) (pen_at r c default_attrs) (flag_past flag (drop m (y ∷ under))) 0 (drop m (x ∷ more)) (drop m (y ∷ under)))
+one_erased r c m pen flag right_half more (blank b) under e f k = begun_erased r c m pen flag more (blank b) under k
+one_erased r c m pen flag right_half more (glyph text wide b) under e f k = begun_erased r c m pen flag more (glyph text wide b) under k
+one_erased r c m pen flag right_half more right_half under e f k = absurd cc
+one_erased r c m pen flag (blank a) more y under e f k = absurd cc
+one_erased r c m pen flag (glyph text wide a) more y under e f k = absurd cc
+
+-- a right half there, where the reader has none
+pub half_erased : (r c n m : ℕ) (pen next : Pen) (flag then : Bool) (xs ys : List CellValue) (text longer : List ℕ) → c < length xs → length xs ≤ length ys → is_right_half (at xs c) ≡ true → is_right_half (at ys c) ≡ false →
+    n ≡ run default_attrs (drop (c + 1) xs) → m ≡ n + 1 → longer ≡ text ++ bytes_of_all (doing pen r c default_attrs (erase_run m (drop (c + m) ys))) → next ≡ pen_at r c default_attrs → then ≡ flag_past flag (drop (c + m) ys) →
+    Leads longer (cells_from r (c + m) next then xs ys) text (cells_written r c pen flag 0 (begun (drop c xs)) (begun_over (drop c xs) (drop c ys)))
+half_erased r c n m pen next flag then xs ys text longer h le e f count more told pens flags =
+    let ops = λ (zs : List CellValue). doing pen r c default_attrs (erase_run m zs) in
+    let x = at xs c in
+    let y = at ys c in
+    let rest = drop (c + 1) xs in
+    let under = drop (c + 1) ys in
+    leads_after text longer (ops (drop (c + m) ys)) (cells_from r (c + m) next then xs ys) (cells_written r c pen flag 0 (begun (drop c xs)) (begun_over (drop c xs) (drop c ys))) told
+    (ap (λ (zs : List CellValue). cells_written r c pen flag 0 (begun zs) (begun_over zs (drop c ys))) (from_column xs c h)
+    ∙ (ap (λ (zs : List CellValue). cells_written r c pen flag 0 (begun (x ∷ rest)) (begun_over (x ∷ rest) zs)) (from_column ys c (omega arith))
+    ∙ (one_erased r c m pen flag x rest y under e f (more ∙ (ap (λ (k : ℕ). k + 1) count ∙ sym (run_first_one rest)))
+    ∙ (ap (λ (zs : List CellValue). after (ops (drop m (y ∷ under))) (cells_written r (c + m) (pen_at r c default_attrs) (flag_past flag (drop m (y ∷ under))) 0 zs (drop m (y ∷ under)))) (behind c m xs h)
+    ∙ (ap (λ (zs : List CellValue). after (ops zs) (cells_written r (c + m) (pen_at r c default_attrs) (flag_past flag zs) 0 (drop (c + m) xs) zs)) (behind c m ys (omega arith))
+    ∙ (ap (λ (p : Pen). after (ops (drop (c + m) ys)) (cells_written r (c + m) p (flag_past flag (drop (c + m) ys)) 0 (drop (c + m) xs) (drop (c + m) ys))) (sym pens)
+    ∙ ap (λ (b : Bool). after (ops (drop (c + m) ys)) (cells_from r (c + m) next b xs ys)) (sym flags))))))) where
+      run_first_one : (zs : List CellValue) → run default_attrs (default_blank ∷ zs) ≡ run default_attrs zs + 1
+      run_first_one zs = run_first default_attrs zs ∙ omega arith

@@ -1,9 +1,9 @@
 -- The cells of a row of a picture, where they lie and behind.
-use Rattle.std.proofs.Common.{◌≡◌, ℕ, zero, suc, ◌+◌, ◌-◌, ◌<◌, ◌≤◌, ◌==◌, ◌&&◌, nat_lt, not, Bool, true, false, List, [], ◌∷◌, ◌++◌, length, take, drop, ⊎_elim, refl, sym, ap, ◌∙◌, arith, Some, None}
+use Rattle.std.proofs.Common.{min, append-nil, ◌≡◌, ℕ, zero, suc, ◌+◌, ◌-◌, ◌<◌, ◌≤◌, ◌==◌, ◌&&◌, nat_lt, not, Bool, true, false, List, [], ◌∷◌, ◌++◌, length, take, drop, ⊎_elim, refl, sym, ap, ◌∙◌, arith, Some, None}
 use Rattle.std.specs.Prelude.{replicate, if◌then◌else◌}
 use Rattle.std.proofs.lemmas.Bool.{cases_lt, cond-true, cond-false}
 use Rattle.std.proofs.lemmas.Bool.Decides.{nat_tests}
-use Rattle.std.proofs.lemmas.List.{length-append, length-take, length-take-le, length-replicate, get_or_append_left, get_or-append_right, get_or-take, get_or-replicate, get_or_past}
+use Rattle.std.proofs.lemmas.List.{take-append-le, take-replicate, take_all, length-append, length-take, length-take-le, length-replicate, get_or_append_left, get_or-append_right, get_or-take, get_or-replicate, get_or_past}
 use Rattle.vt_cells.specs.Cell.{CellValue, blank, glyph, right_half, default_blank, attrs_of, is_glyph, is_wide, is_right_half, same_cell}
 use Rattle.vt_cells.specs.Op.{EraseChars, LineFeed, bytes_of_all}
 use Rattle.vt_rows.specs.Cells.{IsPaired, at, moved, moved_at, resized, ends_blank}
@@ -83,6 +83,31 @@ nearest_up width rows zero h e = absurd (omega arith)
 nearest_up width rows (suc n) h e =
     let same : suc n - 1 ≡ n = omega arith in
     ap (nearest width rows) same ∙ sym (cond-true (ends_blank (row_or width rows (suc n)).cells) (nearest width rows n) (Some (suc n)) e)
+
+take_past : (xs ys : List CellValue) (n : ℕ) → take (length xs + n) (xs ++ ys) ≡ xs ++ take n ys
+take_past [] ys n = let e : 0 + n ≡ n = omega arith in ap (λ (k : ℕ). take k ys) e
+take_past (x ∷ xs) ys n =
+    let e : suc (length xs) + n ≡ suc (length xs + n) = omega arith in
+    ap (λ (k : ℕ). take k (x ∷ (xs ++ ys))) e ∙ ap (λ (zs : List CellValue). x ∷ zs) (take_past xs ys n)
+
+-- the first columns of such cells
+pub filled_taken : (cells : List CellValue) (cols stop : ℕ) (end : CellValue) → stop ≤ cols → length cells ≤ cols → filled (take (min (length cells) stop) cells) stop end ≡ take stop (filled cells cols end)
+filled_taken cells cols stop end h l =
+    ⊎_elim
+    (λ (low : stop < length cells).
+    let least : min (length cells) stop ≡ stop = omega arith in
+    let size = length-take-le stop cells (omega arith) in
+    let none : stop - length (take stop cells) ≡ 0 = omega arith in
+    ap (λ (n : ℕ). filled (take n cells) stop end) least
+    ∙ (ap (λ (n : ℕ). take stop cells ++ replicate n end) none ∙ (append-nil (take stop cells) ∙ sym (take-append-le stop cells (replicate (cols - length cells) end) (omega arith)))))
+    (λ (high : length cells ≤ stop).
+    let least : min (length cells) stop ≡ length cells = omega arith in
+    let sum : length cells + (stop - length cells) ≡ stop = omega arith in
+    ap (λ (n : ℕ). filled (take n cells) stop end) least
+    ∙ (ap (λ (zs : List CellValue). filled zs stop end) (take_all (length cells) cells (omega arith))
+    ∙ (ap (λ (zs : List CellValue). cells ++ zs) (sym (take-replicate (stop - length cells) (cols - length cells) end (omega arith)))
+    ∙ (sym (take_past cells (replicate (cols - length cells) end) (stop - length cells)) ∙ ap (λ (n : ℕ). take n (filled cells cols end)) sum))))
+    (cases_lt stop (length cells))
 
 -- ---- a row cut or grown
 

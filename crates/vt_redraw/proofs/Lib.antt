@@ -25,7 +25,7 @@ pub mod Clear
 pub mod Redrawing
 pub mod Fitting
 pub mod CursorAlone
-pub mod Items
+pub mod RangeDraws
 pub mod WholeItems
 pub mod PlainSteady
 pub mod Cuts
@@ -37,3 +37,4 @@ pub mod Filling
 pub mod CellSteps
 pub mod Viewing
 pub mod RowSteps
+pub mod ItemSteps

@@ -1,9 +1,10 @@
 -- One row written for itself: its columns from `start` up to `stop`, for a reader whose cursor is at (r, start) with default attributes.
-use Rattle.std.specs.Prelude.{ℕ, ◌-◌, ◌==◌, ◌&&◌, not, Bool, false, List, [], ◌∷◌, ◌++◌, length, take, drop, if◌then◌else◌}
+use Rattle.std.specs.Prelude.{ℕ, zero, suc, ◌-◌, ◌==◌, ◌&&◌, not, Bool, false, List, [], ◌∷◌, ◌++◌, length, take, drop, if◌then◌else◌}
 use Rattle.vt_cells.specs.Attrs.{default_attrs}
 use Rattle.vt_cells.specs.Cell.{CellValue, blank, glyph, right_half, default_blank}
 use Rattle.vt_rows.specs.Cells.{blanks}
 use Rattle.vt_rows.specs.Row.{RowValue}
+use Rattle.vt_grid.specs.Page.{row_or}
 use Rattle.vt_redraw.specs.Script.{pen_at}
 use Rattle.vt_redraw.specs.Script.{Written, after, cells_written, first_written, going_behind, broken}
 
@@ -36,6 +37,11 @@ is_whole start stop width = (start == 0) && (stop == width)
 abbrev pub marked_on : ℕ → Written → Bool → List CellValue → Written
 marked_on r w wanted cells =
     if wanted && not w.flag then record { ops = w.ops ++ (going_behind r w.pen cells).ops; pen = (going_behind r w.pen cells).pen; flag = w.flag } else w
+
+-- the row above row r, of rows of this width, goes on below
+abbrev pub is_linked : (width : ℕ) → List RowValue → ℕ → Bool
+is_linked width rows zero = false
+is_linked width rows (suc r) = (row_or width rows r).wrapped
 
 -- an item of a difference: the range, and for a whole row whether it goes on
 abbrev pub item_of_difference : (r start stop : ℕ) → (x y : RowValue) → Written

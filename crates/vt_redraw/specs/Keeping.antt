@@ -1,13 +1,13 @@
 -- How the code reads pictures, and how far a writer has come; for models, private contracts and proofs only.
-use Rattle.std.specs.Prelude.{◌≡◌, ℕ, ◌+◌, ◌-◌, ◌<◌, ◌≤◌, ◌^◌, ◌&&◌, nat_lt, not, Bool, true, List, ◌++◌, length, replicate, drop, All, if◌then◌else◌}
+use Rattle.std.specs.Prelude.{◌≡◌, ℕ, ◌+◌, ◌-◌, ◌<◌, ◌≤◌, ◌^◌, ◌&&◌, nat_lt, not, Bool, true, List, [], ◌++◌, length, replicate, drop, All, if◌then◌else◌}
 use Rattle.vt_cells.specs.Attrs.{default_attrs}
-use Rattle.vt_cells.specs.Cell.{CellValue, blank, default_blank, is_blank, is_wide, attrs_of}
-use Rattle.vt_cells.specs.Op.{bytes_of_all}
+use Rattle.vt_cells.specs.Cell.{CellValue, blank, default_blank, is_blank, is_wide, is_right_half, attrs_of}
+use Rattle.vt_cells.specs.Op.{Op, bytes_of_all}
 use Rattle.vt_rows.specs.Cells.{at, ends_blank, resized}
 use Rattle.vt_rows.specs.Row.{RowValue, IsRow, blank_row}
 use Rattle.vt_grid.specs.Scrollback.{Scrollback, IsScrollback, visible}
 use Rattle.vt_redraw.specs.Picture.{Picture, cut_rows}
-use Rattle.vt_redraw.specs.Script.{Written, Linked, cells_written}
+use Rattle.vt_redraw.specs.Script.{Written, Linked, cells_written, going_behind}
 use Rattle.vt_redraw.specs.Redraw.{rows_below}
 use Rattle.vt_grid.specs.Page.{row_or}
 use Rattle.vt_redraw.specs.declared.links.Link.{Link}
@@ -33,6 +33,13 @@ kept_len cols cells = if is_split cols cells then cols - 1 else cols
 -- what stands behind them: the half of that glyph, blank in its attributes, or else default blanks
 abbrev pub end_of : ℕ → List CellValue → CellValue
 end_of cols cells = if is_split cols cells then blank (attrs_of (at cells (cols - 1))) else default_blank
+
+-- what is asked of the cells of a range: a wide glyph has its right half there, unless it begins in the range's last column, and then in the
+-- row that the reader shows there is a column for it
+pub record IsRange (cells over : List CellValue) : Type 0 where
+  pub inside : length cells ≤ length over
+  pub halves : (k : ℕ) → is_wide (at cells k) ≡ true → k + 1 < length cells → is_right_half (at cells (k + 1)) ≡ true
+  pub room : (k : ℕ) → is_wide (at cells k) ≡ true → k + 1 < length over
 
 -- a row of a picture: cut or grown, and going on below only where it is not the last one
 abbrev pub cut_row : (is_last : Bool) → ℕ → RowValue → RowValue
@@ -84,3 +91,7 @@ pub record Writes (start text : List ℕ) (pen : Pen) (flag : Bool) (whole : Wri
 -- what the rows below row r need
 abbrev pub rows_under : (r width : ℕ) → Pen → Bool → (xs ys : List RowValue) → Written
 rows_under r width pen on xs ys = rows_below r pen (row_or width xs r) on (drop (r + 1) xs) (drop (r + 1) ys)
+
+-- the operations by which a whole row is made to go on below
+abbrev pub mark_of : ℕ → Pen → (flag wanted : Bool) → List CellValue → List Op
+mark_of r pen flag wanted cells = if wanted && not flag then (going_behind r pen cells).ops else []

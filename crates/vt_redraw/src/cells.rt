@@ -3,8 +3,8 @@
 ghost use Rattle.std.specs.Prelude.{◌≡◌, ◌++◌, ◌+◌, ◌-◌, ◌<◌, ◌≤◌, ◌==◌, ◌||◌, false, [], ◌∷◌, IfOk, OnOk, drop, length};
 ghost use Rattle.vt_cells.specs.Cell.{attrs_of, is_right_half, is_wide, same_cell, text_of};
 ghost use Rattle.vt_cells.specs.Op.{Print, bytes_of, bytes_of_all};
-ghost use Rattle.vt_rows.specs.Cells.{IsPaired, at};
-ghost use Rattle.vt_redraw.specs.Keeping.{Leads, cells_from};
+ghost use Rattle.vt_rows.specs.Cells.{at};
+ghost use Rattle.vt_redraw.specs.Keeping.{IsRange, Leads, cells_from};
 ghost use Rattle.vt_redraw.specs.Script.{columns, doing, erase_run, flag_behind, flag_past, pen_at};
 
 use crate::pen::Pen;
@@ -60,7 +60,7 @@ fn write_erase<S: Sink>(
 }
 
 /// Writes a run of blanks at a position; the pen stays at its first column.
-fn write_run<S: Sink>(
+pub fn write_run<S: Sink>(
     sink: &mut S,
     pen: &mut Pen,
     pos: Pos,
@@ -89,7 +89,7 @@ pub fn flag_behind(flag: bool, wide: bool, over: &PictureRow<'_>, col: u16) -> b
 
 /// And after a run of blanks in front of it.
 #[tactic(auto, using(crate::proofs::Filling::nil_at))]
-fn flag_past(flag: bool, over: &PictureRow<'_>, col: u16) -> bool
+pub fn flag_past(flag: bool, over: &PictureRow<'_>, col: u16) -> bool
     requires { col ≤ length over.now.cells }
     ensures { result ≡ flag_past flag (drop col over.now.cells) }
 {
@@ -122,13 +122,12 @@ fn write_next<S: Sink>(
     over: &PictureRow<'_>,
 ) -> Result<u16, S::Error>
     requires inside { pos.col < length cells.now.cells }
-    requires over { length cells.now.cells ≤ length over.now.cells }
-    requires short { length cells.now.cells < 65536 }
-    requires paired { IsPaired cells.now.cells }
+    requires range { IsRange cells.now.cells over.now.cells }
+    requires short { length over.now.cells < 65536 }
     requires other { (is_right_half (at cells.now.cells pos.col) || same_cell (at cells.now.cells pos.col) (at over.now.cells pos.col)) ≡ false }
     ensures leads { IfOk result (λ n. Leads (S.text sink.new) (cells_from pos.row (pos.col + n) pen.new flag.new cells.now.cells over.now.cells) (S.text sink.old) (cells_from pos.row pos.col pen.old flag.old cells.now.cells over.now.cells)) }
     ensures some { IfOk result (λ n. 0 < n) }
-    ensures inside { IfOk result (λ n. pos.col + n ≤ length cells.now.cells) }
+    ensures inside { IfOk result (λ n. pos.col + n ≤ length over.now.cells) }
 {
     let cell = cells.cell(pos.col);
     if !cell.is_blank() {
@@ -153,13 +152,12 @@ pub fn write_cells<S: Sink>(
     cells: &PictureRow<'_>,
     over: &PictureRow<'_>,
 ) -> Result<(), S::Error>
-    requires over { length cells.now.cells ≤ length over.now.cells }
-    requires paired { IsPaired cells.now.cells }
+    requires range { IsRange cells.now.cells over.now.cells }
     ensures text { OnOk result (S.text sink.new ≡ S.text sink.old ++ bytes_of_all (cells_from pos.row pos.col pen.old flag.old cells.now.cells over.now.cells).ops) }
     ensures pen { OnOk result (pen.new ≡ (cells_from pos.row pos.col pen.old flag.old cells.now.cells over.now.cells).pen) }
     ensures flag { OnOk result (flag.new ≡ (cells_from pos.row pos.col pen.old flag.old cells.now.cells over.now.cells).flag) }
 {
-    let cols = cells.cols();
+    let cols = cells.cols().min(over.cols());
     let mut col = pos.col;
     while col < cols {
         if stands(cells, over, col) {

@@ -4,6 +4,7 @@
 
 mod cells;
 mod cursor_rule;
+mod items;
 pub mod laws;
 mod links;
 pub mod pen;
@@ -12,6 +13,7 @@ pub mod redraw;
 mod script;
 pub mod view;
 
+pub use items::{write_row_diff, write_row_formatted};
 pub use pen::Pen;
 pub use picture_row::PictureRow;
 pub use redraw::{write_contents_diff, write_contents_formatted, write_cursor_state};

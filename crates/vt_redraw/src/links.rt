@@ -113,7 +113,7 @@ fn write_first_glyph<S: Sink>(
 }
 
 /// Writes the first cell of a row while the reader waits to wrap into it.
-fn write_first<S: Sink>(
+pub fn write_first<S: Sink>(
     sink: &mut S,
     pen: &mut Pen,
     row: u16,

@@ -89,6 +89,22 @@ impl<'a> PictureRow<'a> {
         }
     }
 
+    /// The first columns of the row, at most all.
+    #[tactic(auto, using(crate::proofs::Filling::filled_taken))]
+    pub fn up_to(&self, stop: u16) -> PictureRow<'_>
+        requires { stop ≤ length self.now.cells }
+        ensures cells { result.cells ≡ take stop self.now.cells }
+        ensures flag { result.wrapped ≡ self.now.wrapped }
+    {
+        let kept = self.cells.len().min(usize::from(stop));
+        PictureRow {
+            cells: &self.cells[..kept],
+            end: self.end.copied(),
+            cols: stop,
+            wrapped: self.wrapped,
+        }
+    }
+
     /// How many columns the row has.
     #[inline]
     pub fn cols(&self) -> u16

@@ -18,6 +18,7 @@ use vt_cells::{Pos, Sink};
 
 /// Writes what a row needs, but for its first cells that are settled: its
 /// cells, and the break. Answers whether the reader's row goes on then.
+#[tactic(auto, using(crate::proofs::CellSteps::range_of))]
 fn write_row<S: Sink>(
     sink: &mut S,
     pen: &mut Pen,

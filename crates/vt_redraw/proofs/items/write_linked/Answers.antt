@@ -1,0 +1,18 @@
+use Rattle.std.proofs.Common.{ap, ◌∙◌}
+use Rattle.std.proofs.lemmas.Result.{on_ok_weaker}
+use Rattle.vt_cells.specs.Attrs.{default_attrs}
+use Rattle.vt_cells.specs.declared.attrs.Attrs.{Attrs}
+use Rattle.vt_rows.specs.Cells.{blanks}
+use Rattle.vt_rows.specs.Row.{RowValue}
+use Rattle.vt_redraw.specs.Script.{pen_at}
+use Rattle.vt_redraw.proofs.ItemSteps.{linked_wrote}
+use Rattle.vt_redraw.proofs.items.write_linked.Goals as goal
+
+pub returns : goal.returns
+returns g c =
+    let text = g.S.Sink.text in
+    let r = c.args.row in
+    on_ok_weaker c.write_cells.result
+    (λ more. linked_wrote r c.args.cells.now.cells c.blank-over.result.cells (pen_at r 0 c.new.result) c.write_first.new.pen c.in_ok-link.link (text c.args.sink.now) (text c.write_first.new.sink) (text c.write_cells.new.sink)
+    (ap (λ (z : RowValue). z.cells) c.blank-over.ensures ∙ ap (blanks default_attrs) c.cols.ensures) (ap (λ (a : Attrs). pen_at r 0 a) c.new.ensures) c.in_ok-link.ensures more)
+    c.write_cells.ensures.text

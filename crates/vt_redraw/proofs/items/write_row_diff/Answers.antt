@@ -1,0 +1,62 @@
+use Rattle.std.proofs.Common.{◌≡◌, ◌++◌, ◌∙◌, ap, sym, subst, List, drop, arith}
+use Rattle.std.proofs.lemmas.Result.{on_ok_weaker}
+use Rattle.vt_cells.specs.Cell.{CellValue}
+use Rattle.vt_cells.specs.Op.{bytes_of_all}
+use Rattle.vt_cells.specs.declared.attrs.Attrs.{Attrs}
+use Rattle.vt_grid.specs.Page.{row_or}
+use Rattle.vt_rows.specs.Row.{RowValue}
+use Rattle.vt_redraw.specs.Items.{begun, begun_over, item_of_difference, range_written}
+use Rattle.vt_redraw.specs.Keeping.{IsRange}
+use Rattle.vt_redraw.specs.Script.{Written, cells_written, pen_at}
+use Rattle.vt_redraw.proofs.ItemSteps.{range_taken, range_wrote, part_item, whole_item}
+use Rattle.vt_redraw.proofs.items.write_row_diff.Goals as goal
+
+pub write_range-requires : goal.write_range-requires
+write_range-requires g c =
+    let one = c.row-cells.ensures.sound.columns in
+    let two = c.row-over.ensures.sound.columns in
+    let same = c.requires.size.width in
+    record { range = subst (λ (z : List CellValue). IsRange z c.row-over.result.cells) (sym c.up_to.ensures.cells) (range_taken c.row-cells.result.cells c.row-over.result.cells c.args.stop (omega arith) c.row-cells.ensures.sound.paired) }
+
+pub returns-then-not-is_whole : goal.returns-then-not-is_whole
+returns-then-not-is_whole g c =
+    let text = g.S.Sink.text in
+    let x = c.row-cells.result in
+    let y = c.row-over.result in
+    let r = c.args.row in
+    let start = c.args.start in
+    let stop = c.args.stop in
+    let pen = pen_at r start c.new.result in
+    let flag = c.wrapped-flag.result in
+    let cut = c.up_to.result.cells in
+    let w : Written = cells_written r start pen flag 0 (begun (drop start cut)) (begun_over (drop start cut) (drop start y.cells)) in
+    let e : w ≡ range_written r start stop y.wrapped x.cells y.cells =
+    range_wrote r start stop pen flag cut x.cells y.cells c.requires.order c.up_to.ensures.cells (ap (λ (a : Attrs). pen_at r start a) c.new.ensures)
+    ∙ ap (λ b. range_written r start stop b x.cells y.cells) c.wrapped-flag.ensures in
+    part_item r start stop x y w (text c.args.sink.now) (text c.write_range.new.sink) (sym c.is_whole.ensures ∙ c.if-not-is_whole.true) e c.in_ok-write_range.ensures.text
+    ∙ (ap (λ (z : RowValue). text c.args.sink.now ++ bytes_of_all (item_of_difference r start stop z y).ops) c.row-cells.ensures.value
+    ∙ ap (λ (z : RowValue). text c.args.sink.now ++ bytes_of_all (item_of_difference r start stop (row_or c.args.view.now.width c.args.view.now.rows r) z).ops)
+    (c.row-over.ensures.value ∙ ap (λ n. row_or n c.args.prev.now.rows r) (sym c.requires.size.width)))
+
+pub returns : goal.returns
+returns g c =
+    let text = g.S.Sink.text in
+    let x = c.row-cells.result in
+    let y = c.row-over.result in
+    let r = c.args.row in
+    let start = c.args.start in
+    let stop = c.args.stop in
+    let pen = pen_at r start c.new.result in
+    let flag = c.wrapped-flag.result in
+    let cut = c.up_to.result.cells in
+    let w : Written = cells_written r start pen flag 0 (begun (drop start cut)) (begun_over (drop start cut) (drop start y.cells)) in
+    let e : w ≡ range_written r start stop y.wrapped x.cells y.cells =
+    range_wrote r start stop pen flag cut x.cells y.cells c.requires.order c.up_to.ensures.cells (ap (λ (a : Attrs). pen_at r start a) c.new.ensures)
+    ∙ ap (λ b. range_written r start stop b x.cells y.cells) c.wrapped-flag.ensures in
+    on_ok_weaker c.write_end.result
+    (λ more. whole_item r start stop x y w c.write_range.new.pen c.write_range.new.flag (text c.args.sink.now) (text c.write_range.new.sink) (text c.write_end.new.sink) (sym c.is_whole.ensures ∙ c.if-not-is_whole.false) e
+    c.in_ok-write_range.ensures.text c.in_ok-write_range.ensures.pen c.in_ok-write_range.ensures.flag more
+    ∙ (ap (λ (z : RowValue). text c.args.sink.now ++ bytes_of_all (item_of_difference r start stop z y).ops) c.row-cells.ensures.value
+    ∙ ap (λ (z : RowValue). text c.args.sink.now ++ bytes_of_all (item_of_difference r start stop (row_or c.args.view.now.width c.args.view.now.rows r) z).ops)
+    (c.row-over.ensures.value ∙ ap (λ n. row_or n c.args.prev.now.rows r) (sym c.requires.size.width))))
+    c.write_end.ensures

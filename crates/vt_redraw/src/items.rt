@@ -1,0 +1,240 @@
+//! One row of a picture, written for itself: its columns in a range, for a
+//! reader whose cursor is at the range's begin and which draws with default
+//! attributes.
+
+ghost use Rattle.std.specs.Prelude.{◌≡◌, ◌++◌, ◌+◌, ◌-◌, ◌<◌, ◌≤◌, ◌==◌, ◌&&◌, false, IfOk, OnOk, drop, length, nat_lt, take};
+ghost use Rattle.vt_cells.specs.Attrs.{default_attrs};
+ghost use Rattle.vt_cells.specs.Cell.{is_right_half};
+ghost use Rattle.vt_cells.specs.Op.{bytes_of_all};
+ghost use Rattle.vt_rows.specs.Cells.{IsPaired, blanks};
+ghost use Rattle.vt_grid.specs.Page.{row_or};
+ghost use Rattle.vt_redraw.specs.Items.{begun, begun_over, is_linked, is_whole, item_of_difference, item_of_redraw, linked_item, range_written};
+ghost use Rattle.vt_redraw.specs.Keeping.{IsRange, Leads, cells_from, mark_of};
+ghost use Rattle.vt_redraw.specs.Picture.{SamePictureSize};
+ghost use Rattle.vt_redraw.specs.Script.{after, broken, cells_written, pen_at};
+
+use crate::cells::{flag_past, write_cells, write_run};
+use crate::links::{write_break, write_first, write_last};
+use crate::pen::Pen;
+use crate::picture_row::PictureRow;
+use crate::view::View;
+use vt_cells::{Attrs, Pos, Sink};
+
+/// Writes a right half in the first column of a range as a default blank,
+/// where the reader has no right half there. Answers the column where the
+/// other cells go on.
+fn write_begin<S: Sink>(
+    sink: &mut S,
+    pen: &mut Pen,
+    flag: &mut bool,
+    pos: Pos,
+    cells: &PictureRow<'_>,
+    over: &PictureRow<'_>,
+) -> Result<u16, S::Error>
+    requires range { IsRange cells.now.cells over.now.cells }
+    ensures { IfOk result (λ col. Leads (S.text sink.new) (cells_from pos.row col pen.new flag.new cells.now.cells over.now.cells) (S.text sink.old) (cells_written pos.row pos.col pen.old flag.old 0 (begun (drop pos.col cells.now.cells)) (begun_over (drop pos.col cells.now.cells) (drop pos.col over.now.cells)))) }
+{
+    let Pos { row: _, col } = pos;
+    if col >= cells.cols().min(over.cols()) {
+        return Ok(col);
+    }
+    if !cells.cell(col).is_wide_continuation() {
+        return Ok(col);
+    }
+    if over.cell(col).is_wide_continuation() {
+        return Ok(col + 1);
+    }
+    let attrs = Attrs::new();
+    let count = cells.run(col + 1, attrs) + 1;
+    write_run(sink, pen, pos, attrs, count, over)?;
+    *flag = flag_past(*flag, over, col + count);
+    Ok(col + count)
+}
+
+/// Writes the columns of a row in a range, `cells` cut to its end; `flag` says
+/// whether the reader's row goes on below, before and after.
+fn write_range<S: Sink>(
+    sink: &mut S,
+    pen: &mut Pen,
+    flag: &mut bool,
+    pos: Pos,
+    cells: &PictureRow<'_>,
+    over: &PictureRow<'_>,
+) -> Result<(), S::Error>
+    requires range { IsRange cells.now.cells over.now.cells }
+    ensures text { OnOk result (S.text sink.new ≡ S.text sink.old ++ bytes_of_all (cells_written pos.row pos.col pen.old flag.old 0 (begun (drop pos.col cells.now.cells)) (begun_over (drop pos.col cells.now.cells) (drop pos.col over.now.cells))).ops) }
+    ensures pen { OnOk result (pen.new ≡ (cells_written pos.row pos.col pen.old flag.old 0 (begun (drop pos.col cells.now.cells)) (begun_over (drop pos.col cells.now.cells) (drop pos.col over.now.cells))).pen) }
+    ensures flag { OnOk result (flag.new ≡ (cells_written pos.row pos.col pen.old flag.old 0 (begun (drop pos.col cells.now.cells)) (begun_over (drop pos.col cells.now.cells) (drop pos.col over.now.cells))).flag) }
+{
+    let row = pos.row;
+    let col = write_begin(sink, pen, flag, pos, cells, over)?;
+    write_cells(sink, pen, flag, Pos { row, col }, cells, over)
+}
+
+/// Prints the last glyph of a row again where the row is to go on below and
+/// the reader's does not.
+fn write_mark<S: Sink>(
+    sink: &mut S,
+    pen: &mut Pen,
+    row: u16,
+    flag: bool,
+    cells: &PictureRow<'_>,
+) -> Result<(), S::Error>
+    requires some { 0 < length cells.now.cells }
+    requires paired { IsPaired cells.now.cells }
+    ensures { OnOk result (S.text sink.new ≡ S.text sink.old ++ bytes_of_all (mark_of row pen.old flag cells.now.wrapped cells.now.cells)) }
+{
+    if flag {
+        return Ok(());
+    }
+    if !cells.wrapped() {
+        return Ok(());
+    }
+    write_last(sink, pen, row, cells)
+}
+
+/// Writes what a whole row needs behind its cells: the break, or the last glyph
+/// again.
+fn write_end<S: Sink>(
+    sink: &mut S,
+    pen: &mut Pen,
+    row: u16,
+    flag: bool,
+    cells: &PictureRow<'_>,
+) -> Result<(), S::Error>
+    requires some { 0 < length cells.now.cells }
+    requires paired { IsPaired cells.now.cells }
+    ensures { OnOk result (S.text sink.new ≡ S.text sink.old ++ bytes_of_all ((broken row pen.old flag cells.now.wrapped cells.now.cells).ops ++ mark_of row (broken row pen.old flag cells.now.wrapped cells.now.cells).pen (broken row pen.old flag cells.now.wrapped cells.now.cells).flag cells.now.wrapped cells.now.cells)) }
+{
+    let on = write_break(sink, pen, row, flag, cells)?;
+    write_mark(sink, pen, row, on, cells)
+}
+
+/// Writes the columns from `start` up to `stop` of a row of a picture, for a
+/// reader that shows that row of another one, and if that is the whole row,
+/// whether it goes on below.
+///
+/// The reader's cursor is at the first of these columns, and it draws with
+/// default attributes. An error is the sink's own, and then part of the text
+/// may have been appended.
+pub fn write_row_diff<S: Sink>(
+    sink: &mut S,
+    view: &View<'_>,
+    prev: &View<'_>,
+    row: u16,
+    start: u16,
+    stop: u16,
+) -> Result<(), S::Error>
+    requires size { SamePictureSize view.now prev.now }
+    requires inside { row < length view.now.rows }
+    requires order { start ≤ stop }
+    requires stop { stop ≤ view.now.width }
+    ensures { OnOk result (S.text sink.new ≡ S.text sink.old ++ bytes_of_all (item_of_difference row start stop (row_or view.now.width view.now.rows row) (row_or view.now.width prev.now.rows row)).ops) }
+{
+    let cells = view.row(row);
+    let over = prev.row(row);
+    let mut pen = Pen {
+        row,
+        col: start,
+        attrs: Attrs::new(),
+    };
+    let mut flag = over.wrapped();
+    let pos = Pos { row, col: start };
+    write_range(sink, &mut pen, &mut flag, pos, &cells.up_to(stop), &over)?;
+    if !is_whole(start, stop, &cells) {
+        return Ok(());
+    }
+    write_end(sink, &mut pen, row, flag, &cells)
+}
+
+/// Whether a range is the whole row.
+fn is_whole(start: u16, stop: u16, cells: &PictureRow<'_>) -> bool
+    ensures { result ≡ is_whole start stop (length cells.now.cells) }
+{
+    start == 0 && stop == cells.cols()
+}
+
+/// Writes a whole row under a row that goes on: its first cell as if the
+/// reader waited to wrap into it, and the others.
+fn write_linked<S: Sink>(sink: &mut S, row: u16, cells: &PictureRow<'_>) -> Result<(), S::Error>
+    requires some { 0 < length cells.now.cells }
+    requires paired { IsPaired cells.now.cells }
+    ensures { OnOk result (S.text sink.new ≡ S.text sink.old ++ bytes_of_all (linked_item row cells.now.cells).ops) }
+{
+    let over = PictureRow::blank(cells.cols());
+    let mut pen = Pen {
+        row,
+        col: 0,
+        attrs: Attrs::new(),
+    };
+    let link = write_first(sink, &mut pen, row, false, cells, &over)?;
+    let mut flag = link.flag;
+    let pos = Pos {
+        row,
+        col: link.settled,
+    };
+    write_cells(sink, &mut pen, &mut flag, pos, cells, &over)
+}
+
+/// Writes the columns of a row in a range over a blank row.
+fn write_over_blanks<S: Sink>(
+    sink: &mut S,
+    pos: Pos,
+    stop: u16,
+    cells: &PictureRow<'_>,
+) -> Result<(), S::Error>
+    requires order { pos.col ≤ stop }
+    requires stop { stop ≤ length cells.now.cells }
+    requires paired { IsPaired cells.now.cells }
+    ensures { OnOk result (S.text sink.new ≡ S.text sink.old ++ bytes_of_all (range_written pos.row pos.col stop false cells.now.cells (blanks default_attrs (length cells.now.cells))).ops) }
+{
+    let over = PictureRow::blank(cells.cols());
+    let mut pen = Pen {
+        row: pos.row,
+        col: pos.col,
+        attrs: Attrs::new(),
+    };
+    let mut flag = false;
+    write_range(sink, &mut pen, &mut flag, pos, &cells.up_to(stop), &over)
+}
+
+/// Whether the row above a row goes on below.
+fn is_linked(view: &View<'_>, row: u16) -> bool
+    requires { row < length view.now.rows }
+    ensures { result ≡ is_linked view.now.width view.now.rows row }
+{
+    row > 0 && view.row(row - 1).wrapped()
+}
+
+/// Whether a range is a whole row under one that goes on.
+fn needs_link(view: &View<'_>, row: u16, start: u16, stop: u16, cells: &PictureRow<'_>) -> bool
+    requires { row < length view.now.rows }
+    ensures { result ≡ (is_whole start stop (length cells.now.cells) && is_linked view.now.width view.now.rows row) }
+{
+    is_whole(start, stop, cells) && is_linked(view, row)
+}
+
+/// Writes the columns from `start` up to `stop` of a row of a picture, for a
+/// reader whose row is blank, or that waits to wrap into it.
+///
+/// The reader's cursor is at the first of these columns, and it draws with
+/// default attributes. An error is the sink's own, and then part of the text
+/// may have been appended.
+pub fn write_row_formatted<S: Sink>(
+    sink: &mut S,
+    view: &View<'_>,
+    row: u16,
+    start: u16,
+    stop: u16,
+) -> Result<(), S::Error>
+    requires inside { row < length view.now.rows }
+    requires order { start ≤ stop }
+    requires stop { stop ≤ view.now.width }
+    ensures { OnOk result (S.text sink.new ≡ S.text sink.old ++ bytes_of_all (item_of_redraw row start stop (is_linked view.now.width view.now.rows row) (row_or view.now.width view.now.rows row)).ops) }
+{
+    let cells = view.row(row);
+    if needs_link(view, row, start, stop, &cells) {
+        return write_linked(sink, row, &cells);
+    }
+    write_over_blanks(sink, Pos { row, col: start }, stop, &cells)
+}
