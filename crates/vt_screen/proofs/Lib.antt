@@ -6,6 +6,8 @@ pub mod Redrawing
 pub mod Became
 pub mod Telling
 pub mod Chains
+pub mod Viewing
+pub mod Attributes
 pub mod Colored
 pub mod ColoredMoves
 pub mod Sizes

@@ -1,7 +1,7 @@
 -- What a screen shows, and what a text makes of the terminals that read it.
-use Rattle.std.specs.Prelude.{◌≡◌, ℕ, List, Option, Some}
+use Rattle.std.specs.Prelude.{◌≡◌, ℕ, List, [], ◌∷◌, Option, Some}
 use Rattle.vt_cells.specs.Attrs.{default_attrs}
-use Rattle.vt_cells.specs.Op.{bytes_of_all}
+use Rattle.vt_cells.specs.Op.{ClearAttrs, ChangeAttrs, bytes_of_all}
 use Rattle.vt_cells.specs.declared.attrs.Attrs.{Attrs}
 use Rattle.vt_grid.specs.Page.{IsPlainPage}
 use Rattle.vt_redraw.specs.Picture.{Picture, SamePictureSize, Saved, picture_over, with_picture, with_saved}
@@ -90,6 +90,10 @@ pub record TakesCursor (picture : Picture) (reader after : ScreenValue) : Type 0
   pub row : after.page.row ≡ picture.row
   pub column : after.page.column ≡ picture.column
   pub hidden : after.hidden ≡ picture.hidden
+
+-- SGR without a number, and the change from the defaults to these attributes
+abbrev pub attributes_text : Attrs → List ℕ
+attributes_text attrs = bytes_of_all (ClearAttrs ∷ ChangeAttrs default_attrs attrs ∷ [])
 
 -- a text that sets these attributes on every terminal in the midst of nothing, and nothing else
 abbrev pub SetsAttrs : Attrs → List ℕ → Type 0
