@@ -18,7 +18,7 @@ use Rattle.vt_redraw.proofs.Difference.{flags_end_of}
 abbrev pub IsAnyRow : RowValue → Type 0
 IsAnyRow row = IsRow (length row.cells) row
 
-length_cut : (width : ℕ) (rows : List RowValue) → length (cut_rows width rows) ≡ length rows
+pub length_cut : (width : ℕ) (rows : List RowValue) → length (cut_rows width rows) ≡ length rows
 length_cut width [] = refl
 length_cut width (x ∷ []) = refl
 length_cut width (x ∷ y ∷ rows) = ap suc (length_cut width (y ∷ rows))
@@ -26,7 +26,7 @@ length_cut width (x ∷ y ∷ rows) = ap suc (length_cut width (y ∷ rows))
 cut_row : (width : ℕ) (row : RowValue) → IsAnyRow row → IsRow width (with_cells row (resized width row.cells))
 cut_row width row is = IsRow-with_cells width row (resized width row.cells) (length-resized width row.cells) (IsPaired-resized width row.cells is.paired) (All-resized width row.cells is.sound)
 
-cut_are : (width : ℕ) (rows : List RowValue) → AllByRecursion IsAnyRow rows → All (IsRow width) (cut_rows width rows)
+pub cut_are : (width : ℕ) (rows : List RowValue) → AllByRecursion IsAnyRow rows → All (IsRow width) (cut_rows width rows)
 cut_are width [] is = All-nil (IsRow width)
 cut_are width (x ∷ []) is =
     let row : RowValue = record { cells = resized width x.cells; wrapped = false } in
@@ -68,7 +68,7 @@ flag_stays false blank h = refl
 same_cells : (width : ℕ) (row : RowValue) → IsRow width row → resized width row.cells ≡ row.cells
 same_cells width row is = resized-same width row.cells is.columns is.paired
 
-cut_same : (width : ℕ) (rows : List RowValue) → AllByRecursion (IsRow width) rows → flags_end rows → cut_rows width rows ≡ rows
+pub cut_same : (width : ℕ) (rows : List RowValue) → AllByRecursion (IsRow width) rows → flags_end rows → cut_rows width rows ≡ rows
 cut_same width [] is last = refl
 cut_same width (x ∷ []) is last =
     ap (λ (z : List CellValue). record { cells = z; wrapped = false } ∷ []) (same_cells width x is.0) ∙ ap (λ (b : Bool). record x { wrapped = b } ∷ []) (sym last)

@@ -33,3 +33,7 @@ pub mod Chain
 pub mod Touched
 pub mod TouchedTexts
 pub mod Writing
+pub mod Filling
+pub mod CellSteps
+pub mod Viewing
+pub mod RowSteps

@@ -1,10 +1,13 @@
 -- Steps of the writer of a redraw.
-use Rattle.std.proofs.Common.{◌≡◌, true, List, [], ◌∷◌, refl, append-nil}
+use Rattle.std.proofs.Common.{◌≡◌, sym, true, false, List, [], ◌∷◌, refl, append-nil}
 use Rattle.std.proofs.lemmas.Bool.{cond_both}
+use Rattle.vt_cells.proofs.Same.{attrs_eq-same}
 use Rattle.vt_cells.specs.Attrs.{same_attrs}
+use Rattle.vt_cells.specs.Cell.{CellValue, blank, glyph, right_half, is_blank, attrs_of}
+use Rattle.vt_cells.specs.CellEq.{attrs_eq}
 use Rattle.vt_cells.specs.Op.{Op, ChangeAttrs, bytes_of_all, change_text}
 use Rattle.vt_cells.specs.declared.attrs.Attrs.{Attrs}
-use Rattle.vt_redraw.specs.Script.{changing}
+use Rattle.vt_redraw.specs.Script.{changing, is_blank_of}
 
 no_change : (was new : Attrs) → same_attrs was new ≡ true → [] ≡ change_text was new
 unfolding change_text
@@ -16,3 +19,18 @@ unfolding changing
 changing_bytes was new =
     cond_both (same_attrs was new) [] (ChangeAttrs was new ∷ []) (λ (ops : List Op). bytes_of_all ops ≡ change_text was new)
     (no_change was new) (λ _. append-nil (change_text was new))
+
+pub change_written : (was new : Attrs) → change_text was new ≡ bytes_of_all (changing was new)
+change_written was new = sym (changing_bytes was new)
+
+-- ---- the test for a blank in given attributes
+
+pub is_blank_of-blank : (attrs made : Attrs) (x : CellValue) → is_blank x ≡ true → made ≡ attrs_of x → attrs_eq attrs made ≡ is_blank_of attrs x
+is_blank_of-blank attrs made (blank b) h e = rw e (attrs_eq-same attrs b)
+is_blank_of-blank attrs made (glyph text wide b) h e = cc
+is_blank_of-blank attrs made right_half h e = cc
+
+pub is_blank_of-other : (attrs : Attrs) (x : CellValue) → is_blank x ≡ false → is_blank_of attrs x ≡ false
+is_blank_of-other attrs (blank b) h = cc
+is_blank_of-other attrs (glyph text wide b) h = refl
+is_blank_of-other attrs right_half h = refl

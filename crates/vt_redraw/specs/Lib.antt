@@ -6,3 +6,4 @@ pub mod Redraw
 pub mod Touching
 pub mod Locality
 pub mod Items
+pub mod Keeping

@@ -111,12 +111,14 @@ pending_alone (Some i) width rows r =
     ∷ (changing default_attrs (attrs_of (last_glyph cells))
     ++ Print (text_of (last_glyph cells)) ∷ (changing (attrs_of (last_glyph cells)) default_attrs ++ replicate (r - i) LineFeed))
 
+abbrev pub cursor_alone : Picture → List Op
+cursor_alone self =
+    if nat_lt self.column self.width then MoveTo self.row self.column ∷ []
+    else pending_alone (nearest self.width self.rows self.row) self.width self.rows self.row
+
 -- hiding and the cursor, for a reader that shows the rest and draws with default attributes
 unfoldable pub cursor_state : Picture → List Op
-cursor_state self =
-    Hide self.hidden
-    ∷ (if nat_lt self.column self.width then MoveTo self.row self.column ∷ []
-    else pending_alone (nearest self.width self.rows self.row) self.width self.rows self.row)
+cursor_state self = Hide self.hidden ∷ cursor_alone self
 
 -- ---- one picture after the other
 

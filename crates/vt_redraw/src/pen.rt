@@ -3,7 +3,7 @@
 ghost use Rattle.std.specs.Prelude.{◌≡◌, ◌++◌, OnOk};
 ghost use Rattle.vt_cells.specs.Attrs.{default_attrs};
 ghost use Rattle.vt_cells.specs.Op.{bytes_of_all};
-ghost use Rattle.vt_redraw.specs.Script.{changing, going, pen_at};
+ghost use Rattle.vt_redraw.specs.Script.{changing, going, is_at, pen_at};
 
 use vt_cells::term::{BufWrite, ChangeAttrs, MoveFromTo};
 use vt_cells::{Attrs, Pos, Sink};
@@ -33,6 +33,14 @@ impl Pen {
         }
     }
 
+    /// Whether it is at this position.
+    #[inline]
+    pub fn is_at(&self, row: u16, col: u16) -> bool
+        ensures { result ≡ is_at self.now row col }
+    {
+        self.row == row && self.col == col
+    }
+
     /// Moves to a position, and writes the move.
     #[tactic(auto, unfolding(crate::specs::Script::going))]
     pub fn move_to<S: Sink>(&mut self, sink: &mut S, to: Pos) -> Result<(), S::Error>
@@ -50,17 +58,20 @@ impl Pen {
     }
 
     /// Takes other attributes, and writes the change.
-    #[tactic(auto, unfolding(crate::specs::Script::changing))]
     pub fn change_attrs<S: Sink>(&mut self, sink: &mut S, new: Attrs) -> Result<(), S::Error>
         ensures text { OnOk result (S.text sink.new ≡ S.text sink.old ++ bytes_of_all (changing self.old.attrs new)) }
         ensures pen { OnOk result (self.new ≡ pen_at self.old.row self.old.col new) }
     {
-        ChangeAttrs {
-            was: self.attrs,
-            new,
-        }
-        .write_buf(sink)?;
+        write_change(sink, self.attrs, new)?;
         self.attrs = new;
         Ok(())
     }
+}
+
+/// Writes a change of attributes.
+#[tactic(auto, using(crate::proofs::Writing::change_written))]
+pub fn write_change<S: Sink>(sink: &mut S, was: Attrs, new: Attrs) -> Result<(), S::Error>
+    ensures { OnOk result (S.text sink.new ≡ S.text sink.old ++ bytes_of_all (changing was new)) }
+{
+    ChangeAttrs { was, new }.write_buf(sink)
 }

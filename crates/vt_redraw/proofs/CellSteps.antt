@@ -1,0 +1,221 @@
+-- Steps of the writer through the cells of a row.
+use Rattle.std.proofs.Common.{◌≡◌, ℕ, zero, suc, ◌+◌, ◌<◌, ◌≤◌, ◌||◌, Bool, true, false, List, [], ◌∷◌, ◌++◌, length, drop, refl, sym, ap, subst, ◌∙◌, arith, append_assoc, append-nil}
+use Rattle.std.proofs.lemmas.Bool.{cond-true, cond-false}
+use Rattle.std.proofs.lemmas.List.Concat.{flat_map-append}
+use Rattle.std.proofs.lemmas.List.{drop_more, drop_all, drop-drop}
+use Rattle.std.proofs.Math.Numerals.{one-add}
+use Rattle.vt_cells.proofs.Same.{same_attrs-itself}
+use Rattle.vt_cells.specs.Attrs.{same_attrs}
+use Rattle.vt_cells.specs.Cell.{CellValue, blank, glyph, right_half, default_blank, is_blank, is_right_half, is_wide, attrs_of, text_of, same_cell}
+use Rattle.vt_cells.specs.Op.{Op, Print, bytes_of, bytes_of_all}
+use Rattle.vt_cells.specs.declared.attrs.Attrs.{Attrs}
+use Rattle.vt_rows.specs.Cells.{at, IsPaired}
+use Rattle.vt_redraw.specs.Keeping.{Leads, cells_from}
+use Rattle.vt_redraw.proofs.Filling.{room}
+use Rattle.vt_redraw.specs.Script.{Written, after, nothing, doing, pen_at, run, erase_run, columns, flag_behind, flag_past, cells_written}
+use Rattle.vt_redraw.specs.declared.pen.Pen.{Pen}
+
+-- ---- how far a writer has come
+
+pub leads_start : (text : List ℕ) (whole : Written) → Leads text whole text whole
+leads_start text whole = record { bytes = refl; pen = refl; flag = refl }
+
+pub leads_then : (t u v : List ℕ) (x y z : Written) → Leads u y t x → Leads v z u y → Leads v z t x
+leads_then t u v x y z p q = record { bytes = q.bytes ∙ p.bytes; pen = q.pen ∙ p.pen; flag = q.flag ∙ p.flag }
+
+-- the text of some operations was appended, and the rest is to write
+pub leads_after : (text longer : List ℕ) (ops : List Op) (rest whole : Written) → longer ≡ text ++ bytes_of_all ops → whole ≡ after ops rest → Leads longer rest text whole
+leads_after text longer ops rest whole e f =
+    let bytes : longer ++ bytes_of_all rest.ops ≡ text ++ bytes_of_all (after ops rest).ops =
+    ap (λ (z : List ℕ). z ++ bytes_of_all rest.ops) e ∙ (append_assoc text (bytes_of_all ops) (bytes_of_all rest.ops) ∙ ap (λ (z : List ℕ). text ++ z) (sym (flat_map-append bytes_of ops rest.ops))) in
+    record {
+      bytes = bytes ∙ ap (λ (w : Written). text ++ bytes_of_all w.ops) (sym f);
+      pen = ap (λ (w : Written). w.pen) (sym f);
+      flag = ap (λ (w : Written). w.flag) (sym f);
+    }
+
+pub leads_same : (text : List ℕ) (rest whole : Written) → whole ≡ rest → Leads text rest text whole
+leads_same text rest whole f = record {
+  bytes = ap (λ (w : Written). text ++ bytes_of_all w.ops) (sym f);
+  pen = ap (λ (w : Written). w.pen) (sym f);
+  flag = ap (λ (w : Written). w.flag) (sym f);
+}
+
+-- at the end
+pub leads_text : (text start : List ℕ) (rest whole : Written) (pen : Pen) (flag : Bool) → rest ≡ nothing pen flag → Leads text rest start whole → text ≡ start ++ bytes_of_all whole.ops
+leads_text text start rest whole pen flag e h = sym (append-nil text) ∙ (ap (λ (w : Written). text ++ bytes_of_all w.ops) (sym e) ∙ h.bytes)
+
+-- ---- settled cells need nothing
+
+nothing_left : (r c : ℕ) (pen : Pen) (flag : Bool) (k : ℕ) (xs : List CellValue) → cells_written r c pen flag k xs [] ≡ nothing pen flag
+unfolding cells_written
+nothing_left r c pen flag zero [] = refl
+nothing_left r c pen flag (suc k) [] = refl
+nothing_left r c pen flag zero (x ∷ xs) = refl
+nothing_left r c pen flag (suc k) (x ∷ xs) = refl
+
+pub settled_passed : (r c : ℕ) (pen : Pen) (flag : Bool) (k : ℕ) (xs ys : List CellValue) → cells_written r c pen flag k xs ys ≡ cells_written r (c + k) pen flag 0 (drop k xs) (drop k ys)
+unfolding cells_written
+settled_passed r c pen flag zero xs ys = ap (λ (n : ℕ). cells_written r n pen flag 0 xs ys) (omega arith)
+settled_passed r c pen flag (suc k) [] ys = refl
+settled_passed r c pen flag (suc k) (x ∷ xs) [] = sym (nothing_left r (c + suc k) pen flag 0 (drop k xs))
+settled_passed r c pen flag (suc k) (x ∷ xs) (y ∷ ys) = settled_passed r (c + 1) pen flag k xs ys ∙ ap (λ (n : ℕ). cells_written r n pen flag 0 (drop k xs) (drop k ys)) (omega arith)
+
+-- ---- one cell, said on lists
+
+-- the right half behind a wide glyph that stands needs nothing either
+half_passed : (r c : ℕ) (pen : Pen) (flag : Bool) (xs ys : List CellValue) → is_right_half (at xs 0) ≡ true → cells_written r c pen flag 1 xs ys ≡ cells_written r c pen flag 0 xs ys
+unfolding cells_written
+half_passed r c pen flag [] ys h = absurd cc
+half_passed r c pen flag (blank a ∷ xs) ys h = absurd cc
+half_passed r c pen flag (glyph text wide a ∷ xs) ys h = absurd cc
+half_passed r c pen flag (right_half ∷ xs) [] h = refl
+half_passed r c pen flag (right_half ∷ xs) (y ∷ ys) h = refl
+
+passed : (r c : ℕ) (pen : Pen) (flag : Bool) (x : CellValue) (xs : List CellValue) (y : CellValue) (ys : List CellValue) → (is_right_half x || same_cell x y) ≡ true → (is_wide x ≡ true → is_right_half (at xs 0) ≡ true) →
+    cells_written r c pen flag 0 (x ∷ xs) (y ∷ ys) ≡ cells_written r (c + 1) pen flag 0 xs ys
+unfolding cells_written
+passed r c pen flag right_half xs y ys h paired = refl
+passed r c pen flag (blank a) xs y ys h paired = cond-true (same_cell (blank a) y) _ _ h
+passed r c pen flag (glyph text false a) xs y ys h paired = cond-true (same_cell (glyph text false a) y) _ _ h
+passed r c pen flag (glyph text true a) xs y ys h paired = cond-true (same_cell (glyph text true a) y) _ _ h ∙ half_passed r (c + 1) pen flag xs ys (paired refl)
+
+glyph_printed : (r c : ℕ) (pen : Pen) (flag : Bool) (x : CellValue) (xs : List CellValue) (y : CellValue) (ys : List CellValue) → (is_right_half x || same_cell x y) ≡ false → is_blank x ≡ false →
+    cells_written r c pen flag 0 (x ∷ xs) (y ∷ ys)
+    ≡ after (doing pen r c (attrs_of x) (Print (text_of x)))
+    (cells_written r (c + columns (is_wide x)) (pen_at r (c + columns (is_wide x)) (attrs_of x)) (flag_behind flag (is_wide x) (drop (columns (is_wide x)) (y ∷ ys))) 0 (drop (columns (is_wide x)) (x ∷ xs)) (drop (columns (is_wide x)) (y ∷ ys)))
+unfolding cells_written
+glyph_printed r c pen flag right_half xs y ys h b = absurd cc
+glyph_printed r c pen flag (blank a) xs y ys h b = absurd cc
+glyph_printed r c pen flag (glyph text false a) xs y ys h b = cond-false (same_cell (glyph text false a) y) _ _ h
+glyph_printed r c pen flag (glyph text true a) xs y ys h b =
+    cond-false (same_cell (glyph text true a) y) _ _ h
+    ∙ ap (after (doing pen r c a (Print text)))
+    (settled_passed r (c + 1) (pen_at r (c + 2) a) (flag_behind flag true (drop 1 ys)) 1 xs ys
+    ∙ ap (λ (n : ℕ). cells_written r n (pen_at r (c + 2) a) (flag_behind flag true (drop 1 ys)) 0 (drop 1 xs) (drop 1 ys)) (omega arith))
+
+run_first : (a : Attrs) (xs : List CellValue) → run a (blank a ∷ xs) ≡ suc (run a xs)
+run_first a xs = cond-true (same_attrs a a) (1 + run a xs) 0 (same_attrs-itself a) ∙ one-add (run a xs)
+
+run_here : (r c : ℕ) (pen : Pen) (flag : Bool) (a : Attrs) (xs : List CellValue) (y : CellValue) (ys : List CellValue) → same_cell (blank a) y ≡ false →
+    cells_written r c pen flag 0 (blank a ∷ xs) (y ∷ ys)
+    ≡ after (doing pen r c a (erase_run (suc (run a xs)) (drop (run a xs) ys)))
+    (cells_written r (c + suc (run a xs)) (pen_at r c a) (flag_past flag (drop (run a xs) ys)) 0 (drop (run a xs) xs) (drop (run a xs) ys))
+unfolding cells_written
+run_here r c pen flag a xs y ys h =
+    let n = run a xs in
+    let f = flag_past flag (drop n ys) in
+    cond-false (same_cell (blank a) y) _ _ h
+    ∙ ap (after (doing pen r c a (erase_run (suc n) (drop n ys))))
+    (settled_passed r (c + 1) (pen_at r c a) f n xs ys ∙ ap (λ (k : ℕ). cells_written r k (pen_at r c a) f 0 (drop n xs) (drop n ys)) (omega arith))
+
+blank_is : (x : CellValue) → is_blank x ≡ true → x ≡ blank (attrs_of x)
+blank_is (blank a) h = refl
+blank_is (glyph text wide a) h = absurd cc
+blank_is right_half h = absurd cc
+
+run_erased : (r c : ℕ) (pen : Pen) (flag : Bool) (x : CellValue) (xs : List CellValue) (y : CellValue) (ys : List CellValue) (n : ℕ) → (is_right_half x || same_cell x y) ≡ false → is_blank x ≡ true → n ≡ run (attrs_of x) (x ∷ xs) →
+    cells_written r c pen flag 0 (x ∷ xs) (y ∷ ys)
+    ≡ after (doing pen r c (attrs_of x) (erase_run n (drop n (y ∷ ys))))
+    (cells_written r (c + n) (pen_at r c (attrs_of x)) (flag_past flag (drop n (y ∷ ys))) 0 (drop n (x ∷ xs)) (drop n (y ∷ ys)))
+run_erased r c pen flag (blank a) xs y ys n h b count =
+    let e : suc (run a xs) ≡ n = sym (count ∙ run_first a xs) in
+    run_here r c pen flag a xs y ys h
+    ∙ ap (λ (m : ℕ). after (doing pen r c a (erase_run m (drop m (y ∷ ys)))) (cells_written r (c + m) (pen_at r c a) (flag_past flag (drop m (y ∷ ys))) 0 (drop m (blank a ∷ xs)) (drop m (y ∷ ys)))) e
+run_erased r c pen flag (glyph text wide a) xs y ys n h b count = absurd cc
+run_erased r c pen flag right_half xs y ys n h b count = absurd cc
+
+-- ---- the same, from a column on
+
+from_column : (xs : List CellValue) (c : ℕ) → c < length xs → drop c xs ≡ at xs c ∷ drop (c + 1) xs
+from_column xs c h = drop_more xs c default_blank h
+
+-- from column c on, what the first cell gives, if the rest is read there
+at_column : (r c : ℕ) (pen : Pen) (flag : Bool) (xs ys : List CellValue) → c < length xs → length xs ≤ length ys →
+    cells_from r c pen flag xs ys ≡ cells_written r c pen flag 0 (at xs c ∷ drop (c + 1) xs) (at ys c ∷ drop (c + 1) ys)
+at_column r c pen flag xs ys h le =
+    ap (λ (zs : List CellValue). cells_written r c pen flag 0 zs (drop c ys)) (from_column xs c h)
+    ∙ ap (λ (zs : List CellValue). cells_written r c pen flag 0 (at xs c ∷ drop (c + 1) xs) zs) (from_column ys c (omega arith))
+
+-- the columns behind n of those from c on
+behind : (c n : ℕ) (xs : List CellValue) → c < length xs → drop n (at xs c ∷ drop (c + 1) xs) ≡ drop (c + n) xs
+behind c n xs h = ap (drop n) (sym (from_column xs c h)) ∙ drop-drop n c xs
+
+first_half : (xs : List CellValue) (c : ℕ) → IsPaired xs → is_wide (at xs c) ≡ true → is_right_half (at (drop (c + 1) xs) 0) ≡ true
+first_half xs c paired h =
+    let e : at (drop (c + 1) xs) 0 ≡ at xs (c + 1) = head_at xs (c + 1) in
+    ap is_right_half e ∙ (sym (paired.halves c) ∙ h) where
+      head_at : (xs : List CellValue) (k : ℕ) → at (drop k xs) 0 ≡ at xs k
+      head_at xs zero = refl
+      head_at [] (suc k) = refl
+      head_at (x ∷ xs) (suc k) = head_at xs k
+
+pub cell_passed : (r c : ℕ) (pen : Pen) (flag : Bool) (xs ys : List CellValue) (text : List ℕ) → c < length xs → length xs ≤ length ys → IsPaired xs → (is_right_half (at xs c) || same_cell (at xs c) (at ys c)) ≡ true →
+    Leads text (cells_from r (c + 1) pen flag xs ys) text (cells_from r c pen flag xs ys)
+cell_passed r c pen flag xs ys text h le paired same =
+    leads_same text (cells_from r (c + 1) pen flag xs ys) (cells_from r c pen flag xs ys)
+    (at_column r c pen flag xs ys h le ∙ passed r c pen flag (at xs c) (drop (c + 1) xs) (at ys c) (drop (c + 1) ys) same (first_half xs c paired))
+
+pub next_glyph : (r c n : ℕ) (pen next : Pen) (flag then : Bool) (xs ys : List CellValue) (text longer : List ℕ) → c < length xs → length xs ≤ length ys →
+    (is_right_half (at xs c) || same_cell (at xs c) (at ys c)) ≡ false → is_blank (at xs c) ≡ false → n ≡ columns (is_wide (at xs c)) →
+    longer ≡ text ++ bytes_of_all (doing pen r c (attrs_of (at xs c)) (Print (text_of (at xs c)))) → next ≡ pen_at r (c + columns (is_wide (at xs c))) (attrs_of (at xs c)) →
+    then ≡ flag_behind flag (is_wide (at xs c)) (drop (c + n) ys) → Leads longer (cells_from r (c + n) next then xs ys) text (cells_from r c pen flag xs ys)
+next_glyph r c n pen next flag then xs ys text longer h le other b count told pens flags =
+    let x = at xs c in
+    let ops = doing pen r c (attrs_of x) (Print (text_of x)) in
+    let m = columns (is_wide x) in
+    leads_after text longer ops (cells_from r (c + n) next then xs ys) (cells_from r c pen flag xs ys) told
+    (at_column r c pen flag xs ys h le
+    ∙ (glyph_printed r c pen flag x (drop (c + 1) xs) (at ys c) (drop (c + 1) ys) other b
+    ∙ (ap (λ (zs : List CellValue). after ops (cells_written r (c + m) (pen_at r (c + m) (attrs_of x)) (flag_behind flag (is_wide x) (drop m (at ys c ∷ drop (c + 1) ys))) 0 zs (drop m (at ys c ∷ drop (c + 1) ys)))) (behind c m xs h)
+    ∙ (ap (λ (zs : List CellValue). after ops (cells_written r (c + m) (pen_at r (c + m) (attrs_of x)) (flag_behind flag (is_wide x) zs) 0 (drop (c + m) xs) zs)) (behind c m ys (omega arith))
+    ∙ (ap (λ (p : Pen). after ops (cells_written r (c + m) p (flag_behind flag (is_wide x) (drop (c + m) ys)) 0 (drop (c + m) xs) (drop (c + m) ys))) (sym pens)
+    ∙ (ap (λ (k : ℕ). after ops (cells_written r (c + k) next (flag_behind flag (is_wide x) (drop (c + k) ys)) 0 (drop (c + k) xs) (drop (c + k) ys))) (sym count)
+    ∙ ap (λ (f : Bool). after ops (cells_from r (c + n) next f xs ys)) (sym flags)))))))
+
+pub next_run : (r c n : ℕ) (pen next : Pen) (flag then : Bool) (xs ys : List CellValue) (a : Attrs) (text longer : List ℕ) → c < length xs → length xs ≤ length ys →
+    (is_right_half (at xs c) || same_cell (at xs c) (at ys c)) ≡ false → is_blank (at xs c) ≡ true → a ≡ attrs_of (at xs c) → n ≡ run a (drop c xs) →
+    longer ≡ text ++ bytes_of_all (doing pen r c a (erase_run n (drop (c + n) ys))) → next ≡ pen_at r c a →
+    then ≡ flag_past flag (drop (c + n) ys) → Leads longer (cells_from r (c + n) next then xs ys) text (cells_from r c pen flag xs ys)
+next_run r c n pen next flag then xs ys a text longer h le other b same count told pens flags =
+    let x = at xs c in
+    let ops = λ (zs : List CellValue). doing pen r c a (erase_run n zs) in
+    let counted : n ≡ run (attrs_of x) (x ∷ drop (c + 1) xs) = count ∙ (ap (run a) (from_column xs c h) ∙ ap (λ (z : Attrs). run z (x ∷ drop (c + 1) xs)) same) in
+    leads_after text longer (ops (drop (c + n) ys)) (cells_from r (c + n) next then xs ys) (cells_from r c pen flag xs ys) told
+    (at_column r c pen flag xs ys h le
+    ∙ (run_erased r c pen flag x (drop (c + 1) xs) (at ys c) (drop (c + 1) ys) n other b counted
+    ∙ (ap (λ (z : Attrs). after (doing pen r c z (erase_run n (drop n (at ys c ∷ drop (c + 1) ys)))) (cells_written r (c + n) (pen_at r c z) (flag_past flag (drop n (at ys c ∷ drop (c + 1) ys))) 0 (drop n (x ∷ drop (c + 1) xs)) (drop n (at ys c ∷ drop (c + 1) ys)))) (sym same)
+    ∙ (ap (λ (zs : List CellValue). after (ops (drop n (at ys c ∷ drop (c + 1) ys))) (cells_written r (c + n) (pen_at r c a) (flag_past flag (drop n (at ys c ∷ drop (c + 1) ys))) 0 zs (drop n (at ys c ∷ drop (c + 1) ys)))) (behind c n xs h)
+    ∙ (ap (λ (zs : List CellValue). after (ops zs) (cells_written r (c + n) (pen_at r c a) (flag_past flag zs) 0 (drop (c + n) xs) zs)) (behind c n ys (omega arith))
+    ∙ (ap (λ (p : Pen). after (ops (drop (c + n) ys)) (cells_written r (c + n) p (flag_past flag (drop (c + n) ys)) 0 (drop (c + n) xs) (drop (c + n) ys))) (sym pens)
+    ∙ ap (λ (f : Bool). after (ops (drop (c + n) ys)) (cells_from r (c + n) next f xs ys)) (sym flags)))))))
+
+pub run_some : (a : Attrs) (xs : List CellValue) (c n : ℕ) → c < length xs → is_blank (at xs c) ≡ true → a ≡ attrs_of (at xs c) → n ≡ run a (drop c xs) → 0 < n
+run_some a xs c n h b same count =
+    let first : at xs c ≡ blank a = blank_is (at xs c) b ∙ ap blank (sym same) in
+    let all : n ≡ suc (run a (drop (c + 1) xs)) = count ∙ (ap (run a) (from_column xs c h) ∙ (ap (λ (z : CellValue). run a (z ∷ drop (c + 1) xs)) first ∙ run_first a (drop (c + 1) xs))) in
+    omega arith
+
+-- a glyph has its columns in the row
+pub glyph_inside : (xs : List CellValue) (c : ℕ) → c < length xs → IsPaired xs → c + columns (is_wide (at xs c)) ≤ length xs
+glyph_inside xs c h paired = by_width (is_wide (at xs c)) refl where
+  by_width : (w : Bool) → is_wide (at xs c) ≡ w → c + columns w ≤ length xs
+  by_width false e = omega arith
+  by_width true e = let r = room xs c paired e in omega arith
+
+-- ---- the end of a row
+
+pub cells_end : (r c : ℕ) (pen : Pen) (flag : Bool) (xs ys : List CellValue) → length xs ≤ c → cells_from r c pen flag xs ys ≡ nothing pen flag
+unfolding cells_written
+cells_end r c pen flag xs ys h = ap (λ (zs : List CellValue). cells_written r c pen flag 0 zs (drop c ys)) (drop_all c xs h)
+
+-- ---- the same, of a cell that was read
+
+pub glyph_leads : (r c n : ℕ) (pen next : Pen) (flag then : Bool) (xs ys : List CellValue) (x : CellValue) (text longer : List ℕ) → x ≡ at xs c → c < length xs → length xs ≤ length ys →
+    (is_right_half (at xs c) || same_cell (at xs c) (at ys c)) ≡ false → is_blank x ≡ false → n ≡ columns (is_wide x) →
+    longer ≡ text ++ bytes_of_all (doing pen r c (attrs_of x) (Print (text_of x))) → next ≡ pen_at r (c + columns (is_wide x)) (attrs_of x) →
+    then ≡ flag_behind flag (is_wide x) (drop (c + n) ys) → Leads longer (cells_from r (c + n) next then xs ys) text (cells_from r c pen flag xs ys)
+glyph_leads r c n pen next flag then xs ys x text longer e h le other =
+    subst (λ (z : CellValue). is_blank z ≡ false → n ≡ columns (is_wide z) → longer ≡ text ++ bytes_of_all (doing pen r c (attrs_of z) (Print (text_of z))) → next ≡ pen_at r (c + columns (is_wide z)) (attrs_of z) →
+    then ≡ flag_behind flag (is_wide z) (drop (c + n) ys) → Leads longer (cells_from r (c + n) next then xs ys) text (cells_from r c pen flag xs ys))
+    (sym e) (λ b count told pens flags. next_glyph r c n pen next flag then xs ys text longer h le other b count told pens flags)

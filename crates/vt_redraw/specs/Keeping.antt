@@ -1,0 +1,86 @@
+-- How the code reads pictures, and how far a writer has come; for models, private contracts and proofs only.
+use Rattle.std.specs.Prelude.{◌≡◌, ℕ, ◌+◌, ◌-◌, ◌<◌, ◌≤◌, ◌^◌, ◌&&◌, nat_lt, not, Bool, true, List, ◌++◌, length, replicate, drop, All, if◌then◌else◌}
+use Rattle.vt_cells.specs.Attrs.{default_attrs}
+use Rattle.vt_cells.specs.Cell.{CellValue, blank, default_blank, is_blank, is_wide, attrs_of}
+use Rattle.vt_cells.specs.Op.{bytes_of_all}
+use Rattle.vt_rows.specs.Cells.{at, ends_blank, resized}
+use Rattle.vt_rows.specs.Row.{RowValue, IsRow, blank_row}
+use Rattle.vt_grid.specs.Scrollback.{Scrollback, IsScrollback, visible}
+use Rattle.vt_redraw.specs.Picture.{Picture, cut_rows}
+use Rattle.vt_redraw.specs.Script.{Written, Linked, cells_written}
+use Rattle.vt_redraw.specs.Redraw.{rows_below}
+use Rattle.vt_grid.specs.Page.{row_or}
+use Rattle.vt_redraw.specs.declared.links.Link.{Link}
+use Rattle.vt_redraw.specs.declared.pen.Pen.{Pen}
+
+-- cells, and one and the same cell behind them, in all this many columns
+abbrev pub filled : List CellValue → ℕ → CellValue → List CellValue
+filled cells cols end = cells ++ replicate (cols - length cells) end
+
+-- of the cells that a row of a picture keeps where they lie, and of the cell behind them
+pub record IsFilled (cells : List CellValue) (cols : ℕ) (end : CellValue) : Type 0 where
+  pub inside : length cells ≤ cols
+  pub blank : is_blank end ≡ true
+
+-- a cut to this many columns leaves half of a wide glyph
+abbrev pub is_split : ℕ → List CellValue → Bool
+is_split cols cells = nat_lt cols (length cells) && is_wide (at cells (cols - 1))
+
+-- how many cells stand as they are in a row cut so
+abbrev pub kept_len : ℕ → List CellValue → ℕ
+kept_len cols cells = if is_split cols cells then cols - 1 else cols
+
+-- what stands behind them: the half of that glyph, blank in its attributes, or else default blanks
+abbrev pub end_of : ℕ → List CellValue → CellValue
+end_of cols cells = if is_split cols cells then blank (attrs_of (at cells (cols - 1))) else default_blank
+
+-- a row of a picture: cut or grown, and going on below only where it is not the last one
+abbrev pub cut_row : (is_last : Bool) → ℕ → RowValue → RowValue
+cut_row is_last width row = record { cells = resized width row.cells; wrapped = not is_last && (row.wrapped && not (ends_blank (resized width row.cells))) }
+
+-- what is asked of the rows that a picture is read from, those of a page with scrollback above it, and of its pen
+pub record IsSource (above : Scrollback) (rows : List RowValue) (width : ℕ) (pen : Pen) : Type 0 where
+  pub scrollback : IsScrollback above
+  pub page : All (IsRow width) rows
+  pub columns : 0 < width
+  pub height : length rows < 2 ^ 16
+  pub row : pen.row < length rows
+  pub column : pen.col ≤ width
+
+-- the picture that is read from them, or a blank one
+abbrev pub viewed : (is_blank : Bool) → Scrollback → List RowValue → ℕ → Pen → Bool → Picture
+viewed is_blank above rows width pen hidden = record {
+  rows = if is_blank then replicate (length rows) (blank_row default_attrs width) else cut_rows width (visible above rows);
+  width = width;
+  row = pen.row;
+  column = pen.col;
+  attrs = pen.attrs;
+  hidden = hidden;
+}
+
+-- the text so far and what is still to write are together a text before and all that was to write then
+pub record Leads (text : List ℕ) (written : Written) (start : List ℕ) (whole : Written) : Type 0 where
+  pub bytes : text ++ bytes_of_all written.ops ≡ start ++ bytes_of_all whole.ops
+  pub pen : written.pen ≡ whole.pen
+  pub flag : written.flag ≡ whole.flag
+
+-- what the cells of row r from column c on need over those of another row
+abbrev pub cells_from : (r c : ℕ) → Pen → Bool → (xs ys : List CellValue) → Written
+cells_from r c pen flag xs ys = cells_written r c pen flag 0 (drop c xs) (drop c ys)
+
+-- what a link wrote, and what stands after it, is that of the script
+pub record Links (start text : List ℕ) (pen : Pen) (link : Link) (whole : Linked) : Type 0 where
+  pub bytes : text ≡ start ++ bytes_of_all whole.ops
+  pub stands : pen ≡ whole.pen
+  pub goes_on : link.flag ≡ whole.flag
+  pub done : link.settled ≡ whole.settled
+
+-- what a row wrote is that of the script
+pub record Writes (start text : List ℕ) (pen : Pen) (flag : Bool) (whole : Written) : Type 0 where
+  pub bytes : text ≡ start ++ bytes_of_all whole.ops
+  pub stands : pen ≡ whole.pen
+  pub goes_on : flag ≡ whole.flag
+
+-- what the rows below row r need
+abbrev pub rows_under : (r width : ℕ) → Pen → Bool → (xs ys : List RowValue) → Written
+rows_under r width pen on xs ys = rows_below r pen (row_or width xs r) on (drop (r + 1) xs) (drop (r + 1) ys)

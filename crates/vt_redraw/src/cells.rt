@@ -1,0 +1,173 @@
+//! What the cells of a row need over those that the reader shows.
+
+ghost use Rattle.std.specs.Prelude.{◌≡◌, ◌++◌, ◌+◌, ◌-◌, ◌<◌, ◌≤◌, ◌==◌, ◌||◌, false, [], ◌∷◌, IfOk, OnOk, drop, length};
+ghost use Rattle.vt_cells.specs.Cell.{attrs_of, is_right_half, is_wide, same_cell, text_of};
+ghost use Rattle.vt_cells.specs.Op.{Print, bytes_of, bytes_of_all};
+ghost use Rattle.vt_rows.specs.Cells.{IsPaired, at};
+ghost use Rattle.vt_redraw.specs.Keeping.{Leads, cells_from};
+ghost use Rattle.vt_redraw.specs.Script.{columns, doing, erase_run, flag_behind, flag_past, pen_at};
+
+use crate::pen::Pen;
+use crate::picture_row::PictureRow;
+use vt_cells::term::{BufWrite, ClearRowForward, EraseChar};
+use vt_cells::{Attrs, Cell, Pos, Sink};
+
+/// How many columns a glyph takes.
+#[inline]
+pub fn columns(cell: &Cell) -> u16
+    ensures { result ≡ columns (is_wide cell.now) }
+{
+    if cell.is_wide() { 2 } else { 1 }
+}
+
+/// Writes a glyph at a position; where the pen is then is left to the caller.
+pub fn print_at<S: Sink>(sink: &mut S, pen: &mut Pen, pos: Pos, cell: &Cell) -> Result<(), S::Error>
+    ensures text { OnOk result (S.text sink.new ≡ S.text sink.old ++ bytes_of_all (doing pen.old pos.row pos.col (attrs_of cell.now) (Print (text_of cell.now)))) }
+    ensures pen { OnOk result (pen.new ≡ pen_at pos.row pos.col (attrs_of cell.now)) }
+{
+    pen.move_to(sink, pos)?;
+    pen.change_attrs(sink, cell.attrs())?;
+    sink.write_str(cell.contents())
+}
+
+/// Writes a glyph at a position; the pen ends up behind it.
+fn write_glyph<S: Sink>(sink: &mut S, pen: &mut Pen, pos: Pos, cell: &Cell) -> Result<(), S::Error>
+    requires { pos.col + columns (is_wide cell.now) < 65536 }
+    ensures text { OnOk result (S.text sink.new ≡ S.text sink.old ++ bytes_of_all (doing pen.old pos.row pos.col (attrs_of cell.now) (Print (text_of cell.now)))) }
+    ensures pen { OnOk result (pen.new ≡ pen_at pos.row (pos.col + columns (is_wide cell.now)) (attrs_of cell.now)) }
+{
+    print_at(sink, pen, pos, cell)?;
+    pen.col = pos.col + columns(cell);
+    Ok(())
+}
+
+/// Erases `count` columns, or the rest of the row where that is all of it.
+#[tactic(auto, using(crate::proofs::Filling::erase_run_counted))]
+fn write_erase<S: Sink>(
+    sink: &mut S,
+    count: u16,
+    end: u16,
+    over: &PictureRow<'_>,
+) -> Result<(), S::Error>
+    requires { end ≤ length over.now.cells }
+    ensures { OnOk result (S.text sink.new ≡ S.text sink.old ++ bytes_of (erase_run count (drop end over.now.cells))) }
+{
+    if end == over.cols() {
+        ClearRowForward.write_buf(sink)
+    } else {
+        EraseChar { count }.write_buf(sink)
+    }
+}
+
+/// Writes a run of blanks at a position; the pen stays at its first column.
+fn write_run<S: Sink>(
+    sink: &mut S,
+    pen: &mut Pen,
+    pos: Pos,
+    attrs: Attrs,
+    count: u16,
+    over: &PictureRow<'_>,
+) -> Result<(), S::Error>
+    requires inside { pos.col + count ≤ length over.now.cells }
+    requires short { pos.col + count < 65536 }
+    ensures text { OnOk result (S.text sink.new ≡ S.text sink.old ++ bytes_of_all (doing pen.old pos.row pos.col attrs (erase_run count (drop (pos.col + count) over.now.cells)))) }
+    ensures pen { OnOk result (pen.new ≡ pen_at pos.row pos.col attrs) }
+{
+    pen.move_to(sink, pos)?;
+    pen.change_attrs(sink, attrs)?;
+    let end = pos.col + count;
+    write_erase(sink, count, end, over)
+}
+
+/// Whether the reader's row still goes on below after a glyph in front of this
+/// column.
+pub fn flag_behind(flag: bool, wide: bool, over: &PictureRow<'_>, col: u16) -> bool
+    ensures { result ≡ flag_behind flag wide (drop col over.now.cells) }
+{
+    flag && !(wide && over.is_torn(col))
+}
+
+/// And after a run of blanks in front of it.
+#[tactic(auto, using(crate::proofs::Filling::nil_at))]
+fn flag_past(flag: bool, over: &PictureRow<'_>, col: u16) -> bool
+    requires { col ≤ length over.now.cells }
+    ensures { result ≡ flag_past flag (drop col over.now.cells) }
+{
+    if col == over.cols() {
+        return false;
+    }
+    flag && !over.is_torn(col)
+}
+
+/// Whether the cell at a column needs nothing: it stands there already, or is
+/// the right half of a glyph before it.
+#[inline]
+fn stands(cells: &PictureRow<'_>, over: &PictureRow<'_>, col: u16) -> bool
+    requires inside { col < length cells.now.cells }
+    requires over { length cells.now.cells ≤ length over.now.cells }
+    ensures { result ≡ (is_right_half (at cells.now.cells col) || same_cell (at cells.now.cells col) (at over.now.cells col)) }
+{
+    let cell = cells.cell(col);
+    cell.is_wide_continuation() || cell == over.cell(col)
+}
+
+/// Writes the cell at a position, a glyph or a run of blanks that begins there.
+/// Answers how many columns this settles.
+fn write_next<S: Sink>(
+    sink: &mut S,
+    pen: &mut Pen,
+    flag: &mut bool,
+    pos: Pos,
+    cells: &PictureRow<'_>,
+    over: &PictureRow<'_>,
+) -> Result<u16, S::Error>
+    requires inside { pos.col < length cells.now.cells }
+    requires over { length cells.now.cells ≤ length over.now.cells }
+    requires short { length cells.now.cells < 65536 }
+    requires paired { IsPaired cells.now.cells }
+    requires other { (is_right_half (at cells.now.cells pos.col) || same_cell (at cells.now.cells pos.col) (at over.now.cells pos.col)) ≡ false }
+    ensures leads { IfOk result (λ n. Leads (S.text sink.new) (cells_from pos.row (pos.col + n) pen.new flag.new cells.now.cells over.now.cells) (S.text sink.old) (cells_from pos.row pos.col pen.old flag.old cells.now.cells over.now.cells)) }
+    ensures some { IfOk result (λ n. 0 < n) }
+    ensures inside { IfOk result (λ n. pos.col + n ≤ length cells.now.cells) }
+{
+    let cell = cells.cell(pos.col);
+    if !cell.is_blank() {
+        let count = columns(cell);
+        write_glyph(sink, pen, pos, cell)?;
+        *flag = flag_behind(*flag, cell.is_wide(), over, pos.col + count);
+        return Ok(count);
+    }
+    let attrs = cell.attrs();
+    let count = cells.run(pos.col, attrs);
+    write_run(sink, pen, pos, attrs, count, over)?;
+    *flag = flag_past(*flag, over, pos.col + count);
+    Ok(count)
+}
+
+/// Writes what the cells of a row need from a column on.
+pub fn write_cells<S: Sink>(
+    sink: &mut S,
+    pen: &mut Pen,
+    flag: &mut bool,
+    pos: Pos,
+    cells: &PictureRow<'_>,
+    over: &PictureRow<'_>,
+) -> Result<(), S::Error>
+    requires over { length cells.now.cells ≤ length over.now.cells }
+    requires paired { IsPaired cells.now.cells }
+    ensures text { OnOk result (S.text sink.new ≡ S.text sink.old ++ bytes_of_all (cells_from pos.row pos.col pen.old flag.old cells.now.cells over.now.cells).ops) }
+    ensures pen { OnOk result (pen.new ≡ (cells_from pos.row pos.col pen.old flag.old cells.now.cells over.now.cells).pen) }
+    ensures flag { OnOk result (flag.new ≡ (cells_from pos.row pos.col pen.old flag.old cells.now.cells over.now.cells).flag) }
+{
+    let cols = cells.cols();
+    let mut col = pos.col;
+    while col < cols {
+        if stands(cells, over, col) {
+            col += 1;
+        } else {
+            let next = Pos { row: pos.row, col };
+            col += write_next(sink, pen, flag, next, cells, over)?;
+        }
+    }
+    Ok(())
+}

@@ -1,0 +1,182 @@
+//! Where the reader's cursor goes: to a position, or to a wrap that is pending.
+
+ghost use Rattle.std.specs.Prelude.{◌≡◌, ◌++◌, ◌+◌, ◌-◌, ◌<◌, ◌≤◌, [], ◌∷◌, None, OnOk, IfSome, Some, length, replicate};
+ghost use Rattle.vt_cells.specs.Attrs.{default_attrs};
+ghost use Rattle.vt_cells.specs.Cell.{attrs_of, text_of};
+ghost use Rattle.vt_cells.specs.Op.{bytes_of_all};
+ghost use Rattle.vt_cells.specs.Op as op;
+ghost use Rattle.vt_rows.specs.Cells.{at};
+ghost use Rattle.vt_grid.specs.Page.{row_or};
+ghost use Rattle.vt_redraw.specs.Redraw.{blank_passed, cursor_written, nearest, over_blank, cursor_alone, pending_alone, pending_at, under_last};
+
+use crate::links::write_last;
+use crate::pen::{Pen, write_change};
+use crate::view::View;
+use vt_cells::term::{Backspace, BufWrite, EraseChar, LineFeed, MoveTo, RestoreCursor, SaveCursor};
+use vt_cells::{Attrs, Pos, Sink};
+
+/// The nearest row, at or above `row`, that does not end blank.
+pub fn nearest(view: &View<'_>, row: u16) -> Option<u16>
+    requires { row < length view.now.rows }
+    ensures value { result ≡ nearest view.now.width view.now.rows row }
+    ensures above { IfSome result (λ found. found ≤ row) }
+{
+    let mut at = row;
+    while view.row(at).ends_blank() {
+        if at == 0 {
+            return None;
+        }
+        at -= 1;
+    }
+    Some(at)
+}
+
+/// Writes a number of line feeds.
+pub fn write_feeds<S: Sink>(sink: &mut S, count: u16) -> Result<(), S::Error>
+    ensures { OnOk result (S.text sink.new ≡ S.text sink.old ++ bytes_of_all (replicate count op.LineFeed)) }
+{
+    for _ in 0..count {
+        LineFeed.write_buf(sink)?;
+    }
+    Ok(())
+}
+
+/// Passes the last column, which is blank in `attrs`, with the cursor there: a
+/// space is drawn over it and erased, while the cursor waits behind it.
+pub fn write_passed<S: Sink>(sink: &mut S, was: Attrs, attrs: Attrs) -> Result<(), S::Error>
+    ensures { OnOk result (S.text sink.new ≡ S.text sink.old ++ bytes_of_all (blank_passed was attrs)) }
+{
+    sink.write_str(" ")?;
+    write_change(sink, was, attrs)?;
+    SaveCursor.write_buf(sink)?;
+    Backspace.write_buf(sink)?;
+    EraseChar { count: 1 }.write_buf(sink)?;
+    RestoreCursor.write_buf(sink)?;
+    write_change(sink, attrs, was)
+}
+
+/// Has a wrap pending at the end of row `row`, from the last glyph of row
+/// `found` on.
+#[tactic(auto, unfolding(crate::specs::Redraw::under_last))]
+fn write_under_last<S: Sink>(
+    sink: &mut S,
+    pen: Pen,
+    view: &View<'_>,
+    found: u16,
+    row: u16,
+) -> Result<(), S::Error>
+    requires above { found ≤ row }
+    requires inside { row < length view.now.rows }
+    ensures { OnOk result (S.text sink.new ≡ S.text sink.old ++ bytes_of_all (under_last pen found row (row_or view.now.width view.now.rows found).cells)) }
+{
+    let mut last = pen;
+    write_last(sink, &mut last, found, &view.row(found))?;
+    write_change(sink, last.attrs, pen.attrs)?;
+    write_feeds(sink, row - found)
+}
+
+/// Has a wrap pending at the end of row `row`, whose last column is blank.
+#[tactic(auto, unfolding(crate::specs::Redraw::over_blank))]
+fn write_over_blank<S: Sink>(
+    sink: &mut S,
+    pen: Pen,
+    view: &View<'_>,
+    row: u16,
+) -> Result<(), S::Error>
+    requires { row < length view.now.rows }
+    ensures { OnOk result (S.text sink.new ≡ S.text sink.old ++ bytes_of_all (over_blank pen row view.now.width (attrs_of (at (row_or view.now.width view.now.rows row).cells (view.now.width - 1))))) }
+{
+    let col = view.cols() - 1;
+    let attrs = view.row(row).cell(col).attrs();
+    let mut last = pen;
+    last.move_to(sink, Pos { row, col })?;
+    write_passed(sink, pen.attrs, attrs)
+}
+
+/// Has a wrap pending at the end of row `row`.
+fn write_pending<S: Sink>(sink: &mut S, pen: Pen, view: &View<'_>, row: u16) -> Result<(), S::Error>
+    requires { row < length view.now.rows }
+    ensures { OnOk result (S.text sink.new ≡ S.text sink.old ++ bytes_of_all (pending_at (nearest view.now.width view.now.rows row) pen view.now.width view.now.rows row)) }
+{
+    match nearest(view, row) {
+        Some(found) => write_under_last(sink, pen, view, found, row),
+        None => write_over_blank(sink, pen, view, row),
+    }
+}
+
+/// Brings the cursor to where the picture has it; the pen's attributes stay.
+#[tactic(auto, unfolding(crate::specs::Redraw::cursor_written))]
+pub fn write_cursor<S: Sink>(sink: &mut S, pen: Pen, view: &View<'_>) -> Result<(), S::Error>
+    ensures { OnOk result (S.text sink.new ≡ S.text sink.old ++ bytes_of_all (cursor_written pen view.now.width view.now.rows view.now.row view.now.column)) }
+{
+    let Pen { row, col, .. } = view.pen();
+    if pen.is_at(row, col) {
+        return Ok(());
+    }
+    if col < view.cols() {
+        let mut moved = pen;
+        return moved.move_to(sink, Pos { row, col });
+    }
+    write_pending(sink, pen, view, row)
+}
+
+/// Has a wrap pending at the end of row `row`, from the last glyph of row
+/// `found` on, wherever the reader's cursor is; it draws with default
+/// attributes.
+fn write_under_last_alone<S: Sink>(
+    sink: &mut S,
+    view: &View<'_>,
+    found: u16,
+    row: u16,
+) -> Result<(), S::Error>
+    requires above { found ≤ row }
+    requires inside { row < length view.now.rows }
+    ensures { OnOk result (S.text sink.new ≡ S.text sink.old ++ bytes_of_all (pending_alone (Some found) view.now.width view.now.rows row)) }
+{
+    let cells = view.row(found);
+    let col = cells.last_col();
+    let cell = cells.cell(col);
+    let pos = Pos { row: found, col };
+    MoveTo { pos }.write_buf(sink)?;
+    write_change(sink, Attrs::new(), cell.attrs())?;
+    sink.write_str(cell.contents())?;
+    write_change(sink, cell.attrs(), Attrs::new())?;
+    write_feeds(sink, row - found)
+}
+
+/// Has a wrap pending at the end of row `row`, whose last column is blank,
+/// wherever the reader's cursor is; it draws with default attributes.
+fn write_over_blank_alone<S: Sink>(sink: &mut S, view: &View<'_>, row: u16) -> Result<(), S::Error>
+    requires { row < length view.now.rows }
+    ensures { OnOk result (S.text sink.new ≡ S.text sink.old ++ bytes_of_all (pending_alone None view.now.width view.now.rows row)) }
+{
+    let col = view.cols() - 1;
+    let attrs = view.row(row).cell(col).attrs();
+    let pos = Pos { row, col };
+    MoveTo { pos }.write_buf(sink)?;
+    write_passed(sink, Attrs::new(), attrs)
+}
+
+/// Has a wrap pending at the end of row `row`, wherever the reader's cursor is.
+fn write_pending_alone<S: Sink>(sink: &mut S, view: &View<'_>, row: u16) -> Result<(), S::Error>
+    requires { row < length view.now.rows }
+    ensures { OnOk result (S.text sink.new ≡ S.text sink.old ++ bytes_of_all (pending_alone (nearest view.now.width view.now.rows row) view.now.width view.now.rows row)) }
+{
+    match nearest(view, row) {
+        Some(found) => write_under_last_alone(sink, view, found, row),
+        None => write_over_blank_alone(sink, view, row),
+    }
+}
+
+/// Brings the cursor of a reader that draws with default attributes, wherever
+/// it is, to where the picture has it.
+pub fn write_cursor_alone<S: Sink>(sink: &mut S, view: &View<'_>) -> Result<(), S::Error>
+    ensures { OnOk result (S.text sink.new ≡ S.text sink.old ++ bytes_of_all (cursor_alone view.now)) }
+{
+    let Pen { row, col, .. } = view.pen();
+    if col < view.cols() {
+        let pos = Pos { row, col };
+        return MoveTo { pos }.write_buf(sink);
+    }
+    write_pending_alone(sink, view, row)
+}

@@ -1,0 +1,225 @@
+//! Links of rows with the rows above them, and breaks between them.
+
+ghost use Rattle.std.specs.Prelude.{◌≡◌, ◌++◌, ◌+◌, ◌<◌, ◌&&◌, ◌||◌, not, nat_le, false, true, IfOk, OnOk, length};
+ghost use Rattle.vt_cells.specs.Cell.{attrs_of, is_blank, is_right_half, text_of};
+ghost use Rattle.vt_cells.specs.Op.{bytes_of_all};
+ghost use Rattle.vt_rows.specs.Cells.{IsPaired, at};
+ghost use Rattle.vt_redraw.specs.Keeping.{Links, Writes};
+ghost use Rattle.vt_redraw.specs.Redraw.{link_of};
+ghost use Rattle.vt_redraw.specs.Script.{broken, first_written, going_behind, is_at, starts_other};
+
+use crate::cells::{columns, flag_behind, print_at};
+use crate::pen::Pen;
+use crate::picture_row::PictureRow;
+use vt_cells::term::{Backspace, BufWrite, EraseChar};
+use vt_cells::{Cell, Pos, Sink};
+
+/// What stands after a link: whether the reader's row that was linked goes on
+/// below itself, and how many of its first cells need nothing any more.
+#[derive(Clone, Copy, Debug)]
+pub struct Link {
+    /// The reader's row goes on below.
+    pub flag: bool,
+
+    /// As many of its cells are settled.
+    pub settled: u16,
+}
+
+/// Prints the last glyph of a row again, unless the pen is behind it already:
+/// the reader then waits to wrap.
+pub fn write_last<S: Sink>(
+    sink: &mut S,
+    pen: &mut Pen,
+    row: u16,
+    cells: &PictureRow<'_>,
+) -> Result<(), S::Error>
+    requires some { 0 < length cells.now.cells }
+    requires paired { IsPaired cells.now.cells }
+    ensures text { OnOk result (S.text sink.new ≡ S.text sink.old ++ bytes_of_all (going_behind row pen.old cells.now.cells).ops) }
+    ensures pen { OnOk result (pen.new ≡ (going_behind row pen.old cells.now.cells).pen) }
+{
+    if pen.is_at(row, cells.cols()) {
+        return Ok(());
+    }
+    let col = cells.last_col();
+    print_at(sink, pen, Pos { row, col }, cells.cell(col))?;
+    pen.col = cells.cols();
+    Ok(())
+}
+
+/// Writes a blank first cell while the reader waits to wrap: a space, which is
+/// erased again.
+fn write_first_blank<S: Sink>(
+    sink: &mut S,
+    pen: &mut Pen,
+    row: u16,
+    flag: bool,
+    cell: &Cell,
+    cells: &PictureRow<'_>,
+    over: &PictureRow<'_>,
+) -> Result<Link, S::Error>
+    requires some { 0 < length cells.now.cells }
+    requires same { length cells.now.cells ≡ length over.now.cells }
+    requires first { cell.now ≡ at cells.now.cells 0 }
+    requires blank { is_blank cell.now ≡ true }
+    ensures { IfOk result (λ link. Links (S.text sink.old) (S.text sink.new) pen.new link (first_written row pen.old flag cells.now.cells over.now.cells)) }
+{
+    pen.change_attrs(sink, cell.attrs())?;
+    sink.write_str(" ")?;
+    Backspace.write_buf(sink)?;
+    EraseChar { count: 1 }.write_buf(sink)?;
+    pen.row = row;
+    pen.col = 0;
+    Ok(Link {
+        flag: goes_on(flag, over),
+        settled: 1,
+    })
+}
+
+/// Whether a row with this flag still goes on below when its first cell was
+/// erased: not if that is its last column.
+fn goes_on(flag: bool, over: &PictureRow<'_>) -> bool
+    ensures { result ≡ (flag && not (nat_le (length over.now.cells) 1)) }
+{
+    flag && !(over.cols() <= 1)
+}
+
+/// Writes a glyph in the first columns while the reader waits to wrap.
+fn write_first_glyph<S: Sink>(
+    sink: &mut S,
+    pen: &mut Pen,
+    row: u16,
+    flag: bool,
+    cell: &Cell,
+    cells: &PictureRow<'_>,
+    over: &PictureRow<'_>,
+) -> Result<Link, S::Error>
+    requires some { 0 < length cells.now.cells }
+    requires same { length cells.now.cells ≡ length over.now.cells }
+    requires first { cell.now ≡ at cells.now.cells 0 }
+    requires glyph { is_blank cell.now ≡ false }
+    requires begin { is_right_half cell.now ≡ false }
+    ensures { IfOk result (λ link. Links (S.text sink.old) (S.text sink.new) pen.new link (first_written row pen.old flag cells.now.cells over.now.cells)) }
+{
+    pen.change_attrs(sink, cell.attrs())?;
+    sink.write_str(cell.contents())?;
+    let settled = columns(cell);
+    pen.row = row;
+    pen.col = settled;
+    Ok(Link {
+        flag: flag_behind(flag, cell.is_wide(), over, settled),
+        settled,
+    })
+}
+
+/// Writes the first cell of a row while the reader waits to wrap into it.
+fn write_first<S: Sink>(
+    sink: &mut S,
+    pen: &mut Pen,
+    row: u16,
+    flag: bool,
+    cells: &PictureRow<'_>,
+    over: &PictureRow<'_>,
+) -> Result<Link, S::Error>
+    requires some { 0 < length cells.now.cells }
+    requires same { length cells.now.cells ≡ length over.now.cells }
+    requires paired { IsPaired cells.now.cells }
+    ensures { IfOk result (λ link. Links (S.text sink.old) (S.text sink.new) pen.new link (first_written row pen.old flag cells.now.cells over.now.cells)) }
+{
+    let cell = cells.cell(0);
+    if cell.is_blank() {
+        let link = write_first_blank(sink, pen, row, flag, cell, cells, over)?;
+        return Ok(link);
+    }
+    let link = write_first_glyph(sink, pen, row, flag, cell, cells, over)?;
+    Ok(link)
+}
+
+/// Whether a row begins with a glyph that the reader does not show there.
+fn starts_other(cells: &PictureRow<'_>, over: &PictureRow<'_>) -> bool
+    requires some { 0 < length cells.now.cells }
+    requires over { 0 < length over.now.cells }
+    ensures { result ≡ starts_other cells.now.cells over.now.cells }
+{
+    let cell = cells.cell(0);
+    cell.has_contents() && !(cell == over.cell(0))
+}
+
+/// Whether a row under one that goes on is to be linked with it: the reader's
+/// does not go on, or waits to wrap where the row begins with another glyph.
+fn needs_link(
+    pen: &Pen,
+    row: u16,
+    above: &PictureRow<'_>,
+    on: bool,
+    cells: &PictureRow<'_>,
+    over: &PictureRow<'_>,
+) -> bool
+    requires some { 0 < length cells.now.cells }
+    requires over { 0 < length over.now.cells }
+    ensures { result ≡ (not on || (is_at pen.now row (length above.now.cells) && starts_other cells.now.cells over.now.cells)) }
+{
+    !on || (pen.is_at(row, above.cols()) && starts_other(cells, over))
+}
+
+/// Links a row with the row above it, `row`, where that goes on; the reader's
+/// row `row` goes on below or not. The reader wraps into the row then.
+#[tactic(auto, unfolding(crate::specs::Script::linked))]
+pub fn write_link<S: Sink>(
+    sink: &mut S,
+    pen: &mut Pen,
+    row: u16,
+    above: &PictureRow<'_>,
+    on: bool,
+    cells: &PictureRow<'_>,
+    over: &PictureRow<'_>,
+) -> Result<Link, S::Error>
+    requires short { row + 1 < 65536 }
+    requires above { 0 < length above.now.cells }
+    requires last { IsPaired above.now.cells }
+    requires some { 0 < length cells.now.cells }
+    requires same { length cells.now.cells ≡ length over.now.cells }
+    requires paired { IsPaired cells.now.cells }
+    ensures { IfOk result (λ link. Links (S.text sink.old) (S.text sink.new) pen.new link (link_of row pen.old above.now on cells.now over.now)) }
+{
+    let flag = over.wrapped();
+    if !above.wrapped() {
+        return Ok(Link { flag, settled: 0 });
+    }
+    if !needs_link(pen, row, above, on, cells, over) {
+        return Ok(Link { flag, settled: 0 });
+    }
+    write_last(sink, pen, row, above)?;
+    let link = write_first(sink, pen, row + 1, flag, cells, over)?;
+    Ok(link)
+}
+
+/// Takes the flag of the reader's row where it goes on and is not to: its last
+/// glyph is erased and printed again. Answers the flag that stands then.
+#[tactic(auto, unfolding(crate::specs::Script::broken))]
+pub fn write_break<S: Sink>(
+    sink: &mut S,
+    pen: &mut Pen,
+    row: u16,
+    flag: bool,
+    cells: &PictureRow<'_>,
+) -> Result<bool, S::Error>
+    requires some { 0 < length cells.now.cells }
+    requires paired { IsPaired cells.now.cells }
+    ensures { IfOk result (λ on. Writes (S.text sink.old) (S.text sink.new) pen.new on (broken row pen.old flag cells.now.wrapped cells.now.cells)) }
+{
+    if !flag {
+        return Ok(flag);
+    }
+    if cells.wrapped() {
+        return Ok(flag);
+    }
+    let col = cells.last_col();
+    let cell = cells.cell(col);
+    pen.move_to(sink, Pos { row, col })?;
+    EraseChar { count: 1 }.write_buf(sink)?;
+    pen.change_attrs(sink, cell.attrs())?;
+    sink.write_str(cell.contents())?;
+    pen.col = cells.cols();
+    Ok(false)
+}

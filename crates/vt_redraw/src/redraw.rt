@@ -1,0 +1,76 @@
+//! The texts that show a screen on another terminal.
+
+ghost use Rattle.std.specs.Prelude.{◌≡◌, ◌++◌, OnOk};
+ghost use Rattle.vt_cells.specs.Op.{bytes_of_all};
+ghost use Rattle.vt_redraw.specs.Picture.{SamePictureSize};
+ghost use Rattle.vt_redraw.specs.Redraw.{cursor_state, difference, hiding, redraw};
+
+use crate::cursor_rule::write_cursor_alone;
+use crate::script::write_script;
+use crate::view::View;
+use vt_cells::Sink;
+use vt_cells::term::{BufWrite, ClearAttrs, ClearScreen, HideCursor};
+
+/// Writes the full redraw of a picture: whether the cursor is hidden, a clear,
+/// and what a blank screen then needs.
+///
+/// An error is the sink's own, and then part of the text may have been
+/// appended.
+#[tactic(auto, unfolding(crate::specs::Redraw::redraw))]
+pub fn write_contents_formatted<S: Sink>(sink: &mut S, view: &View<'_>) -> Result<(), S::Error>
+    ensures { OnOk result (S.text sink.new ≡ S.text sink.old ++ bytes_of_all (redraw view.now)) }
+{
+    HideCursor {
+        state: view.hidden(),
+    }
+    .write_buf(sink)?;
+    ClearAttrs.write_buf(sink)?;
+    ClearScreen.write_buf(sink)?;
+    let blank = view.blanked();
+    write_script(sink, view, &blank)
+}
+
+/// Writes what makes a terminal that shows one picture show another, nothing
+/// where they are the same.
+///
+/// An error is the sink's own, and then part of the text may have been
+/// appended.
+#[tactic(auto, unfolding(crate::specs::Redraw::difference))]
+pub fn write_contents_diff<S: Sink>(
+    sink: &mut S,
+    view: &View<'_>,
+    prev: &View<'_>,
+) -> Result<(), S::Error>
+    requires { SamePictureSize view.now prev.now }
+    ensures { OnOk result (S.text sink.new ≡ S.text sink.old ++ bytes_of_all (difference view.now prev.now)) }
+{
+    write_hiding(sink, view, prev)?;
+    write_script(sink, view, prev)
+}
+
+/// Writes whether the cursor is hidden, where that differs.
+fn write_hiding<S: Sink>(sink: &mut S, view: &View<'_>, prev: &View<'_>) -> Result<(), S::Error>
+    ensures { OnOk result (S.text sink.new ≡ S.text sink.old ++ bytes_of_all (hiding view.now prev.now)) }
+{
+    let state = view.hidden();
+    if state == prev.hidden() {
+        return Ok(());
+    }
+    HideCursor { state }.write_buf(sink)
+}
+
+/// Writes whether the cursor is hidden, and the cursor, for a terminal that
+/// shows the rows of the picture already and draws with default attributes.
+///
+/// An error is the sink's own, and then part of the text may have been
+/// appended.
+#[tactic(auto, unfolding(crate::specs::Redraw::cursor_state))]
+pub fn write_cursor_state<S: Sink>(sink: &mut S, view: &View<'_>) -> Result<(), S::Error>
+    ensures { OnOk result (S.text sink.new ≡ S.text sink.old ++ bytes_of_all (cursor_state view.now)) }
+{
+    HideCursor {
+        state: view.hidden(),
+    }
+    .write_buf(sink)?;
+    write_cursor_alone(sink, view)
+}

@@ -1,0 +1,120 @@
+//! The rows of a picture, from the top, and the whole script.
+
+ghost use Rattle.std.specs.Prelude.{◌≡◌, ◌++◌, ◌+◌, ◌<◌, IfOk, OnOk, length};
+ghost use Rattle.vt_cells.specs.Op.{bytes_of_all};
+ghost use Rattle.vt_rows.specs.Cells.{IsPaired};
+ghost use Rattle.vt_grid.specs.Page.{row_or};
+ghost use Rattle.vt_redraw.specs.Keeping.{Leads, Writes, rows_under};
+ghost use Rattle.vt_redraw.specs.Picture.{SamePictureSize};
+ghost use Rattle.vt_redraw.specs.Redraw.{row_written, rows_written, script};
+
+use crate::cells::write_cells;
+use crate::cursor_rule::write_cursor;
+use crate::links::{Link, write_break, write_link};
+use crate::pen::{Pen, write_change};
+use crate::picture_row::PictureRow;
+use crate::view::View;
+use vt_cells::{Pos, Sink};
+
+/// Writes what a row needs, but for its first cells that are settled: its
+/// cells, and the break. Answers whether the reader's row goes on then.
+fn write_row<S: Sink>(
+    sink: &mut S,
+    pen: &mut Pen,
+    row: u16,
+    link: Link,
+    cells: &PictureRow<'_>,
+    over: &PictureRow<'_>,
+) -> Result<bool, S::Error>
+    requires some { 0 < length cells.now.cells }
+    requires same { length cells.now.cells ≡ length over.now.cells }
+    requires paired { IsPaired cells.now.cells }
+    ensures { IfOk result (λ on. Writes (S.text sink.old) (S.text sink.new) pen.new on (row_written row link.settled pen.old link.flag cells.now over.now.cells)) }
+{
+    let mut flag = link.flag;
+    let pos = Pos {
+        row,
+        col: link.settled,
+    };
+    write_cells(sink, pen, &mut flag, pos, cells, over)?;
+    let on = write_break(sink, pen, row, flag, cells)?;
+    Ok(on)
+}
+
+/// Writes the first row.
+fn write_top<S: Sink>(
+    sink: &mut S,
+    pen: &mut Pen,
+    view: &View<'_>,
+    prev: &View<'_>,
+) -> Result<bool, S::Error>
+    requires size { SamePictureSize view.now prev.now }
+    requires some { 0 < length view.now.rows }
+    ensures { IfOk result (λ on. Writes (S.text sink.old) (S.text sink.new) pen.new on (row_written 0 0 pen.old (row_or view.now.width prev.now.rows 0).wrapped (row_or view.now.width view.now.rows 0) (row_or view.now.width prev.now.rows 0).cells)) }
+{
+    let cells = view.row(0);
+    let over = prev.row(0);
+    let link = Link {
+        flag: over.wrapped(),
+        settled: 0,
+    };
+    let on = write_row(sink, pen, 0, link, &cells, &over)?;
+    Ok(on)
+}
+
+/// Writes the row below row `row`, of which the reader's goes on below or not.
+fn write_below<S: Sink>(
+    sink: &mut S,
+    pen: &mut Pen,
+    row: u16,
+    on: bool,
+    view: &View<'_>,
+    prev: &View<'_>,
+) -> Result<bool, S::Error>
+    requires size { SamePictureSize view.now prev.now }
+    requires inside { row + 1 < length view.now.rows }
+    requires short { row + 1 < 65536 }
+    ensures { IfOk result (λ next. Leads (S.text sink.new) (rows_under (row + 1) view.now.width pen.new next view.now.rows prev.now.rows) (S.text sink.old) (rows_under row view.now.width pen.old on view.now.rows prev.now.rows)) }
+{
+    let above = view.row(row);
+    let below = row + 1;
+    let cells = view.row(below);
+    let over = prev.row(below);
+    let link = write_link(sink, pen, row, &above, on, &cells, &over)?;
+    let next = write_row(sink, pen, below, link, &cells, &over)?;
+    Ok(next)
+}
+
+/// Writes all rows.
+fn write_rows<S: Sink>(
+    sink: &mut S,
+    pen: &mut Pen,
+    view: &View<'_>,
+    prev: &View<'_>,
+) -> Result<(), S::Error>
+    requires size { SamePictureSize view.now prev.now }
+    ensures text { OnOk result (S.text sink.new ≡ S.text sink.old ++ bytes_of_all (rows_written pen.old view.now.rows prev.now.rows).ops) }
+    ensures pen { OnOk result (pen.new ≡ (rows_written pen.old view.now.rows prev.now.rows).pen) }
+{
+    let last = view.rows() - 1;
+    let mut on = write_top(sink, pen, view, prev)?;
+    let mut row = 0;
+    while row < last {
+        on = write_below(sink, pen, row, on, view, prev)?;
+        row += 1;
+    }
+    Ok(())
+}
+
+/// Writes what makes a reader that shows one picture show another: the rows,
+/// the cursor and the attributes.
+#[tactic(auto, unfolding(crate::specs::Redraw::script))]
+pub fn write_script<S: Sink>(sink: &mut S, view: &View<'_>, prev: &View<'_>) -> Result<(), S::Error>
+    requires size { SamePictureSize view.now prev.now }
+    ensures { OnOk result (S.text sink.new ≡ S.text sink.old ++ bytes_of_all (script view.now prev.now)) }
+{
+    let mut pen = prev.pen();
+    write_rows(sink, &mut pen, view, prev)?;
+    write_cursor(sink, pen, view)?;
+    write_change(sink, pen.attrs, view.pen().attrs)
+}
