@@ -1,7 +1,7 @@
 //! One case of a file.
 
 use crate::text::bytes_of;
-use anyhow::{Result, bail};
+use anyhow::Result;
 use std::alloc::Global;
 use std::num::NonZeroU16;
 
@@ -15,6 +15,9 @@ pub struct Case<'a> {
 
     /// How many of the bytes come before the screen that differences start from.
     pub before: usize,
+
+    /// Whether each glyph, printed on a blank row, gives just itself.
+    pub is_steady: bool,
 
     /// The lines about cursor, flags and cells, each with its line end.
     pub picture: String,
@@ -41,15 +44,13 @@ impl<'a> Case<'a> {
             cols,
             bytes: Vec::new(alloc),
             before: 0,
+            is_steady: true,
             picture: String::new(alloc),
             others: String::new(alloc),
             texts: Vec::new(alloc),
         };
         for line in lines.lines() {
             case.read_line(alloc, line)?;
-        }
-        if case.before > case.bytes.len() {
-            bail!("{name}: fewer bytes than those before the screen of differences");
         }
         Ok(case)
     }
@@ -59,6 +60,7 @@ impl<'a> Case<'a> {
         match word {
             "<" => self.bytes = bytes_of(alloc, rest)?,
             "prev" => self.before = rest.parse::<usize>()?,
+            "unsteady" => self.is_steady = false,
             "cursor" | "flags" | "cell" => writeln!(self.picture, "{line}")?,
             "screen" | "event" | "scroll" => writeln!(self.others, "{line}")?,
             _ => self.texts.push(line)?,

@@ -2,19 +2,20 @@
 
 use crate::case::Case;
 use crate::lines::{other_lines, picture_lines};
-use crate::told::is_told;
-use anyhow::Result;
+use crate::told::{difference, is_told};
+use anyhow::{Context, Result};
 use std::alloc::Global;
 use vt_notes::Notes;
 use vt100::{Parser, Screen};
 
-/// Replays a case: its bytes whole, byte by byte, and cut in two at every place; then its texts, and
-/// what a fresh parser shows that reads them. Prints a line for the first difference of each kind, and
-/// answers whether there was none.
+/// Replays a case: its bytes whole, byte by byte, and cut in two at every place; then its texts, and if
+/// it is steady what a fresh parser shows that reads them. Prints a line for the first difference of
+/// each kind, and answers whether there was none.
 pub fn replay<R: AllocGlobal + Print>(rt: &R, case: &Case<'_>) -> Result<bool> {
     let is_shown = is_shown_however_cut(rt, case)?;
     let is_told = are_texts_told(rt, case)?;
-    Ok(is_shown && is_told)
+    let is_drawn = !case.is_steady || is_drawn_again(rt, case)?;
+    Ok(is_shown && is_told && is_drawn)
 }
 
 fn is_shown_however_cut<R: AllocGlobal + Print>(rt: &R, case: &Case<'_>) -> Result<bool> {
@@ -46,8 +47,19 @@ fn are_texts_told<R: AllocGlobal + Print>(rt: &R, case: &Case<'_>) -> Result<boo
         println!(rt; "differs: {name} ({word})")?;
         same = false;
     }
+    Ok(same)
+}
+
+fn is_drawn_again<R: AllocGlobal + Print>(rt: &R, case: &Case<'_>) -> Result<bool> {
+    let alloc = rt.alloc();
+    let name = case.name;
+    let mut same = true;
     if !is_redrawn(alloc, case)? {
         println!(rt; "differs: {name} (redrawn)")?;
+        same = false;
+    }
+    if !is_updated(alloc, case)? {
+        println!(rt; "differs: {name} (updated)")?;
         same = false;
     }
     Ok(same)
@@ -106,7 +118,8 @@ fn differing_line<'a>(
 
 /// The screen that differences start from.
 fn screen_before(alloc: Global, case: &Case<'_>) -> Result<Screen> {
-    let (before, _rest) = case.bytes.split_at(case.before);
+    let before = case.bytes.get(..case.before);
+    let before = before.context("fewer bytes than come before a difference")?;
     let parser = fed(alloc, case, &[before])?;
     copied(&parser)
 }
@@ -127,6 +140,28 @@ fn is_drawn(alloc: Global, parser: &Parser<Notes>, case: &Case<'_>, redraw: &str
     let again = parser.screen().contents_formatted()?;
     let is_quiet = parser.callbacks().calls().is_empty();
     Ok(is_quiet && again.as_str() == redraw && is_picture(alloc, parser.screen(), case)?)
+}
+
+/// Whether a fresh parser that shows the screen of before and reads the difference has the cells, flags
+/// and cursor of the case, gives the same redraw, and calls nothing.
+fn is_updated(alloc: Global, case: &Case<'_>) -> Result<bool> {
+    let prev = screen_before(alloc, case)?;
+    let parser = fed(alloc, case, &[case.bytes.as_slice()])?;
+    let update = difference(parser.screen(), &prev)?;
+    let redraw = redraw_of(&parser)?;
+    is_update(alloc, case, &prev, update.as_str(), redraw.as_str())
+}
+
+fn is_update(
+    alloc: Global,
+    case: &Case<'_>,
+    prev: &Screen,
+    update: &str,
+    redraw: &str,
+) -> Result<bool> {
+    let begun = prev.contents_formatted()?;
+    let parser = fed(alloc, case, &[begun.as_bytes(), update.as_bytes()])?;
+    is_drawn(alloc, &parser, case, redraw)
 }
 
 /// The redraw of a fresh parser of the size of a case, after these bytes.

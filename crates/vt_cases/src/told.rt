@@ -16,13 +16,25 @@ pub fn is_told(alloc: Global, screen: &Screen, prev: &Screen, line: &str) -> Res
 }
 
 // The text that a word names; None for one that isn't asked of screens.
-fn text_of(screen: &Screen, _prev: &Screen, word: &str) -> Result<Option<String>> {
+fn text_of(screen: &Screen, prev: &Screen, word: &str) -> Result<Option<String>> {
     let text = match word {
         "formatted" => screen.contents_formatted()?,
-        "contents" | "basic" | "cursor_state" | "attributes" | "input" => return Ok(None),
-        "diff" | "input_diff" => return Ok(None),
+        "attributes" => screen.attributes_formatted()?,
+        "diff" => difference(screen, prev)?,
+        "cursor_state" => screen.cursor_state_formatted()?,
+        "contents" | "basic" | "input" | "input_diff" => return Ok(None),
         "rows" | "rows_formatted" | "rows_diff" | "between" => return Ok(None),
         _ => bail!("no text is named {word:?}"),
     };
     Ok(Some(text))
+}
+
+/// What differs from another screen, which has to be of the same size.
+pub fn difference(screen: &Screen, prev: &Screen) -> Result<String> {
+    let (rows, cols) = screen.size();
+    let (prev_rows, prev_cols) = prev.size();
+    if rows.get() != prev_rows.get() || cols.get() != prev_cols.get() {
+        bail!("a difference from a screen of another size");
+    }
+    Ok(screen.contents_diff(prev)?)
 }
