@@ -62,6 +62,11 @@ pub fn redraw_fits()
     ensures { (self : Picture) → IsPicture self → IsColoredPicture self → AllByRecursion Fits (redraw self) }
 {}
 
+/// So has each operation of the text of the cursor.
+pub fn cursor_state_fits()
+    ensures { (self : Picture) → IsPicture self → IsColoredPicture self → AllByRecursion Fits (cursor_state self) }
+{}
+
 /// The text of the cursor sets the cursor and whether it is hidden, on a plain
 /// canvas that shows the rows and draws with default attributes.
 pub fn cursor_state_draws()

@@ -34,7 +34,7 @@ plain_showing picture saved last reader r =
 
 -- ---- the parts
 
-shows_plainly : (picture : Picture) (reader after : ScreenValue) → IsPicture picture → IsReader picture reader → Became picture reader after → ShowsPlainly picture reader after
+pub shows_plainly : (picture : Picture) (reader after : ScreenValue) → IsPicture picture → IsReader picture reader → Became picture reader after → ShowsPlainly picture reader after
 shows_plainly picture reader after is r b =
     subst (λ (s : ScreenValue). ShowsPlainly picture reader s) (sym b.is) (plain_showing picture b.saved b.last reader r, shown_showing picture b.saved b.last reader is r)
 
@@ -45,7 +45,7 @@ has_cursor : (picture : Picture) (reader after : ScreenValue) → Became picture
 has_cursor picture reader after b =
     subst (λ (s : ScreenValue). HasCursor picture reader s) (sym b.is) (record { row = refl; column = refl; attrs = refl; hidden = refl })
 
-keeps_rest : (picture : Picture) (reader after : ScreenValue) → Became picture reader after → KeepsRest reader after
+pub keeps_rest : (picture : Picture) (reader after : ScreenValue) → Became picture reader after → KeepsRest reader after
 keeps_rest picture reader after b =
     subst (KeepsRest reader) (sym b.is) (record { other = refl; is_alternate = refl; scrollback = refl; modes = refl; width = refl; top = refl; bottom = refl; origin = refl })
 

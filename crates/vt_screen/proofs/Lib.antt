@@ -8,6 +8,7 @@ pub mod Telling
 pub mod Chains
 pub mod Viewing
 pub mod Attributes
+pub mod CursorRead
 pub mod Colored
 pub mod ColoredMoves
 pub mod Sizes

@@ -91,6 +91,10 @@ pub record TakesCursor (picture : Picture) (reader after : ScreenValue) : Type 0
   pub column : after.page.column ≡ picture.column
   pub hidden : after.hidden ≡ picture.hidden
 
+-- it is plain again
+abbrev pub StaysPlain : (reader after : ScreenValue) → Type 0
+StaysPlain reader after = IsPlain after
+
 -- SGR without a number, and the change from the defaults to these attributes
 abbrev pub attributes_text : Attrs → List ℕ
 attributes_text attrs = bytes_of_all (ClearAttrs ∷ ChangeAttrs default_attrs attrs ∷ [])

@@ -15,15 +15,15 @@ ghost use Rattle.std.specs.Prelude.{◌≡◌, ◌++◌, [], IfErr, IfOk, OnOk, 
 ghost use Rattle.vt_cells.specs.Op.{bytes_of_all};
 ghost use Rattle.vt_grid.specs.Page.{SameSize};
 ghost use Rattle.vt_redraw.specs.Picture.{SamePictureSize};
-ghost use Rattle.vt_redraw.specs.Redraw.{difference, redraw};
+ghost use Rattle.vt_redraw.specs.Redraw.{cursor_state, difference, redraw};
 ghost use Rattle.vt_redraw.specs.Steady.{IsSteady};
 ghost use Rattle.vt_screen.specs.Screen.{IsColored, IsScreen, ScreenValue};
-ghost use Rattle.vt_screen.specs.Shown.{HasCursor, HasRows, IsReadBy, IsReader, IsReaderOf, KeepsRest, Makes, SetsAttrs, ShowsPlainly, attributes_text, shown};
+ghost use Rattle.vt_screen.specs.Shown.{HasCursor, HasRows, IsReadBy, IsReader, IsReaderOf, IsReaderOfRows, KeepsRest, Makes, SetsAttrs, ShowsPlainly, StaysPlain, TakesCursor, attributes_text, shown};
 
 use crate::screen::Screen;
 use vt_cells::term::{BufWrite, ChangeAttrs, ClearAttrs};
 use vt_cells::{Attrs, Error, Sink};
-use vt_redraw::{View, write_contents_diff, write_contents_formatted};
+use vt_redraw::{View, write_contents_diff, write_contents_formatted, write_cursor_state};
 
 impl Screen {
     /// A text that redraws the screen on any plain terminal of the same size,
@@ -84,6 +84,29 @@ impl Screen {
         }
     }
 
+    /// A text that gives a plain terminal of this size, which shows the cells
+    /// and flags of this screen and draws with default attributes, its cursor
+    /// and whether that is hidden.
+    ///
+    /// By the clauses `quiet` to `rest`, for a screen whose picture is steady,
+    /// such a terminal reads the text without calling anybody and without
+    /// taking memory. Its cells, its flags and its attributes are as before,
+    /// and it is plain again. Fails where memory for the text is refused.
+    pub fn cursor_state_formatted(&self) -> Result<String, Error>
+        ensures text { IfOk result (λ text. string_bytes text ≡ bytes_of_all (cursor_state (shown self.now))) }
+        ensures quiet { IfOk result (λ text. IsSteady (shown self.now) → IsReadBy (IsReaderOfRows (shown self.now)) (string_bytes text)) }
+        ensures takes { IfOk result (λ text. IsSteady (shown self.now) → Makes (IsReaderOfRows (shown self.now)) (string_bytes text) (TakesCursor (shown self.now))) }
+        ensures plain { IfOk result (λ text. IsSteady (shown self.now) → Makes (IsReaderOfRows (shown self.now)) (string_bytes text) StaysPlain) }
+        ensures rest { IfOk result (λ text. IsSteady (shown self.now) → Makes (IsReaderOfRows (shown self.now)) (string_bytes text) KeepsRest) }
+        ensures memory { IfErr result (λ error. error ≡ Error.OutOfMemory) }
+    {
+        let mut text = String::new(self.alloc);
+        match self.write_cursor_state(&mut text) {
+            Ok(()) => Ok(text),
+            Err(_) => Err(Error::OutOfMemory),
+        }
+    }
+
     /// A text that sets the current attributes: SGR without a number, and the
     /// change from the defaults.
     ///
@@ -119,6 +142,14 @@ impl Screen {
         ensures text { OnOk result (S.text sink.new ≡ S.text sink.old ++ bytes_of_all (difference (shown self.now) (shown prev.now))) }
     {
         write_contents_diff(sink, &self.view(), &prev.view())
+    }
+
+    fn write_cursor_state<S: Sink>(&self, sink: &mut S) -> Result<(), S::Error>
+        ensures whole { IsScreen self.now }
+        ensures colored { IsColored self.now }
+        ensures text { OnOk result (S.text sink.new ≡ S.text sink.old ++ bytes_of_all (cursor_state (shown self.now))) }
+    {
+        write_cursor_state(sink, &self.view())
     }
 
     /// The picture that the screen shows.
