@@ -87,12 +87,7 @@ fn call_often(parser: &mut Parser, task: Task, first: &[u8], rest: &[u8]) -> Res
     process_and_call(parser, &prev, task, rest)
 }
 
-fn process_and_call(
-    parser: &mut Parser,
-    prev: &Screen,
-    task: Task,
-    rest: &[u8],
-) -> Result<usize> {
+fn process_and_call(parser: &mut Parser, prev: &Screen, task: Task, rest: &[u8]) -> Result<usize> {
     process(parser, rest)?;
     let mut count = 0usize;
     for _ in 0..task.times {

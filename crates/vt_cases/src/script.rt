@@ -149,6 +149,14 @@ fn state_lines(alloc: Global, parser: &Parser<Notes>) -> Result<String> {
 fn is_of_state(word: &str) -> bool {
     matches!(
         word,
-        "size" | "scrollback" | "lengths" | "cursor" | "flags" | "cell" | "screen" | "event" | "scroll"
+        "size"
+            | "scrollback"
+            | "lengths"
+            | "cursor"
+            | "flags"
+            | "cell"
+            | "screen"
+            | "event"
+            | "scroll"
     )
 }
