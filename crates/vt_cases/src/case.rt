@@ -1,6 +1,7 @@
 //! One case of a file.
 
-use anyhow::{Context, Result, bail};
+use crate::text::bytes_of;
+use anyhow::Result;
 use std::alloc::Global;
 use std::num::NonZeroU16;
 
@@ -12,45 +13,57 @@ pub struct Case<'a> {
     pub cols: NonZeroU16,
     pub bytes: Vec<u8>,
 
-    /// The lines about the screen and the callbacks, each with its line end.
-    pub shown: String,
+    /// How many of the bytes come before the screen that differences start from.
+    pub before: usize,
 
-    /// The redraw, for some cases.
-    pub redraw: Option<Vec<u8>>,
+    /// Whether each glyph, printed on a blank row, gives just itself.
+    pub is_steady: bool,
+
+    /// The lines about cursor, flags and cells, each with its line end.
+    pub picture: String,
+
+    /// The lines about modes and calls, each with its line end.
+    pub others: String,
+
+    /// The lines about texts.
+    pub texts: Vec<&'a str>,
 }
 
 impl<'a> Case<'a> {
-    /// Reads the lines of a case from behind the sign that begins it.
-    pub fn read(alloc: Global, block: &'a str) -> Result<Case<'a>> {
-        let mut lines = block.lines();
-        let head = lines.next().context("a case without a first line")?;
-        let words: Vec<&str> = head.split_whitespace().collect(alloc)?;
-        let [name, rows, cols] = words.as_slice() else {
-            bail!("a case that begins with {head:?}");
-        };
+    /// Reads the lines of a case behind its first one.
+    pub fn read(
+        alloc: Global,
+        name: &'a str,
+        rows: NonZeroU16,
+        cols: NonZeroU16,
+        lines: &'a str,
+    ) -> Result<Case<'a>> {
         let mut case = Case {
             name,
-            rows: rows.parse::<NonZeroU16>()?,
-            cols: cols.parse::<NonZeroU16>()?,
+            rows,
+            cols,
             bytes: Vec::new(alloc),
-            shown: String::new(alloc),
-            redraw: None,
+            before: 0,
+            is_steady: true,
+            picture: String::new(alloc),
+            others: String::new(alloc),
+            texts: Vec::new(alloc),
         };
-        for line in lines {
+        for line in lines.lines() {
             case.read_line(alloc, line)?;
         }
         Ok(case)
     }
 
-    fn read_line(&mut self, alloc: Global, line: &str) -> Result<()> {
-        match line.split_once(' ') {
-            Some(("<", ".")) => {}
-            Some(("<", digits)) => self.bytes = hex::decode(alloc, digits)?,
-            Some(("formatted", digits)) => self.redraw = Some(hex::decode(alloc, digits)?),
-            _ => {
-                self.shown.push_str(line)?;
-                self.shown.push('\n')?;
-            }
+    fn read_line(&mut self, alloc: Global, line: &'a str) -> Result<()> {
+        let (word, rest) = line.split_once(' ').unwrap_or((line, ""));
+        match word {
+            "<" => self.bytes = bytes_of(alloc, rest)?,
+            "prev" => self.before = rest.parse::<usize>()?,
+            "unsteady" => self.is_steady = false,
+            "cursor" | "flags" | "cell" => writeln!(self.picture, "{line}")?,
+            "screen" | "event" | "scroll" => writeln!(self.others, "{line}")?,
+            _ => self.texts.push(line)?,
         }
         Ok(())
     }

@@ -1,18 +1,51 @@
-//! The lines that case files have about a screen.
+//! The lines that case files have about a screen and its calls.
 
 use crate::text::{AttrsWord, ColorWord, Hex, digit};
 use std::alloc::{AllocError, Global};
+use vt_notes::Notes;
 use vt100::{Cell, Color, Screen};
 
-/// All lines about a screen, each with its line end.
-pub fn screen_lines(alloc: Global, screen: &Screen) -> Result<String, AllocError> {
+/// The lines about cursor, flags and cells, each with its line end.
+pub fn picture_lines(alloc: Global, screen: &Screen) -> Result<String, AllocError> {
     let mut lines = String::new(alloc);
+    write_picture(&mut lines, screen)?;
+    Ok(lines)
+}
+
+/// The lines about modes and calls, each with its line end.
+pub fn other_lines(alloc: Global, screen: &Screen, notes: &Notes) -> Result<String, AllocError> {
+    let mut lines = String::new(alloc);
+    write_modes(&mut lines, screen)?;
+    write_calls(alloc, &mut lines, notes)?;
+    Ok(lines)
+}
+
+/// The lines about sizes and scrollback, each with its line end.
+pub fn size_lines(alloc: Global, screen: &Screen) -> Result<String, AllocError> {
+    let mut lines = String::new(alloc);
+    let (rows, cols) = screen.size();
+    writeln!(lines, "size {rows} {cols}")?;
+    let offset = screen.scrollback();
+    let length = screen.scrollback_len();
+    let capacity = screen.scrollback_capacity();
+    writeln!(lines, "scrollback {offset} {length} {capacity}")?;
+    lines.push_str("lengths")?;
+    for row in 0..rows.get() {
+        write!(lines, " {}", row_length(screen, row))?;
+    }
+    lines.push('\n')?;
+    Ok(lines)
+}
+
+fn write_picture(lines: &mut String, screen: &Screen) -> Result<(), AllocError> {
     let (row, col) = screen.cursor_position();
     writeln!(lines, "cursor {row} {col}")?;
-    write_flags(&mut lines, screen)?;
-    write_modes(&mut lines, screen)?;
-    write_cells(&mut lines, screen)?;
-    Ok(lines)
+    write_flags(lines, screen)?;
+    let (rows, _cols) = screen.size();
+    for row in 0..rows.get() {
+        write_row(lines, screen, row)?;
+    }
+    Ok(())
 }
 
 fn write_flags(lines: &mut String, screen: &Screen) -> Result<(), AllocError> {
@@ -47,15 +80,35 @@ fn write_modes(lines: &mut String, screen: &Screen) -> Result<(), AllocError> {
     writeln!(lines, " {foreground} {background} {attrs}")
 }
 
-// A line for each cell that isn't a blank in default attributes.
-fn write_cells(lines: &mut String, screen: &Screen) -> Result<(), AllocError> {
-    let (rows, cols) = screen.size();
-    for row in 0..rows.get() {
-        for col in 0..cols.get() {
-            if let Some(cell) = screen.cell(row, col) {
-                write_cell(lines, row, col, cell)?;
-            }
+fn write_calls(alloc: Global, lines: &mut String, notes: &Notes) -> Result<(), AllocError> {
+    let calls = notes.lines(alloc)?;
+    for call in calls.lines() {
+        if call.starts_with("scroll ") {
+            writeln!(lines, "{call}")?;
+        } else {
+            writeln!(lines, "event {call}")?;
         }
+    }
+    Ok(())
+}
+
+// How many cells a row has: a row of scrollback may have more or fewer than the screen has columns.
+fn row_length(screen: &Screen, row: u16) -> u16 {
+    for col in 0..u16::MAX {
+        if screen.cell(row, col).is_none() {
+            return col;
+        }
+    }
+    u16::MAX
+}
+
+// A line for each cell that isn't a blank in default attributes.
+fn write_row(lines: &mut String, screen: &Screen, row: u16) -> Result<(), AllocError> {
+    for col in 0..u16::MAX {
+        let Some(cell) = screen.cell(row, col) else {
+            return Ok(());
+        };
+        write_cell(lines, row, col, cell)?;
     }
     Ok(())
 }

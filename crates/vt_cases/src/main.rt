@@ -1,34 +1,61 @@
-//! Replays recorded cases: whatever way the bytes of a case are cut, a fresh parser shows and calls
-//! what the case says.
+//! Replays recorded cases and scripts. Whatever way the bytes of a case are cut, a fresh parser shows
+//! and calls what the case says, and its texts draw it again; after each call of a script stands what
+//! the script says.
 //!
-//! Each argument is a file to read. A line is printed for each kind of feeding that differs, and a
+//! Each argument is a file to read. A line is printed for each difference, and a
 //! last one with the counts. The status is 1 where a case differs.
 #![tactic(auto)]
 
 mod case;
 mod lines;
 mod replay;
+mod script;
 mod tally;
 mod text;
+mod told;
 
-use anyhow::{Context, Result};
+use anyhow::{Context, Result, bail};
 use case::Case;
+use script::Script;
+use std::num::NonZeroU16;
 use std::process::ExitCode;
 use std::rt::{Env, Files};
 use std::{env, fs};
 use tally::Tally;
 
-/// Replays the cases of one file.
+/// Replays the cases and scripts of one file.
 fn replay_file<R: AllocGlobal + Print>(rt: &R, text: &str, tally: &mut Tally) -> Result<()> {
     let blocks = text
         .strip_prefix("= ")
         .context("a file that begins with no case")?;
     for block in blocks.split("\n= ") {
-        let case = Case::read(rt.alloc(), block)?;
-        let same = replay::replay(rt, &case)?;
+        let (head, lines) = block.split_once('\n').unwrap_or((block, ""));
+        let same = replay_block(rt, head, lines)?;
         tally.count(same);
     }
     Ok(())
+}
+
+/// Replays what the words of a first line begin: a case, or with a capacity a script.
+fn replay_block<R: AllocGlobal + Print>(rt: &R, head: &str, lines: &str) -> Result<bool> {
+    let words: Vec<&str> = head.split_whitespace().collect(rt.alloc())?;
+    match words.as_slice() {
+        [name, rows, cols] => {
+            let (rows, cols) = (rows.parse::<NonZeroU16>()?, cols.parse::<NonZeroU16>()?);
+            replay::replay(rt, &Case::read(rt.alloc(), name, rows, cols, lines)?)
+        }
+        [name, rows, cols, capacity] => script::replay(
+            rt,
+            Script {
+                name,
+                rows: rows.parse::<NonZeroU16>()?,
+                cols: cols.parse::<NonZeroU16>()?,
+                capacity: capacity.parse::<usize>()?,
+                lines,
+            },
+        ),
+        _ => bail!("a case that begins with {head:?}"),
+    }
 }
 
 fn replay_files<R: AllocGlobal + Env + Files + Print>(rt: &R) -> Result<Tally> {

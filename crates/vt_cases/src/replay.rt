@@ -1,16 +1,24 @@
 //! The replay of one case.
 
 use crate::case::Case;
-use crate::lines::screen_lines;
-use anyhow::Result;
+use crate::lines::{other_lines, picture_lines};
+use crate::told::{difference, is_told};
+use anyhow::{Context, Result};
 use std::alloc::Global;
 use vt_notes::Notes;
-use vt100::Parser;
+use vt100::{Parser, Screen};
 
-/// Replays a case: its bytes whole, byte by byte, and cut in two at every place; then its redraw,
-/// where it has one. Prints a line for the first difference of each kind, and answers whether there
-/// was none.
+/// Replays a case: its bytes whole, byte by byte, and cut in two at every place; then its texts, and if
+/// it is steady what a fresh parser shows that reads them. Prints a line for the first difference of
+/// each kind, and answers whether there was none.
 pub fn replay<R: AllocGlobal + Print>(rt: &R, case: &Case<'_>) -> Result<bool> {
+    let is_shown = is_shown_however_cut(rt, case)?;
+    let is_told = are_texts_told(rt, case)?;
+    let is_drawn = !case.is_steady || is_drawn_again(rt, case)?;
+    Ok(is_shown && is_told && is_drawn)
+}
+
+fn is_shown_however_cut<R: AllocGlobal + Print>(rt: &R, case: &Case<'_>) -> Result<bool> {
     let alloc = rt.alloc();
     let name = case.name;
     let mut same = true;
@@ -27,8 +35,31 @@ pub fn replay<R: AllocGlobal + Print>(rt: &R, case: &Case<'_>) -> Result<bool> {
         println!(rt; "differs: {name} (cut {place})")?;
         same = false;
     }
+    Ok(same)
+}
+
+fn are_texts_told<R: AllocGlobal + Print>(rt: &R, case: &Case<'_>) -> Result<bool> {
+    let alloc = rt.alloc();
+    let name = case.name;
+    let mut same = true;
+    if let Some(line) = differing_text(alloc, case)? {
+        let word = line.split(' ').next().unwrap_or(line);
+        println!(rt; "differs: {name} ({word})")?;
+        same = false;
+    }
+    Ok(same)
+}
+
+fn is_drawn_again<R: AllocGlobal + Print>(rt: &R, case: &Case<'_>) -> Result<bool> {
+    let alloc = rt.alloc();
+    let name = case.name;
+    let mut same = true;
     if !is_redrawn(alloc, case)? {
-        println!(rt; "differs: {name} (redraw)")?;
+        println!(rt; "differs: {name} (redrawn)")?;
+        same = false;
+    }
+    if !is_updated(alloc, case)? {
+        println!(rt; "differs: {name} (updated)")?;
         same = false;
     }
     Ok(same)
@@ -53,49 +84,94 @@ fn is_shown(alloc: Global, case: &Case<'_>, pieces: &[&[u8]]) -> Result<bool> {
 
 /// Whether a parser shows and called what the case says.
 fn shows(alloc: Global, parser: &Parser<Notes>, case: &Case<'_>) -> Result<bool> {
-    let mut lines = screen_lines(alloc, parser.screen())?;
-    let calls = parser.callbacks().lines(alloc)?;
-    for call in calls.lines() {
-        if call.starts_with("scroll ") {
-            writeln!(lines, "{call}")?;
-        } else {
-            writeln!(lines, "event {call}")?;
+    let others = other_lines(alloc, parser.screen(), parser.callbacks())?;
+    let is_same = others.as_str() == case.others.as_str();
+    Ok(is_same && is_picture(alloc, parser.screen(), case)?)
+}
+
+/// Whether a screen has the cells, flags and cursor of the case.
+fn is_picture(alloc: Global, screen: &Screen, case: &Case<'_>) -> Result<bool> {
+    let picture = picture_lines(alloc, screen)?;
+    Ok(picture.as_str() == case.picture.as_str())
+}
+
+/// The line of the first text that the screen after all bytes doesn't give.
+fn differing_text<'a>(alloc: Global, case: &Case<'a>) -> Result<Option<&'a str>> {
+    let prev = screen_before(alloc, case)?;
+    let parser = fed(alloc, case, &[case.bytes.as_slice()])?;
+    differing_line(alloc, parser.screen(), &prev, case.texts.as_slice())
+}
+
+fn differing_line<'a>(
+    alloc: Global,
+    screen: &Screen,
+    prev: &Screen,
+    texts: &[&'a str],
+) -> Result<Option<&'a str>> {
+    for line in texts {
+        if !is_told(alloc, screen, prev, line)? {
+            return Ok(Some(line));
         }
     }
-    Ok(lines.as_str() == case.shown.as_str())
+    Ok(None)
 }
 
-/// Whether the redraw is that of the case, and a fresh parser that reads it gives it again and calls
-/// nothing.
+/// The screen that differences start from.
+fn screen_before(alloc: Global, case: &Case<'_>) -> Result<Screen> {
+    let before = case.bytes.get(..case.before);
+    let before = before.context("fewer bytes than come before a difference")?;
+    let parser = fed(alloc, case, &[before])?;
+    copied(&parser)
+}
+
+fn copied(parser: &Parser<Notes>) -> Result<Screen> {
+    Ok(parser.screen().clone()?)
+}
+
+/// Whether a fresh parser that reads the redraw has the cells, flags and cursor of the case, gives the
+/// same redraw, and calls nothing.
 fn is_redrawn(alloc: Global, case: &Case<'_>) -> Result<bool> {
-    let Some(expected) = &case.redraw else {
-        return Ok(true);
-    };
     let redraw = redraw_after(alloc, case, case.bytes.as_slice())?;
-    let again = redraw_after(alloc, case, redraw.text.as_bytes())?;
-    let is_same = again.text.as_str() == redraw.text.as_str();
-    Ok(again.is_quiet && is_same && redraw.text.as_bytes() == expected.as_slice())
+    let parser = fed(alloc, case, &[redraw.as_bytes()])?;
+    is_drawn(alloc, &parser, case, redraw.as_str())
 }
 
-/// The redraw of a screen.
-#[derive(Drop)]
-struct Redraw {
-    text: String,
+fn is_drawn(alloc: Global, parser: &Parser<Notes>, case: &Case<'_>, redraw: &str) -> Result<bool> {
+    let again = parser.screen().contents_formatted()?;
+    let is_quiet = parser.callbacks().calls().is_empty();
+    Ok(is_quiet && again.as_str() == redraw && is_picture(alloc, parser.screen(), case)?)
+}
 
-    /// Whether what was read before called nothing.
-    is_quiet: bool,
+/// Whether a fresh parser that shows the screen of before and reads the difference has the cells, flags
+/// and cursor of the case, gives the same redraw, and calls nothing.
+fn is_updated(alloc: Global, case: &Case<'_>) -> Result<bool> {
+    let prev = screen_before(alloc, case)?;
+    let parser = fed(alloc, case, &[case.bytes.as_slice()])?;
+    let update = difference(parser.screen(), &prev)?;
+    let redraw = redraw_of(&parser)?;
+    is_update(alloc, case, &prev, update.as_str(), redraw.as_str())
+}
+
+fn is_update(
+    alloc: Global,
+    case: &Case<'_>,
+    prev: &Screen,
+    update: &str,
+    redraw: &str,
+) -> Result<bool> {
+    let begun = prev.contents_formatted()?;
+    let parser = fed(alloc, case, &[begun.as_bytes(), update.as_bytes()])?;
+    is_drawn(alloc, &parser, case, redraw)
 }
 
 /// The redraw of a fresh parser of the size of a case, after these bytes.
-fn redraw_after(alloc: Global, case: &Case<'_>, bytes: &[u8]) -> Result<Redraw> {
+fn redraw_after(alloc: Global, case: &Case<'_>, bytes: &[u8]) -> Result<String> {
     let parser = fed(alloc, case, &[bytes])?;
     redraw_of(&parser)
 }
 
-fn redraw_of(parser: &Parser<Notes>) -> Result<Redraw> {
-    let text = parser.screen().contents_formatted()?;
-    let is_quiet = parser.callbacks().calls().is_empty();
-    Ok(Redraw { text, is_quiet })
+fn redraw_of(parser: &Parser<Notes>) -> Result<String> {
+    Ok(parser.screen().contents_formatted()?)
 }
 
 /// A fresh parser of the size of a case, after these pieces.

@@ -1,7 +1,17 @@
 //! The words that case files use for bytes, numbers, colours and attributes.
 
+use anyhow::Result;
+use std::alloc::Global;
 use std::fmt;
 use vt100::Color;
+
+/// The bytes of a word: hexadecimal, or a dot for none.
+pub fn bytes_of(alloc: Global, word: &str) -> Result<Vec<u8>> {
+    if word == "." {
+        return Ok(Vec::new(alloc));
+    }
+    Ok(hex::decode(alloc, word)?)
+}
 
 /// Bytes in hexadecimal, or a dot for none.
 #[derive(Clone, Copy)]

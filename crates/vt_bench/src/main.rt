@@ -1,0 +1,97 @@
+//! `vt_bench WHAT ROWS COLS CAPACITY TIMES FILE`: makes one call many times, so that its instructions
+//! can be counted.
+//!
+//! `process` reads FILE into one parser TIMES times, in pieces of 4096 bytes. Any other WHAT reads the
+//! first half of FILE, keeps a copy of the screen, reads the rest, and then makes its call of the
+//! screen TIMES times. Prints the call, how often it was made, and how many bytes were read or
+//! written by it, of a copy how many rows.
+#![tactic(auto)]
+
+mod work;
+
+use anyhow::{Context, Result, bail};
+use std::alloc::Global;
+use std::num::NonZeroU16;
+use std::rt::{Env, Files};
+use std::{env, fs};
+use vt100::{Parser, Screen};
+use work::Work;
+
+/// How many bytes a parser is given at a time.
+const PIECE: usize = 4096;
+
+/// What is measured.
+#[derive(Clone, Copy)]
+struct Task {
+    work: Work,
+    rows: NonZeroU16,
+    cols: NonZeroU16,
+    capacity: usize,
+    times: u64,
+}
+
+fn main(rt: HostRuntime) -> Result<()> {
+    run(&rt)
+}
+
+fn run<R: AllocGlobal + Env + Files + Print>(rt: &R) -> Result<()> {
+    let words: Vec<String> = env::args(rt)?.skip(1).collect(rt.alloc())?;
+    let [what, rows, cols, capacity, times, file] = words.as_slice() else {
+        bail!("usage: vt_bench WHAT ROWS COLS CAPACITY TIMES FILE");
+    };
+    let task = Task {
+        work: Work::named(what.as_str()).context("no call of this name")?,
+        rows: rows.parse::<NonZeroU16>()?,
+        cols: cols.parse::<NonZeroU16>()?,
+        capacity: capacity.parse::<usize>()?,
+        times: times.parse::<u64>()?,
+    };
+    let bytes = fs::read(rt, file.as_str())?;
+    let count = measured(rt.alloc(), task, bytes.as_slice())?;
+    println!(rt; "{what}: {times} times, {count}")?;
+    Ok(())
+}
+
+/// Makes the parser of a task.
+fn measured(alloc: Global, task: Task, bytes: &[u8]) -> Result<usize> {
+    let mut parser = Parser::new(alloc, task.rows, task.cols, task.capacity)?;
+    if let Work::Process = task.work {
+        return process_often(&mut parser, task.times, bytes);
+    }
+    let (first, rest) = bytes.split_at(bytes.len() / 2);
+    call_often(&mut parser, task, first, rest)
+}
+
+/// Reads bytes so many times, and answers how many it read.
+fn process_often(parser: &mut Parser, times: u64, bytes: &[u8]) -> Result<usize> {
+    let mut count = 0usize;
+    for _ in 0..times {
+        process(parser, bytes)?;
+        count = count.saturating_add(bytes.len());
+    }
+    Ok(count)
+}
+
+/// Reads bytes in pieces.
+fn process(parser: &mut Parser, bytes: &[u8]) -> Result<()> {
+    for piece in bytes.chunks(PIECE) {
+        parser.process(piece)?;
+    }
+    Ok(())
+}
+
+/// Reads both parts and makes the call after it, against a copy of the screen between the two.
+fn call_often(parser: &mut Parser, task: Task, first: &[u8], rest: &[u8]) -> Result<usize> {
+    process(parser, first)?;
+    let prev = parser.screen().clone()?;
+    process_and_call(parser, &prev, task, rest)
+}
+
+fn process_and_call(parser: &mut Parser, prev: &Screen, task: Task, rest: &[u8]) -> Result<usize> {
+    process(parser, rest)?;
+    let mut count = 0usize;
+    for _ in 0..task.times {
+        count = count.saturating_add(task.work.call(parser.screen(), prev)?);
+    }
+    Ok(count)
+}

@@ -1,0 +1,61 @@
+//! The calls that are measured.
+
+use vt100::{Error, Screen};
+
+/// A call.
+#[derive(Clone, Copy)]
+pub enum Work {
+    /// Bytes are read.
+    Process,
+
+    /// The whole screen is written.
+    Formatted,
+
+    /// What differs from the earlier screen is written.
+    Diff,
+
+    /// What differs from the screen itself is written.
+    Same,
+
+    /// The screen is copied.
+    Clone,
+}
+
+impl Work {
+    /// The call of this name.
+    pub fn named(name: &str) -> Option<Work> {
+        match name {
+            "process" => Some(Work::Process),
+            "formatted" => Some(Work::Formatted),
+            "diff" => Some(Work::Diff),
+            "same" => Some(Work::Same),
+            "clone" => Some(Work::Clone),
+            _ => None,
+        }
+    }
+
+    /// Makes the call once, and answers how many bytes its text has; of a copy, how many rows.
+    pub fn call(self, screen: &Screen, prev: &Screen) -> Result<usize, Error> {
+        match self {
+            Work::Process => Ok(0),
+            Work::Formatted => Ok(screen.contents_formatted()?.len()),
+            Work::Diff => difference(screen, prev),
+            Work::Same => difference(screen, screen),
+            Work::Clone => rows_of_copy(screen),
+        }
+    }
+}
+
+fn rows_of_copy(screen: &Screen) -> Result<usize, Error> {
+    let (rows, _cols) = screen.clone()?.size();
+    Ok(usize::from(rows.get()))
+}
+
+fn difference(screen: &Screen, prev: &Screen) -> Result<usize, Error> {
+    let (rows, cols) = screen.size();
+    let (prev_rows, prev_cols) = prev.size();
+    if rows.get() != prev_rows.get() || cols.get() != prev_cols.get() {
+        return Ok(0);
+    }
+    Ok(screen.contents_diff(prev)?.len())
+}
