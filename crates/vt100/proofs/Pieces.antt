@@ -1,5 +1,5 @@
 -- What is read quietly as one text is read so in pieces.
-use Rattle.std.proofs.Common.{◌≡◌, ℕ, false, List, [], ◌∷◌, ◌++◌, Ok, Option, Some, refl, sym, ap, subst, ◌∙◌}
+use Rattle.std.proofs.Common.{◌≡◌, false, List, [], ◌∷◌, Some, refl, sym, ap, subst, ◌∙◌}
 use Rattle.std.specs.List.{AllByRecursion, FoldsTo}
 use Rattle.vt_scan.specs.Automaton.{State, start}
 use Rattle.vt_scan.specs.Scanner.{StandsFor}

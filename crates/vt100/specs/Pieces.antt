@@ -1,6 +1,5 @@
 -- Texts that are read quietly, in any list of calls of `process`.
-use Rattle.std.specs.Prelude.{◌≡◌, ℕ, Bool, false, List, [], ◌∷◌, ◌++◌, Ok, Some}
-use Rattle.std.specs.List.{AllByRecursion, FoldsTo}
+use Rattle.std.specs.Prelude.{◌≡◌, ℕ, false, List, [], ◌∷◌, ◌++◌, Ok, Some}
 use Rattle.std.specs.declared.result.Result.{Result}
 use Rattle.vt_cells.specs.declared.error.Error.{Error}
 use Rattle.vt_scan.specs.Automaton.{State, start}

@@ -1,11 +1,11 @@
 -- The text that sets attributes.
-use Rattle.std.proofs.Common.{◌≡◌, ℕ, List, [], ◌++◌, Some, refl, sym, ap, subst, ◌∙◌, append-nil}
-use Rattle.vt_cells.specs.Attrs.{default_attrs, changed_attrs}
+use Rattle.std.proofs.Common.{◌≡◌, ℕ, List, [], ◌++◌, Some, ap, ◌∙◌, append-nil}
+use Rattle.vt_cells.specs.Attrs.{default_attrs}
 use Rattle.vt_cells.specs.Op.{FitsAttrs, change_text, csi}
 use Rattle.vt_cells.proofs.Same.{changed_attrs-new}
 use Rattle.vt_cells.specs.declared.attrs.Attrs.{Attrs}
 use Rattle.vt_scan.specs.Automaton.{start}
-use Rattle.vt_screen.specs.Reading.{Terminal, read, terminal}
+use Rattle.vt_screen.specs.Reading.{read, terminal}
 use Rattle.vt_screen.specs.Screen.{ScreenValue}
 use Rattle.vt_screen.specs.Shown.{SetsAttrs, attributes_text}
 use Rattle.vt_screen.proofs.Readback.{cleared_read, changed_read}

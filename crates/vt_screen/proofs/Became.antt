@@ -1,18 +1,15 @@
 -- What a reader has become that shows a picture, part by part; and that texts tell pictures apart.
-use Rattle.std.proofs.Common.{◌≡◌, ℕ, ◌+◌, ◌-◌, ◌<◌, List, [], length, Option, Some, None, refl, sym, ap, subst, ◌∙◌, arith}
-use Rattle.std.specs.Prelude.{false}
+use Rattle.std.proofs.Common.{◌≡◌, ℕ, List, Option, refl, sym, ap, subst, ◌∙◌, arith}
 use Rattle.std.proofs.lemmas.List.Elements.{recursion_from_All}
 use Rattle.vt_cells.specs.Op.{bytes_of_all}
 use Rattle.vt_rows.specs.Row.{RowValue, IsRow}
-use Rattle.vt_grid.specs.Page.{IsPlainPage}
-use Rattle.vt_grid.specs.Scrollback.{no_scrollback}
 use Rattle.vt_redraw.specs.Picture.{Picture, IsPicture, SamePictureSize, Saved, cut_rows}
 use Rattle.vt_redraw.specs.Redraw.{redraw, difference}
 use Rattle.vt_redraw.specs.Steady.{IsSteady}
 use Rattle.vt_redraw.proofs.Cuts.{cut_same}
 use Rattle.vt_redraw.proofs.Difference.{flags_end_of}
 use Rattle.vt_screen.specs.Screen.{ScreenValue, IsScreen, IsColored, above_page}
-use Rattle.vt_screen.specs.Shown.{IsPlain, IsReader, IsReaderOf, IsReadBy, Makes, ReadsTo, ShowsPlainly, HasRows, HasCursor, KeepsRest, shown, showing}
+use Rattle.vt_screen.specs.Shown.{IsPlain, IsReader, IsReaderOf, IsReadBy, Makes, ShowsPlainly, HasRows, HasCursor, KeepsRest, shown, showing}
 use Rattle.vt_screen.proofs.Redrawing.{Became, Becomes, became, redraw_read, difference_read}
 use Rattle.vt_screen.proofs.Shown.{none_above, shown_height, shown_is}
 

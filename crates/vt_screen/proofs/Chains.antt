@@ -1,11 +1,11 @@
 -- A redraw and differences behind it, read by a plain terminal, show the last screen.
-use Rattle.std.proofs.Common.{◌≡◌, ℕ, List, [], ◌∷◌, ◌++◌, length, refl, sym, ap, subst, ◌∙◌}
+use Rattle.std.proofs.Common.{◌≡◌, ℕ, List, [], ◌∷◌, ◌++◌, length, refl, ap, subst, ◌∙◌}
 use Rattle.std.specs.Prelude.{map}
 use Rattle.std.specs.List.{AllByRecursion}
 use Rattle.vt_cells.specs.Op.{Op, bytes_of_all}
 use Rattle.vt_cells.proofs.Texts.{bytes_of_all-append}
 use Rattle.vt_redraw.specs.Fits.{Fits}
-use Rattle.vt_redraw.specs.Picture.{Picture, IsPicture, SamePictureSize, picture_of}
+use Rattle.vt_redraw.specs.Picture.{Picture}
 use Rattle.vt_redraw.specs.Redraw.{redraw, difference, differences, last_picture}
 use Rattle.vt_redraw.specs.Steady.{IsOfSize}
 use Rattle.vt_redraw.proofs.Chain.{chain_draws}
@@ -13,9 +13,9 @@ use Rattle.vt_redraw.proofs.Fitting.{difference_fits, redraw_fits}
 use Rattle.vt_redraw.proofs.Redrawing.{page_picture}
 use Rattle.vt_screen.specs.Chain.{CanShowOn, chain_text, last_screen, texts_behind}
 use Rattle.vt_screen.specs.Screen.{ScreenValue, IsScreen, canvas_of}
-use Rattle.vt_screen.specs.Shown.{IsPlain, IsReader, ReadsTo, ShowsPlainly, KeepsRest, shown, showing}
+use Rattle.vt_screen.specs.Shown.{IsPlain, ReadsTo, ShowsPlainly, KeepsRest, shown, showing}
 use Rattle.vt_screen.proofs.Became.{keeps_rest, shows_plainly}
-use Rattle.vt_screen.proofs.Redrawing.{Became, Becomes, became, drawing_read}
+use Rattle.vt_screen.proofs.Redrawing.{Became, Becomes, drawing_read}
 use Rattle.vt_screen.proofs.Shown.{shown_colored, shown_height, shown_is}
 
 fits_append : (xs ys : List Op) → AllByRecursion Fits xs → AllByRecursion Fits ys → AllByRecursion Fits (xs ++ ys)

@@ -1,7 +1,6 @@
 -- The text of the cursor, read by a plain terminal that shows the rows, sets the cursor.
-use Rattle.std.proofs.Common.{◌≡◌, ℕ, List, Option, Some, refl, sym, ap, subst, ◌∙◌, arith}
+use Rattle.std.proofs.Common.{◌≡◌, ℕ, List, Option, Some, refl, sym, ap, subst, ◌∙◌}
 use Rattle.vt_cells.specs.Op.{bytes_of_all}
-use Rattle.vt_rows.specs.Row.{RowValue}
 use Rattle.vt_redraw.specs.Picture.{Picture, Saved, with_cursor_of, with_saved}
 use Rattle.vt_redraw.specs.Redraw.{cursor_state}
 use Rattle.vt_redraw.specs.Steady.{IsSteady}

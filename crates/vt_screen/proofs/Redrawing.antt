@@ -1,22 +1,21 @@
 -- Redraws and differences, read by plain terminals, show the screen.
-use Rattle.std.proofs.Common.{◌≡◌, ℕ, List, [], length, Option, Some, refl, sym, ap, subst, ◌∙◌}
+use Rattle.std.proofs.Common.{◌≡◌, ℕ, List, Option, Some, sym, ap, subst, ◌∙◌}
 use Rattle.std.specs.List.{AllByRecursion}
 use Rattle.vt_cells.specs.Op.{Op, bytes_of_all}
-use Rattle.vt_grid.specs.Canvas.{Canvas, drawn_all}
-use Rattle.vt_grid.specs.Page.{IsPlainPage}
+use Rattle.vt_grid.specs.Canvas.{drawn_all}
 use Rattle.vt_redraw.specs.Fits.{Fits}
-use Rattle.vt_redraw.specs.Picture.{Picture, IsPicture, SamePictureSize, Saved, picture_of, with_picture, with_saved}
+use Rattle.vt_redraw.specs.Picture.{Picture, SamePictureSize, Saved, with_picture, with_saved}
 use Rattle.vt_redraw.specs.Redraw.{redraw, difference}
 use Rattle.vt_redraw.specs.Steady.{IsSteady}
 use Rattle.vt_redraw.proofs.Difference.{difference_draws}
 use Rattle.vt_redraw.proofs.Fitting.{difference_fits, redraw_fits}
 use Rattle.vt_redraw.proofs.Redrawing.{redraw_draws, page_picture}
 use Rattle.vt_scan.specs.Automaton.{start}
-use Rattle.vt_screen.specs.Reading.{Terminal, read, terminal}
-use Rattle.vt_screen.specs.Screen.{ScreenValue, IsScreen, IsColored, canvas_of, no_modes}
-use Rattle.vt_screen.specs.Shown.{IsPlain, IsReader, IsReaderOf, IsReadBy, Makes, ReadsTo, ShowsPlainly, HasRows, HasCursor, KeepsRest, shown, showing}
+use Rattle.vt_screen.specs.Reading.{Terminal, terminal}
+use Rattle.vt_screen.specs.Screen.{ScreenValue, IsScreen, IsColored, canvas_of}
+use Rattle.vt_screen.specs.Shown.{IsReader, IsReaderOf, ReadsTo, shown, showing}
 use Rattle.vt_screen.proofs.Readback.{reads_all}
-use Rattle.vt_screen.proofs.Shown.{plain_shown, shown_colored, shown_height, shown_is}
+use Rattle.vt_screen.proofs.Shown.{plain_shown, shown_colored, shown_is}
 
 -- what a reader has become: it shows the picture, and only what was saved and the last character are open
 pub record Became (picture : Picture) (reader after : ScreenValue) : Type 0 where

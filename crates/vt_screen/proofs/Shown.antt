@@ -1,17 +1,15 @@
 -- What a screen shows is a picture, and a plain screen shows its own page.
-use Rattle.std.proofs.Common.{◌≡◌, ℕ, ◌+◌, ◌-◌, ◌≤◌, min, Bool, true, false, List, [], ◌∷◌, ◌++◌, length, take, drop, refl, sym, ap, ◌∙◌, subst, arith}
+use Rattle.std.proofs.Common.{◌≡◌, ℕ, ◌-◌, ◌≤◌, Bool, true, false, List, [], ◌∷◌, ◌++◌, length, take, refl, sym, ap, ◌∙◌, subst, arith}
 use Rattle.std.specs.Prelude.{if◌then◌else◌, All}
-use Rattle.std.proofs.lemmas.List.{length-append, length-take, length-drop, drop_all, take_all}
+use Rattle.std.proofs.lemmas.List.{length-append, length-take, drop_all, take_all}
 use Rattle.std.proofs.lemmas.List.Elements.{All-nil, All-cons, All-append, All-take, All-drop, All-weaker, recursion_from_All}
 use Rattle.std.specs.List.{AllByRecursion}
-use Rattle.vt_cells.specs.Cell.{CellValue}
 use Rattle.vt_rows.specs.Cells.{resized}
 use Rattle.vt_rows.specs.Row.{RowValue, IsRow, with_cells}
-use Rattle.vt_grid.specs.Page.{Page, IsPage}
-use Rattle.vt_grid.specs.Scrollback.{Scrollback, IsScrollback, no_scrollback, visible, last_of}
-use Rattle.vt_redraw.specs.Picture.{Picture, IsPicture, IsColoredPicture, cut_rows, picture_of, picture_over}
+use Rattle.vt_grid.specs.Scrollback.{Scrollback, no_scrollback, visible, last_of}
+use Rattle.vt_redraw.specs.Picture.{IsPicture, IsColoredPicture, cut_rows, picture_of, picture_over}
 use Rattle.vt_redraw.proofs.Cuts.{IsAnyRow, picture_over_is, picture_over_page}
-use Rattle.vt_screen.specs.Screen.{ScreenValue, IsScreen, IsColored, IsColoredCell, IsColoredRow, AreColored, above_page, canvas_of, visible_rows}
+use Rattle.vt_screen.specs.Screen.{ScreenValue, IsScreen, IsColored, IsColoredRow, AreColored, above_page, canvas_of, visible_rows}
 use Rattle.vt_screen.specs.Shown.{IsPlain, shown}
 use Rattle.vt_screen.proofs.ColoredMoves.{colored_moved}
 

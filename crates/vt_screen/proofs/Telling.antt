@@ -1,8 +1,7 @@
 -- Redraws tell what is shown: equal texts come from equal pictures, and only equal pictures have nothing between them.
-use Rattle.std.proofs.Common.{◌≡◌, ℕ, List, [], Option, Some, None, refl, sym, ap, subst, ◌∙◌}
-use Rattle.vt_cells.specs.Op.{Op, bytes_of_all}
-use Rattle.vt_grid.specs.Canvas.{Canvas}
-use Rattle.vt_redraw.specs.Picture.{Picture, IsPicture, IsColoredPicture, SamePictureSize, picture_of}
+use Rattle.std.proofs.Common.{◌≡◌, ℕ, List, [], Some, refl, sym, ap, ◌∙◌}
+use Rattle.vt_cells.specs.Op.{bytes_of_all}
+use Rattle.vt_redraw.specs.Picture.{Picture, SamePictureSize, picture_of}
 use Rattle.vt_redraw.specs.Redraw.{redraw, difference}
 use Rattle.vt_redraw.specs.Steady.{IsSteady}
 use Rattle.vt_redraw.proofs.Difference.{difference_draws}
@@ -13,7 +12,7 @@ use Rattle.vt_redraw.proofs.Redrawing.{redraw_draws}
 use Rattle.vt_scan.specs.Automaton.{start}
 use Rattle.vt_screen.specs.Reading.{Terminal, read, terminal}
 use Rattle.vt_screen.specs.Screen.{ScreenValue, IsScreen, IsColored, canvas_of, fresh_screen, with_canvas}
-use Rattle.vt_screen.specs.Shown.{ReadsTo, shown, showing}
+use Rattle.vt_screen.specs.Shown.{shown, showing}
 use Rattle.vt_screen.proofs.Redrawing.{Becomes, drawing_read}
 use Rattle.vt_screen.proofs.Shown.{shown_colored, shown_is}
 

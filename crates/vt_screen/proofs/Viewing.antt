@@ -1,22 +1,15 @@
 -- The view of a screen's fields is what the screen shows; and the text that sets attributes.
-use Rattle.std.proofs.Common.{◌≡◌, ◌≢◌, ℕ, ◌≤◌, Bool, true, false, List, [], ◌∷◌, ◌++◌, length, Some, refl, sym, ap, subst, ◌∙◌, append-nil, arith}
-use Rattle.std.specs.Prelude.{All, if◌then◌else◌}
+use Rattle.std.proofs.Common.{◌≡◌, Bool, true, false, List, length, sym, ap, subst, ◌∙◌, arith}
+use Rattle.std.specs.Prelude.{All}
 use Rattle.std.proofs.lemmas.List.Elements.{All-nil}
-use Rattle.vt_cells.specs.Attrs.{default_attrs, changed_attrs}
-use Rattle.vt_cells.specs.Op.{FitsAttrs, bytes_of, bytes_of_all, change_text, csi}
-use Rattle.vt_cells.specs.declared.attrs.Attrs.{Attrs}
 use Rattle.vt_rows.specs.Row.{RowValue, IsRow}
-use Rattle.vt_grid.specs.Scrollback.{Scrollback, IsScrollback, no_scrollback, visible}
-use Rattle.vt_redraw.specs.Picture.{Picture, SamePictureSize, picture_over}
+use Rattle.vt_grid.specs.Scrollback.{Scrollback, IsScrollback, visible}
+use Rattle.vt_redraw.specs.Picture.{SamePictureSize, picture_over}
 use Rattle.vt_grid.specs.Page.{SameSize}
-use Rattle.vt_scan.specs.Automaton.{start}
 use Rattle.vt_screen.specs.Keeping.{IsAbove, IsNothing, main_scrollback, alternate_scrollback}
-use Rattle.vt_screen.specs.Reading.{read, terminal}
 use Rattle.vt_screen.specs.Screen.{ScreenValue, canvas_of}
-use Rattle.vt_screen.specs.Shown.{SetsAttrs, attributes_text, shown}
+use Rattle.vt_screen.specs.Shown.{shown}
 use Rattle.vt_screen.proofs.Asides.{visible_if}
-use Rattle.vt_screen.proofs.Readback.{cleared_read, changed_read}
-use Rattle.vt_screen.proofs.ReadbackTexts.{reads_then}
 use Rattle.vt_screen.proofs.Shown.{shown_height}
 
 nothing_is : (above : Scrollback) → IsNothing above → IsScrollback above

@@ -16,9 +16,7 @@ use crate::sgr::Setting;
 use std::alloc::Global;
 use std::marker::Model;
 use std::num::NonZeroU16;
-use vt_cells::{
-    Attrs, Cell, Color, CursorStyle, Error, MouseProtocolEncoding, MouseProtocolMode,
-};
+use vt_cells::{Attrs, Cell, Color, CursorStyle, Error, MouseProtocolEncoding, MouseProtocolMode};
 use vt_grid::{Grid, Scrollback, Size};
 use vt_rows::Row;
 
