@@ -1,10 +1,11 @@
 -- Rows before and after, each checked by computing.
-use Rattle.std.proofs.Common.{◌≡◌, ℕ, true, false, [], ◌∷◌, refl}
+use Rattle.std.proofs.Common.{◌≡◌, ℕ, true, false, List, [], ◌∷◌, refl}
 use Rattle.vt_cells.specs.Attrs.{default_attrs, same_attrs, same_color}
 use Rattle.vt_cells.specs.Cell.{CellValue, blank, glyph, right_half, default_blank}
 use Rattle.vt_cells.specs.declared.attrs.Attrs.{Attrs}
 use Rattle.vt_cells.specs.declared.color.Color.TheVariants.{Idx}
 use Rattle.vt_rows.specs.Cells.{put_cells, put_narrow, put_wide, erased, widened_at, narrowed_at, moved, inserted, deleted, resized}
+use Rattle.vt_rows.specs.Plain.{plain_text}
 use Rattle.vt_rows.specs.Row.{with_cells, trimmed, resized_row}
 
 -- x, y: narrow; U+4E2D, U+56FD: wide; a: attributes before; b: those that are drawn with
@@ -93,3 +94,37 @@ flag_falls a b = refl
 flag_stays : (a b : Attrs) → with_cells (record { cells = wide a ∷ right_half ∷ []; wrapped = true }) (put_narrow 0 (0x78 ∷ []) b (wide a ∷ right_half ∷ [])) ≡ record { cells = letter 0x78 b ∷ letter 0x20 b ∷ []; wrapped = true }
 unfolding put_cells
 flag_stays a b = refl
+
+-- ---- plain texts
+
+-- a, a wide glyph, a blank, b, a blank
+abbrev mixed : Attrs → List CellValue
+mixed a = letter 0x61 a ∷ wide a ∷ right_half ∷ coloured ∷ letter 0x62 a ∷ default_blank ∷ []
+
+-- blanks at the end are no text, whatever their attributes
+whole_text : (a : Attrs) → plain_text 0 6 (mixed a) ≡ 0x61 ∷ 0xE4 ∷ 0xB8 ∷ 0xAD ∷ 0x20 ∷ 0x62 ∷ []
+unfolding plain_text
+whole_text a = refl
+
+-- a wide glyph is written whole where its left half is in the last column
+cut_behind_left_half : (a : Attrs) → plain_text 0 2 (mixed a) ≡ 0x61 ∷ 0xE4 ∷ 0xB8 ∷ 0xAD ∷ []
+unfolding plain_text
+cut_behind_left_half a = refl
+
+-- the right half of a glyph that begins before the range is a space
+cut_before_right_half : (a : Attrs) → plain_text 2 6 (mixed a) ≡ 0x20 ∷ 0x20 ∷ 0x62 ∷ []
+unfolding plain_text
+cut_before_right_half a = refl
+
+-- where no glyph begins there is no text
+halves_alone : (a : Attrs) → plain_text 2 4 (mixed a) ≡ []
+unfolding plain_text
+halves_alone a = refl
+
+past_the_end : (a : Attrs) → plain_text 4 99 (mixed a) ≡ 0x62 ∷ []
+unfolding plain_text
+past_the_end a = refl
+
+range_turned_round : (a : Attrs) → plain_text 4 1 (mixed a) ≡ []
+unfolding plain_text
+range_turned_round a = refl

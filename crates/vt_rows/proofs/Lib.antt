@@ -7,4 +7,5 @@ pub mod Moves
 pub mod ShiftSteps
 pub mod Trims
 pub mod Folds
+pub mod PlainTexts
 pub mod Examples

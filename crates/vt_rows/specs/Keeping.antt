@@ -1,6 +1,6 @@
 -- What the helpers of the edits leave; for their contracts, that of `shifts::turn`, and proofs.
-use Rattle.std.specs.Prelude.{◌≡◌, ℕ, ◌+◌, ◌-◌, ◌<◌, ◌&&◌, nat_le, nat_lt, true, List, length, slice_set, if◌then◌else◌}
-use Rattle.vt_cells.specs.Cell.{CellValue, blank, is_wide, is_right_half, attrs_of}
+use Rattle.std.specs.Prelude.{◌≡◌, ℕ, ◌+◌, ◌-◌, ◌<◌, ◌&&◌, nat_le, nat_lt, true, List, [], ◌∷◌, ◌++◌, length, replicate, slice_set, if◌then◌else◌}
+use Rattle.vt_cells.specs.Cell.{CellValue, blank, glyph, right_half, is_wide, is_right_half, attrs_of}
 use Rattle.vt_rows.specs.Cells.{at}
 
 -- before column c is overwritten: the left half of a right half there is blank, in its own attributes
@@ -23,3 +23,19 @@ end_blanked cells =
 -- where each item comes from after the part from..to is rotated left by n
 abbrev pub turn_source : ℕ → ℕ → ℕ → ℕ → ℕ
 turn_source from to n k = if nat_le from k && nat_lt k to then (if nat_lt (k + n) to then k + n else k + n - (to - from)) else k
+
+-- the text of a cell behind n columns without a glyph: these are written only where a glyph follows
+abbrev pub text_behind : ℕ → CellValue → List ℕ
+text_behind n (glyph text wide attrs) = replicate n 0x20 ++ text
+text_behind n _ = []
+
+-- how many columns without a glyph there are behind a cell
+abbrev pub gap_behind : ℕ → CellValue → ℕ
+gap_behind n (blank attrs) = n + 1
+gap_behind n (glyph text wide attrs) = 0
+gap_behind n right_half = n
+
+-- the text of cells behind n columns without a glyph
+abbrev pub plain_behind : ℕ → List CellValue → List ℕ
+plain_behind n [] = []
+plain_behind n (cell ∷ cells) = text_behind n cell ++ plain_behind (gap_behind n cell) cells

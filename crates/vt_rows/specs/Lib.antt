@@ -1,4 +1,5 @@
 pub mod Row
 pub mod Cells
 pub mod Basic
+pub mod Plain
 pub mod Keeping

@@ -1,0 +1,106 @@
+//! The plain text of columns of a row.
+
+ghost use Rattle.std.specs.Prelude.{◌≡◌, ◌≤◌, ◌+◌, ◌++◌, drop, length, replicate, take, IfOk, OnOk};
+ghost use Rattle.vt_rows.specs.Keeping.{gap_behind, plain_behind, text_behind};
+ghost use Rattle.vt_rows.specs.Plain.{has_glyph, plain_text};
+
+use vt_cells::{Cell, Sink};
+
+/// As many spaces as are written at once.
+const SPACES: &str = "                ";
+
+/// Writes the text of the columns from `start` up to `stop`, as far as the row
+/// has them, without attributes.
+///
+/// It ends with the last glyph that begins in these columns; before and
+/// between glyphs a column is a space. A wide glyph that begins in the last of
+/// these columns is written whole, and the right half of one that begins
+/// before the first is a space. An error is the sink's own; then part of the
+/// text may have been appended.
+#[tactic(auto, unfolding(crate::specs::Plain::plain_text), using(crate::proofs::PlainTexts::plain_whole, crate::proofs::PlainTexts::plain_cut))]
+pub fn write_contents<S: Sink>(
+    sink: &mut S,
+    cells: &[Cell],
+    start: usize,
+    stop: usize,
+) -> Result<(), S::Error>
+    ensures { OnOk result (S.text sink.new ≡ S.text sink.old ++ plain_text start stop cells.now) }
+{
+    let columns = columns_between(cells, start, stop);
+    if !columns.is_empty() && columns[0].is_wide_continuation() {
+        write_behind(sink, &columns[1..], 1)
+    } else {
+        write_behind(sink, columns, 0)
+    }
+}
+
+/// Whether a glyph begins in the columns from `start` up to `stop`.
+pub fn has_contents(cells: &[Cell], start: usize, stop: usize) -> bool
+    ensures { result ≡ has_glyph start stop cells.now }
+{
+    let columns = columns_between(cells, start, stop);
+    for cell in columns {
+        if cell.has_contents() {
+            return true;
+        }
+    }
+    false
+}
+
+/// The columns from `start` up to `stop`, as far as the row has them.
+#[inline]
+#[tactic(auto, using(std::proofs::lemmas::List::take_min, std::proofs::lemmas::List::drop_min))]
+fn columns_between(cells: &[Cell], start: usize, stop: usize) -> &[Cell]
+    ensures { result.now ≡ drop start (take stop cells.now) }
+{
+    let left = &cells[..stop.min(cells.len())];
+    &left[start.min(left.len())..]
+}
+
+/// Writes the text of cells behind `gap` columns without a glyph.
+fn write_behind<S: Sink>(sink: &mut S, cells: &[Cell], gap: usize) -> Result<(), S::Error>
+    requires { gap + length cells.now ≤ 18446744073709551615 }
+    ensures { OnOk result (S.text sink.new ≡ S.text sink.old ++ plain_behind gap cells.now) }
+{
+    let mut gap = gap;
+    for cell in cells {
+        gap = write_cell(sink, cell, gap)?;
+    }
+    Ok(())
+}
+
+/// Writes a cell behind `gap` columns without a glyph, if it is one, and
+/// answers how many such columns there are behind it.
+#[inline]
+fn write_cell<S: Sink>(sink: &mut S, cell: &Cell, gap: usize) -> Result<usize, S::Error>
+    requires { gap + 1 ≤ 18446744073709551615 }
+    ensures text { OnOk result (S.text sink.new ≡ S.text sink.old ++ text_behind gap cell.now) }
+    ensures gap { IfOk result (λ new. new ≡ gap_behind gap cell.now) }
+{
+    if cell.has_contents() {
+        write_spaces(sink, gap)?;
+        sink.write_str(cell.contents())?;
+        Ok(0)
+    } else if cell.is_wide_continuation() {
+        Ok(gap)
+    } else {
+        Ok(gap + 1)
+    }
+}
+
+/// Writes a number of spaces.
+#[inline]
+fn write_spaces<S: Sink>(sink: &mut S, count: usize) -> Result<(), S::Error>
+    ensures { OnOk result (S.text sink.new ≡ S.text sink.old ++ replicate count 0x20) }
+{
+    let mut left = count;
+    while left >= SPACES.len() {
+        sink.write_str(SPACES)?;
+        left -= SPACES.len();
+    }
+    while left > 0 {
+        sink.write_str(" ")?;
+        left -= 1;
+    }
+    Ok(())
+}
