@@ -19,3 +19,4 @@ mod Resized
 mod Reporting
 mod Kept
 mod KeptMoves
+pub mod ContentTexts

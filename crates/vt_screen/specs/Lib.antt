@@ -12,3 +12,6 @@ pub mod Chain
 pub mod Reports
 pub mod Keeping
 pub mod Telling
+pub mod Contents
+pub mod RowItems
+pub mod InputTexts

@@ -6,9 +6,11 @@ pub mod callbacks;
 pub mod laws;
 pub mod modes;
 mod reporter;
+pub mod rows;
 pub mod screen;
 pub mod sgr;
 
 pub use callbacks::{Call, Callbacks};
+pub use rows::Rows;
 pub use screen::Screen;
 pub use vt_rows::RowContents;

@@ -1,0 +1,59 @@
+//! The texts of the rows of a screen, one after the other.
+
+ghost use Rattle.std.specs.Prelude.{◌≡◌, ◌+◌};
+ghost use Rattle.vt_screen.specs.Contents.{row_texts, rows_left};
+ghost use Rattle.vt_screen.specs.Screen.{visible_rows};
+
+use crate::screen::Screen;
+use vt_cells::Error;
+
+/// An iterator over the texts of the rows that a screen shows; see
+/// [`Screen::rows`].
+///
+/// An item is an error where memory for its text is refused; the next one is
+/// then the next row's. After the last row there is none, now and later.
+#[derive(Drop)]
+pub struct Rows<'a> {
+    screen: &'a Screen,
+    row: u16,
+    start: usize,
+    stop: usize,
+}
+
+impl<'a> Rows<'a> {
+    /// The rows from the top, in `width` columns from `start` on.
+    pub(crate) fn new(screen: &'a Screen, start: u16, width: u16) -> Rows<'a>
+        ensures { rows_left result ≡ row_texts start (start + width) (visible_rows screen.now) }
+    {
+        let start = usize::from(start);
+        Rows {
+            screen,
+            row: 0,
+            start,
+            stop: start + usize::from(width),
+        }
+    }
+}
+
+impl<'a> Iterator for Rows<'a> {
+    ghost use Rattle.std.specs.Iterator.{item_count};
+    ghost use Rattle.vt_screen.specs.Contents.{rows_left};
+    ghost use Rattle.vt_screen.specs.RowItems.{GivesText};
+
+    type Item = Result<String, Error>;
+
+    ghost next_gives = { GivesText rows_left };
+
+    ghost remaining = { item_count rows_left };
+
+    #[tactic(auto, using(crate::proofs::ContentTexts::texts_more, crate::proofs::ContentTexts::texts_done))]
+    fn next(&mut self) -> Option<Result<String, Error>> {
+        let (rows, _) = self.screen.size();
+        if self.row >= rows.get() {
+            return None;
+        }
+        let item = self.screen.row_text(self.row, self.start, self.stop)?;
+        self.row += 1;
+        Some(item)
+    }
+}

@@ -1,0 +1,259 @@
+//! The text of a screen without attributes.
+
+ghost use Rattle.std.specs.Prelude.{◌≡◌, ◌≤◌, ◌<◌, ◌+◌, ◌-◌, ◌++◌, ◌↔◌, IfErr, IfOk, IfSome, IsSome, OnOk, false, length, min, string_bytes, if◌then◌else◌, [], IsTrue, IsFalse, slice_index, string_len};
+ghost use Rattle.std.specs.List.{flat_map, range_with_len};
+ghost use Rattle.vt_rows.specs.Plain.{plain_text};
+ghost use Rattle.vt_screen.specs.Contents.{between_of, contents_of, gap_line, line_end, lines_of, part_of, row_texts, rows_left, without_line_ends};
+ghost use Rattle.vt_screen.specs.Screen.{visible_row, visible_rows};
+
+use crate::rows::Rows;
+use crate::screen::Screen;
+use std::alloc::Global;
+use vt_cells::{Error, Pos, Sink};
+use vt_rows::{Row, plain};
+
+impl Screen {
+    /// The text of the rows that are shown, without attributes.
+    ///
+    /// A row's text ends with its last glyph; before and between glyphs a
+    /// column is a space. A row is followed by `\n`, unless its text goes on in
+    /// the row below; where that has no glyph, a `\n` stands for it. There is
+    /// no `\n` at the end.
+    ///
+    /// Fails where memory for the text is refused.
+    pub fn contents(&self) -> Result<String, Error>
+        ensures text { IfOk result (λ text. string_bytes text ≡ contents_of self.now) }
+        ensures memory { IfErr result (λ error. error ≡ Error.OutOfMemory) }
+    {
+        let mut text = String::new(self.alloc);
+        match self.write_lines(&mut text) {
+            Ok(()) => {
+                drop_line_ends(&mut text);
+                Ok(text)
+            }
+            Err(_) => Err(Error::OutOfMemory),
+        }
+    }
+
+    /// The text from a column of one row up to a column of another, as it may
+    /// be copied: the first row from `start_col` on, the rows between, and the
+    /// last one up to `end_col`; in one row the columns from `start_col` up to
+    /// `end_col`. A row before the last one is followed by `\n`, unless its
+    /// text goes on in the row below.
+    ///
+    /// Rows that aren't shown have no text, and neither has a range whose end
+    /// is before its start. Only the last row is read past the columns of the
+    /// screen, where it is a longer one of scrollback. Fails where memory for
+    /// the text is refused.
+    pub fn contents_between(
+        &self,
+        start_row: u16,
+        start_col: u16,
+        end_row: u16,
+        end_col: u16,
+    ) -> Result<String, Error>
+        requires { start_row < end_row → start_col ≤ self.now.page.width }
+        ensures text { IfOk result (λ text. string_bytes text ≡ between_of start_row start_col end_row end_col self.now) }
+        ensures memory { IfErr result (λ error. error ≡ Error.OutOfMemory) }
+    {
+        let mut text = String::new(self.alloc);
+        let start = Pos {
+            row: start_row,
+            col: start_col,
+        };
+        let end = Pos {
+            row: end_row,
+            col: end_col,
+        };
+        match self.write_between(&mut text, start, end) {
+            Ok(()) => Ok(text),
+            Err(_) => Err(Error::OutOfMemory),
+        }
+    }
+
+    /// The texts of the rows that are shown, from the top, each in the columns
+    /// from `start` on, `width` of them, without line ends.
+    ///
+    /// There are as many items as rows. An item is an error where memory for
+    /// its text is refused; the next one is then the next row's.
+    ///
+    /// ```text
+    /// for text in screen.rows(0, 80) {
+    ///     println!("{}", text?);
+    /// }
+    /// ```
+    #[tactic(auto, using(crate::proofs::ContentTexts::shown_rows))]
+    pub fn rows(&self, start: u16, width: u16) -> Rows<'_>
+        ensures texts { rows_left result ≡ row_texts start (start + width) (visible_rows self.now) }
+        ensures count { length (rows_left result) ≡ length self.now.page.rows }
+    {
+        Rows::new(self, start, width)
+    }
+
+    /// The text of the row that is shown at a place, if there is one, in the
+    /// columns from `start` up to `stop`.
+    pub(crate) fn row_text(
+        &self,
+        row: u16,
+        start: usize,
+        stop: usize,
+    ) -> Option<Result<String, Error>>
+        ensures inside { IsSome result ↔ (row < length self.now.page.rows) }
+        ensures text { IfSome result (λ item. IfOk item (λ text. string_bytes text ≡ plain_text start stop (visible_row self.now row).cells)) }
+        ensures memory { IfSome result (λ item. IfErr item (λ error. error ≡ Error.OutOfMemory)) }
+    {
+        let found = self.visible_row(row)?;
+        Some(text_of(self.alloc, found, start, stop))
+    }
+
+    /// Writes all rows, each with its line end.
+    #[tactic(auto, using(crate::proofs::ContentTexts::lines_more, crate::proofs::ContentTexts::lines_done))]
+    fn write_lines<S: Sink>(&self, sink: &mut S) -> Result<(), S::Error>
+        ensures { OnOk result (S.text sink.new ≡ S.text sink.old ++ lines_of self.now.page.width false (visible_rows self.now)) }
+    {
+        let size = self.grid.size();
+        let mut goes_on = false;
+        for row in 0..size.rows {
+            let Some(found) = self.visible_row(row) else {
+                return Ok(());
+            };
+            write_line(sink, found, usize::from(size.cols), goes_on)?;
+            goes_on = found.wrapped();
+        }
+        Ok(())
+    }
+
+    /// Writes the rows from one position up to another, as far as they are
+    /// shown.
+    #[tactic(auto, using(crate::proofs::ContentTexts::parts_more, crate::proofs::ContentTexts::parts_done))]
+    fn write_between<S: Sink>(&self, sink: &mut S, start: Pos, end: Pos) -> Result<(), S::Error>
+        ensures { OnOk result (S.text sink.new ≡ S.text sink.old ++ between_of start.row start.col end.row end.col self.now) }
+    {
+        let size = self.grid.size();
+        let past = past_row(end.row, size.rows);
+        for row in start.row..past {
+            self.write_part(sink, row, start, end)?;
+        }
+        Ok(())
+    }
+
+    /// Writes what of a row lies between two positions, and its line end if it
+    /// isn't the last one.
+    fn write_part<S: Sink>(
+        &self,
+        sink: &mut S,
+        row: u16,
+        start: Pos,
+        end: Pos,
+    ) -> Result<(), S::Error>
+        requires { row < length self.now.page.rows }
+        ensures { OnOk result (S.text sink.new ≡ S.text sink.old ++ part_of start.row start.col end.row end.col self.now row) }
+    {
+        let cols = self.grid.size().cols;
+        let Some(found) = self.visible_row(row) else {
+            return Ok(());
+        };
+        let first = column_if(row == start.row, start.col, 0);
+        let past = column_if(row == end.row, end.col, cols);
+        plain::write_contents(sink, found.cells(), usize::from(first), usize::from(past))?;
+        write_end_unless(sink, row == end.row, found)
+    }
+}
+
+/// The first column where the test holds, else the second.
+fn column_if(test: bool, column: u16, other: u16) -> u16
+    ensures { result ≡ (if test then column else other) }
+{
+    if test { column } else { other }
+}
+
+/// The row behind a row, at most the number of rows.
+fn past_row(row: u16, rows: u16) -> u16
+    ensures { result ≡ min (row + 1) rows }
+{
+    if row < rows { row + 1 } else { rows }
+}
+
+/// The text of a row, in the columns from `start` up to `stop`.
+fn text_of(alloc: Global, row: &Row, start: usize, stop: usize) -> Result<String, Error>
+    ensures text { IfOk result (λ text. string_bytes text ≡ plain_text start stop row.now.cells) }
+    ensures memory { IfErr result (λ error. error ≡ Error.OutOfMemory) }
+{
+    let mut text = String::new(alloc);
+    match plain::write_contents(&mut text, row.cells(), start, stop) {
+        Ok(()) => Ok(text),
+        Err(_) => Err(Error::OutOfMemory),
+    }
+}
+
+/// Writes a row over the columns of the screen, with its line end.
+fn write_line<S: Sink>(sink: &mut S, row: &Row, cols: usize, goes_on: bool) -> Result<(), S::Error>
+    ensures { OnOk result (S.text sink.new ≡ S.text sink.old ++ (gap_line cols goes_on row.now ++ (plain_text 0 cols row.now.cells ++ line_end row.now))) }
+{
+    write_gap_line(sink, row, cols, goes_on)?;
+    plain::write_contents(sink, row.cells(), 0, cols)?;
+    write_line_end(sink, row)
+}
+
+/// Writes a line end before a row in which no glyph begins, if the row above
+/// goes on in it.
+fn write_gap_line<S: Sink>(
+    sink: &mut S,
+    row: &Row,
+    cols: usize,
+    goes_on: bool,
+) -> Result<(), S::Error>
+    ensures { OnOk result (S.text sink.new ≡ S.text sink.old ++ gap_line cols goes_on row.now) }
+{
+    if goes_on && !plain::has_contents(row.cells(), 0, cols) {
+        sink.write_str("\n")
+    } else {
+        Ok(())
+    }
+}
+
+/// Writes a line end, unless the row's text goes on in the row below.
+fn write_line_end<S: Sink>(sink: &mut S, row: &Row) -> Result<(), S::Error>
+    ensures { OnOk result (S.text sink.new ≡ S.text sink.old ++ line_end row.now) }
+{
+    if row.wrapped() {
+        Ok(())
+    } else {
+        sink.write_str("\n")
+    }
+}
+
+/// Writes a row's line end, unless it is the last row.
+fn write_end_unless<S: Sink>(sink: &mut S, is_last: bool, row: &Row) -> Result<(), S::Error>
+    ensures { OnOk result (S.text sink.new ≡ S.text sink.old ++ (if is_last then [] else line_end row.now)) }
+{
+    if is_last {
+        Ok(())
+    } else {
+        write_line_end(sink, row)
+    }
+}
+
+/// Drops the line ends at the end of a text.
+#[tactic(auto, using(crate::proofs::ContentTexts::trim_more))]
+fn drop_line_ends(text: &mut String)
+    ensures { string_bytes text.new ≡ without_line_ends (string_bytes text.old) }
+{
+    while ends_line(text) {
+        text.pop();
+    }
+}
+
+/// Whether the text's last byte is a line end.
+#[tactic(auto, using(crate::proofs::ContentTexts::trim_none, crate::proofs::ContentTexts::trim_other))]
+fn ends_line(text: &String) -> bool
+    ensures yes { IsTrue result → (0 < length (string_bytes text.now)) × (slice_index (string_bytes text.now) (length (string_bytes text.now) - 1) ≡ 0x0A) }
+    ensures no { IsFalse result → without_line_ends (string_bytes text.now) ≡ string_bytes text.now }
+    ensures len { length (string_bytes text.now) ≡ string_len text.now }
+{
+    let bytes = text.as_bytes();
+    if bytes.is_empty() {
+        return false;
+    }
+    bytes[bytes.len() - 1] == b'\n'
+}

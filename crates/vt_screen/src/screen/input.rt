@@ -1,0 +1,129 @@
+//! Texts that set a terminal's input modes.
+
+ghost use Rattle.std.specs.Prelude.{◌≡◌, ◌++◌, IfErr, IfOk, OnOk, string_bytes};
+ghost use Rattle.vt_cells.specs.InputModes.{application_cursor_text, bracketed_paste_text, keypad_text};
+ghost use Rattle.vt_screen.specs.InputTexts.{input_change, input_text, mouse_and_style_text, where_changed};
+
+use crate::modes::Modes;
+use crate::screen::Screen;
+use vt_cells::term::{
+    ApplicationCursor, ApplicationKeypad, BracketedPaste, BufWrite, CursorStyle,
+    MouseProtocolEncoding, MouseProtocolMode,
+};
+use vt_cells::{Error, Sink};
+
+impl Screen {
+    /// A text that sets the input modes on a terminal whose mouse mode, mouse
+    /// encoding and cursor style are the default ones: the keypad (DECKPAM or
+    /// DECKPNM), the cursor keys (DECCKM), bracketed paste (xterm's private
+    /// mode 2004), and mouse mode, mouse encoding and cursor style (DECSCUSR)
+    /// where they aren't the default ones.
+    ///
+    /// Fails where memory for the text is refused.
+    ///
+    /// ```text
+    /// // on a fresh screen
+    /// assert_eq!(screen.input_mode_formatted()?, "\x1b>\x1b[?1l\x1b[?2004l");
+    /// ```
+    pub fn input_mode_formatted(&self) -> Result<String, Error>
+        ensures text { IfOk result (λ text. string_bytes text ≡ input_text self.now.modes) }
+        ensures memory { IfErr result (λ error. error ≡ Error.OutOfMemory) }
+    {
+        let mut text = String::new(self.alloc);
+        match write_modes(&mut text, self.modes) {
+            Ok(()) => Ok(text),
+            Err(_) => Err(Error::OutOfMemory),
+        }
+    }
+
+    /// A text that sets the input modes on a terminal that has those of `prev`:
+    /// only what differs, and nothing where all is the same. A mouse mode or
+    /// encoding that is the default one again is reset by the sequence of the
+    /// one before.
+    ///
+    /// Fails where memory for the text is refused.
+    pub fn input_mode_diff(&self, prev: &Screen) -> Result<String, Error>
+        ensures text { IfOk result (λ text. string_bytes text ≡ input_change prev.now.modes self.now.modes) }
+        ensures memory { IfErr result (λ error. error ≡ Error.OutOfMemory) }
+    {
+        let mut text = String::new(self.alloc);
+        match write_changes(&mut text, prev.modes, self.modes) {
+            Ok(()) => Ok(text),
+            Err(_) => Err(Error::OutOfMemory),
+        }
+    }
+}
+
+/// Writes all modes.
+fn write_modes<S: Sink>(sink: &mut S, new: Modes) -> Result<(), S::Error>
+    ensures { OnOk result (S.text sink.new ≡ S.text sink.old ++ input_text new) }
+{
+    let state = new.application_keypad;
+    ApplicationKeypad { state }.write_buf(sink)?;
+    let state = new.application_cursor;
+    ApplicationCursor { state }.write_buf(sink)?;
+    let state = new.bracketed_paste;
+    BracketedPaste { state }.write_buf(sink)?;
+    write_mouse_and_style(sink, Modes::new(), new)
+}
+
+/// Writes the modes that differ.
+fn write_changes<S: Sink>(sink: &mut S, was: Modes, new: Modes) -> Result<(), S::Error>
+    ensures { OnOk result (S.text sink.new ≡ S.text sink.old ++ input_change was new) }
+{
+    write_keypad(sink, was.application_keypad, new.application_keypad)?;
+    write_cursor_keys(sink, was.application_cursor, new.application_cursor)?;
+    write_paste(sink, was.bracketed_paste, new.bracketed_paste)?;
+    write_mouse_and_style(sink, was, new)
+}
+
+/// Writes mouse mode, mouse encoding and cursor style where they differ.
+fn write_mouse_and_style<S: Sink>(sink: &mut S, was: Modes, new: Modes) -> Result<(), S::Error>
+    ensures { OnOk result (S.text sink.new ≡ S.text sink.old ++ mouse_and_style_text was new) }
+{
+    let mouse_mode = MouseProtocolMode {
+        was: was.mouse_mode,
+        new: new.mouse_mode,
+    };
+    mouse_mode.write_buf(sink)?;
+    let mouse_encoding = MouseProtocolEncoding {
+        was: was.mouse_encoding,
+        new: new.mouse_encoding,
+    };
+    mouse_encoding.write_buf(sink)?;
+    let style = CursorStyle {
+        was: was.cursor_style,
+        new: new.cursor_style,
+    };
+    style.write_buf(sink)
+}
+
+/// Writes the keypad's mode if it differs.
+fn write_keypad<S: Sink>(sink: &mut S, was: bool, new: bool) -> Result<(), S::Error>
+    ensures { OnOk result (S.text sink.new ≡ S.text sink.old ++ where_changed was new (keypad_text new)) }
+{
+    if was == new {
+        return Ok(());
+    }
+    ApplicationKeypad { state: new }.write_buf(sink)
+}
+
+/// Writes the cursor keys' mode if it differs.
+fn write_cursor_keys<S: Sink>(sink: &mut S, was: bool, new: bool) -> Result<(), S::Error>
+    ensures { OnOk result (S.text sink.new ≡ S.text sink.old ++ where_changed was new (application_cursor_text new)) }
+{
+    if was == new {
+        return Ok(());
+    }
+    ApplicationCursor { state: new }.write_buf(sink)
+}
+
+/// Writes whether pasted text comes between brackets if that differs.
+fn write_paste<S: Sink>(sink: &mut S, was: bool, new: bool) -> Result<(), S::Error>
+    ensures { OnOk result (S.text sink.new ≡ S.text sink.old ++ where_changed was new (bracketed_paste_text new)) }
+{
+    if was == new {
+        return Ok(());
+    }
+    BracketedPaste { state: new }.write_buf(sink)
+}
