@@ -20,3 +20,5 @@ mod Reporting
 mod Kept
 mod KeptMoves
 pub mod ContentTexts
+pub mod Tops
+pub mod TouchedReads

@@ -46,7 +46,7 @@ unless : (b : Bool) (e d : Canvas) (after : ScreenValue) (f : Canvas → ScreenV
 unless true e d after f h same = absurd cc
 unless false e d after f h same = let q : e ≡ d = cc in ap Some (same ∙ ap f q)
 
-kept : (b : Bool) (x : ScreenValue) → b ≡ false → (if b then None else Some x) ≡ Some x
+pub kept : (b : Bool) (x : ScreenValue) → b ≡ false → (if b then None else Some x) ≡ Some x
 kept true x h = absurd cc
 kept false x h = refl
 
@@ -123,15 +123,15 @@ moved_to_read row col screen low narrow =
 
 -- ---- attributes
 
-text_same : (was new : Attrs) → same_attrs was new ≡ true → change_text was new ≡ []
+pub text_same : (was new : Attrs) → same_attrs was new ≡ true → change_text was new ≡ []
 unfolding change_text
 text_same was new e = rw e refl
 
-text_plain : (was new : Attrs) → same_attrs was new ≡ false → same_attrs new default_attrs ≡ true → change_text was new ≡ csi [] 0x6D
+pub text_plain : (was new : Attrs) → same_attrs was new ≡ false → same_attrs new default_attrs ≡ true → change_text was new ≡ csi [] 0x6D
 unfolding change_text
 text_plain was new e f = rw (e, f) refl
 
-text_parts : (was new : Attrs) → same_attrs was new ≡ false → same_attrs new default_attrs ≡ false → change_text was new ≡ csi (joined (change_numbers was new)) 0x6D
+pub text_parts : (was new : Attrs) → same_attrs was new ≡ false → same_attrs new default_attrs ≡ false → change_text was new ≡ csi (joined (change_numbers was new)) 0x6D
 unfolding change_text
 text_parts was new e f = rw (e, f) refl
 
@@ -207,7 +207,7 @@ hidden_high : (c : ℕ) → 0x7F ≤ c → c < 0xA0 → columns_of c ≡ None
 unfolding columns_of char_width
 hidden_high c low high = grind (arith, nat_tests)
 
-shown_range : (c : ℕ) → columns_of c ≢ None → ((0x20 ≤ c) × (c < 0x7F)) ⊎ (0xA0 ≤ c)
+pub shown_range : (c : ℕ) → columns_of c ≢ None → ((0x20 ≤ c) × (c < 0x7F)) ⊎ (0xA0 ≤ c)
 shown_range c shown =
     ⊎_elim (λ (h : c < 0x20). absurd (shown (hidden_low c h)))
     (λ (low : 0x20 ≤ c). ⊎_elim (λ (h : c < 0x7F). inl (low, h))
@@ -215,12 +215,12 @@ shown_range c shown =
     (cases_lt c 0x7F))
     (cases_lt c 0x20)
 
-prints : (c : ℕ) → IsPrintable c → character_steps c ≡ steps.Print c ∷ []
+pub prints : (c : ℕ) → IsPrintable c → character_steps c ≡ steps.Print c ∷ []
 unfolding character_steps
 prints c p = let range = shown_range c p.shown in let other = p.reported in grind (arith, nat_tests)
 
 -- a character's bytes print it
-character_read : (c : ℕ) (screen after : ScreenValue) → IsPrintable c → quiet_step (steps.Print c) screen ≡ Some after → read (terminal start screen) (encode_utf8 c) ≡ Some (terminal start after)
+pub character_read : (c : ℕ) (screen after : ScreenValue) → IsPrintable c → quiet_step (steps.Print c) screen ≡ Some after → read (terminal start screen) (encode_utf8 c) ≡ Some (terminal start after)
 character_read c screen after p e =
     let range = shown_range c p.shown in
     event_read (encode_utf8 c) (Character c) screen after (read_written c p.scalar (grind (arith, range))) refl
@@ -228,7 +228,7 @@ character_read c screen after p e =
 
 -- ---- texts
 
-unpushed : (b : Bool) (cs : List ℕ) (e d : Canvas) → and_then (drawn_text cs) (if b then None else Some e) ≡ Some d → (b ≡ false) × (drawn_text cs e ≡ Some d)
+pub unpushed : (b : Bool) (cs : List ℕ) (e d : Canvas) → and_then (drawn_text cs) (if b then None else Some e) ≡ Some d → (b ≡ false) × (drawn_text cs e ≡ Some d)
 unpushed true cs e d h = absurd cc
 unpushed false cs e d h = (refl, h)
 
@@ -241,7 +241,7 @@ reads_text (c ∷ cs) screen d (p, ps) h =
     let more : Reads (encode_utf8_all cs) next d = reads_text cs next d ps both.1 in
     (more.0, reads_then (terminal start screen) (terminal start next) (terminal start (record (with_canvas d screen) { last = more.0 })) (encode_utf8 c) (encode_utf8_all cs) first more.1)
 
-all_scalar : (cs : List ℕ) → AllByRecursion IsPrintable cs → all_scalars cs ≡ true
+pub all_scalar : (cs : List ℕ) → AllByRecursion IsPrintable cs → all_scalars cs ≡ true
 all_scalar [] p = refl
 all_scalar (c ∷ cs) (p, ps) = rw p.scalar (all_scalar cs ps)
 

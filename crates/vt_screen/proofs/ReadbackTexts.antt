@@ -81,6 +81,15 @@ grows_not OscString _ n = absurd (n refl)
 grows_not _ Control n = refl
 grows_not _ _ n = refl
 
+-- the first byte of a calm run takes no memory, and what is behind it is calm
+pub calm_grows : (s : State) (b : ℕ) (bytes : List ℕ) → IsCalm (run s (b ∷ bytes)) → (grows (turn_of s.kind (class_of b)) ≡ false) × IsCalm (run (step_in s.kind s.collected b).state bytes)
+calm_grows s b bytes calm =
+    let step = step_in s.kind s.collected b in
+    let rest = run step.state bytes in (
+      grows_not s.kind (class_of b) (λ (e : s.kind ≡ OscString). unended s.collected (b ∷ bytes) (subst (λ (k : Kind). IsCalm (run (record { kind = k; collected = s.collected }) (b ∷ bytes))) e calm)),
+      record { plain = calm.plain; events = later step.events rest.events calm.events },
+    )
+
 -- a calm run is read: its events are performed, one after the other
 pub run_read : (s : State) (bytes : List ℕ) (screen : ScreenValue) → IsCalm (run s bytes)
     → read (terminal s screen) bytes ≡ and_then (λ after. Some (terminal (run s bytes).state after)) (quiet_events (run s bytes).events screen)
@@ -91,9 +100,7 @@ run_read s (b ∷ bytes) screen calm =
     let rest = run step.state bytes in
     let here = quiet_events step.events screen in
     let finish = λ (x : ScreenValue). Some (terminal rest.state x) in
-    let still : grows (turn_of s.kind (class_of b)) ≡ false =
-    grows_not s.kind (class_of b) (λ (e : s.kind ≡ OscString). unended s.collected (b ∷ bytes) (subst (λ (k : Kind). IsCalm (run (record { kind = k; collected = s.collected }) (b ∷ bytes))) e calm)) in
-    let ends : IsCalm rest = record { plain = calm.plain; events = later step.events rest.events calm.events } in
+    let (still, ends) = calm_grows s b bytes calm in
     rw still
     (sym (and_then-assoc (λ (x : ScreenValue). Some (terminal step.state x)) (λ (u : Terminal). read u bytes) here)
     ∙ and_then-same (λ (x : ScreenValue). read (terminal step.state x) bytes) (λ (x : ScreenValue). and_then finish (quiet_events rest.events x)) (λ x. run_read step.state bytes x ends) here
