@@ -22,3 +22,4 @@ mod KeptMoves
 pub mod ContentTexts
 pub mod Tops
 pub mod TouchedReads
+pub mod TouchedTexts

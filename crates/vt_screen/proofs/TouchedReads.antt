@@ -128,8 +128,8 @@ counted_touches M zero final screen h is_final p = csi_touches M [] final ((0 �
 counted_touches M (suc n) final screen h is_final p =
     let count : ℕ = suc (suc n) in
     csi_touches M (decimal count) final ((count ∷ []) ∷ []) screen (decimal_is_parameter count (omega arith)) is_final (decimal_groups count (omega arith)) (p ((count ∷ []) ∷ []) (count_is count (omega arith))) where
-  count_is : (k : ℕ) → 0 < k → number_or 1 0 ((k ∷ []) ∷ []) ≡ k
-  count_is k some = let t : (k == 0) ≡ false = grind (arith, nat_tests) in rw t refl
+      count_is : (k : ℕ) → 0 < k → number_or 1 0 ((k ∷ []) ∷ []) ≡ k
+      count_is k some = let t : (k == 0) ≡ false = grind (arith, nat_tests) in rw t refl
 
 change_touches : (M : ℕ → ℕ → Type 0) (was new : Attrs) (screen : ScreenValue) → FitsAttrs new → ReadTouches M (terminal start screen) (change_text was new)
 change_touches M was new screen fits = by_case (same_attrs was new) (same_attrs new default_attrs) refl refl where
@@ -213,9 +213,9 @@ text_touches M (c ∷ cs) screen d (p, ps) top h touched =
     touches_then M (terminal start screen) (terminal start next) (encode_utf8 c) (encode_utf8_all cs) (print_touches M c screen p top both.0 touched.0)
     (character_read c screen next p (kept (pushes c screen.page) next both.0))
     (text_touches M cs next d ps still both.1 (touched.1 (canvas_of next) drawn_one)) where
-  drawn_kept : (b : Bool) (x : Canvas) → b ≡ false → (if b then None else Some x) ≡ Some x
-  drawn_kept true x e = absurd cc
-  drawn_kept false x e = refl
+      drawn_kept : (b : Bool) (x : Canvas) → b ≡ false → (if b then None else Some x) ≡ Some x
+      drawn_kept true x e = absurd cc
+      drawn_kept false x e = refl
 
 -- ---- each operation
 
@@ -272,9 +272,9 @@ text_top [] canvas d h = let same : canvas ≡ d = cc in ap (λ (z : Canvas). z.
 text_top (c ∷ cs) canvas d h =
     let (next, first, rest) = and_then-some (drawn_text cs) (drawn_char c canvas) d h in
     text_top cs next d rest ∙ one (pushes c canvas.page) next first where
-  one : (b : Bool) (next : Canvas) → (if b then None else Some (with_drawn (printed c canvas.attrs canvas.page) canvas)) ≡ Some next → next.page.top ≡ canvas.page.top
-  one true next e = absurd cc
-  one false next e = let same : with_drawn (printed c canvas.attrs canvas.page) canvas ≡ next = cc in ap (λ (z : Canvas). z.page.top) (sym same) ∙ top_printed c canvas.attrs canvas.page
+      one : (b : Bool) (next : Canvas) → (if b then None else Some (with_drawn (printed c canvas.attrs canvas.page) canvas)) ≡ Some next → next.page.top ≡ canvas.page.top
+      one true next e = absurd cc
+      one false next e = let same : with_drawn (printed c canvas.attrs canvas.page) canvas ≡ next = cc in ap (λ (z : Canvas). z.page.top) (sym same) ∙ top_printed c canvas.attrs canvas.page
 
 same_top : (e d canvas : Canvas) → Some e ≡ Some d → e.page.top ≡ canvas.page.top → d.page.top ≡ canvas.page.top
 same_top e d canvas h p = let same : e ≡ d = cc in ap (λ (z : Canvas). z.page.top) (sym same) ∙ p

@@ -6,8 +6,8 @@ use Rattle.vt_grid.specs.Canvas.{goes_on}
 use Rattle.vt_grid.specs.Moves.{at_bottom}
 use Rattle.vt_grid.specs.Page.{Page}
 use Rattle.vt_redraw.specs.Touching.{Changes, CharTouches}
-use Rattle.vt_scan.specs.Automaton.{Event, step_in}
-use Rattle.vt_screen.specs.Reading.{Terminal, quiet_step, quiet_steps, read_byte}
+use Rattle.vt_scan.specs.Automaton.{Event, start, step_in}
+use Rattle.vt_screen.specs.Reading.{Terminal, terminal, quiet_step, quiet_steps, read_byte}
 use Rattle.vt_screen.specs.Screen.{ScreenValue}
 use Rattle.vt_screen.specs.Steps.{Step, Print, LineFeed, ReverseIndex, EnterAlternate, EnterFresh, LeaveAlternate, LeaveRestoring, Reset, EraseBelow, EraseAbove, ErasePage, EraseRest, EraseStart, EraseRow, EraseChars, InsertChars, DeleteChars, InsertLines, DeleteLines, ScrollUp, ScrollDown, steps_of}
 
@@ -79,3 +79,7 @@ abbrev pub ReadTouches : (ℕ → ℕ → Type 0) → Terminal → List ℕ → 
 ReadTouches May t [] = Unit {0}
 ReadTouches May t (b ∷ bytes) =
     EventsTouch May (step_in t.scan.kind t.scan.collected b).events t.screen × ((u : Terminal) → read_byte t b ≡ Some u → ReadTouches May u bytes)
+
+-- every such terminal, in the midst of nothing, touches by reading the text only positions of which `May` holds
+abbrev pub TouchesOnly : (ScreenValue → Type 0) → List ℕ → (ℕ → ℕ → Type 0) → Type 0
+TouchesOnly Reader text May = (reader : ScreenValue) → Reader reader → ReadTouches May (terminal start reader) text

@@ -14,10 +14,12 @@
 ghost use Rattle.std.specs.Prelude.{◌≡◌, ◌++◌, [], IfErr, IfOk, OnOk, string_bytes};
 ghost use Rattle.vt_cells.specs.Op.{bytes_of_all};
 ghost use Rattle.vt_grid.specs.Page.{SameSize};
+ghost use Rattle.vt_redraw.specs.Locality.{IsLocal, MayPlace};
 ghost use Rattle.vt_redraw.specs.Picture.{SamePictureSize};
 ghost use Rattle.vt_redraw.specs.Redraw.{cursor_state, difference, redraw};
 ghost use Rattle.vt_redraw.specs.Steady.{IsSteady};
 ghost use Rattle.vt_screen.specs.Screen.{IsColored, IsScreen, ScreenValue};
+ghost use Rattle.vt_screen.specs.Touched.{TouchesOnly};
 ghost use Rattle.vt_screen.specs.Shown.{HasCursor, HasRows, IsReadBy, IsReader, IsReaderOf, IsReaderOfRows, KeepsRest, Makes, SetsAttrs, ShowsPlainly, StaysPlain, TakesCursor, attributes_text, shown};
 
 use crate::screen::Screen;
@@ -75,6 +77,7 @@ impl Screen {
         ensures rest { IfOk result (λ text. IsSteady (shown self.now) → Makes (IsReaderOf (shown self.now) (shown prev.now)) (string_bytes text) KeepsRest) }
         ensures empty { IfOk result (λ text. IsSteady (shown self.now) → string_bytes text ≡ [] → shown self.now ≡ shown prev.now) }
         ensures none { IfOk result (λ text. shown self.now ≡ shown prev.now → string_bytes text ≡ []) }
+        ensures touches { IfOk result (λ text. IsSteady (shown self.now) → TouchesOnly (IsReaderOf (shown self.now) (shown prev.now)) (string_bytes text) (IsLocal (shown self.now) (shown prev.now))) }
         ensures memory { IfErr result (λ error. error ≡ Error.OutOfMemory) }
     {
         let mut text = String::new(self.alloc);
@@ -98,6 +101,7 @@ impl Screen {
         ensures takes { IfOk result (λ text. IsSteady (shown self.now) → Makes (IsReaderOfRows (shown self.now)) (string_bytes text) (TakesCursor (shown self.now))) }
         ensures plain { IfOk result (λ text. IsSteady (shown self.now) → Makes (IsReaderOfRows (shown self.now)) (string_bytes text) StaysPlain) }
         ensures rest { IfOk result (λ text. IsSteady (shown self.now) → Makes (IsReaderOfRows (shown self.now)) (string_bytes text) KeepsRest) }
+        ensures touches { IfOk result (λ text. IsSteady (shown self.now) → TouchesOnly (IsReaderOfRows (shown self.now)) (string_bytes text) (MayPlace (shown self.now))) }
         ensures memory { IfErr result (λ error. error ≡ Error.OutOfMemory) }
     {
         let mut text = String::new(self.alloc);

@@ -4,6 +4,7 @@ use Rattle.vt_redraw.specs.Redraw.{difference}
 use Rattle.vt_screen.specs.Shown.{shown}
 use Rattle.vt_screen.proofs.Became.{difference_redraws}
 use Rattle.vt_screen.proofs.Telling.{difference_none, difference_tells}
+use Rattle.vt_screen.proofs.TouchedTexts.{difference_touches}
 use Rattle.vt_screen.proofs.Viewing.{same_shown}
 use Rattle.vt_screen.proofs.screen.Screen.contents_diff.Goals as goal
 
@@ -54,3 +55,10 @@ returns-in-Ok-clause-none c same =
     let bytes = bytes_of_all (difference (shown c.args.self.now) (shown c.args.prev.now)) in
     let told : string_bytes c.write_contents_diff.new.sink ≡ bytes = c.in-Ok.ensures.text ∙ ap (λ (before : List ℕ). before ++ bytes) c.new-text.ensures.bytes in
     told ∙ difference_none (shown c.args.self.now) (shown c.args.prev.now) same
+
+pub returns-in-Ok-clause-touches : goal.returns-in-Ok-clause-touches
+returns-in-Ok-clause-touches c steady =
+    let bytes = bytes_of_all (difference (shown c.args.self.now) (shown c.args.prev.now)) in
+    let told : string_bytes c.write_contents_diff.new.sink ≡ bytes = c.in-Ok.ensures.text ∙ ap (λ (before : List ℕ). before ++ bytes) c.new-text.ensures.bytes in
+    let size = same_shown c.args.self.now c.args.prev.now c.requires in
+    difference_touches c.args.self.now c.args.prev.now (string_bytes c.write_contents_diff.new.sink) told c.in-Ok.ensures.whole c.in-Ok.ensures.colored steady c.in-Ok.ensures.other c.in-Ok.ensures.other_colored size

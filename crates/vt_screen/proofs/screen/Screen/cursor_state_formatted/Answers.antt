@@ -3,6 +3,7 @@ use Rattle.vt_cells.specs.Op.{bytes_of_all}
 use Rattle.vt_redraw.specs.Redraw.{cursor_state}
 use Rattle.vt_screen.specs.Shown.{shown}
 use Rattle.vt_screen.proofs.CursorRead.{cursor_sets}
+use Rattle.vt_screen.proofs.TouchedTexts.{cursor_touches}
 use Rattle.vt_screen.proofs.screen.Screen.cursor_state_formatted.Goals as goal
 
 pub returns-in-Ok-clause-quiet : goal.returns-in-Ok-clause-quiet
@@ -28,3 +29,9 @@ returns-in-Ok-clause-rest c steady =
     let bytes = bytes_of_all (cursor_state (shown c.args.self.now)) in
     let told : string_bytes c.write_cursor_state.new.sink ≡ bytes = c.in-Ok.ensures.text ∙ ap (λ (before : List ℕ). before ++ bytes) c.new-text.ensures.bytes in
     (cursor_sets c.args.self.now (string_bytes c.write_cursor_state.new.sink) told c.in-Ok.ensures.whole c.in-Ok.ensures.colored steady).rest
+
+pub returns-in-Ok-clause-touches : goal.returns-in-Ok-clause-touches
+returns-in-Ok-clause-touches c steady =
+    let bytes = bytes_of_all (cursor_state (shown c.args.self.now)) in
+    let told : string_bytes c.write_cursor_state.new.sink ≡ bytes = c.in-Ok.ensures.text ∙ ap (λ (before : List ℕ). before ++ bytes) c.new-text.ensures.bytes in
+    cursor_touches c.args.self.now (string_bytes c.write_cursor_state.new.sink) told c.in-Ok.ensures.whole c.in-Ok.ensures.colored steady
