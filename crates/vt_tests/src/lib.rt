@@ -11,6 +11,8 @@ mod noted;
 #[cfg(test)]
 mod pages_tests;
 #[cfg(test)]
+mod plain_tests;
+#[cfg(test)]
 mod rendition_tests;
 #[cfg(test)]
 mod scrolling_tests;

@@ -1,0 +1,177 @@
+use crate::seen::read_keeping;
+use crate::steps::Step::{self, Resize, ResizeParser, Text, View};
+use crate::steps::{Pieces, taken};
+use std::alloc::Global;
+use std::process::Abort;
+use std::test::Fail;
+use vt_notes::Notes;
+use vt100::{Error, Parser, Screen};
+
+// A size, a capacity of scrollback, what is done, and the text then.
+#[rattlefmt::skip]
+const CONTENTS: [((u16, u16), usize, &[Step], &str); 24] = [
+    ((2, 4), 0, &[], ""),
+
+    // Rows that go on in the next one, and rows without text.
+    ((3, 4), 0, &[Text("abcdx\x1b[L")], "abcd\n\nx"),
+    ((2, 4), 0, &[Text("abcdx")], "abcdx"),
+    ((2, 4), 0, &[Text("abcd\r\nx")], "abcd\nx"),
+    ((2, 4), 0, &[Text("abcdxyz\x1b[1;4He\x1b[2;2H\x1b[X")], "abcex z"),
+    ((2, 4), 0, &[Text("ab中x")], "ab中x"),
+    ((2, 4), 0, &[Text("ab中x\x1b[1;4Hd")], "ab dx"),
+    ((3, 4), 0, &[Text("abcdx\x1b[2;1H\x1b[X\r\ny")], "abcd\n\ny"),
+    ((3, 2), 0, &[Text("a\r\nb\r\nc\x1b[2;3r\x1b[H\x1bM")], "a\n\nb"),
+
+    // Scrollback, and other sizes.
+    ((2, 4), 10, &[Text("a\r\nb\r\nc")], "b\nc"),
+    ((2, 4), 10, &[Text("a\r\nb\r\nc"), View(1)], "a\nb"),
+    ((2, 4), 1, &[Text("a\r\nb\r\nc\r\nd"), Resize(5, 4)], "\nb\nc\nd"),
+    ((3, 4), 0, &[Text("a\r\nb\r\nc"), ResizeParser(2, 4)], "b\nc"),
+    ((3, 4), 0, &[Text("a\r\nb\r\nc\x1b[H"), ResizeParser(2, 4)], "a\nb"),
+    ((2, 6), 10, &[Text("abcdef\r\nghi\r\nj"), Resize(2, 3), View(1)], "abc\nghi"),
+
+    // Halves, spaces and blanks.
+    ((1, 6), 0, &[Text("中ab\x1b[1;2Hx")], " xab"),
+    ((1, 6), 0, &[Text("中ab\x1b[Hx")], "x ab"),
+    ((1, 5), 0, &[Text("a中b\x1b[1;3H\x1b[P")], "a b"),
+    ((1, 4), 0, &[Text("a中\x1b[1;2H\x1b[@")], "a 中"),
+    ((1, 4), 0, &[Text("a中\x1b[1;2H\x1b[2@")], "a"),
+    ((1, 4), 0, &[Text("a\x1b[41m\x1b[K")], "a"),
+    ((1, 40), 0, &[Text("\x1b[1;38Ha")], "                                     a"),
+
+    // Two pages.
+    ((2, 4), 0, &[Text("ab\x1b[?1049hxy")], "xy"),
+    ((2, 4), 0, &[Text("ab\x1b[?1049hxy\x1b[?1049l")], "ab"),
+];
+
+#[test]
+fn contents(rt: HostRuntime) -> Result<(), Fail> {
+    for (size, capacity, steps, wanted) in &CONTENTS {
+        let parser = taken(rt.alloc(), *size, *capacity, steps, Pieces::Single)?;
+        assert_eq!(rt; parser.screen().contents()?.as_str(), *wanted);
+    }
+    Ok(())
+}
+
+// What is done, a range from one row and column to another, and its text.
+#[rattlefmt::skip]
+const RANGES: [(&str, (u16, u16), (u16, u16), &str); 8] = [
+    ("abcdx", (0, 2), (1, 1), "cdx"),
+    ("abcdx", (0, 4), (1, 1), "x"),
+    ("abcdx", (1, 0), (0, 4), ""),
+    ("ab\r\ncd", (0, 1), (1, 2), "b\ncd"),
+    ("ab\r\ncd", (0, 1), (9, 1), "b\ncd\n"),
+    ("abcd", (0, 1), (0, 3), "bc"),
+    ("abcd", (0, 3), (0, 3), ""),
+    ("abcd", (2, 0), (2, 4), ""),
+];
+
+#[test]
+fn contents_between(rt: HostRuntime) -> Result<(), Fail> {
+    for (text, start, end, wanted) in &RANGES {
+        let parser = read_keeping(rt.alloc(), (2, 4), 0, &[text.as_bytes()])?;
+        let between = parser
+            .screen()
+            .contents_between(start.0, start.1, end.0, end.1)?;
+        assert_eq!(rt; between.as_str(), *wanted);
+    }
+    Ok(())
+}
+
+// Two rows of scrollback with more columns than the screen, of which the newer one is in view.
+fn longer(alloc: Global) -> Result<Parser<Notes>, Fail> {
+    let steps = [Text("abcdef\r\nghi\r\nj"), Resize(2, 3), View(1)];
+    taken(alloc, (2, 6), 10, &steps, Pieces::Single)
+}
+
+#[test]
+fn longer_rows_of_scrollback(rt: HostRuntime) -> Result<(), Fail> {
+    let parser = longer(rt.alloc())?;
+    let screen = parser.screen();
+    assert_eq!(rt; screen.contents_between(0, 2, 1, 9)?.as_str(), "c\nghi");
+    assert_eq!(rt; screen.contents_between(0, 2, 0, 9)?.as_str(), "cdef");
+    expect_rows(&rt, screen, 0, 9, &["abcdef", "ghi"])
+}
+
+fn expect_rows<A: Abort>(
+    rt: &A,
+    screen: &Screen,
+    start: u16,
+    width: u16,
+    wanted: &[&str],
+) -> Result<(), Fail> {
+    let mut count: usize = 0;
+    for (item, text) in screen.rows(start, width).zip(wanted.iter()) {
+        assert_eq!(rt; item?.as_str(), *text);
+        count = count.saturating_add(1);
+    }
+    assert_eq!(rt; count, wanted.len());
+    Ok(())
+}
+
+#[test]
+fn rows(rt: HostRuntime) -> Result<(), Fail> {
+    let parser = read_keeping(rt.alloc(), (2, 4), 0, &[b"abcdx"])?;
+    let screen = parser.screen();
+    expect_rows(&rt, screen, 0, 4, &["abcd", "x"])?;
+    expect_rows(&rt, screen, 1, 2, &["bc", ""])?;
+    expect_rows(&rt, screen, 65535, 65535, &["", ""])?;
+    let mut joined = String::new(rt.alloc());
+    for item in screen.rows(1, 2) {
+        joined.push_str(item?.as_str())?;
+    }
+    assert_eq!(rt; joined.as_str(), "bc");
+    let texts: Result<Vec<String>, Error> = screen.rows(1, 2).try_collect(rt.alloc());
+    assert_eq!(rt; texts?.len(), 2);
+    Ok(())
+}
+
+#[test]
+fn rows_end_for_good(rt: HostRuntime) -> Result<(), Fail> {
+    let parser = read_keeping(rt.alloc(), (1, 4), 0, &[b"ab"])?;
+    let mut rows = parser.screen().rows(0, 4);
+    assert!(rt; rows.next().is_some());
+    assert!(rt; rows.next().is_none());
+    assert!(rt; rows.next().is_none());
+    Ok(())
+}
+
+// What sets the modes before and after, and the text that changes the first into the second.
+#[rattlefmt::skip]
+const CHANGES: [(&str, &str, &str); 7] = [
+    ("", "\x1b=\x1b[?1000h\x1b[?1006h\x1b[2 q", "\x1b=\x1b[?1000h\x1b[?1006h\x1b[2 q"),
+    ("\x1b=\x1b[?1000h\x1b[?1006h\x1b[2 q", "", "\x1b>\x1b[?1000l\x1b[?1006l\x1b[0 q"),
+    ("", "\x1b[?1h\x1b[?2004h", "\x1b[?1h\x1b[?2004h"),
+    ("\x1b[?1h\x1b[?2004h", "", "\x1b[?1l\x1b[?2004l"),
+    ("\x1b[?9h\x1b[?1005h\x1b[1 q", "\x1b[?1002h\x1b[?1006h\x1b[5 q", "\x1b[?1002h\x1b[?1006h\x1b[5 q"),
+    ("\x1b=", "\x1b=", ""),
+    ("", "ab\x1b[?25l\x1b[1m", ""),
+];
+
+#[test]
+fn input_mode_diff(rt: HostRuntime) -> Result<(), Fail> {
+    for (was, new, wanted) in &CHANGES {
+        let prev = read_keeping(rt.alloc(), (2, 4), 0, &[was.as_bytes()])?;
+        let parser = read_keeping(rt.alloc(), (2, 4), 0, &[new.as_bytes()])?;
+        let change = parser.screen().input_mode_diff(prev.screen())?;
+        assert_eq!(rt; change.as_str(), *wanted);
+    }
+    Ok(())
+}
+
+// What sets the modes, and the text that sets them anew.
+#[rattlefmt::skip]
+const MODES: [(&str, &str); 3] = [
+    ("", "\x1b>\x1b[?1l\x1b[?2004l"),
+    ("\x1b=\x1b[?1000h\x1b[?1006h\x1b[2 q", "\x1b=\x1b[?1l\x1b[?2004l\x1b[?1000h\x1b[?1006h\x1b[2 q"),
+    ("\x1b[?1h\x1b[?2004h\x1b[?1003h\x1b[?1005h\x1b[6 q", "\x1b>\x1b[?1h\x1b[?2004h\x1b[?1003h\x1b[?1005h\x1b[6 q"),
+];
+
+#[test]
+fn input_mode_formatted(rt: HostRuntime) -> Result<(), Fail> {
+    for (text, wanted) in &MODES {
+        let parser = read_keeping(rt.alloc(), (24, 80), 0, &[text.as_bytes()])?;
+        assert_eq!(rt; parser.screen().input_mode_formatted()?.as_str(), *wanted);
+    }
+    Ok(())
+}
