@@ -2,13 +2,14 @@
 use Rattle.std.specs.Prelude.{◌≡◌, ℕ, ◌<◌, ◌^◌, List, [], ◌∷◌, codes}
 use Rattle.std.specs.Str.Parse.{IsNumeral, digits_value}
 use Rattle.vt_show.specs.declared.mode.Mode.{Mode}
-use Rattle.vt_show.specs.declared.mode.Mode.TheVariants.{Formatted}
+use Rattle.vt_show.specs.declared.mode.Mode.TheVariants.{Plain, Formatted}
 
 -- a number of rows or columns: decimal digits, leading zeros allowed, with a value from 1 to 65535
 abbrev pub IsSize : List ℕ → ℕ → Type 0
 IsSize word n = IsNumeral 10 word × (digits_value 10 word ≡ n) × (0 < n) × (n < 2 ^ 16)
 
 abbrev pub name_of : Mode → List ℕ
+name_of Plain = codes "plain"
 name_of Formatted = codes "formatted"
 
 -- exactly three words, that ask for these rows, these columns and this mode

@@ -7,12 +7,13 @@ use Rattle.vt_cells.specs.Op.{bytes_of_all}
 use Rattle.vt_redraw.specs.Redraw.{redraw}
 use Rattle.vt_scan.specs.Automaton.{start}
 use Rattle.vt_scan.specs.Run as scan
+use Rattle.vt_screen.specs.Contents.{contents_of}
 use Rattle.vt_screen.specs.Run.{Performs, state}
 use Rattle.vt_screen.specs.Screen.{ScreenValue, fresh_screen}
 use Rattle.vt_screen.specs.Shown.{shown}
 use Rattle.vt100.specs.Parser.{quietly}
 use Rattle.vt_show.specs.declared.mode.Mode.{Mode}
-use Rattle.vt_show.specs.declared.mode.Mode.TheVariants.{Formatted}
+use Rattle.vt_show.specs.declared.mode.Mode.TheVariants.{Plain, Formatted}
 
 -- the screen of a run over the input, from a fresh terminal of this size without scrollback
 abbrev pub ShowsAfter : ℕ → ℕ → List ℕ → ScreenValue → Type 0
@@ -20,6 +21,7 @@ ShowsAfter rows cols input screen =
     FoldsTo (Performs quietly) (state tt (fresh_screen rows cols 0)) (scan.run start input).events (state tt screen)
 
 abbrev pub text_of : Mode → ScreenValue → List ℕ
+text_of Plain screen = contents_of screen
 text_of Formatted screen = bytes_of_all (redraw (shown screen))
 
 -- what is written grew by the text for the input, and by nothing else

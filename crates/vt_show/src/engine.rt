@@ -75,6 +75,10 @@ fn text(screen: &Screen, mode: Mode) -> Result<String, Fault>
     ensures memory { IsErr result → result ≡ Err Fault.Memory }
 {
     match mode {
+        Mode::Plain => match screen.contents() {
+            Ok(text) => Ok(text),
+            Err(_) => Err(Fault::Memory),
+        },
         Mode::Formatted => match screen.contents_formatted() {
             Ok(text) => Ok(text),
             Err(_) => Err(Fault::Memory),

@@ -3,6 +3,9 @@
 /// The text that is written of the screen.
 #[derive(Clone, Copy, PartialEq, Eq, Debug)]
 pub enum Mode {
+    /// The text, without attributes.
+    Plain,
+
     /// The redraw, which shows the screen on any terminal of its size.
     Formatted,
 }

@@ -87,6 +87,22 @@ fn runs(rt: HostRuntime) -> Result<(), Fail> {
 }
 
 #[test]
+fn runs_plain(rt: HostRuntime) -> Result<(), Fail> {
+    let mut written = Vec::new(rt.alloc());
+    let done = run(
+        rt.alloc(),
+        &mut b"abcd\x1b[31mx\r\n".as_slice(),
+        &mut written,
+        size(4)?,
+        size(4)?,
+        Mode::Plain,
+    );
+    assert_eq!(rt; done, Ok(()));
+    assert_eq!(rt; written.as_slice(), b"abcdx".as_slice());
+    Ok(())
+}
+
+#[test]
 fn fails_where_a_read_fails(rt: HostRuntime) -> Result<(), Fail> {
     for kind in [io::ErrorKind::Other, io::ErrorKind::Interrupted] {
         let mut broken = Broken {
@@ -128,17 +144,20 @@ fn takes_words(rt: HostRuntime) -> Result<(), Fail> {
     let taken = Some((size(24)?, size(80)?, Mode::Formatted));
     assert_eq!(rt; arguments(&["24", "80", "formatted"]), taken);
     assert_eq!(rt; arguments(&["024", "0080", "formatted"]), taken);
+    let taken = Some((size(24)?, size(80)?, Mode::Plain));
+    assert_eq!(rt; arguments(&["24", "80", "plain"]), taken);
     Ok(())
 }
 
-const REFUSED: [&[&str]; 10] = [
+const REFUSED: [&[&str]; 11] = [
     &["0", "80", "plain"],
+    &["24", "80", "Plain"],
     &["0", "80", "formatted"],
     &["24", "65536", "formatted"],
     &["+24", "80", "formatted"],
     &["24", "", "formatted"],
     &["24", "8 0", "formatted"],
-    &["24", "80", "plain"],
+    &["24", "80", "basic"],
     &["24", "80", "Formatted"],
     &["24", "80"],
     &["24", "80", "formatted", ""],

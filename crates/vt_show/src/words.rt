@@ -11,8 +11,8 @@ use std::num::NonZeroU16;
 /// Rows, columns and mode, from exactly three words; `None` for other words.
 ///
 /// Rows and columns are decimal digits with a value from 1 to 65535, leading
-/// zeros allowed. The one mode that is there is `formatted`; `plain` and
-/// `basic`, which the usage line names as well, are other words so far.
+/// zeros allowed. The modes that are there are `plain` and `formatted`;
+/// `basic`, which the usage line names as well, is another word so far.
 ///
 /// ```text
 /// assert_eq!(arguments(&["0", "80", "formatted"]), None);
@@ -61,6 +61,9 @@ fn mode_named(word: &str) -> Option<Mode>
     ensures some { IfSome result (λ mode. word.now ≡ name_of mode) }
     ensures none { IfNone result ((mode : Mode) → word.now ≡ name_of mode → ⊥) }
 {
+    if word == "plain" {
+        return Some(Mode::Plain);
+    }
     if word == "formatted" {
         return Some(Mode::Formatted);
     }
