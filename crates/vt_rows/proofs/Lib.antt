@@ -9,3 +9,5 @@ pub mod Trims
 pub mod Folds
 pub mod PlainTexts
 pub mod Examples
+pub mod Pieces
+pub mod CaptureRows

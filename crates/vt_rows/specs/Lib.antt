@@ -3,3 +3,6 @@ pub mod Cells
 pub mod Basic
 pub mod Plain
 pub mod Keeping
+pub mod Stretches
+pub mod Pieces
+pub mod CaptureRows

@@ -5,8 +5,16 @@ ghost use Rattle.vt_cells.specs.Op.{change_text};
 ghost use Rattle.vt_rows.specs.Basic.{attrs_after, attrs_after_all, basic_text, cells_text, shown_text, unwritten, written_after};
 ghost use Rattle.vt_rows.specs.Row.{IsRow, trimmed_row};
 
+mod plain;
+mod rows;
+
 use crate::cuts;
 use crate::row::Row;
+pub use plain::{
+    BasicFormattedToPlain, BasicFormattedToPlainIndexed, basic_formatted_to_plain,
+    basic_formatted_to_plain_indexed,
+};
+pub use rows::{BasicFormattedRows, basic_formatted_rows};
 use std::marker::Model;
 use vt_cells::term::{BufWrite, ChangeAttrs, LineFeed};
 use vt_cells::{Attrs, Cell, Sink};

@@ -1,0 +1,144 @@
+//! The plain text of a capture.
+
+ghost use Rattle.std.specs.Prelude.{◌≡◌, ◌+◌, ◌-◌, ◌≤◌, ◌<◌, ◌++◌, ℕ, length};
+ghost use Rattle.std.specs.Iterator.{YieldsFirstBy, YieldsFirstRef, item_count};
+ghost use Rattle.vt_rows.specs.Pieces.{piece_at, pieces_from, pieces_of, pieces_within, texts_of};
+
+use std::iter::FusedIterator;
+use std::marker::Model;
+
+/// The pieces of a capture outside its SGR, each with its byte index.
+///
+/// It lends the text of the capture, and takes no memory. It is made by
+/// [`basic_formatted_to_plain_indexed`].
+#[derive(Drop)]
+pub struct BasicFormattedToPlainIndexed<'a> {
+    /// What is left of the capture.
+    rest: &'a str,
+    /// The length of the whole capture, in bytes.
+    len: usize,
+}
+
+/// It is the list of the pieces that are left.
+impl<'a> Model for BasicFormattedToPlainIndexed<'a> {
+    ghost use Rattle.std.specs.Prelude.{◌-◌, ◌≤◌, List, length};
+    ghost use Rattle.vt_rows.specs.Pieces.{Piece, pieces_from};
+
+    ghost Value = { List Piece };
+
+    ghost view = { λ it. pieces_from (it.len - length it.rest.now) it.rest.now };
+
+    ghost invariant = { λ it. length it.rest.now ≤ it.len };
+}
+
+/// The pieces of `capture` outside its SGR, each with its byte index in
+/// `capture`, in order.
+///
+/// A stretch from ESC through the next `m`, or to the end, is left out. No
+/// piece is empty.
+///
+/// ```
+/// use vt_rows::capture::basic_formatted_to_plain_indexed;
+///
+/// let mut pieces = basic_formatted_to_plain_indexed("hello\x1b[31;1mworld");
+/// assert_eq!(pieces.next(), Some((0, "hello")));
+/// assert_eq!(pieces.next(), Some((12, "world")));
+/// assert_eq!(pieces.next(), None);
+/// ```
+pub fn basic_formatted_to_plain_indexed(capture: &str) -> BasicFormattedToPlainIndexed<'_>
+    ensures { result ≡ pieces_of capture.now }
+{
+    BasicFormattedToPlainIndexed {
+        rest: capture,
+        len: capture.len(),
+    }
+}
+
+impl<'a> Iterator for BasicFormattedToPlainIndexed<'a> {
+    type Item = (usize, &'a str);
+
+    ghost next_gives = { YieldsFirstBy (λ item. (item.0, item.1.now)) (λ pieces. pieces) };
+
+    ghost remaining = { item_count (λ pieces. pieces) };
+
+    fn next(&mut self) -> Option<(usize, &'a str)> {
+        while !self.rest.is_empty() {
+            let index = self.len - self.rest.len();
+            let (piece, rest) = split_at_sgr(self.rest);
+            self.rest = rest;
+            if !piece.is_empty() {
+                return Some((index, piece));
+            }
+        }
+        None
+    }
+}
+
+impl<'a> FusedIterator for BasicFormattedToPlainIndexed<'a> {}
+
+/// The text before the first SGR, and the text behind that.
+fn split_at_sgr(text: &str) -> (&str, &str)
+    ensures pieces { (at : ℕ) → pieces_from at text.now ≡ piece_at at result.0.now ++ pieces_from (at + (length text.now - length result.1.now)) result.1.now }
+    ensures shorter { 0 < length text.now → length result.1.now < length text.now }
+{
+    match text.split_once('\x1b') {
+        Some((piece, rest)) => (piece, behind_sgr(rest)),
+        None => (text, ""),
+    }
+}
+
+/// The text behind the end of the SGR in which it begins.
+fn behind_sgr(text: &str) -> &str
+    ensures pieces { (at : ℕ) → pieces_within at text.now ≡ pieces_from (at + (length text.now - length result.now)) result.now }
+    ensures len { length result.now ≤ length text.now }
+{
+    match text.split_once('m') {
+        Some((_, rest)) => rest,
+        None => "",
+    }
+}
+
+/// The pieces of a capture outside its SGR.
+///
+/// It lends the text of the capture, and takes no memory. It is made by
+/// [`basic_formatted_to_plain`].
+#[derive(Drop)]
+pub struct BasicFormattedToPlain<'a> {
+    indexed: BasicFormattedToPlainIndexed<'a>,
+}
+
+/// It is the list of the texts that are left.
+impl<'a> Model for BasicFormattedToPlain<'a> {
+    ghost use Rattle.std.specs.Prelude.{List, ℕ};
+    ghost use Rattle.vt_rows.specs.Pieces.{texts_of};
+
+    ghost Value = { List (List ℕ) };
+
+    ghost view = { λ it. texts_of it.indexed };
+}
+
+/// The pieces of `capture` outside its SGR, in order: those of
+/// [`basic_formatted_to_plain_indexed`] without their places. Joined they are
+/// the plain text of the capture.
+pub fn basic_formatted_to_plain(capture: &str) -> BasicFormattedToPlain<'_>
+    ensures value { result ≡ texts_of (pieces_of capture.now) }
+{
+    BasicFormattedToPlain {
+        indexed: basic_formatted_to_plain_indexed(capture),
+    }
+}
+
+impl<'a> Iterator for BasicFormattedToPlain<'a> {
+    type Item = &'a str;
+
+    ghost next_gives = { YieldsFirstRef (λ texts. texts) };
+
+    ghost remaining = { item_count (λ texts. texts) };
+
+    fn next(&mut self) -> Option<&'a str> {
+        let (_, piece) = self.indexed.next()?;
+        Some(piece)
+    }
+}
+
+impl<'a> FusedIterator for BasicFormattedToPlain<'a> {}

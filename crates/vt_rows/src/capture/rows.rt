@@ -1,0 +1,175 @@
+//! The rows of a capture.
+
+ghost use Rattle.std.specs.Prelude.{◌≡◌, ◌+◌, ◌≤◌, ◌∷◌, ◌&&◌, [], ◌==◌, ◌<◌, ◌^◌, false, not};
+ghost use Rattle.std.specs.Iterator.{YieldsFirstRef, item_count};
+ghost use Rattle.std.specs.Option.{option_map_or};
+ghost use Rattle.vt_rows.specs.CaptureRows.{is_beyond, rows_of};
+ghost use Rattle.vt_rows.specs.Stretches.{columns_added, is_within_after, shown_columns};
+
+use std::iter::FusedIterator;
+use std::marker::Model;
+use unicode_width::UnicodeWidthChar;
+
+/// The rows of a capture.
+///
+/// It lends the text of the capture, and takes no memory. It is made by
+/// [`basic_formatted_rows`].
+#[derive(Drop)]
+pub struct BasicFormattedRows<'a> {
+    /// What is left of the capture; None after the last row.
+    rest: Option<&'a str>,
+    width: u16,
+}
+
+/// It is the list of the rows that are left.
+impl<'a> Model for BasicFormattedRows<'a> {
+    ghost use Rattle.std.specs.Prelude.{List, ℕ, []};
+    ghost use Rattle.std.specs.Option.{option_map_or};
+    ghost use Rattle.vt_rows.specs.CaptureRows.{rows_of};
+
+    ghost Value = { List (List ℕ) };
+
+    ghost view = { λ it. option_map_or (λ rest. rows_of it.width rest.now) it.rest [] };
+}
+
+/// The rows of `capture` on a terminal of `screen_width` columns, in order.
+///
+/// A row ends at `\n`, which is dropped, or before a character that would make
+/// it wider than `screen_width`, unless it has no columns yet. The rest is the
+/// last row, also if it is empty. SGR takes no columns, and stays where it
+/// stands: before a cut it belongs to the earlier row. A character takes the
+/// columns of [`UnicodeWidthChar`], but at most two, and one where that gives
+/// none; one of no columns begins a row only behind a `\n`.
+///
+/// ```
+/// use vt_rows::capture::basic_formatted_rows;
+///
+/// let mut rows = basic_formatted_rows("abcd\nef", 2);
+/// assert_eq!(rows.next(), Some("ab"));
+/// assert_eq!(rows.next(), Some("cd"));
+/// assert_eq!(rows.next(), Some("ef"));
+/// assert_eq!(rows.next(), None);
+/// ```
+pub fn basic_formatted_rows(capture: &str, screen_width: u16) -> BasicFormattedRows<'_>
+    ensures { result ≡ rows_of screen_width capture.now }
+{
+    BasicFormattedRows {
+        rest: Some(capture),
+        width: screen_width,
+    }
+}
+
+impl<'a> Iterator for BasicFormattedRows<'a> {
+    type Item = &'a str;
+
+    ghost next_gives = { YieldsFirstRef (λ rows. rows) };
+
+    ghost remaining = { item_count (λ rows. rows) };
+
+    fn next(&mut self) -> Option<&'a str> {
+        let rest = self.rest?;
+        let (row, rest) = split_row(rest, self.width);
+        self.rest = rest;
+        Some(row)
+    }
+}
+
+impl<'a> FusedIterator for BasicFormattedRows<'a> {}
+
+/// The first row of a text, and the text of the others.
+fn split_row(text: &str, width: u16) -> (&str, Option<&str>)
+    ensures { rows_of width text.now ≡ result.0.now ∷ option_map_or (λ rest. rows_of width rest.now) result.1 [] }
+{
+    let mut reach = Reach::new();
+    for (at, c) in text.char_indices() {
+        if reach.is_row_end(c) {
+            return (&text[..at], Some(&text[at + 1..]));
+        }
+        if reach.is_overflow(c, width) {
+            return (&text[..at], Some(&text[at..]));
+        }
+        reach = reach.with(c);
+    }
+    (text, None)
+}
+
+/// How far a row's text goes.
+#[derive(Clone, Copy)]
+struct Reach {
+    columns: u32,
+    /// It ends within SGR.
+    is_within: bool,
+}
+
+impl Reach {
+    /// That of an empty text.
+    fn new() -> Reach
+        ensures columns { result.columns ≡ 0 }
+        ensures within { result.is_within ≡ false }
+    {
+        Reach {
+            columns: 0,
+            is_within: false,
+        }
+    }
+
+    /// Whether the character ends the row.
+    fn is_row_end(self, c: char) -> bool
+        ensures { result ≡ (not self.is_within && (c == 0x0A)) }
+    {
+        !self.is_within && c == '\n'
+    }
+
+    /// Whether the row would be too wide with the character.
+    fn is_overflow(self, c: char, width: u16) -> bool
+        requires { self.columns ≤ width + 2 }
+        ensures { result ≡ is_beyond width self.columns (columns_added self.is_within c) }
+    {
+        let added = self.columns_added(c);
+        self.columns > 0 && added > 0 && self.columns + added > u32::from(width)
+    }
+
+    /// That of the text with one more character.
+    fn with(self, c: char) -> Reach
+        requires { self.columns + 2 < 2 ^ 32 }
+        ensures columns { result.columns ≡ self.columns + columns_added self.is_within c }
+        ensures within { result.is_within ≡ is_within_after self.is_within c }
+    {
+        Reach {
+            columns: self.columns + self.columns_added(c),
+            is_within: is_within_after(self.is_within, c),
+        }
+    }
+
+    /// The columns that the character takes behind the text.
+    fn columns_added(self, c: char) -> u32
+        ensures value { result ≡ columns_added self.is_within c }
+        ensures most { result ≤ 2 }
+    {
+        if self.is_within {
+            0
+        } else if c == '\x1b' {
+            0
+        } else {
+            shown_columns(c)
+        }
+    }
+}
+
+/// Whether a text goes on within SGR behind the character.
+fn is_within_after(within: bool, c: char) -> bool
+    ensures { result ≡ is_within_after within c }
+{
+    if within { c != 'm' } else { c == '\x1b' }
+}
+
+/// The columns of a character that is shown.
+fn shown_columns(c: char) -> u32
+    ensures value { result ≡ shown_columns c }
+    ensures most { result ≤ 2 }
+{
+    match c.width() {
+        Some(width) => width.min(2) as u32,
+        None => 1,
+    }
+}
