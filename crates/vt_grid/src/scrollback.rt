@@ -297,6 +297,29 @@ impl Scrollback {
         }
         rows.get(row - self.offset)
     }
+
+    /// How many rows there are with `rows`, those of the page, below.
+    pub fn stacked_len(&self, rows: &[Row]) -> usize
+        requires { length rows.now < 2 ^ 16 }
+        ensures { result ≡ length self.now.rows + length rows.now }
+    {
+        self.rows.len() + rows.len()
+    }
+
+    /// The row at a place, counted from the oldest one, with `rows`, those of
+    /// the page, below.
+    pub fn stacked_row<'a>(&'a self, rows: &'a [Row], index: usize) -> &'a Row
+        requires { index < length self.now.rows + length rows.now }
+        ensures value { (d : RowValue) → result.now ≡ slice_index_or (self.now.rows ++ rows.now) index d }
+        ensures sound { (width : ℕ) → All (IsRow width) rows.now → IsRow (length result.now.cells) result.now }
+    {
+        let kept = self.rows.len();
+        if index < kept {
+            &self.rows[index]
+        } else {
+            &rows[index - kept]
+        }
+    }
 }
 
 /// Copies of rows.

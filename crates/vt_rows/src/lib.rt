@@ -8,5 +8,7 @@ pub mod plain;
 pub mod row;
 pub mod shifts;
 
-pub use capture::{BasicFormattedCaptureState, Leaving, RowContents};
+pub use capture::{
+    BasicFormattedCaptureRange, BasicFormattedCaptureState, Leaving, RowContents,
+};
 pub use row::Row;

@@ -23,3 +23,4 @@ pub mod ContentTexts
 pub mod Tops
 pub mod TouchedReads
 pub mod TouchedTexts
+mod Captures

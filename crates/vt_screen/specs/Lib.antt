@@ -15,3 +15,4 @@ pub mod Telling
 pub mod Contents
 pub mod RowItems
 pub mod InputTexts
+pub mod Capture

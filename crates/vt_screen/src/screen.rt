@@ -6,6 +6,7 @@ ghost use Rattle.vt_rows.specs.Cells.{at};
 ghost use Rattle.vt_screen.specs.Screen.{IsScreen, fresh_screen, visible_row};
 
 mod contents;
+mod capture;
 mod controls;
 mod input;
 mod pages;

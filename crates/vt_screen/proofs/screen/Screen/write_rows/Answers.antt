@@ -1,0 +1,33 @@
+use Rattle.std.proofs.Common.{◌≡◌, ◌+◌, ◌++◌, ◌∷◌, [], List, get_or, ap, ◌∙◌, sym, arith}
+use Rattle.std.specs.List.{slice_range}
+use Rattle.vt_rows.specs.Row.{RowValue}
+use Rattle.vt_screen.specs.Capture.{all_rows}
+use Rattle.vt_screen.proofs.Captures.{above_rows, after_step, behind_some, on_err_any, slice_more, texts_step}
+use Rattle.vt_screen.proofs.screen.Screen.write_rows.Goals as goal
+
+pub contents-requires : goal.contents-requires
+contents-requires g c = c.stacked_row-row.ensures.sound c.self.inside.grid.width (rw c.rows.ensures c.self.invariant.sound.rows)
+
+pub returns-in_err-write_formatted_basic-clause-err : goal.returns-in_err-write_formatted_basic-clause-err
+returns-in_err-write_formatted_basic-clause-err g c =
+    let inv = c.loop-index.invariant in
+    on_err_any c.from_residual.result (behind_some c.args.state.now c.write_formatted_basic.new.state (all_rows c.args.self.now) c.args.start c.loop-index.index c.args.end inv.low c.loop-index-test.true inv.inside (c.in_err-write_formatted_basic.ensures.err ∙ inv.written))
+
+pub loop-index-preserved : goal.loop-index-preserved
+loop-index-preserved g c =
+    let inv = c.loop-index.invariant in
+    let row = c.stacked_row-row.result.now in
+    let above = above_rows c.self.inside.is_alternate c.self.inside.scrollback c.self.inside.other_scrollback c.self.invariant.nothing in
+    let all : all_rows c.args.self.now ≡ c.self.inside.scrollback.rows ++ c.rows.result.now =
+    sym (ap all_rows c.self.view_is) ∙ ap (λ (rows : List RowValue). rows ++ c.self.inside.grid.rows) above ∙ ap (λ (rows : List RowValue). c.self.inside.scrollback.rows ++ rows) (sym c.rows.ensures) in
+    let same : get_or (all_rows c.args.self.now) c.loop-index.index row ≡ row = ap (λ rows. get_or rows c.loop-index.index row) all ∙ sym (c.stacked_row-row.ensures.value row) in
+    let more : slice_range (all_rows c.args.self.now) c.args.start (c.loop-index.index + 1) ≡ slice_range (all_rows c.args.self.now) c.args.start c.loop-index.index ++ c.contents.result ∷ [] =
+    slice_more (all_rows c.args.self.now) c.args.start c.loop-index.index row inv.low (omega (arith, c.loop-index-test.true, inv.inside))
+    ∙ ap (λ (x : RowValue). slice_range (all_rows c.args.self.now) c.args.start c.loop-index.index ++ x ∷ []) (same ∙ sym c.contents.ensures) in
+    record {
+      low = omega (arith, inv.low);
+      high = omega (arith, c.loop-index-test.true);
+      inside = inv.inside;
+      bytes = texts_step c.args.state.now c.loop-index.state _ _ _ _ _ c.contents.result inv.bytes inv.written c.in_ok-write_formatted_basic.ensures.ok more;
+      written = after_step c.args.state.now c.loop-index.state _ _ _ c.contents.result inv.written c.in_ok-write_formatted_basic.ensures.state more;
+    }

@@ -1,0 +1,103 @@
+//! Captures: texts of rows with SGR alone.
+
+ghost use Rattle.std.specs.Prelude.{◌≡◌, ◌+◌, ◌<◌, ◌≤◌, ◌↔◌, ◌++◌, IfErr, IfOk, IfSome, IsSome, OnErr, OnOk, length, slice_index_or, string_bytes};
+ghost use Rattle.std.specs.List.{slice_range};
+ghost use Rattle.vt_rows.specs.Basic.{unwritten};
+ghost use Rattle.vt_rows.specs.Row.{RowValue, IsRow};
+ghost use Rattle.vt_screen.specs.Capture.{IfGiven, IsBehindSome, all_rows, basic_texts, captured_rows, given_state, written_after_all};
+ghost use Rattle.vt_screen.specs.Screen.{visible_rows};
+
+use super::Screen;
+use vt_cells::{Error, Sink};
+use vt_rows::{BasicFormattedCaptureRange, BasicFormattedCaptureState, Row};
+
+impl Screen {
+    /// The basic text of the rows that are shown, as they stand: their text
+    /// and SGR, and nothing else. Rows of scrollback may be wider than the
+    /// screen.
+    ///
+    /// Fails where memory for the text is refused.
+    pub fn contents_formatted_basic(&self) -> Result<String, Error>
+        ensures text { IfOk result (λ text. string_bytes text ≡ basic_texts unwritten (visible_rows self.now)) }
+        ensures memory { IfErr result (λ error. error ≡ Error.OutOfMemory) }
+    {
+        let mut text = String::new(self.alloc);
+        match self.write_contents_formatted_basic(&mut text, BasicFormattedCaptureRange::Visible) {
+            Ok(()) => Ok(text),
+            Err(_) => Err(Error::OutOfMemory),
+        }
+    }
+
+    /// Writes the basic text of the rows of `range`: their text and SGR, and
+    /// nothing else.
+    ///
+    /// An error is the sink's own; then nothing more was written, and the
+    /// caller's state is as after the last row that was written whole.
+    pub fn write_contents_formatted_basic<S: Sink>(
+        &self,
+        sink: &mut S,
+        range: BasicFormattedCaptureRange<'_>,
+    ) -> Result<(), S::Error>
+        ensures text { OnOk result (S.text sink.new ≡ S.text sink.old ++ basic_texts (given_state range.entry) (captured_rows range.entry self.now)) }
+        ensures state { OnOk result (IfGiven range.exit (λ state. state ≡ written_after_all (given_state range.entry) (captured_rows range.entry self.now))) }
+        ensures err { OnErr result (IfGiven range.exit (IsBehindSome (given_state range.entry) (captured_rows range.entry self.now))) }
+    {
+        match range {
+            BasicFormattedCaptureRange::Full(state) => self.write_all_rows(sink, state),
+            BasicFormattedCaptureRange::Visible => {
+                let mut state = BasicFormattedCaptureState::new();
+                self.write_visible_rows(sink, &mut state)
+            }
+        }
+    }
+
+    /// Writes all rows behind those of `state`.
+    fn write_all_rows<S: Sink>(
+        &self,
+        sink: &mut S,
+        state: &mut BasicFormattedCaptureState,
+    ) -> Result<(), S::Error>
+        ensures text { OnOk result (S.text sink.new ≡ S.text sink.old ++ basic_texts state.old (all_rows self.now)) }
+        ensures state { OnOk result (state.new ≡ written_after_all state.old (all_rows self.now)) }
+        ensures err { OnErr result (IsBehindSome state.old (all_rows self.now) state.new) }
+    {
+        let end = self.scrollback.stacked_len(self.grid.rows());
+        self.write_rows(sink, state, 0, end)
+    }
+
+    /// Writes the rows that are shown behind those of `state`.
+    fn write_visible_rows<S: Sink>(
+        &self,
+        sink: &mut S,
+        state: &mut BasicFormattedCaptureState,
+    ) -> Result<(), S::Error>
+        ensures text { OnOk result (S.text sink.new ≡ S.text sink.old ++ basic_texts state.old (visible_rows self.now)) }
+        ensures state { OnOk result (state.new ≡ written_after_all state.old (visible_rows self.now)) }
+        ensures err { OnErr result (IsBehindSome state.old (visible_rows self.now) state.new) }
+    {
+        let rows = self.grid.rows();
+        let end = self.scrollback.stacked_len(rows) - self.scrollback.offset();
+        self.write_rows(sink, state, end - rows.len(), end)
+    }
+
+    /// Writes some of all rows behind those of `state`.
+    fn write_rows<S: Sink>(
+        &self,
+        sink: &mut S,
+        state: &mut BasicFormattedCaptureState,
+        start: usize,
+        end: usize,
+    ) -> Result<(), S::Error>
+        requires forward { start ≤ end }
+        requires inside { end ≤ length (all_rows self.now) }
+        ensures text { OnOk result (S.text sink.new ≡ S.text sink.old ++ basic_texts state.old (slice_range (all_rows self.now) start end)) }
+        ensures state { OnOk result (state.new ≡ written_after_all state.old (slice_range (all_rows self.now) start end)) }
+        ensures err { OnErr result (IsBehindSome state.old (slice_range (all_rows self.now) start end) state.new) }
+    {
+        for index in start..end {
+            let row = self.scrollback.stacked_row(self.grid.rows(), index);
+            row.contents().write_formatted_basic(sink, state)?;
+        }
+        Ok(())
+    }
+}
