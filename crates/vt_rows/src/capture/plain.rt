@@ -38,7 +38,7 @@ impl<'a> Model for BasicFormattedToPlainIndexed<'a> {
 /// piece is empty.
 ///
 /// ```
-/// use vt_rows::capture::basic_formatted_to_plain_indexed;
+/// use vt100::capture::basic_formatted_to_plain_indexed;
 ///
 /// let mut pieces = basic_formatted_to_plain_indexed("hello\x1b[31;1mworld");
 /// assert_eq!(pieces.next(), Some((0, "hello")));

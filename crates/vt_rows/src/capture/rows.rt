@@ -42,7 +42,7 @@ impl<'a> Model for BasicFormattedRows<'a> {
 /// none; one of no columns begins a row only behind a `\n`.
 ///
 /// ```
-/// use vt_rows::capture::basic_formatted_rows;
+/// use vt100::capture::basic_formatted_rows;
 ///
 /// let mut rows = basic_formatted_rows("abcd\nef", 2);
 /// assert_eq!(rows.next(), Some("ab"));
