@@ -5,6 +5,8 @@
 #[cfg(test)]
 mod attributes;
 #[cfg(test)]
+mod capture_parts_tests;
+#[cfg(test)]
 mod capture_tests;
 #[cfg(test)]
 mod cell_tests;
