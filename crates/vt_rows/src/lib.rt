@@ -8,7 +8,5 @@ pub mod plain;
 pub mod row;
 pub mod shifts;
 
-pub use capture::{
-    BasicFormattedCaptureRange, BasicFormattedCaptureState, Leaving, RowContents,
-};
+pub use capture::{BasicFormattedCaptureRange, BasicFormattedCaptureState, Leaving, RowContents};
 pub use row::Row;

@@ -5,8 +5,8 @@ ghost use Rattle.vt_cells.specs.Attrs.{is_bold, is_dim};
 ghost use Rattle.vt_rows.specs.Cells.{at};
 ghost use Rattle.vt_screen.specs.Screen.{IsScreen, fresh_screen, visible_row};
 
-mod contents;
 mod capture;
+mod contents;
 mod controls;
 mod input;
 mod pages;
