@@ -1,32 +1,45 @@
 //! Texts that a screen gives, beside the lines of a file.
 
 use crate::text::bytes_of;
-use anyhow::{Result, bail};
+use anyhow::{Context, Result, bail};
 use std::alloc::Global;
 use vt100::Screen;
 
-/// Whether a screen gives the text of a line; `prev` is the screen that differences start from.
+/// Whether a screen gives the text of a line, or the texts; `prev` is the screen that differences
+/// start from. Texts that no call gives yet are passed over.
 pub fn is_told(alloc: Global, screen: &Screen, prev: &Screen, line: &str) -> Result<bool> {
     let (word, rest) = line.split_once(' ').unwrap_or((line, ""));
-    let Some(text) = text_of(screen, prev, word)? else {
-        return Ok(true);
-    };
-    let expected = bytes_of(alloc, rest)?;
+    match word {
+        "rows" => are_rows_told(alloc, screen, rest),
+        "between" => is_range_told(alloc, screen, rest),
+        "rows_formatted" | "rows_diff" => Ok(true),
+        _ => {
+            let text = text_of(screen, prev, word)?;
+            is_text(alloc, text.as_str(), rest)
+        }
+    }
+}
+
+/// Whether a text is that of a word.
+fn is_text(alloc: Global, text: &str, word: &str) -> Result<bool> {
+    let expected = bytes_of(alloc, word)?;
     Ok(text.as_bytes() == expected.as_slice())
 }
 
-// The text that a word names; None for one that isn't asked of screens.
-fn text_of(screen: &Screen, prev: &Screen, word: &str) -> Result<Option<String>> {
+// The text that a word names.
+fn text_of(screen: &Screen, prev: &Screen, word: &str) -> Result<String> {
     let text = match word {
+        "contents" => screen.contents()?,
         "formatted" => screen.contents_formatted()?,
-        "attributes" => screen.attributes_formatted()?,
+        "basic" => screen.contents_formatted_basic()?,
         "diff" => difference(screen, prev)?,
         "cursor_state" => screen.cursor_state_formatted()?,
-        "contents" | "basic" | "input" | "input_diff" => return Ok(None),
-        "rows" | "rows_formatted" | "rows_diff" | "between" => return Ok(None),
+        "attributes" => screen.attributes_formatted()?,
+        "input" => screen.input_mode_formatted()?,
+        "input_diff" => screen.input_mode_diff(prev)?,
         _ => bail!("no text is named {word:?}"),
     };
-    Ok(Some(text))
+    Ok(text)
 }
 
 /// What differs from another screen, which has to be of the same size.
@@ -37,4 +50,40 @@ pub fn difference(screen: &Screen, prev: &Screen) -> Result<String> {
         bail!("a difference from a screen of another size");
     }
     Ok(screen.contents_diff(prev)?)
+}
+
+// Whether the rows have the texts of `START WIDTH BYTES ..`.
+fn are_rows_told(alloc: Global, screen: &Screen, line: &str) -> Result<bool> {
+    let mut words = line.split(' ');
+    let start = number(words.next())?;
+    let width = number(words.next())?;
+    for text in screen.rows(start, width) {
+        let text = text?;
+        let word = words.next().context("fewer texts than rows")?;
+        if !is_text(alloc, text.as_str(), word)? {
+            return Ok(false);
+        }
+    }
+    Ok(words.next().is_none())
+}
+
+// Whether the range has the text of `ROW COL ROW COL BYTES`.
+fn is_range_told(alloc: Global, screen: &Screen, line: &str) -> Result<bool> {
+    let mut words = line.split(' ');
+    let start_row = number(words.next())?;
+    let start_col = number(words.next())?;
+    let end_row = number(words.next())?;
+    let end_col = number(words.next())?;
+    let word = words.next().context("a range without a text")?;
+    let (_, cols) = screen.size();
+    if start_row < end_row && start_col > cols.get() {
+        bail!("a range that begins past the columns");
+    }
+    let text = screen.contents_between(start_row, start_col, end_row, end_col)?;
+    is_text(alloc, text.as_str(), word)
+}
+
+fn number(word: Option<&str>) -> Result<u16> {
+    let word = word.context("a number is missing")?;
+    Ok(word.parse::<u16>()?)
 }
