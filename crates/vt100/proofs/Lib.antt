@@ -6,3 +6,4 @@ pub mod Texts
 pub mod Remaining
 pub mod Dispatching
 pub mod Parting
+pub mod Pieces

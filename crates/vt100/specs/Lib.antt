@@ -1,2 +1,3 @@
 pub mod Parser
 pub mod Keeping
+pub mod Pieces

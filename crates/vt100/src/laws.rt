@@ -1,11 +1,15 @@
 //! What holds over lists of calls, as facts: these functions do nothing, and
 //! their clauses say what is proved.
 
-ghost use Rattle.std.specs.List.{FoldsTo};
-ghost use Rattle.std.specs.Prelude.{◌≡◌, ℕ, false, List, ◌∷◌, ◌++◌};
+ghost use Rattle.std.specs.List.{AllByRecursion, FoldsTo};
+ghost use Rattle.std.specs.Prelude.{◌≡◌, ℕ, false, List, ◌∷◌, ◌++◌, Some};
 ghost use Rattle.vt100.specs.Parser.{Parsing, Ran, joined};
+ghost use Rattle.vt100.specs.Pieces.{HasRead, IsFine, IsPlainParser, Processes, Processing, ShowsLast, bytes_in};
 ghost use Rattle.vt_scan.specs.Automaton.{State};
 ghost use Rattle.vt_scan.specs.Scanner.{StandsFor};
+ghost use Rattle.vt_screen.specs.Chain.{CanShowOn, chain_text, last_screen};
+ghost use Rattle.vt_screen.specs.Reading.{Terminal, read, terminal};
+ghost use Rattle.vt_screen.specs.Screen.{IsScreen, ScreenValue};
 
 use vt_screen::Callbacks;
 
@@ -23,4 +27,25 @@ pub fn pieces<CB: Callbacks>()
     ensures list { (p q : Parsing CB) (pieces : List (List ℕ)) → FoldsTo (Ran CB.does) p pieces q → Ran CB.does p (joined pieces) q }
     ensures parted { (p r : Parsing CB) (a b : List ℕ) → ∥ ((state : State) × StandsFor p.scanner state) ∥₁ → Ran CB.does p (a ++ b) r → ∥ ((q : Parsing CB) × (q.is_failed ≡ false) × Ran CB.does p a q × Ran CB.does q b r) ∥₁ }
     ensures parted_list { (p r : Parsing CB) (piece : List ℕ) (pieces : List (List ℕ)) → ∥ ((state : State) × StandsFor p.scanner state) ∥₁ → Ran CB.does p (joined (piece ∷ pieces)) r → ∥ FoldsTo (Ran CB.does) p (piece ∷ pieces) r ∥₁ }
+{}
+
+/// What is read quietly as one text is read so by every parser, whatever its
+/// callbacks, in any list of calls of `process` whose slices joined are the
+/// text, empty ones among them: each call answers Ok, and in the end the parser
+/// has become what reading made of it, its callbacks as before.
+///
+/// That a call of `process` does so with its own slice is the clause `quiet` of
+/// `Parser::process`.
+pub fn quiet_pieces<CB: Callbacks>()
+    ensures { (p q : Parsing CB) → (calls : List Processing) → (state : State) → (after : Terminal) → p.is_failed ≡ false → StandsFor p.scanner state → read (terminal state p.screen) (bytes_in calls) ≡ Some after → FoldsTo Processes p calls q → AllByRecursion IsFine calls × HasRead p after q }
+{}
+
+/// A full redraw followed by any chain of differences, each against the screen
+/// before it, in any pieces, leaves a plain terminal that shows the last
+/// screen, for steady screens of its size.
+///
+/// Each call answers Ok; callbacks, scrollback, the other page and the modes
+/// are as before.
+pub fn chain<CB: Callbacks>()
+    ensures { (self : ScreenValue) → (nexts : List ScreenValue) → (p q : Parsing CB) → (calls : List Processing) → IsScreen p.screen → IsPlainParser p → CanShowOn p.screen self → AllByRecursion (CanShowOn p.screen) nexts → bytes_in calls ≡ chain_text self nexts → FoldsTo Processes p calls q → AllByRecursion IsFine calls × ShowsLast p (last_screen self nexts) q }
 {}

@@ -2,12 +2,12 @@
 
 ghost use Rattle.std.specs.Borrow.{sem, Lends};
 ghost use Rattle.std.specs.List.{FoldsTo};
-ghost use Rattle.std.specs.Prelude.{◌≡◌, ◌↔◌, Err, IfErr, IfOk, IsErr, Ok, OnErr, OnOk, Some, false, true};
+ghost use Rattle.std.specs.Prelude.{◌≡◌, ◌↔◌, Err, IfErr, IfOk, IsErr, Ok, OnErr, OnOk, false, true};
 ghost use Rattle.vt100.specs.Parser.{IsHarmless, Ran, Stopped, parsing};
+ghost use Rattle.vt100.specs.Pieces.{Processes, processing};
 ghost use Rattle.vt100.specs.contracts.parser.Parser.{the_row as parser_row};
 ghost use Rattle.vt_scan.specs.Automaton.{State, start};
 ghost use Rattle.vt_scan.specs.Scanner.{StandsFor};
-ghost use Rattle.vt_screen.specs.Reading.{Terminal, read, terminal};
 ghost use Rattle.vt_screen.specs.Pages.{calls_resized, has_size, resized};
 ghost use Rattle.vt_screen.specs.Run.{Told};
 ghost use Rattle.vt_screen.specs.Screen.{fresh_screen};
@@ -125,6 +125,9 @@ impl<CB: Callbacks> Parser<CB> {
     /// called nobody, and from then on the parser reads nothing and answers
     /// `Failed`. Its screen can still be read.
     ///
+    /// By `quiet`, a text whose reading calls nobody and takes no memory, such
+    /// as a redraw on a plain terminal, is read with the answer Ok.
+    ///
     /// ```text
     /// parser.process(b"this text is \x1b[31mRED\x1b[m")?;
     /// let redraw = parser.screen().contents_formatted()?;
@@ -140,7 +143,7 @@ impl<CB: Callbacks> Parser<CB> {
         ensures only { result ≡ Err Error.Failed → self.old.is_failed ≡ true }
         ensures for_good { self.new.is_failed ≡ true ↔ IsErr result }
         ensures harmless { self.old.is_failed ≡ false → IsHarmless CB.does self.old bytes.now → result ≡ Ok tt }
-        ensures quiet { (state : State) (after : Terminal) → self.old.is_failed ≡ false → StandsFor self.old.scanner state → read (terminal state self.old.screen) bytes.now ≡ Some after → (result ≡ Ok tt) × StandsFor self.new.scanner after.scan × (self.new.screen ≡ after.screen) × (self.new.callbacks ≡ self.old.callbacks) }
+        ensures quiet { Processes self.old (processing bytes.now result) self.new }
     {
         if self.is_failed {
             return Err(Error::Failed);

@@ -68,7 +68,7 @@ flag_stays false blank h = refl
 same_cells : (width : ℕ) (row : RowValue) → IsRow width row → resized width row.cells ≡ row.cells
 same_cells width row is = resized-same width row.cells is.columns is.paired
 
-cut_same : (width : ℕ) (rows : List RowValue) → AllByRecursion (IsRow width) rows → flags_end rows → cut_rows width rows ≡ rows
+pub cut_same : (width : ℕ) (rows : List RowValue) → AllByRecursion (IsRow width) rows → flags_end rows → cut_rows width rows ≡ rows
 cut_same width [] is last = refl
 cut_same width (x ∷ []) is last =
     ap (λ (z : List CellValue). record { cells = z; wrapped = false } ∷ []) (same_cells width x is.0) ∙ ap (λ (b : Bool). record x { wrapped = b } ∷ []) (sym last)

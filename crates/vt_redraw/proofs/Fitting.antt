@@ -4,7 +4,7 @@ use Rattle.std.specs.Prelude.{All, if◌then◌else◌}
 use Rattle.std.specs.List.{AllByRecursion}
 use Rattle.std.proofs.lemmas.Bool.{cond_both, ltb-true}
 use Rattle.std.proofs.lemmas.List.Elements.{recursion_from_All}
-use Rattle.vt_cells.specs.Attrs.{same_attrs, same_bool}
+use Rattle.vt_cells.specs.Attrs.{default_attrs, same_attrs, same_bool}
 use Rattle.vt_cells.specs.Cell.{CellValue, blank, glyph, right_half, IsCell, attrs_of, text_of, is_right_half, same_cell}
 use Rattle.vt_cells.proofs.Glyphs.{IsGlyphText-space}
 use Rattle.vt_cells.specs.Op.{Op, Hide, MoveTo, MoveRight, NextRow, LineFeed, Backspace, EraseChars, SaveCursor, RestoreCursor, ChangeAttrs, Print, FitsAttrs}
@@ -19,7 +19,7 @@ use Rattle.vt_redraw.proofs.Runs.{run_bound}
 use Rattle.vt_redraw.proofs.Printable.{printable_text}
 use Rattle.vt_redraw.specs.Picture.{Picture, IsPicture, IsColoredPicture}
 use Rattle.vt_redraw.specs.Script.{Written, nothing, after, doing, cells_written, last_column, last_glyph, is_at, behind, going_behind, Linked, unlinked, first_written, starts_other, link_after, linked, breaking, broken, flag_behind, flag_past}
-use Rattle.vt_redraw.specs.Redraw.{row_written, link_of, rows_below, rows_written, nearest, over_blank, under_last, pending_at, cursor_written, pen_of, script, hiding, difference, blank_like, redraw}
+use Rattle.vt_redraw.specs.Redraw.{row_written, link_of, rows_below, rows_written, nearest, over_blank, under_last, pending_at, cursor_written, pen_of, script, hiding, difference, blank_like, redraw, pending_alone, cursor_state}
 
 -- ---- lists of operations
 
@@ -276,3 +276,44 @@ difference_fits self prev is colors was =
 pub redraw_fits : (self : Picture) → IsPicture self → IsColoredPicture self → AllByRecursion Fits (redraw self)
 unfolding redraw
 redraw_fits self is colors = (tt, (tt, ((omega arith, omega arith), (tt, script_fits self (blank_like self) is colors (tt, tt)))))
+
+-- ---- the cursor alone
+
+alone_fits : (found : Option ℕ) (width : ℕ) (rows : List RowValue) (r : ℕ) → Below r found → r < length rows → length rows < 2 ^ 16 → 0 < width → width < 2 ^ 16 → AllByRecursion (IsFitRow width) rows → AllFit (pending_alone found width rows r)
+alone_fits None width rows r near lt h some l fit =
+    let row = row_at_fits width rows r fit lt in
+    let last = at_fits (row_or width rows r).cells (width - 1) row.cells in
+    let b = attrs_of (at (row_or width rows r).cells (width - 1)) in
+    let plain : FitsAttrs default_attrs = (tt, tt) in (
+      (omega arith, omega arith),
+      (
+        space_fits,
+        fits_append (changing default_attrs b) (SaveCursor ∷ Backspace ∷ EraseChars 1 ∷ RestoreCursor ∷ changing b default_attrs) (changing_fits default_attrs b plain last.1)
+            (tt, (tt, (omega arith, (tt, changing_fits b default_attrs last.1 plain)))),
+      ),
+    )
+alone_fits (Some i) width rows r near lt h some l fit =
+    let row = row_at_fits width rows i fit (omega arith) in
+    let columns = row.columns in
+    let cells = (row_or width rows i).cells in
+    let last = at_fits cells (last_column cells) row.cells in
+    let a = attrs_of (last_glyph cells) in
+    let plain : FitsAttrs default_attrs = (tt, tt) in (
+      (omega arith, last_low cells (omega arith) (omega arith)),
+      fits_append (changing default_attrs a) (Print (text_of (last_glyph cells)) ∷ (changing a default_attrs ++ replicate (r - i) LineFeed)) (changing_fits default_attrs a plain last.1)
+          (text_fits (last_glyph cells) last.0, fits_append (changing a default_attrs) (replicate (r - i) LineFeed) (changing_fits a default_attrs last.1 plain) (feeds_fit (r - i))),
+    )
+
+pub cursor_state_fits : (self : Picture) → IsPicture self → IsColoredPicture self → AllByRecursion Fits (cursor_state self)
+unfolding cursor_state
+cursor_state_fits self is colors =
+    let fit = fit_rows self.width self.rows (recursion_from_All (IsRow self.width) self.rows is.rows) (recursion_from_All (λ row. All (λ cell. FitsAttrs (attrs_of cell)) row.cells) self.rows colors.cells) in
+    let row = is.cursor_row in
+    let tall = colors.height in
+    let wide = colors.columns in
+    let alone = pending_alone (nearest self.width self.rows self.row) self.width self.rows self.row in (
+      tt,
+      cond_both (nat_lt self.column self.width) (MoveTo self.row self.column ∷ []) alone AllFit
+          (λ (t : nat_lt self.column self.width ≡ true). let low = ltb-true self.column self.width t in ((omega arith, omega arith), tt))
+          (λ _. alone_fits (nearest self.width self.rows self.row) self.width self.rows self.row (nearest_below self.width self.rows self.row) is.cursor_row colors.height is.has_columns colors.columns fit),
+    )

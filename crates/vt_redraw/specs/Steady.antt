@@ -1,7 +1,10 @@
 -- Pictures whose glyphs, printed again character by character, give themselves.
-use Rattle.std.specs.Prelude.{◌≡◌, ℕ, Bool, false, List, length, Some, All, chars}
+use Rattle.std.specs.Prelude.{◌≡◌, ℕ, Bool, false, List, ◌++◌, length, Some, All, chars}
+use Rattle.std.specs.Char.{encode_utf8}
+use Rattle.std.specs.List.{list_any}
 use Rattle.vt_cells.specs.Attrs.{default_attrs}
 use Rattle.vt_cells.specs.Cell.{CellValue, blank, glyph, right_half}
+use Rattle.vt_cells.specs.Glyph.{is_selector}
 use Rattle.vt_cells.specs.declared.attrs.Attrs.{Attrs}
 use Rattle.vt_grid.specs.Page.{blank_page}
 use Rattle.vt_grid.specs.Printing.{glyph_put}
@@ -32,3 +35,18 @@ pub record IsOfSize (width height : ℕ) (picture : Picture) : Type 0 where
   pub steady : IsSteady picture
   pub columns : picture.width ≡ width
   pub tall : length picture.rows ≡ height
+
+-- ---- what is known to be steady
+
+-- a glyph with U+FE0F, which asks for the look of an emoji (Unicode, Variation Sequences)
+abbrev pub has_selector : CellValue → Bool
+has_selector (glyph text wide attrs) = list_any is_selector (chars text)
+has_selector (blank attrs) = false
+has_selector right_half = false
+
+abbrev pub HasNoSelector : Picture → Type 0
+HasNoSelector picture = All (λ row. All (λ cell. has_selector cell ≡ false) row.cells) picture.rows
+
+-- a heart with it
+abbrev pub heart_text : List ℕ
+heart_text = encode_utf8 0x2764 ++ encode_utf8 0xFE0F

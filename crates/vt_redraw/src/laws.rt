@@ -1,9 +1,11 @@
 //! What holds of redraws and differences. These functions do nothing: their
 //! clauses are what a proof may cite.
 
-ghost use Rattle.std.specs.Prelude.{◌≡◌, ◌++◌, [], List, Some, length};
+ghost use Rattle.std.specs.Prelude.{◌≡◌, ◌<◌, ◌++◌, ℕ, [], List, Some, length, true};
 ghost use Rattle.std.specs.List.{AllByRecursion};
 ghost use Rattle.vt_cells.specs.Attrs.{default_attrs};
+ghost use Rattle.vt_cells.specs.Cell.{glyph};
+ghost use Rattle.vt_cells.specs.declared.attrs.Attrs.{Attrs};
 ghost use Rattle.vt_cells.specs.Op.{FitsAttrs};
 ghost use Rattle.vt_grid.specs.Canvas.{Canvas, drawn_all};
 ghost use Rattle.vt_redraw.specs.Fits.{Fits};
@@ -11,7 +13,7 @@ ghost use Rattle.vt_grid.specs.Page.{IsPlainPage};
 ghost use Rattle.vt_redraw.specs.Locality.{IsLocal, MayPlace};
 ghost use Rattle.vt_redraw.specs.Picture.{IsColoredPicture, IsPicture, Picture, SamePictureSize, Saved, picture_of, with_cursor_of, with_picture, with_saved};
 ghost use Rattle.vt_redraw.specs.Redraw.{cursor_state, difference, differences, last_picture, redraw};
-ghost use Rattle.vt_redraw.specs.Steady.{IsOfSize, IsSteady};
+ghost use Rattle.vt_redraw.specs.Steady.{HasNoSelector, IsOfSize, IsSteady, IsSteadyCell, heart_text};
 ghost use Rattle.vt_redraw.specs.Touching.{Touches};
 
 /// The difference of two pictures, drawn on any plain canvas that shows the
@@ -60,6 +62,11 @@ pub fn redraw_fits()
     ensures { (self : Picture) → IsPicture self → IsColoredPicture self → AllByRecursion Fits (redraw self) }
 {}
 
+/// So has each operation of the text of the cursor.
+pub fn cursor_state_fits()
+    ensures { (self : Picture) → IsPicture self → IsColoredPicture self → AllByRecursion Fits (cursor_state self) }
+{}
+
 /// The text of the cursor sets the cursor and whether it is hidden, on a plain
 /// canvas that shows the rows and draws with default attributes.
 pub fn cursor_state_draws()
@@ -69,4 +76,15 @@ pub fn cursor_state_draws()
 /// It touches at most the end of one row.
 pub fn cursor_state_local()
     ensures { (self : Picture) → (any : Canvas) → IsPicture self → IsSteady self → IsPlainPage any.page → any.page.rows ≡ self.rows → any.page.width ≡ self.width → any.attrs ≡ default_attrs → Touches (MayPlace self) (cursor_state self) any }
+{}
+
+/// A picture without U+FE0F among its glyphs is steady, whatever the widths of
+/// its characters are.
+pub fn plain_steady()
+    ensures { (picture : Picture) → IsPicture picture → HasNoSelector picture → IsSteady picture }
+{}
+
+/// U+2764 with U+FE0F is steady on two columns or more.
+pub fn heart_steady()
+    ensures { (width : ℕ) → (attrs : Attrs) → 1 < width → IsSteadyCell width (glyph heart_text true attrs) }
 {}

@@ -1,7 +1,14 @@
 pub mod ReadbackSgr
 pub mod ReadbackTexts
 pub mod Readback
+pub mod Shown
 pub mod Redrawing
+pub mod Became
+pub mod Telling
+pub mod Chains
+pub mod Viewing
+pub mod Attributes
+pub mod CursorRead
 pub mod Colored
 pub mod ColoredMoves
 pub mod Sizes

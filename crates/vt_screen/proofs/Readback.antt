@@ -64,7 +64,7 @@ bare : (final : ℕ) (screen after : ScreenValue) → IsFinal final → quiet_st
     → read (terminal start screen) (csi [] final) ≡ Some (terminal start after)
 bare final screen after is_final quiet = csi_read [] final ((0 ∷ []) ∷ []) screen after tt is_final empty_groups quiet
 
-cleared_read : (screen : ScreenValue) → read (terminal start screen) (csi [] 0x6D) ≡ Some (terminal start (record screen { attrs = default_attrs }))
+pub cleared_read : (screen : ScreenValue) → read (terminal start screen) (csi [] 0x6D) ≡ Some (terminal start (record screen { attrs = default_attrs }))
 unfolding counted_step scrolling_steps other_steps
 cleared_read screen = bare 0x6D screen (record screen { attrs = default_attrs }) (omega arith, omega arith) (sgr_clear screen)
 
@@ -166,7 +166,7 @@ changed_when was new screen false true fits e f =
 changed_when was new screen false false fits e f =
     ap (read (terminal start screen)) (text_parts was new e f) ∙ parts_read was new screen fits e f
 
-changed_read : (was new : Attrs) (screen : ScreenValue) → FitsAttrs new
+pub changed_read : (was new : Attrs) (screen : ScreenValue) → FitsAttrs new
     → read (terminal start screen) (change_text was new) ≡ Some (terminal start (record screen { attrs = changed_attrs was new (screen.attrs) }))
 changed_read was new screen fits = changed_when was new screen (same_attrs was new) (same_attrs new default_attrs) fits refl refl
 

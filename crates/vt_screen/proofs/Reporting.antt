@@ -1,6 +1,6 @@
 -- What a run of reports is to the callbacks that hear them.
 use Rattle.std.specs.Prelude.{if◌then◌else◌}
-use Rattle.std.proofs.Common.{◌≡◌, ℕ, Bool, true, false, List, [], ◌∷◌, ◌++◌, map, length, Option, sym, subst, ap, ◌∙◌}
+use Rattle.std.proofs.Common.{◌≡◌, ℕ, Bool, true, false, List, [], ◌∷◌, map, length, Option, sym, subst, ap, ◌∙◌}
 use Rattle.std.specs.List.{FoldsTo}
 use Rattle.vt_rows.specs.Row.{RowValue}
 use Rattle.vt_screen.specs.Calls.{CallValue, OnScroll}

@@ -1,5 +1,5 @@
 -- Both pages in another size, from the parts that the code makes them of.
-use Rattle.std.proofs.Common.{◌≡◌, ℕ, zero, suc, ◌-◌, ◌<◌, ◌^◌, Bool, true, false, List, [], ◌++◌, length, take, Option, Some, None, refl, sym, subst, ap, ◌∙◌}
+use Rattle.std.proofs.Common.{◌≡◌, ℕ, ◌-◌, ◌<◌, ◌^◌, Bool, true, false, List, ◌++◌, length, take, Option, Some, refl, sym, subst, ap, ◌∙◌}
 use Rattle.std.specs.Prelude.{Result, Ok, Err, OnOk, is_ok, option_map}
 use Rattle.std.specs.List.{FoldsTo}
 use Rattle.std.proofs.Math.Seq.{take-nil}

@@ -1,24 +1,12 @@
 -- What the fields of a screen are together; for its model only.
-use Rattle.std.specs.Prelude.{◌≡◌, ◌≢◌, ℕ, Bool, true, List, [], All, Option, Some, None, IfSome, IsSome, option_map, not, if◌then◌else◌}
-use Rattle.vt_cells.specs.Cell.{CellValue, attrs_of}
-use Rattle.vt_cells.specs.Op.{FitsAttrs}
-use Rattle.vt_rows.specs.Row.{RowValue}
+use Rattle.std.specs.Prelude.{◌≡◌, ◌≢◌, ℕ, Bool, true, [], Option, Some, None, IfSome, IsSome, option_map, not, if◌then◌else◌}
 use Rattle.vt_grid.specs.Page.{Page, IsPage}
 use Rattle.vt_grid.specs.Scrollback.{Scrollback, IsScrollback, no_scrollback}
 use Rattle.vt_grid.specs.Resize.{page_resized, scrollback_resized}
 use Rattle.vt_grid.specs.Page.{SameSize}
 use Rattle.vt_screen.specs.Pages.{fresh_page, page_aside}
 use Rattle.vt_screen.specs.Screen.{ScreenValue}
-
--- colours have bytes as their numbers
-abbrev pub IsColoredCell : CellValue → Type 0
-IsColoredCell cell = FitsAttrs (attrs_of cell)
-
-abbrev pub IsColoredRow : RowValue → Type 0
-IsColoredRow row = All IsColoredCell row.cells
-
-abbrev pub AreColored : List RowValue → Type 0
-AreColored rows = All IsColoredRow rows
+pub use Rattle.vt_screen.specs.Screen.{IsColoredCell, IsColoredRow, AreColored}
 
 -- what a screen has beside its active page: the other page, which of them is active, scrollback above the active one, and above the
 -- other one

@@ -6,6 +6,9 @@ pub mod Pages
 pub mod Steps
 pub mod Run
 pub mod Reading
+pub mod Shown
+pub mod Touched
+pub mod Chain
 pub mod Reports
 pub mod Keeping
 pub mod Telling

@@ -1,11 +1,10 @@
 -- Reading a text that calls nobody, takes no memory and pushes no row off the page: what it makes of a screen.
-use Rattle.std.specs.Prelude.{◌≡◌, ◌==◌, ℕ, Bool, true, false, List, [], ◌∷◌, Option, Some, None, is_some, if◌then◌else◌}
+use Rattle.std.specs.Prelude.{◌==◌, ℕ, Bool, true, false, List, [], ◌∷◌, Option, Some, None, is_some, if◌then◌else◌}
 use Rattle.vt_grid.specs.Canvas.{and_then, pushes}
 use Rattle.vt_grid.specs.Moves.{feeds_out}
-use Rattle.vt_grid.specs.Page.{IsPlain, SameSize}
-use Rattle.vt_screen.specs.Screen.{ScreenValue, IsScreen}
+use Rattle.vt_screen.specs.Screen.{ScreenValue}
 use Rattle.vt_screen.specs.Steps.{Step, Print, LineFeed, ScrollUp, EraseScrollback, EnterAlternate, EnterFresh, Tell, stepped, steps_of}
-use Rattle.vt_scan.specs.Automaton.{State, Event, step_in, start}
+use Rattle.vt_scan.specs.Automaton.{State, Event, step_in}
 use Rattle.vt_scan.specs.Table.{class_of, turn_of}
 use Rattle.vt_scan.specs.declared.table.Kind.TheVariants.{OscString}
 use Rattle.vt_scan.specs.declared.table.Turn.{Turn}
@@ -53,21 +52,3 @@ read_byte t b =
 abbrev pub read : Terminal → List ℕ → Option Terminal
 read t [] = Some t
 read t (b ∷ bytes) = and_then (λ u. read u bytes) (read_byte t b)
-
--- ---- what a redraw does
-
--- the reader, which shows what the screen shows: its rows, cursor and attributes, and whether the cursor is hidden
-abbrev pub showing : (self reader : ScreenValue) (last : Option ℕ) → ScreenValue
-showing self reader last = record reader {
-  page = record (reader.page) { rows = self.page.rows; row = self.page.row; column = self.page.column };
-  attrs = self.attrs;
-  hidden = self.hidden;
-  last = last;
-}
-
--- every plain terminal of the same size that reads the text from where nothing is begun shows what the screen shows; only its
--- last character is open, and all else of it stays as it is
-abbrev pub Redraws : ScreenValue → List ℕ → Type 0
-Redraws self text =
-    (reader : ScreenValue) → IsScreen reader → IsPlain reader.page → SameSize self.page reader.page
-    → (last : Option ℕ) × (read (terminal start reader) text ≡ Some (terminal start (showing self reader last)))

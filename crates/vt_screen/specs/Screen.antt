@@ -1,6 +1,8 @@
 -- A screen: the active page and the other one, scrollback, attributes and modes.
-use Rattle.std.specs.Prelude.{◌≡◌, ℕ, Bool, true, false, List, length, Option, None, IfSome, IsSome, if◌then◌else◌}
+use Rattle.std.specs.Prelude.{◌≡◌, ℕ, Bool, true, false, List, length, All, Option, None, IfSome, IsSome, if◌then◌else◌}
 use Rattle.vt_cells.specs.Attrs.{default_attrs}
+use Rattle.vt_cells.specs.Cell.{CellValue, attrs_of}
+use Rattle.vt_cells.specs.Op.{FitsAttrs}
 use Rattle.vt_cells.specs.declared.attrs.Attrs.{Attrs}
 use Rattle.vt_cells.specs.declared.modes.MouseProtocolMode.TheVariants as mouse
 use Rattle.vt_cells.specs.declared.modes.MouseProtocolEncoding.TheVariants as encoding
@@ -83,3 +85,19 @@ pub record IsScreen (screen : ScreenValue) : Type 0 where
   pub other : IfSome screen.other (λ page. IsPage page × SameSize page screen.page)
   pub entered : screen.is_alternate ≡ true → IsSome screen.other
   pub scrollback : IsScrollback screen.scrollback
+
+-- colours have bytes as their numbers
+abbrev pub IsColoredCell : CellValue → Type 0
+IsColoredCell cell = FitsAttrs (attrs_of cell)
+
+abbrev pub IsColoredRow : RowValue → Type 0
+IsColoredRow row = All IsColoredCell row.cells
+
+abbrev pub AreColored : List RowValue → Type 0
+AreColored rows = All IsColoredRow rows
+
+-- those of every screen
+pub record IsColored (screen : ScreenValue) : Type 0 where
+  pub rows : AreColored screen.page.rows
+  pub above : AreColored screen.scrollback.rows
+  pub attrs : FitsAttrs screen.attrs

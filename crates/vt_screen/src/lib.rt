@@ -3,6 +3,7 @@
 #![tactic(auto)]
 
 pub mod callbacks;
+pub mod laws;
 pub mod modes;
 mod reporter;
 pub mod screen;

@@ -1,18 +1,13 @@
 //! The screen of a terminal.
 
-ghost use Rattle.std.specs.Prelude.{◌≡◌, ◌≢◌, ◌<◌, ◌↔◌, ◌++◌, IfErr, IfOk, IfSome, IsSome, None, OnOk, Some, false, length, string_bytes};
+ghost use Rattle.std.specs.Prelude.{◌≡◌, ◌≢◌, ◌<◌, ◌↔◌, IfErr, IfOk, IfSome, IsSome, None, OnOk, Some, false, length};
 ghost use Rattle.vt_cells.specs.Attrs.{is_bold, is_dim};
-ghost use Rattle.vt_cells.specs.Op.{bytes_of_all};
-ghost use Rattle.vt_redraw.specs.Fits.{IsColored};
-ghost use Rattle.vt_grid.specs.Page.{IsPage};
 ghost use Rattle.vt_rows.specs.Cells.{at};
-ghost use Rattle.vt_grid.specs.Script.{redraw};
-ghost use Rattle.vt_grid.specs.Page.{IsSimple};
-ghost use Rattle.vt_screen.specs.Reading.{Redraws};
-ghost use Rattle.vt_screen.specs.Screen.{IsScreen, canvas_of, fresh_screen, visible_row};
+ghost use Rattle.vt_screen.specs.Screen.{IsScreen, fresh_screen, visible_row};
 
 mod controls;
 mod pages;
+mod redraw;
 mod resizing;
 mod scrolling;
 
@@ -21,10 +16,7 @@ use crate::sgr::Setting;
 use std::alloc::Global;
 use std::marker::Model;
 use std::num::NonZeroU16;
-use vt_cells::{
-    Attrs, Cell, Color, CursorStyle, Error, MouseProtocolEncoding, MouseProtocolMode, Sink,
-};
-use vt_grid::redraw::write_contents_formatted;
+use vt_cells::{Attrs, Cell, Color, CursorStyle, Error, MouseProtocolEncoding, MouseProtocolMode};
 use vt_grid::{Grid, Scrollback, Size};
 use vt_rows::Row;
 
@@ -300,49 +292,8 @@ impl Screen {
     }
 }
 
-// Texts that redraw the screen.
+// Texts that redraw the screen are in `redraw`.
 impl Screen {
-    /// A text that redraws the active page on a terminal of the same size,
-    /// whatever that showed before: the cells, the cursor, the current
-    /// attributes, and whether the cursor is hidden. Rows of scrollback that
-    /// are in view, and flags of rows, are not in it, and a pending wrap is the
-    /// last column.
-    ///
-    /// The terminal is to have its scroll region on all of its page and origin
-    /// mode off, and to be in the midst of no sequence. The clause `redraws`
-    /// is for pages without flags and without a pending wrap, whose glyphs are
-    /// single characters of one column. Fails where memory for the text is
-    /// refused.
-    pub fn contents_formatted(&self) -> Result<String, Error>
-        ensures text { IfOk result (λ text. string_bytes text ≡ bytes_of_all (redraw (canvas_of self.now))) }
-        ensures redraws { IfOk result (λ text. IsSimple self.now.page → Redraws self.now (string_bytes text)) }
-        ensures memory { IfErr result (λ error. error ≡ Error.OutOfMemory) }
-    {
-        let mut text = String::new(self.alloc);
-        match self.write_contents_formatted(&mut text) {
-            Ok(()) => Ok(text),
-            Err(_) => Err(Error::OutOfMemory),
-        }
-    }
-
-    /// Writes the text of [`Screen::contents_formatted`].
-    fn write_contents_formatted<S: Sink>(&self, sink: &mut S) -> Result<(), S::Error>
-        ensures sound { IsPage self.now.page }
-        ensures colored { IsColored (canvas_of self.now) }
-        ensures text { OnOk result (S.text sink.new ≡ S.text sink.old ++ bytes_of_all (redraw (canvas_of self.now))) }
-    {
-        let size = self.grid.size();
-        let attrs = self.attrs();
-        write_contents_formatted(
-            sink,
-            self.grid.rows(),
-            size.cols,
-            self.grid.pos(),
-            attrs,
-            self.hide_cursor(),
-        )
-    }
-
     /// The current attributes.
     fn attrs(&self) -> Attrs
         ensures { result ≡ self.now.attrs }

@@ -4,11 +4,12 @@ use Rattle.std.specs.List.{FoldsTo}
 use Rattle.std.specs.Io.KnownBytes.{Appends}
 use Rattle.std.specs.declared.option.Option.{Option}
 use Rattle.vt_cells.specs.Op.{bytes_of_all}
-use Rattle.vt_grid.specs.Script.{redraw}
+use Rattle.vt_redraw.specs.Redraw.{redraw}
 use Rattle.vt_scan.specs.Automaton.{start}
 use Rattle.vt_scan.specs.Run as scan
 use Rattle.vt_screen.specs.Run.{Performs, state}
-use Rattle.vt_screen.specs.Screen.{ScreenValue, canvas_of, fresh_screen}
+use Rattle.vt_screen.specs.Screen.{ScreenValue, fresh_screen}
+use Rattle.vt_screen.specs.Shown.{shown}
 use Rattle.vt100.specs.Parser.{quietly}
 use Rattle.vt_show.specs.declared.mode.Mode.{Mode}
 use Rattle.vt_show.specs.declared.mode.Mode.TheVariants.{Formatted}
@@ -19,7 +20,7 @@ ShowsAfter rows cols input screen =
     FoldsTo (Performs quietly) (state tt (fresh_screen rows cols 0)) (scan.run start input).events (state tt screen)
 
 abbrev pub text_of : Mode → ScreenValue → List ℕ
-text_of Formatted screen = bytes_of_all (redraw (canvas_of screen))
+text_of Formatted screen = bytes_of_all (redraw (shown screen))
 
 -- what is written grew by the text for the input, and by nothing else
 pub record Writes (mode : Mode) (rows cols : ℕ) (input : List ℕ) (old new : Option (List ℕ)) : Type 0 where

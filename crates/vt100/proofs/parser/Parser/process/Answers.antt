@@ -1,4 +1,4 @@
-use Rattle.std.proofs.Common.{ap, refl}
+use Rattle.std.proofs.Common.{ap, refl, ◌∙◌}
 use Rattle.vt100.specs.Parser.{parsing, stage}
 use Rattle.vt100.proofs.Quiet.{quietly_here, never_refused}
 use Rattle.vt100.proofs.parser.Parser.process.Goals as goal
@@ -11,4 +11,4 @@ returns-in-Err-clause-quiet g c state after ready stands told =
 pub returns-in-Ok-clause-quiet : goal.returns-in-Ok-clause-quiet
 returns-in-Ok-clause-quiet g c state after ready stands told =
     let quiet = quietly_here g.CB.Callbacks.does _ c.args.self.now (parsing c.process.new.scanner c.process.new.screen c.process.new.callbacks) c.args.bytes.now state after c.self.view_is c.in-Ok.ensures.ran stands told in
-    (refl, quiet.0, quiet.1, quiet.2)
+    (refl, record { is_failed = ap (λ p. p.is_failed) c.self.view_is ∙ ready; scanner = quiet.0; screen = quiet.1; callbacks = quiet.2 })

@@ -1,0 +1,54 @@
+-- What is read quietly as one text is read so in pieces.
+use Rattle.std.proofs.Common.{◌≡◌, false, List, [], ◌∷◌, Some, refl, sym, ap, subst, ◌∙◌}
+use Rattle.std.specs.List.{AllByRecursion, FoldsTo}
+use Rattle.vt_scan.specs.Automaton.{State, start}
+use Rattle.vt_scan.specs.Scanner.{StandsFor}
+use Rattle.vt_screen.specs.Chain.{CanShowOn, chain_text, last_screen}
+use Rattle.vt_screen.specs.Reading.{Terminal, read, terminal}
+use Rattle.vt_screen.specs.Screen.{ScreenValue, IsScreen}
+use Rattle.vt_screen.specs.Shown.{IsPlain, KeepsRest, shown}
+use Rattle.vt_screen.proofs.Chains.{chain_read}
+use Rattle.vt_screen.proofs.Readback.{and_then-some}
+use Rattle.vt_screen.proofs.ReadbackTexts.{reads_append}
+use Rattle.vt100.specs.Parser.{Parsing}
+use Rattle.vt100.specs.Pieces.{Processing, Processes, IsFine, HasRead, IsPlainParser, ShowsLast, bytes_in}
+
+same_some : {A : Type 0} (x y : A) → Some x ≡ Some y → x ≡ y
+same_some x y e = cc
+
+pub read_pieces : {S : Type 0} (p q : Parsing S) (calls : List Processing) (state : State) (after : Terminal) → p.is_failed ≡ false → StandsFor p.scanner state → read (terminal state p.screen) (bytes_in calls) ≡ Some after
+    → FoldsTo Processes p calls q → AllByRecursion IsFine calls × HasRead p after q
+read_pieces {S} p q [] state after ready stands told folds =
+    let same : terminal state p.screen ≡ after = same_some (terminal state p.screen) after told in (
+      tt,
+      subst (λ (r : Parsing S). HasRead p after r) folds (record {
+        is_failed = ready;
+        scanner = subst (λ (t : Terminal). StandsFor p.scanner t.scan) same stands;
+        screen = ap (λ (t : Terminal). t.screen) same;
+        callbacks = refl;
+      }),
+    )
+read_pieces {S} p q (call ∷ calls) state after ready stands told folds =
+    let mid = and_then-some (λ (u : Terminal). read u (bytes_in calls)) (read (terminal state p.screen) call.bytes) after (sym (reads_append (terminal state p.screen) call.bytes (bytes_in calls)) ∙ told) in
+    let next : Parsing S = folds.0 in
+    let here = folds.1 state mid.0 ready stands mid.1 in
+    let one : HasRead p mid.0 next = here.1 in
+    let behind : read (terminal mid.0.scan next.screen) (bytes_in calls) ≡ Some after = ap (λ (s : ScreenValue). read (terminal mid.0.scan s) (bytes_in calls)) one.screen ∙ mid.2 in
+    let rest = read_pieces next q calls mid.0.scan after one.is_failed one.scanner behind folds.2 in
+    let all : HasRead next after q = rest.1 in
+    ((here.0, rest.0), record { is_failed = all.is_failed; scanner = all.scanner; screen = all.screen; callbacks = all.callbacks ∙ one.callbacks })
+
+pub chain_pieces : {S : Type 0} (self : ScreenValue) (nexts : List ScreenValue) (p q : Parsing S) (calls : List Processing) → IsScreen p.screen → IsPlainParser p → CanShowOn p.screen self → AllByRecursion (CanShowOn p.screen) nexts
+    → bytes_in calls ≡ chain_text self nexts → FoldsTo Processes p calls q → AllByRecursion IsFine calls × ShowsLast p (last_screen self nexts) q
+chain_pieces {S} self nexts p q calls is plain c cs bytes folds =
+    let chain = chain_read self nexts p.screen is plain.screen c cs in
+    let done = read_pieces p q calls start (terminal start chain.after) plain.is_failed plain.scanner (ap (read (terminal start p.screen)) bytes ∙ chain.reads) folds in
+    let all : HasRead p (terminal start chain.after) q = done.1 in (
+      done.0,
+      record {
+        plain = record { is_failed = all.is_failed; scanner = all.scanner; screen = subst IsPlain (sym all.screen) chain.shows.0 };
+        shows = ap shown all.screen ∙ chain.shows.1;
+        rest = subst (KeepsRest p.screen) (sym all.screen) chain.rest;
+        callbacks = all.callbacks;
+      },
+    )

@@ -1,0 +1,5 @@
+use Rattle.vt100.proofs.Pieces.{chain_pieces}
+use Rattle.vt100.proofs.laws.chain.Goals as goal
+
+pub returns : goal.returns
+returns g c = chain_pieces

@@ -1,0 +1,52 @@
+-- Texts that are read quietly, in any list of calls of `process`.
+use Rattle.std.specs.Prelude.{◌≡◌, ℕ, false, List, [], ◌∷◌, ◌++◌, Ok, Some}
+use Rattle.std.specs.declared.result.Result.{Result}
+use Rattle.vt_cells.specs.declared.error.Error.{Error}
+use Rattle.vt_scan.specs.Automaton.{State, start}
+use Rattle.vt_scan.specs.Scanner.{StandsFor}
+use Rattle.vt_screen.specs.Reading.{Terminal, read, terminal}
+use Rattle.vt_screen.specs.Screen.{ScreenValue}
+use Rattle.vt_screen.specs.Shown.{IsPlain, KeepsRest, shown}
+use Rattle.vt100.specs.Parser.{Parsing}
+
+-- a call of `process`: its bytes, and what it answered
+pub record Processing : Type 0 where
+  pub bytes : List ℕ
+  pub answer : Result (Unit {0}) Error
+
+abbrev pub processing : List ℕ → Result (Unit {0}) Error → Processing
+processing bytes answer = record { bytes = bytes; answer = answer }
+
+abbrev pub IsFine : Processing → Type 0
+IsFine call = call.answer ≡ Ok tt
+
+-- a parser that has become what reading made of its terminal, with its callbacks as they were
+pub record HasRead {S : Type 0} (old : Parsing S) (after : Terminal) (new : Parsing S) : Type 0 where
+  pub is_failed : new.is_failed ≡ false
+  pub scanner : StandsFor new.scanner after.scan
+  pub screen : new.screen ≡ after.screen
+  pub callbacks : new.callbacks ≡ old.callbacks
+
+-- what a call of `process` does where its bytes are read quietly: it answers Ok, and they are read
+abbrev pub Processes : {S : Type 0} → Parsing S → Processing → Parsing S → Type 0
+Processes old call new =
+    (state : State) → (after : Terminal) → old.is_failed ≡ false → StandsFor old.scanner state → read (terminal state old.screen) call.bytes ≡ Some after
+    → IsFine call × HasRead old after new
+
+-- the bytes of calls, one after the other
+abbrev pub bytes_in : List Processing → List ℕ
+bytes_in [] = []
+bytes_in (call ∷ calls) = call.bytes ++ bytes_in calls
+
+-- a parser that did not fail, is in the midst of nothing, and has a plain screen
+pub record IsPlainParser {S : Type 0} (parser : Parsing S) : Type 0 where
+  pub is_failed : parser.is_failed ≡ false
+  pub scanner : StandsFor parser.scanner start
+  pub screen : IsPlain parser.screen
+
+-- a plain parser that shows a screen; the rest of its own as it was, and its callbacks too
+pub record ShowsLast {S : Type 0} (old : Parsing S) (last : ScreenValue) (new : Parsing S) : Type 0 where
+  pub plain : IsPlainParser new
+  pub shows : shown new.screen ≡ shown last
+  pub rest : KeepsRest old.screen new.screen
+  pub callbacks : new.callbacks ≡ old.callbacks

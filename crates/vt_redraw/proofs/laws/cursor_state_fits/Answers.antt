@@ -1,0 +1,5 @@
+use Rattle.vt_redraw.proofs.Fitting.{cursor_state_fits}
+use Rattle.vt_redraw.proofs.laws.cursor_state_fits.Goals as goal
+
+pub returns : goal.returns
+returns c = cursor_state_fits

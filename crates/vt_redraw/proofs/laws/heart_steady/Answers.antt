@@ -1,0 +1,5 @@
+use Rattle.vt_redraw.proofs.PlainSteady.{heart_is_steady}
+use Rattle.vt_redraw.proofs.laws.heart_steady.Goals as goal
+
+pub returns : goal.returns
+returns c = heart_is_steady

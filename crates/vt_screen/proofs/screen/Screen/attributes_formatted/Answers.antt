@@ -1,0 +1,13 @@
+use Rattle.std.proofs.Common.{rules, ◌≡◌, ℕ, List, ◌++◌, string_bytes, ap, subst, ◌∙◌}
+use Rattle.vt_cells.specs.declared.attrs.Attrs.{Attrs}
+use Rattle.vt_cells.specs.Op.{FitsAttrs}
+use Rattle.vt_screen.specs.Shown.{SetsAttrs, attributes_text}
+use Rattle.vt_screen.proofs.Attributes.{attributes_set}
+use Rattle.vt_screen.proofs.screen.Screen.attributes_formatted.Goals as goal
+
+pub returns-in-Ok-clause-sets : goal.returns-in-Ok-clause-sets
+returns-in-Ok-clause-sets c =
+    let attrs = c.attrs.result in
+    let fits : FitsAttrs attrs = search rules in
+    let told : string_bytes c.write_attrs.new.sink ≡ attributes_text attrs = c.in-Ok.ensures.text ∙ ap (λ (before : List ℕ). before ++ attributes_text attrs) c.new-text.ensures.bytes in
+    subst (λ (a : Attrs). SetsAttrs a (string_bytes c.write_attrs.new.sink)) c.attrs.ensures (attributes_set attrs (string_bytes c.write_attrs.new.sink) told fits)

@@ -1,0 +1,27 @@
+-- A redraw, and behind it differences, each against the screen before it.
+use Rattle.std.specs.Prelude.{ℕ, List, [], ◌∷◌, ◌++◌}
+use Rattle.vt_cells.specs.Op.{bytes_of_all}
+use Rattle.vt_redraw.specs.Picture.{SamePictureSize}
+use Rattle.vt_redraw.specs.Redraw.{difference, redraw}
+use Rattle.vt_redraw.specs.Steady.{IsSteady}
+use Rattle.vt_screen.specs.Screen.{ScreenValue, IsScreen, IsColored}
+use Rattle.vt_screen.specs.Shown.{shown}
+
+-- a screen that can be redrawn on a terminal: what it shows is steady and of that terminal's size
+pub record CanShowOn (reader self : ScreenValue) : Type 0 where
+  pub sound : IsScreen self
+  pub colored : IsColored self
+  pub steady : IsSteady (shown self)
+  pub size : SamePictureSize (shown self) (shown reader)
+
+-- the differences, one after the other
+abbrev pub texts_behind : ScreenValue → List ScreenValue → List ℕ
+texts_behind prev [] = []
+texts_behind prev (x ∷ xs) = bytes_of_all (difference (shown x) (shown prev)) ++ texts_behind x xs
+
+abbrev pub chain_text : ScreenValue → List ScreenValue → List ℕ
+chain_text self nexts = bytes_of_all (redraw (shown self)) ++ texts_behind self nexts
+
+abbrev pub last_screen : ScreenValue → List ScreenValue → ScreenValue
+last_screen self [] = self
+last_screen self (x ∷ xs) = last_screen x xs

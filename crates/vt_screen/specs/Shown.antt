@@ -1,0 +1,104 @@
+-- What a screen shows, and what a text makes of the terminals that read it.
+use Rattle.std.specs.Prelude.{◌≡◌, ℕ, List, [], ◌∷◌, Option, Some}
+use Rattle.vt_cells.specs.Attrs.{default_attrs}
+use Rattle.vt_cells.specs.Op.{ClearAttrs, ChangeAttrs, bytes_of_all}
+use Rattle.vt_cells.specs.declared.attrs.Attrs.{Attrs}
+use Rattle.vt_grid.specs.Page.{IsPlainPage}
+use Rattle.vt_redraw.specs.Picture.{Picture, SamePictureSize, Saved, picture_over, with_picture, with_saved}
+use Rattle.vt_scan.specs.Automaton.{start}
+use Rattle.vt_screen.specs.Reading.{read, terminal}
+use Rattle.vt_screen.specs.Screen.{ScreenValue, IsScreen, above_page, canvas_of, visible_rows, with_canvas}
+
+-- the rows in view, cut to the screen's width, with its cursor, its attributes and whether the cursor is hidden
+abbrev pub shown : ScreenValue → Picture
+shown screen = picture_over (visible_rows screen) (canvas_of screen)
+
+-- the region is the whole page, origin mode is off, and no scrollback is in view
+pub record IsPlain (screen : ScreenValue) : Type 0 where
+  pub page : IsPlainPage screen.page
+  pub offset : (above_page screen).offset ≡ 0
+
+-- a screen that shows a picture; but for what was saved and the last character, the rest as it was
+abbrev pub showing : Picture → Saved → Option ℕ → ScreenValue → ScreenValue
+showing picture saved last reader = record (with_canvas (with_saved saved (with_picture picture (canvas_of reader))) reader) { last = last }
+
+-- ---- the terminals that read a text
+
+-- a plain terminal of a picture's size
+pub record IsReader (picture : Picture) (reader : ScreenValue) : Type 0 where
+  pub sound : IsScreen reader
+  pub plain : IsPlain reader
+  pub size : SamePictureSize picture (shown reader)
+
+-- one that shows another picture, of the same size
+pub record IsReaderOf (picture prev : Picture) (reader : ScreenValue) : Type 0 where
+  pub is : IsReader picture reader
+  pub shows : shown reader ≡ prev
+
+-- one that shows the rows of a picture, and draws with default attributes
+pub record IsReaderOfRows (picture : Picture) (reader : ScreenValue) : Type 0 where
+  pub is : IsReader picture reader
+  pub shows : (shown reader).rows ≡ picture.rows
+  pub attrs : reader.attrs ≡ default_attrs
+
+-- ---- what a text makes of them
+
+-- a terminal in the midst of nothing reads the text to its end: it calls nobody, takes no memory, pushes no row off its page, and is in
+-- the midst of nothing again
+abbrev pub ReadsTo : List ℕ → (reader after : ScreenValue) → Type 0
+ReadsTo text reader after = read (terminal start reader) text ≡ Some (terminal start after)
+
+-- every such terminal reads the text so
+abbrev pub IsReadBy : (ScreenValue → Type 0) → List ℕ → Type 0
+IsReadBy Reader text = (reader : ScreenValue) → Reader reader → (after : ScreenValue) × ReadsTo text reader after
+
+-- and this is what it has become then
+abbrev pub Makes : (ScreenValue → Type 0) → List ℕ → ((reader after : ScreenValue) → Type 0) → Type 0
+Makes Reader text Made = (reader after : ScreenValue) → Reader reader → ReadsTo text reader after → Made reader after
+
+-- it is plain, and shows the picture
+abbrev pub ShowsPlainly : Picture → (reader after : ScreenValue) → Type 0
+ShowsPlainly picture reader after = IsPlain after × (shown after ≡ picture)
+
+-- its page has the picture's rows, cells and flags
+abbrev pub HasRows : Picture → (reader after : ScreenValue) → Type 0
+HasRows picture reader after = after.page.rows ≡ picture.rows
+
+-- its cursor, its attributes and whether its cursor is hidden are the picture's
+pub record HasCursor (picture : Picture) (reader after : ScreenValue) : Type 0 where
+  pub row : after.page.row ≡ picture.row
+  pub column : after.page.column ≡ picture.column
+  pub attrs : after.attrs ≡ picture.attrs
+  pub hidden : after.hidden ≡ picture.hidden
+
+-- all else is as before, but for the saved cursor, the saved origin mode, the saved attributes and the last character: scrollback and its
+-- offset, the other page, the modes, the region
+pub record KeepsRest (reader after : ScreenValue) : Type 0 where
+  pub other : after.other ≡ reader.other
+  pub is_alternate : after.is_alternate ≡ reader.is_alternate
+  pub scrollback : after.scrollback ≡ reader.scrollback
+  pub modes : after.modes ≡ reader.modes
+  pub width : after.page.width ≡ reader.page.width
+  pub top : after.page.top ≡ reader.page.top
+  pub bottom : after.page.bottom ≡ reader.page.bottom
+  pub origin : after.page.origin ≡ reader.page.origin
+
+-- its cursor goes to the picture's and is hidden where that is; its cells, flags and attributes stay
+pub record TakesCursor (picture : Picture) (reader after : ScreenValue) : Type 0 where
+  pub rows : after.page.rows ≡ reader.page.rows
+  pub attrs : after.attrs ≡ reader.attrs
+  pub row : after.page.row ≡ picture.row
+  pub column : after.page.column ≡ picture.column
+  pub hidden : after.hidden ≡ picture.hidden
+
+-- it is plain again
+abbrev pub StaysPlain : (reader after : ScreenValue) → Type 0
+StaysPlain reader after = IsPlain after
+
+-- SGR without a number, and the change from the defaults to these attributes
+abbrev pub attributes_text : Attrs → List ℕ
+attributes_text attrs = bytes_of_all (ClearAttrs ∷ ChangeAttrs default_attrs attrs ∷ [])
+
+-- a text that sets these attributes on every terminal in the midst of nothing, and nothing else
+abbrev pub SetsAttrs : Attrs → List ℕ → Type 0
+SetsAttrs attrs text = (reader : ScreenValue) → ReadsTo text reader (record reader { attrs = attrs })

@@ -1,0 +1,81 @@
+-- Which positions reading touches: those that its steps print on, append to, erase, or change as halves.
+use Rattle.std.specs.Prelude.{◌≡◌, ℕ, ◌+◌, ◌-◌, ◌<◌, ◌≤◌, ◌==◌, ◌||◌, min, true, false, List, [], ◌∷◌, length, Some}
+use Rattle.vt_cells.specs.Glyph.{columns_of}
+use Rattle.vt_cells.specs.declared.attrs.Attrs.{Attrs}
+use Rattle.vt_grid.specs.Canvas.{goes_on}
+use Rattle.vt_grid.specs.Moves.{at_bottom}
+use Rattle.vt_grid.specs.Page.{Page}
+use Rattle.vt_redraw.specs.Touching.{Changes, CharTouches}
+use Rattle.vt_scan.specs.Automaton.{Event, step_in}
+use Rattle.vt_screen.specs.Reading.{Terminal, quiet_step, quiet_steps, read_byte}
+use Rattle.vt_screen.specs.Screen.{ScreenValue}
+use Rattle.vt_screen.specs.Steps.{Step, Print, LineFeed, ReverseIndex, EnterAlternate, EnterFresh, LeaveAlternate, LeaveRestoring, Reset, EraseBelow, EraseAbove, ErasePage, EraseRest, EraseStart, EraseRow, EraseChars, InsertChars, DeleteChars, InsertLines, DeleteLines, ScrollUp, ScrollDown, steps_of}
+
+-- every position of the page is among these
+abbrev pub TouchesAll : (ℕ → ℕ → Type 0) → Page → Type 0
+TouchesAll May page = (r c : ℕ) → r < length page.rows → c < page.width → May r c
+
+-- every position of these rows
+abbrev pub TouchesRows : (ℕ → ℕ → Type 0) → (first behind : ℕ) → Page → Type 0
+TouchesRows May first behind page = (r c : ℕ) → first ≤ r → r < behind → c < page.width → May r c
+
+-- a line feed touches nothing, unless it scrolls
+abbrev pub FeedTouches : (ℕ → ℕ → Type 0) → Page → Type 0
+FeedTouches May page = at_bottom page ≡ true → TouchesAll May page
+
+-- a character, and the line feed before it where it goes on in the next row
+abbrev pub PrintTouches : (ℕ → ℕ → Type 0) → ℕ → Attrs → Page → Type 0
+PrintTouches May c attrs page =
+    CharTouches May (columns_of c) c attrs page × (goes_on (columns_of c) c page ≡ true → FeedTouches May page)
+
+-- the cursor's row from the cursor on; nothing where a wrap is pending
+abbrev pub RestTouches : (ℕ → ℕ → Type 0) → Page → Type 0
+RestTouches May page = (page.column == page.width) ≡ false → Changes May page.column (page.width - page.column) page
+
+-- the cursor's row up to the cursor
+abbrev pub StartTouches : (ℕ → ℕ → Type 0) → Page → Type 0
+StartTouches May page = Changes May 0 (min (page.column + 1) page.width) page
+
+-- what moves cells or whole rows, or exchanges pages, touches every position; moves of the cursor and settings touch none
+abbrev pub StepTouches : (ℕ → ℕ → Type 0) → Step → ScreenValue → Type 0
+StepTouches May (Print c) screen = PrintTouches May c screen.attrs screen.page
+StepTouches May LineFeed screen = FeedTouches May screen.page
+StepTouches May EraseBelow screen = RestTouches May screen.page × TouchesRows May (screen.page.row + 1) (length screen.page.rows) screen.page
+StepTouches May EraseAbove screen = StartTouches May screen.page × TouchesRows May 0 screen.page.row screen.page
+StepTouches May ErasePage screen = TouchesAll May screen.page
+StepTouches May EraseRest screen = RestTouches May screen.page
+StepTouches May EraseStart screen = StartTouches May screen.page
+StepTouches May EraseRow screen = Changes May 0 screen.page.width screen.page
+StepTouches May (EraseChars n) screen =
+    ((n == 0) || (screen.page.column == screen.page.width)) ≡ false
+    → Changes May screen.page.column (min n (screen.page.width - screen.page.column)) screen.page
+StepTouches May (InsertChars n) screen = TouchesAll May screen.page
+StepTouches May (DeleteChars n) screen = TouchesAll May screen.page
+StepTouches May (InsertLines n) screen = TouchesAll May screen.page
+StepTouches May (DeleteLines n) screen = TouchesAll May screen.page
+StepTouches May (ScrollUp n) screen = TouchesAll May screen.page
+StepTouches May (ScrollDown n) screen = TouchesAll May screen.page
+StepTouches May ReverseIndex screen = TouchesAll May screen.page
+StepTouches May EnterAlternate screen = TouchesAll May screen.page
+StepTouches May EnterFresh screen = TouchesAll May screen.page
+StepTouches May LeaveAlternate screen = TouchesAll May screen.page
+StepTouches May LeaveRestoring screen = TouchesAll May screen.page
+StepTouches May Reset screen = TouchesAll May screen.page
+StepTouches May step screen = Unit {0}
+
+-- steps one after the other, each on the screen where it is made
+abbrev pub StepsTouch : (ℕ → ℕ → Type 0) → List Step → ScreenValue → Type 0
+StepsTouch May [] screen = Unit {0}
+StepsTouch May (step ∷ steps) screen = StepTouches May step screen × ((next : ScreenValue) → quiet_step step screen ≡ Some next → StepsTouch May steps next)
+
+abbrev pub EventsTouch : (ℕ → ℕ → Type 0) → List Event → ScreenValue → Type 0
+EventsTouch May [] screen = Unit {0}
+EventsTouch May (event ∷ events) screen =
+    StepsTouch May (steps_of event screen) screen
+    × ((next : ScreenValue) → quiet_steps (steps_of event screen) screen ≡ Some next → EventsTouch May events next)
+
+-- all that reading the bytes quietly touches is among these positions
+abbrev pub ReadTouches : (ℕ → ℕ → Type 0) → Terminal → List ℕ → Type 0
+ReadTouches May t [] = Unit {0}
+ReadTouches May t (b ∷ bytes) =
+    EventsTouch May (step_in t.scan.kind t.scan.collected b).events t.screen × ((u : Terminal) → read_byte t b ≡ Some u → ReadTouches May u bytes)

@@ -1,0 +1,176 @@
+//! Texts that redraw the screen on another terminal.
+//!
+//! What is *shown* is the picture of a screen: the rows in view, cut to its
+//! columns, each with its flag whether it goes on below; the cursor, also where
+//! a wrap is pending; the current attributes; and whether the cursor is hidden.
+//!
+//! A *plain* terminal has its scroll region on all of its page, origin mode off
+//! and no scrollback in view, and is in the midst of no sequence.
+//!
+//! A picture is *steady* if each of its glyphs, printed on a blank row, gives
+//! just itself. All without U+FE0F are, and U+2764 U+FE0F on two columns or
+//! more.
+
+ghost use Rattle.std.specs.Prelude.{◌≡◌, ◌++◌, [], IfErr, IfOk, OnOk, string_bytes};
+ghost use Rattle.vt_cells.specs.Op.{bytes_of_all};
+ghost use Rattle.vt_grid.specs.Page.{SameSize};
+ghost use Rattle.vt_redraw.specs.Picture.{SamePictureSize};
+ghost use Rattle.vt_redraw.specs.Redraw.{cursor_state, difference, redraw};
+ghost use Rattle.vt_redraw.specs.Steady.{IsSteady};
+ghost use Rattle.vt_screen.specs.Screen.{IsColored, IsScreen, ScreenValue};
+ghost use Rattle.vt_screen.specs.Shown.{HasCursor, HasRows, IsReadBy, IsReader, IsReaderOf, IsReaderOfRows, KeepsRest, Makes, SetsAttrs, ShowsPlainly, StaysPlain, TakesCursor, attributes_text, shown};
+
+use crate::screen::Screen;
+use vt_cells::term::{BufWrite, ChangeAttrs, ClearAttrs};
+use vt_cells::{Attrs, Error, Sink};
+use vt_redraw::{View, write_contents_diff, write_contents_formatted, write_cursor_state};
+
+impl Screen {
+    /// A text that redraws the screen on any plain terminal of the same size,
+    /// whatever that showed before.
+    ///
+    /// By the clauses `quiet` to `rest`, for a screen whose picture is steady,
+    /// a plain terminal of this size reads the text without calling anybody
+    /// and without taking memory. Then it is plain and shows what this screen
+    /// shows; its scrollback, its other page and its modes are as before. Only
+    /// its saved cursor, saved origin mode, saved attributes and last character
+    /// may be others. Screens that show the same give the same text, and by
+    /// `same` only those.
+    ///
+    /// Fails where memory for the text is refused.
+    pub fn contents_formatted(&self) -> Result<String, Error>
+        ensures colored { IsColored self.now }
+        ensures text { IfOk result (λ text. string_bytes text ≡ bytes_of_all (redraw (shown self.now))) }
+        ensures quiet { IfOk result (λ text. IsSteady (shown self.now) → IsReadBy (IsReader (shown self.now)) (string_bytes text)) }
+        ensures shows { IfOk result (λ text. IsSteady (shown self.now) → Makes (IsReader (shown self.now)) (string_bytes text) (ShowsPlainly (shown self.now))) }
+        ensures rows { IfOk result (λ text. IsSteady (shown self.now) → Makes (IsReader (shown self.now)) (string_bytes text) (HasRows (shown self.now))) }
+        ensures cursor { IfOk result (λ text. IsSteady (shown self.now) → Makes (IsReader (shown self.now)) (string_bytes text) (HasCursor (shown self.now))) }
+        ensures rest { IfOk result (λ text. IsSteady (shown self.now) → Makes (IsReader (shown self.now)) (string_bytes text) KeepsRest) }
+        ensures same { IfOk result (λ text. (other : ScreenValue) → IsScreen other → IsColored other → SamePictureSize (shown self.now) (shown other) → IsSteady (shown self.now) → IsSteady (shown other) → string_bytes text ≡ bytes_of_all (redraw (shown other)) → shown self.now ≡ shown other) }
+        ensures memory { IfErr result (λ error. error ≡ Error.OutOfMemory) }
+    {
+        let mut text = String::new(self.alloc);
+        match self.write_contents_formatted(&mut text) {
+            Ok(()) => Ok(text),
+            Err(_) => Err(Error::OutOfMemory),
+        }
+    }
+
+    /// A text that makes a plain terminal that shows what `prev` shows show
+    /// what this screen shows. Both screens are to be of one size.
+    ///
+    /// By the clauses `quiet` to `rest`, for a screen whose picture is steady,
+    /// such a terminal reads the text as that of
+    /// [`Screen::contents_formatted`], to the same end. The text is empty where
+    /// both show the same, and by `empty` only there.
+    ///
+    /// Fails where memory for the text is refused.
+    pub fn contents_diff(&self, prev: &Screen) -> Result<String, Error>
+        requires { SameSize self.now.page prev.now.page }
+        ensures text { IfOk result (λ text. string_bytes text ≡ bytes_of_all (difference (shown self.now) (shown prev.now))) }
+        ensures quiet { IfOk result (λ text. IsSteady (shown self.now) → IsReadBy (IsReaderOf (shown self.now) (shown prev.now)) (string_bytes text)) }
+        ensures shows { IfOk result (λ text. IsSteady (shown self.now) → Makes (IsReaderOf (shown self.now) (shown prev.now)) (string_bytes text) (ShowsPlainly (shown self.now))) }
+        ensures rows { IfOk result (λ text. IsSteady (shown self.now) → Makes (IsReaderOf (shown self.now) (shown prev.now)) (string_bytes text) (HasRows (shown self.now))) }
+        ensures cursor { IfOk result (λ text. IsSteady (shown self.now) → Makes (IsReaderOf (shown self.now) (shown prev.now)) (string_bytes text) (HasCursor (shown self.now))) }
+        ensures rest { IfOk result (λ text. IsSteady (shown self.now) → Makes (IsReaderOf (shown self.now) (shown prev.now)) (string_bytes text) KeepsRest) }
+        ensures empty { IfOk result (λ text. IsSteady (shown self.now) → string_bytes text ≡ [] → shown self.now ≡ shown prev.now) }
+        ensures none { IfOk result (λ text. shown self.now ≡ shown prev.now → string_bytes text ≡ []) }
+        ensures memory { IfErr result (λ error. error ≡ Error.OutOfMemory) }
+    {
+        let mut text = String::new(self.alloc);
+        match self.write_contents_diff(&mut text, prev) {
+            Ok(()) => Ok(text),
+            Err(_) => Err(Error::OutOfMemory),
+        }
+    }
+
+    /// A text that gives a plain terminal of this size, which shows the cells
+    /// and flags of this screen and draws with default attributes, its cursor
+    /// and whether that is hidden.
+    ///
+    /// By the clauses `quiet` to `rest`, for a screen whose picture is steady,
+    /// such a terminal reads the text without calling anybody and without
+    /// taking memory. Its cells, its flags and its attributes are as before,
+    /// and it is plain again. Fails where memory for the text is refused.
+    pub fn cursor_state_formatted(&self) -> Result<String, Error>
+        ensures text { IfOk result (λ text. string_bytes text ≡ bytes_of_all (cursor_state (shown self.now))) }
+        ensures quiet { IfOk result (λ text. IsSteady (shown self.now) → IsReadBy (IsReaderOfRows (shown self.now)) (string_bytes text)) }
+        ensures takes { IfOk result (λ text. IsSteady (shown self.now) → Makes (IsReaderOfRows (shown self.now)) (string_bytes text) (TakesCursor (shown self.now))) }
+        ensures plain { IfOk result (λ text. IsSteady (shown self.now) → Makes (IsReaderOfRows (shown self.now)) (string_bytes text) StaysPlain) }
+        ensures rest { IfOk result (λ text. IsSteady (shown self.now) → Makes (IsReaderOfRows (shown self.now)) (string_bytes text) KeepsRest) }
+        ensures memory { IfErr result (λ error. error ≡ Error.OutOfMemory) }
+    {
+        let mut text = String::new(self.alloc);
+        match self.write_cursor_state(&mut text) {
+            Ok(()) => Ok(text),
+            Err(_) => Err(Error::OutOfMemory),
+        }
+    }
+
+    /// A text that sets the current attributes: SGR without a number, and the
+    /// change from the defaults.
+    ///
+    /// By `sets`, on any terminal that is in the midst of no sequence it sets
+    /// these attributes and changes nothing else. Fails where memory for the
+    /// text is refused.
+    pub fn attributes_formatted(&self) -> Result<String, Error>
+        ensures text { IfOk result (λ text. string_bytes text ≡ attributes_text self.now.attrs) }
+        ensures sets { IfOk result (λ text. SetsAttrs self.now.attrs (string_bytes text)) }
+        ensures memory { IfErr result (λ error. error ≡ Error.OutOfMemory) }
+    {
+        let mut text = String::new(self.alloc);
+        match write_attrs(&mut text, self.attrs()) {
+            Ok(()) => Ok(text),
+            Err(_) => Err(Error::OutOfMemory),
+        }
+    }
+
+    fn write_contents_formatted<S: Sink>(&self, sink: &mut S) -> Result<(), S::Error>
+        ensures whole { IsScreen self.now }
+        ensures colored { IsColored self.now }
+        ensures text { OnOk result (S.text sink.new ≡ S.text sink.old ++ bytes_of_all (redraw (shown self.now))) }
+    {
+        write_contents_formatted(sink, &self.view())
+    }
+
+    fn write_contents_diff<S: Sink>(&self, sink: &mut S, prev: &Screen) -> Result<(), S::Error>
+        requires { SameSize self.now.page prev.now.page }
+        ensures whole { IsScreen self.now }
+        ensures colored { IsColored self.now }
+        ensures other { IsScreen prev.now }
+        ensures other_colored { IsColored prev.now }
+        ensures text { OnOk result (S.text sink.new ≡ S.text sink.old ++ bytes_of_all (difference (shown self.now) (shown prev.now))) }
+    {
+        write_contents_diff(sink, &self.view(), &prev.view())
+    }
+
+    fn write_cursor_state<S: Sink>(&self, sink: &mut S) -> Result<(), S::Error>
+        ensures whole { IsScreen self.now }
+        ensures colored { IsColored self.now }
+        ensures text { OnOk result (S.text sink.new ≡ S.text sink.old ++ bytes_of_all (cursor_state (shown self.now))) }
+    {
+        write_cursor_state(sink, &self.view())
+    }
+
+    /// The picture that the screen shows.
+    fn view(&self) -> View<'_>
+        ensures value { result ≡ shown self.now }
+        ensures whole { IsScreen self.now }
+        ensures colored { IsColored self.now }
+    {
+        let attrs = self.attrs();
+        View::new(&self.scrollback, &self.grid, attrs, self.hidden)
+    }
+}
+
+/// Writes the text of [`Screen::attributes_formatted`].
+fn write_attrs<S: Sink>(sink: &mut S, attrs: Attrs) -> Result<(), S::Error>
+    ensures text { OnOk result (S.text sink.new ≡ S.text sink.old ++ attributes_text attrs) }
+{
+    ClearAttrs.write_buf(sink)?;
+    ChangeAttrs {
+        was: Attrs::new(),
+        new: attrs,
+    }
+    .write_buf(sink)
+}
