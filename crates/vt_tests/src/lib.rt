@@ -7,11 +7,19 @@ mod callbacks_tests;
 #[cfg(test)]
 mod counter;
 #[cfg(test)]
+mod difference_tests;
+#[cfg(test)]
 mod noted;
 #[cfg(test)]
 mod pages_tests;
 #[cfg(test)]
+mod picture;
+#[cfg(test)]
 mod plain_tests;
+#[cfg(test)]
+mod readback;
+#[cfg(test)]
+mod redraw_tests;
 #[cfg(test)]
 mod rendition_tests;
 #[cfg(test)]

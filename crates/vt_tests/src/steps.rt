@@ -101,7 +101,8 @@ pub(crate) fn longest(steps: &[Step]) -> usize {
     longest
 }
 
-fn feed(parser: &mut Parser<Notes>, bytes: &[u8], pieces: Pieces) -> Result<(), Error> {
+/// Has a parser read bytes in these pieces.
+pub(crate) fn feed(parser: &mut Parser<Notes>, bytes: &[u8], pieces: Pieces) -> Result<(), Error> {
     match pieces {
         Pieces::Two(most) => {
             let cut = most.min(bytes.len());

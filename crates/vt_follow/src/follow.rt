@@ -1,0 +1,122 @@
+//! A terminal that is kept equal to another one by texts alone.
+
+use crate::pace::Pace;
+use crate::picture::{Part, differing, have_same_cells, have_same_flags};
+use crate::tally::Tally;
+use anyhow::{Context, Result};
+use std::alloc::Global;
+use std::num::NonZeroU16;
+use vt_notes::Notes;
+use vt100::{Parser, Screen};
+
+/// How many rows the follower keeps in scrollback.
+const KEPT: usize = 100;
+
+/// Fills the follower's main page with rows that go on in the next one, and its scrollback.
+const MAIN: &[u8] =
+    b"\x1b[7mthe main page \xe4\xb8\xad\x1b[100b\r\n\x1b[32m$ \x1b[3S\x1b[m# \x1b[90b";
+
+/// Enters the alternate page, and draws there in other attributes.
+const ALTERNATE: &[u8] = b"\x1b[?1049h\x1b[1;4;33;44malternate \xe4\xb8\xad\x1b[200b\x1b[?25l";
+
+/// Has one terminal read these bytes, and another one follow it at this pace.
+pub fn follow(
+    alloc: Global,
+    (rows, cols): (NonZeroU16, NonZeroU16),
+    pace: Pace,
+    bytes: &[u8],
+) -> Result<Tally> {
+    let mut leader = Parser::new(alloc, rows, cols, 0)?;
+    follow_leader(alloc, &mut leader, pace, bytes)
+}
+
+fn follow_leader(alloc: Global, leader: &mut Parser, pace: Pace, bytes: &[u8]) -> Result<Tally> {
+    let (rows, cols) = leader.screen().size();
+    let notes = Notes::new(alloc);
+    let mut follower = Parser::new_with_callbacks(alloc, rows, cols, KEPT, notes)?;
+    follow_all(leader, &mut follower, pace, bytes)
+}
+
+// Lets the follower read on its alternate page, and looks at its main page and scrollback at the end.
+fn follow_all(
+    leader: &mut Parser,
+    follower: &mut Parser<Notes>,
+    pace: Pace,
+    bytes: &[u8],
+) -> Result<Tally> {
+    follower.process(MAIN)?;
+    let mut before = follower.screen().clone()?;
+    follower.process(ALTERNATE)?;
+    let mut tally = follow_each(leader, follower, pace, bytes)?;
+    follower.process(b"\x1b[?1049l")?;
+    if tally.differs.is_none() && !has_kept(follower.screen_mut(), &mut before)? {
+        tally.differs = Some(Part::Rest);
+    }
+    Ok(tally)
+}
+
+// Redraws the leader, and then reads its bytes and updates the follower until both differ.
+fn follow_each(
+    leader: &mut Parser,
+    follower: &mut Parser<Notes>,
+    mut pace: Pace,
+    bytes: &[u8],
+) -> Result<Tally> {
+    let mut tally = Tally::default();
+    let calls = follower.callbacks().calls().len();
+    redraw(leader.screen(), follower)?;
+    tally.differs = differing(leader.screen(), follower.screen());
+    let mut rest = bytes;
+    for _ in 0..bytes.len() {
+        if rest.is_empty() || tally.differs.is_some() {
+            break;
+        }
+        let (piece, later) = rest.split_at(pace.next_length().min(rest.len()));
+        rest = later;
+        let written = update(leader, follower, piece)?;
+        tally.count(piece.len(), written);
+        tally.differs = differing(leader.screen(), follower.screen());
+        if follower.callbacks().calls().len() != calls {
+            tally.differs = Some(Part::Calls);
+        }
+    }
+    Ok(tally)
+}
+
+fn redraw(leader: &Screen, follower: &mut Parser<Notes>) -> Result<()> {
+    let text = leader.contents_formatted()?;
+    Ok(follower.process(text.as_bytes())?)
+}
+
+// Has the leader read these bytes and the follower the difference, and answers how long that is.
+fn update(leader: &mut Parser, follower: &mut Parser<Notes>, piece: &[u8]) -> Result<usize> {
+    let prev = leader.screen().clone()?;
+    leader.process(piece)?;
+    let text = difference(leader.screen(), &prev)?;
+    follower.process(text.as_bytes())?;
+    Ok(text.len())
+}
+
+fn difference(screen: &Screen, prev: &Screen) -> Result<String> {
+    let (rows, cols) = screen.size();
+    let (other_rows, other_cols) = prev.size();
+    if rows.get() != other_rows.get() || cols.get() != other_cols.get() {
+        return None.context("a leader of another size");
+    }
+    Ok(screen.contents_diff(prev)?)
+}
+
+// Whether a screen that shows its main page has the cells, flags and scrollback that it had before.
+fn has_kept(screen: &mut Screen, before: &mut Screen) -> Result<bool> {
+    let rows = screen.size().0.get();
+    let kept = screen.scrollback_len();
+    if kept != before.scrollback_len()
+        || !have_same_cells(screen, before, rows)
+        || !have_same_flags(screen, before)
+    {
+        return Ok(false);
+    }
+    screen.set_scrollback(kept)?;
+    before.set_scrollback(kept)?;
+    Ok(have_same_cells(screen, before, rows))
+}

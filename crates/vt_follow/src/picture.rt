@@ -1,0 +1,94 @@
+//! What two screens show, compared.
+
+use std::fmt;
+use vt100::{Color, Screen};
+
+/// What may differ in a terminal that follows another one.
+#[derive(Clone, Copy)]
+pub enum Part {
+    /// A cell that is shown, or what it is drawn with.
+    Cells,
+
+    /// Whether a row goes on in the next one.
+    Flags,
+
+    /// The cursor, or whether it is hidden.
+    Cursor,
+
+    /// What is drawn with.
+    Attributes,
+
+    /// Calls of functions.
+    Calls,
+
+    /// The page that isn't drawn on, or scrollback.
+    Rest,
+}
+
+impl fmt::Display for Part {
+    fn fmt<W: fmt::Write>(&self, f: &mut fmt::Formatter<W>) -> fmt::Result {
+        f.write_str(match self {
+            Part::Cells => "cells",
+            Part::Flags => "flags",
+            Part::Cursor => "cursor",
+            Part::Attributes => "attributes",
+            Part::Calls => "calls",
+            Part::Rest => "main page or scrollback",
+        })
+    }
+}
+
+/// What two screens of one size show differently.
+pub fn differing(one: &Screen, other: &Screen) -> Option<Part> {
+    let rows = one.size().0.get();
+    if !have_same_cells(one, other, rows) {
+        Some(Part::Cells)
+    } else if !have_same_flags(one, other) {
+        Some(Part::Flags)
+    } else if cursor(one) != cursor(other) {
+        Some(Part::Cursor)
+    } else if attributes(one) != attributes(other) {
+        Some(Part::Attributes)
+    } else {
+        None
+    }
+}
+
+/// Whether the first rows of two screens have the same cells.
+pub fn have_same_cells(one: &Screen, other: &Screen, rows: u16) -> bool {
+    let (_rows, cols) = one.size();
+    for row in 0..rows {
+        for col in 0..cols.get() {
+            if one.cell(row, col) != other.cell(row, col) {
+                return false;
+            }
+        }
+    }
+    true
+}
+
+/// Whether the rows of two screens go on alike.
+pub fn have_same_flags(one: &Screen, other: &Screen) -> bool {
+    let (rows, _cols) = one.size();
+    for row in 0..rows.get() {
+        if one.row_wrapped(row) != other.row_wrapped(row) {
+            return false;
+        }
+    }
+    true
+}
+
+fn cursor(screen: &Screen) -> ((u16, u16), bool) {
+    (screen.cursor_position(), screen.hide_cursor())
+}
+
+fn attributes(screen: &Screen) -> (Color, Color, [bool; 5]) {
+    let switches = [
+        screen.bold(),
+        screen.dim(),
+        screen.italic(),
+        screen.underline(),
+        screen.inverse(),
+    ];
+    (screen.fgcolor(), screen.bgcolor(), switches)
+}

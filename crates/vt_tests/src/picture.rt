@@ -1,0 +1,71 @@
+//! What two screens show, compared.
+
+use vt100::{Color, Screen};
+
+/// What two screens of one size may have in common.
+#[derive(Clone, Copy, PartialEq, Eq, Debug)]
+pub(crate) enum Part {
+    /// The cells, with what each is drawn with.
+    Cells,
+
+    /// Which rows go on in the next one.
+    Flags,
+
+    /// The cursor, and whether it is hidden.
+    Cursor,
+
+    /// What is drawn with.
+    Attributes,
+}
+
+/// All that is shown.
+pub(crate) const PARTS: [Part; 4] = [Part::Cells, Part::Flags, Part::Cursor, Part::Attributes];
+
+impl Part {
+    /// Whether two screens of one size have this in common.
+    pub(crate) fn is_same(self, one: &Screen, other: &Screen) -> bool {
+        match self {
+            Part::Cells => have_same_cells(one, other, one.size().0.get()),
+            Part::Flags => have_same_flags(one, other),
+            Part::Cursor => {
+                one.cursor_position() == other.cursor_position()
+                    && one.hide_cursor() == other.hide_cursor()
+            }
+            Part::Attributes => attributes(one) == attributes(other),
+        }
+    }
+}
+
+/// Whether the first rows of two screens have the same cells.
+pub(crate) fn have_same_cells(one: &Screen, other: &Screen, rows: u16) -> bool {
+    let (_rows, cols) = one.size();
+    for row in 0..rows {
+        for col in 0..cols.get() {
+            if one.cell(row, col) != other.cell(row, col) {
+                return false;
+            }
+        }
+    }
+    true
+}
+
+fn have_same_flags(one: &Screen, other: &Screen) -> bool {
+    let (rows, _cols) = one.size();
+    for row in 0..rows.get() {
+        if one.row_wrapped(row) != other.row_wrapped(row) {
+            return false;
+        }
+    }
+    true
+}
+
+fn attributes(screen: &Screen) -> (Color, Color, [bool; 5]) {
+    let switches = [
+        screen.bold(),
+        screen.dim(),
+        screen.italic(),
+        screen.underline(),
+        screen.inverse(),
+    ];
+    (screen.fgcolor(), screen.bgcolor(), switches)
+}

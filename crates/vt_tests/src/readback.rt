@@ -1,0 +1,169 @@
+//! Texts of screens, read by a terminal that shows something else.
+
+use crate::picture::{PARTS, Part, have_same_cells};
+use crate::seen::read_keeping;
+use crate::steps::{Pieces, feed};
+use std::alloc::Global;
+use std::test::Fail;
+use vt_notes::Notes;
+use vt100::{Error, Parser, Screen};
+
+/// Makes a terminal draw wide glyphs in colour on all of it, keep rows in scrollback, hide its cursor
+/// and draw with other attributes than the default ones. None of its modes tells in a text.
+const BUSY: &[u8] = b"\x1b[7;32mfgh\xe4\xb8\xadij\x1b[2S\x1b[1mklm\xe4\xb8\xadnopqr\x1b[?25l";
+
+/// How a text is read here: whole, and byte by byte.
+const READ: [Pieces; 2] = [Pieces::Two(usize::MAX), Pieces::Single];
+
+/// A text of a screen.
+#[derive(Clone, Copy, Debug)]
+pub(crate) enum Asked {
+    /// `contents_formatted`.
+    Redraw,
+
+    /// `cursor_state_formatted`.
+    Cursor,
+
+    /// `attributes_formatted`.
+    Attributes,
+}
+
+impl Asked {
+    /// This text of a screen.
+    pub(crate) fn text(self, screen: &Screen) -> Result<String, Error> {
+        match self {
+            Asked::Redraw => screen.contents_formatted(),
+            Asked::Cursor => screen.cursor_state_formatted(),
+            Asked::Attributes => screen.attributes_formatted(),
+        }
+    }
+
+    /// Fails where a terminal that reads this text of a screen doesn't take over from it what the text
+    /// is for, or changes in something else, or calls a function.
+    pub(crate) fn expect_read(self, alloc: Global, screen: &Screen) -> Result<(), Fail> {
+        let text = self.text(screen)?;
+        let before = self.read_before(alloc, screen)?;
+        for pieces in &READ {
+            let bytes = (before.as_bytes(), text.as_bytes());
+            expect_taken(alloc, screen, bytes, *pieces, self.taken())?;
+        }
+        Ok(())
+    }
+
+    // What a terminal reads before: where only the cursor is asked for, cells and flags.
+    fn read_before(self, alloc: Global, screen: &Screen) -> Result<String, Error> {
+        match self {
+            Asked::Cursor => {
+                let mut text = screen.contents_formatted()?;
+                text.push_str("\x1b[m\x1b[?25l")?;
+                Ok(text)
+            }
+            Asked::Redraw | Asked::Attributes => Ok(String::new(alloc)),
+        }
+    }
+
+    // What a terminal has in common with the screen then; all else is as before.
+    fn taken(self) -> &'static [Part] {
+        match self {
+            Asked::Redraw => &PARTS,
+            Asked::Cursor => &[Part::Cells, Part::Flags, Part::Cursor],
+            Asked::Attributes => &[Part::Attributes],
+        }
+    }
+}
+
+/// The difference of two screens; fails where they aren't of one size.
+pub(crate) fn difference(screen: &Screen, prev: &Screen) -> Result<String, Fail> {
+    let (rows, cols) = screen.size();
+    let (other_rows, other_cols) = prev.size();
+    if rows.get() != other_rows.get() || cols.get() != other_cols.get() {
+        return Err(Fail::new("screens of two sizes"));
+    }
+    Ok(screen.contents_diff(prev)?)
+}
+
+/// Fails where a terminal that shows what `prev` shows doesn't show what `screen` shows, once it has
+/// read this difference, or changes in something else, or calls a function.
+pub(crate) fn expect_difference_read(
+    alloc: Global,
+    screen: &Screen,
+    prev: &Screen,
+    text: &str,
+) -> Result<(), Fail> {
+    let before = prev.contents_formatted()?;
+    for pieces in &READ {
+        let bytes = (before.as_bytes(), text.as_bytes());
+        expect_taken(alloc, screen, bytes, *pieces, &PARTS)?;
+    }
+    Ok(())
+}
+
+// Has a busy terminal read a text and then, in pieces, another one, and looks at it.
+fn expect_taken(
+    alloc: Global,
+    screen: &Screen,
+    (before, text): (&[u8], &[u8]),
+    pieces: Pieces,
+    parts: &[Part],
+) -> Result<(), Fail> {
+    let (rows, cols) = screen.size();
+    let mut reader = read_keeping(alloc, (rows.get(), cols.get()), 100, &[BUSY, before])?;
+    expect_reads(&mut reader, text, pieces, parts, screen)
+}
+
+fn expect_reads(
+    reader: &mut Parser<Notes>,
+    text: &[u8],
+    pieces: Pieces,
+    parts: &[Part],
+    screen: &Screen,
+) -> Result<(), Fail> {
+    let calls = reader.callbacks().calls().len();
+    let mut before = reader.screen().clone()?;
+    feed(reader, text, pieces)?;
+    if reader.callbacks().calls().len() != calls {
+        return Err(Fail::new(format_args!("{} calls a function", text.escape_ascii())));
+    }
+    expect_parts(reader.screen(), screen, &before, parts, text)?;
+    expect_same_scrollback(reader.screen_mut(), &mut before, text)
+}
+
+// Fails where a terminal differs from the screen in one of these parts, or in another one from what it
+// was before.
+fn expect_parts(
+    reader: &Screen,
+    screen: &Screen,
+    before: &Screen,
+    parts: &[Part],
+    text: &[u8],
+) -> Result<(), Fail> {
+    for part in &PARTS {
+        let wanted = if parts.contains(part) { screen } else { before };
+        if !part.is_same(reader, wanted) {
+            return Err(Fail::new(format_args!("{}: other {part:?}", text.escape_ascii())));
+        }
+    }
+    Ok(())
+}
+
+// Fails where a terminal's scrollback isn't what it was before.
+fn expect_same_scrollback(
+    reader: &mut Screen,
+    before: &mut Screen,
+    text: &[u8],
+) -> Result<(), Fail> {
+    let kept = reader.scrollback_len();
+    let was_in_view = reader.scrollback();
+    reader.set_scrollback(kept)?;
+    before.set_scrollback(kept)?;
+    let rows = u16::try_from(kept)
+        .unwrap_or(u16::MAX)
+        .min(reader.size().0.get());
+    if kept != before.scrollback_len()
+        || was_in_view != 0
+        || !have_same_cells(reader, before, rows)
+    {
+        return Err(Fail::new(format_args!("{}: other scrollback", text.escape_ascii())));
+    }
+    Ok(())
+}
