@@ -12,8 +12,8 @@ mod step;
 mod tally;
 mod users;
 
-use pair::Pair;
-use scenes::{ACTS, SCENES, Scene};
+use pair::{Act, Pair};
+use scenes::{ACTS, SCENES, Scene, TEXTS};
 use shown::Shown;
 use std::alloc::Global;
 use std::io;
@@ -33,11 +33,12 @@ fn main(rt: HostRuntime) -> io::Result<()> {
     for scene in &SCENES {
         run(&rt, scene)?;
     }
-    run_pair(&rt)?;
+    run_pair(&rt, "pages, sizes and a copy", &ACTS)?;
     users::run_default(&rt)?;
     users::run_writer(&rt)?;
     users::run_notes(&rt)?;
-    users::run_show(&rt)
+    users::run_show(&rt)?;
+    run_pair(&rt, "texts of two screens", &TEXTS)
 }
 
 /// Makes a growth for each byte of standard input, and gives it back; false if one is refused.
@@ -75,10 +76,10 @@ fn make_steps<R: AllocGlobal + Print>(
 }
 
 /// Makes two parsers of two rows, each with room for one row in scrollback, and then their calls.
-fn run_pair<R: AllocGlobal + Print>(rt: &R) -> io::Result<()> {
-    println!(rt; "-- pages, sizes and a copy")?;
+fn run_pair<R: AllocGlobal + Print>(rt: &R, name: &str, acts: &[Act]) -> io::Result<()> {
+    println!(rt; "-- {name}")?;
     match new_pair(rt.alloc()) {
-        Ok(mut pair) => make_acts(rt, &mut pair),
+        Ok(mut pair) => make_acts(rt, &mut pair, acts),
         Err(name) => println!(rt; "{name} new: refused"),
     }
 }
@@ -94,8 +95,8 @@ fn new_pair(alloc: Global) -> Result<Pair, &'static str> {
     }
 }
 
-fn make_acts<R: AllocGlobal + Print>(rt: &R, pair: &mut Pair) -> io::Result<()> {
-    for act in &ACTS {
+fn make_acts<R: AllocGlobal + Print>(rt: &R, pair: &mut Pair, acts: &[Act]) -> io::Result<()> {
+    for act in acts {
         let answer = pair.make(*act);
         println!(rt; "{act}: {answer}; {}", Shown(pair.changed_by(*act)))?;
     }

@@ -1,6 +1,6 @@
 //! Two parsers, and what is done with them.
 
-use crate::step::{Answer, Step};
+use crate::step::{Answer, Step, difference};
 use crate::tally::Tally;
 use std::{fmt, mem};
 use vt100::Parser;
@@ -26,6 +26,9 @@ pub enum Act {
 
     /// The first one gets a `clone` of the screen of the second one.
     Copy,
+
+    /// `contents_diff` of the screen of the first one from that of the second one.
+    Difference,
 }
 
 impl Pair {
@@ -45,13 +48,14 @@ impl Pair {
                 }
                 Err(error) => Answer::Refused(error),
             },
+            Act::Difference => difference(self.first.screen(), self.second.screen()),
         }
     }
 
     /// The parser that this changes; of two the second one.
     pub fn changed_by(&self, act: Act) -> &Parser<Tally> {
         match act {
-            Act::First(_) | Act::Copy => &self.first,
+            Act::First(_) | Act::Copy | Act::Difference => &self.first,
             Act::Second(_) | Act::Exchange => &self.second,
         }
     }
@@ -64,6 +68,7 @@ impl fmt::Display for Act {
             Act::Second(step) => write!(f, "second {step}"),
             Act::Exchange => write!(f, "exchange"),
             Act::Copy => write!(f, "first gets a copy"),
+            Act::Difference => write!(f, "first differs from second"),
         }
     }
 }

@@ -126,3 +126,23 @@ pub const ACTS: [Act; 12] = [
     Act::First(Step::Process(b"\x1b[?47l")),
     Act::Copy,
 ];
+
+/// The texts of two screens, each asked for twice.
+///
+/// The second one shows a row of scrollback. The first one has a row that goes on in the next one, wide
+/// glyphs, a pending wrap and attributes.
+pub const TEXTS: [Act; 13] = [
+    Act::Second(Step::Process(b"a\r\nb\r\n\xe4\xb8\xad")),
+    Act::Second(Step::SetScrollback(1)),
+    Act::First(Step::Process(b"\x1b[1;31mab\xe4\xb8\xadxy\xe4\xb8\xad")),
+    Act::First(Step::Redraw),
+    Act::First(Step::Redraw),
+    Act::First(Step::Cursor),
+    Act::First(Step::Cursor),
+    Act::First(Step::Attributes),
+    Act::First(Step::Attributes),
+    Act::Difference,
+    Act::Difference,
+    Act::Second(Step::Redraw),
+    Act::Second(Step::Redraw),
+];

@@ -3,7 +3,7 @@
 use crate::tally::Tally;
 use std::fmt;
 use std::num::NonZeroU16;
-use vt100::{Error, Parser};
+use vt100::{Error, Parser, Screen};
 
 /// A call.
 #[derive(Clone, Copy)]
@@ -13,6 +13,12 @@ pub enum Step {
 
     /// `contents_formatted` of the screen.
     Redraw,
+
+    /// `cursor_state_formatted` of the screen.
+    Cursor,
+
+    /// `attributes_formatted` of the screen.
+    Attributes,
 
     /// `set_scrollback` of the screen to this many rows.
     SetScrollback(usize),
@@ -36,10 +42,9 @@ impl Step {
     pub fn make(self, parser: &mut Parser<Tally>) -> Answer {
         match self {
             Step::Process(bytes) => done(parser.process(bytes)),
-            Step::Redraw => match parser.screen().contents_formatted() {
-                Ok(text) => Answer::Text(text),
-                Err(error) => Answer::Refused(error),
-            },
+            Step::Redraw => told(parser.screen().contents_formatted()),
+            Step::Cursor => told(parser.screen().cursor_state_formatted()),
+            Step::Attributes => told(parser.screen().attributes_formatted()),
             Step::SetScrollback(rows) => done(parser.screen_mut().set_scrollback(rows)),
             Step::SetSize(rows, cols) => {
                 let (rows, cols) = size((rows, cols));
@@ -61,11 +66,31 @@ fn done(made: Result<(), Error>) -> Answer {
     }
 }
 
+/// The answer of a call with a text.
+fn told(made: Result<String, Error>) -> Answer {
+    match made {
+        Ok(text) => Answer::Text(text),
+        Err(error) => Answer::Refused(error),
+    }
+}
+
+/// The answer of `contents_diff`, for screens of one size.
+pub fn difference(screen: &Screen, prev: &Screen) -> Answer {
+    let (rows, cols) = screen.size();
+    let (other_rows, other_cols) = prev.size();
+    if rows.get() != other_rows.get() || cols.get() != other_cols.get() {
+        return Answer::TwoSizes;
+    }
+    told(screen.contents_diff(prev))
+}
+
 impl fmt::Display for Step {
     fn fmt<W: fmt::Write>(&self, f: &mut fmt::Formatter<W>) -> fmt::Result {
         match self {
             Step::Process(bytes) => write!(f, "process {}", bytes.escape_ascii()),
             Step::Redraw => write!(f, "redraw"),
+            Step::Cursor => write!(f, "cursor"),
+            Step::Attributes => write!(f, "attributes"),
             Step::SetScrollback(rows) => write!(f, "set_scrollback {rows}"),
             Step::SetSize(rows, cols) => write!(f, "set_size {rows} {cols}"),
             Step::SetScreenSize(rows, cols) => write!(f, "screen set_size {rows} {cols}"),
@@ -84,6 +109,9 @@ pub enum Answer {
 
     /// That memory was refused, now or before.
     Refused(Error),
+
+    /// Nothing, since two screens are of two sizes.
+    TwoSizes,
 }
 
 impl fmt::Display for Answer {
@@ -96,6 +124,7 @@ impl fmt::Display for Answer {
             }
             Answer::Refused(Error::OutOfMemory) => write!(f, "refused"),
             Answer::Refused(Error::Failed) => write!(f, "failed"),
+            Answer::TwoSizes => write!(f, "two sizes"),
         }
     }
 }
