@@ -1,7 +1,7 @@
 //! Attributes that a cell is drawn with.
 
 ghost use Rattle.std.specs.Prelude.{◌≡◌};
-ghost use Rattle.vt_cells.specs.Attrs.{default_attrs, is_bold, is_dim};
+ghost use Rattle.vt_cells.specs.Attrs.{default_attrs, is_bold, is_dim, same_attrs};
 
 use crate::color::Color;
 
@@ -54,6 +54,19 @@ impl Attrs {
             underline: false,
             inverse: false,
         }
+    }
+
+    /// Whether both are the same in all six parts.
+    #[inline]
+    pub fn is_same(&self, other: &Attrs) -> bool
+        ensures { result ≡ same_attrs self.now other.now }
+    {
+        self.fgcolor.is_same(&other.fgcolor)
+            & self.bgcolor.is_same(&other.bgcolor)
+            & (self.intensity == other.intensity)
+            & (self.italic == other.italic)
+            & (self.underline == other.underline)
+            & (self.inverse == other.inverse)
     }
 
     /// Whether characters are drawn bold.

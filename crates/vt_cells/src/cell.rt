@@ -1,6 +1,6 @@
 //! One cell of a screen.
 
-ghost use Rattle.std.specs.Prelude.{◌≡◌, ◌≢◌, ◌<◌, ◌≤◌, ◌++◌, ◌+◌, ◌%◌, ◌↔◌, [], ◌∷◌, length, take, false, Some, if◌then◌else◌, IsTrue, encode_utf8};
+ghost use Rattle.std.specs.Prelude.{◌≡◌, ◌≢◌, ◌<◌, ◌≤◌, ◌++◌, ◌+◌, ◌%◌, ◌↔◌, [], ◌∷◌, length, take, false, Some, if◌then◌else◌, IsTrue, encode_utf8, bytes_eq};
 ghost use Rattle.vt_cells.specs.Attrs.{default_attrs, is_bold, is_dim};
 ghost use Rattle.vt_cells.specs.Cell.{blank, glyph, right_half, cell_of, is_wide, is_blank, is_glyph, is_right_half, text_of, attrs_of, same_cell, marked, widened, redrawn, IsCell};
 ghost use Rattle.vt_cells.specs.CellKeeping.{spaced};
@@ -260,10 +260,49 @@ impl Cell {
     fn is_same(&self, other: &Cell) -> bool
         ensures { result ≡ same_cell self.now other.now }
     {
-        let alike = (self.attrs() == other.attrs())
+        if self.text_len() != other.text_len() {
+            return false;
+        }
+        let alike = self.lend_attrs().is_same(other.lend_attrs())
             & (self.is_wide() == other.is_wide())
             & (self.is_wide_continuation() == other.is_wide_continuation());
-        alike && self.contents() == other.contents()
+        alike && self.has_text_of(other)
+    }
+
+    /// Whether both have the same text.
+    #[inline]
+    fn has_text_of(&self, other: &Cell) -> bool
+        ensures { result ≡ bytes_eq (text_of self.now) (text_of other.now) }
+    {
+        if self.text_len() == 0 {
+            return other.text_len() == 0;
+        }
+        self.has_bytes_of(other)
+    }
+
+    /// The same test, of each byte.
+    #[inline(never)]
+    fn has_bytes_of(&self, other: &Cell) -> bool
+        ensures { result ≡ bytes_eq (text_of self.now) (text_of other.now) }
+    {
+        self.contents() == other.contents()
+    }
+
+    /// The attributes where they lie.
+    #[inline]
+    fn lend_attrs(&self) -> &Attrs
+        ensures { result.now ≡ attrs_of self.now }
+    {
+        &self.attrs
+    }
+
+    /// How many bytes the text has.
+    #[inline]
+    fn text_len(&self) -> u8
+        ensures value { result ≡ length (text_of self.now) }
+        ensures sound { IsCell self.now }
+    {
+        self.len
     }
 
     /// The attributes; default ones for a right half.

@@ -1,13 +1,15 @@
 -- Steps of the writer of a redraw.
-use Rattle.std.proofs.Common.{◌≡◌, sym, true, false, List, [], ◌∷◌, refl, append-nil}
+use Rattle.std.proofs.Common.{◌≡◌, ℕ, sym, ap, arith, eqb-true, true, false, List, [], ◌∷◌, refl, append-nil}
+use Rattle.std.proofs.lemmas.Bool.Decides.{nat_tests}
 use Rattle.std.proofs.lemmas.Bool.{cond_both}
-use Rattle.vt_cells.proofs.Same.{attrs_eq-same}
+use Rattle.vt_cells.proofs.Same.{attrs_eq-same, two_parts}
 use Rattle.vt_cells.specs.Attrs.{same_attrs}
 use Rattle.vt_cells.specs.Cell.{CellValue, blank, glyph, right_half, is_blank, attrs_of}
 use Rattle.vt_cells.specs.CellEq.{attrs_eq}
-use Rattle.vt_cells.specs.Op.{Op, ChangeAttrs, bytes_of_all, change_text}
+use Rattle.vt_cells.specs.Op.{Op, ChangeAttrs, bytes_of_all, change_text, moving}
 use Rattle.vt_cells.specs.declared.attrs.Attrs.{Attrs}
-use Rattle.vt_redraw.specs.Script.{changing, is_blank_of}
+use Rattle.vt_redraw.specs.Script.{changing, going, is_at, is_blank_of}
+use Rattle.vt_redraw.specs.declared.pen.Pen.{Pen}
 
 no_change : (was new : Attrs) → same_attrs was new ≡ true → [] ≡ change_text was new
 unfolding change_text
@@ -22,6 +24,21 @@ changing_bytes was new =
 
 pub change_written : (was new : Attrs) → change_text was new ≡ bytes_of_all (changing was new)
 change_written was new = sym (changing_bytes was new)
+
+-- attributes that are the same need no change
+pub change_none : (was new : Attrs) → same_attrs was new ≡ true → bytes_of_all (changing was new) ≡ []
+unfolding changing
+change_none was new t = rw t refl
+
+here : (r c row col : ℕ) → r ≡ row → c ≡ col → moving r c row col ≡ []
+here r c row col e f = grind (arith, nat_tests)
+
+-- and where the pen is already no move
+pub going_none : (pen : Pen) (row col : ℕ) → is_at pen row col ≡ true → bytes_of_all (going pen row col) ≡ []
+unfolding going
+going_none pen row col t =
+    let (rows, cols) = two_parts _ _ t in
+    ap bytes_of_all (here pen.row pen.col row col (eqb-true pen.row row rows) (eqb-true pen.col col cols))
 
 -- ---- the test for a blank in given attributes
 

@@ -21,6 +21,7 @@ pub fn columns(cell: &Cell) -> u16
 }
 
 /// Writes a glyph at a position; where the pen is then is left to the caller.
+#[inline]
 pub fn print_at<S: Sink>(sink: &mut S, pen: &mut Pen, pos: Pos, cell: &Cell) -> Result<(), S::Error>
     ensures text { OnOk result (S.text sink.new ≡ S.text sink.old ++ bytes_of_all (doing pen.old pos.row pos.col (attrs_of cell.now) (Print (text_of cell.now)))) }
     ensures pen { OnOk result (pen.new ≡ pen_at pos.row pos.col (attrs_of cell.now)) }
@@ -31,6 +32,7 @@ pub fn print_at<S: Sink>(sink: &mut S, pen: &mut Pen, pos: Pos, cell: &Cell) -> 
 }
 
 /// Writes a glyph at a position; the pen ends up behind it.
+#[inline]
 fn write_glyph<S: Sink>(sink: &mut S, pen: &mut Pen, pos: Pos, cell: &Cell) -> Result<(), S::Error>
     requires { pos.col + columns (is_wide cell.now) < 65536 }
     ensures text { OnOk result (S.text sink.new ≡ S.text sink.old ++ bytes_of_all (doing pen.old pos.row pos.col (attrs_of cell.now) (Print (text_of cell.now)))) }
@@ -108,7 +110,7 @@ fn stands(cells: &PictureRow<'_>, over: &PictureRow<'_>, col: u16) -> bool
     ensures { result ≡ (is_right_half (at cells.now.cells col) || same_cell (at cells.now.cells col) (at over.now.cells col)) }
 {
     let cell = cells.cell(col);
-    cell.is_wide_continuation() || cell == over.cell(col)
+    cell.is_wide_continuation() || *cell == *over.cell(col)
 }
 
 /// Writes the cell at a position, a glyph or a run of blanks that begins there.

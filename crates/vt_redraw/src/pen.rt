@@ -42,8 +42,21 @@ impl Pen {
     }
 
     /// Moves to a position, and writes the move.
-    #[tactic(auto, unfolding(crate::specs::Script::going))]
+    #[inline]
     pub fn move_to<S: Sink>(&mut self, sink: &mut S, to: Pos) -> Result<(), S::Error>
+        ensures text { OnOk result (S.text sink.new ≡ S.text sink.old ++ bytes_of_all (going self.old to.row to.col)) }
+        ensures pen { OnOk result (self.new ≡ pen_at to.row to.col self.old.attrs) }
+    {
+        if self.is_at(to.row, to.col) {
+            return Ok(());
+        }
+        self.jump(sink, to)
+    }
+
+    /// Moves to another position, and writes the move.
+    #[inline(never)]
+    #[tactic(auto, unfolding(crate::specs::Script::going))]
+    fn jump<S: Sink>(&mut self, sink: &mut S, to: Pos) -> Result<(), S::Error>
         ensures text { OnOk result (S.text sink.new ≡ S.text sink.old ++ bytes_of_all (going self.old to.row to.col)) }
         ensures pen { OnOk result (self.new ≡ pen_at to.row to.col self.old.attrs) }
     {
@@ -58,10 +71,14 @@ impl Pen {
     }
 
     /// Takes other attributes, and writes the change.
+    #[inline]
     pub fn change_attrs<S: Sink>(&mut self, sink: &mut S, new: Attrs) -> Result<(), S::Error>
         ensures text { OnOk result (S.text sink.new ≡ S.text sink.old ++ bytes_of_all (changing self.old.attrs new)) }
         ensures pen { OnOk result (self.new ≡ pen_at self.old.row self.old.col new) }
     {
+        if self.attrs.is_same(&new) {
+            return Ok(());
+        }
         write_change(sink, self.attrs, new)?;
         self.attrs = new;
         Ok(())
@@ -69,6 +86,7 @@ impl Pen {
 }
 
 /// Writes a change of attributes.
+#[inline(never)]
 #[tactic(auto, using(crate::proofs::Writing::change_written))]
 pub fn write_change<S: Sink>(sink: &mut S, was: Attrs, new: Attrs) -> Result<(), S::Error>
     ensures { OnOk result (S.text sink.new ≡ S.text sink.old ++ bytes_of_all (changing was new)) }
