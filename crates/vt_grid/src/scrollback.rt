@@ -57,9 +57,7 @@ impl Scrollback {
         }
     }
 
-    /// A copy of the scrollback.
-    ///
-    /// Fails where its memory is refused.
+    /// A copy of the scrollback. Fails where its memory is refused.
     pub fn try_clone(&self) -> Result<Scrollback, Error>
         ensures ok { IfOk result (λ above. above ≡ self.now) }
         ensures memory { IfErr result (λ error. error ≡ Error.OutOfMemory) }
@@ -271,8 +269,7 @@ impl Scrollback {
         self.offset = 0;
     }
 
-    /// Gives up and reports all rows, older first, and forgets how many there
-    /// were.
+    /// Gives up and reports all rows, older first, and forgets their number.
     pub fn clear<L: Leaving>(&mut self, leaving: &mut L)
         ensures rows { self.new ≡ cleared self.old }
         ensures reported { FoldsTo L.leaves leaving.old self.old.rows leaving.new }
