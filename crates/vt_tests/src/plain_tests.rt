@@ -70,12 +70,19 @@ const RANGES: [(&str, (u16, u16), (u16, u16), &str); 8] = [
 fn contents_between(rt: HostRuntime) -> Result<(), Fail> {
     for (text, start, end, wanted) in &RANGES {
         let parser = read_keeping(rt.alloc(), (2, 4), 0, &[text.as_bytes()])?;
-        let between = parser
-            .screen()
-            .contents_between(start.0, start.1, end.0, end.1)?;
+        let between = range(parser.screen(), *start, *end)?;
         assert_eq!(rt; between.as_str(), *wanted);
     }
     Ok(())
+}
+
+// The text of a range of the screen; fails where it begins past the columns.
+fn range(screen: &Screen, start: (u16, u16), end: (u16, u16)) -> Result<String, Fail> {
+    let (_, cols) = screen.size();
+    if start.0 < end.0 && start.1 > cols.get() {
+        return Err(Fail::new("a range that begins past the columns"));
+    }
+    Ok(screen.contents_between(start.0, start.1, end.0, end.1)?)
 }
 
 // Two rows of scrollback with more columns than the screen, of which the newer one is in view.
@@ -88,8 +95,8 @@ fn longer(alloc: Global) -> Result<Parser<Notes>, Fail> {
 fn longer_rows_of_scrollback(rt: HostRuntime) -> Result<(), Fail> {
     let parser = longer(rt.alloc())?;
     let screen = parser.screen();
-    assert_eq!(rt; screen.contents_between(0, 2, 1, 9)?.as_str(), "c\nghi");
-    assert_eq!(rt; screen.contents_between(0, 2, 0, 9)?.as_str(), "cdef");
+    assert_eq!(rt; range(screen, (0, 2), (1, 9))?.as_str(), "c\nghi");
+    assert_eq!(rt; range(screen, (0, 2), (0, 9))?.as_str(), "cdef");
     expect_rows(&rt, screen, 0, 9, &["abcdef", "ghi"])
 }
 
