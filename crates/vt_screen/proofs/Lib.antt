@@ -9,6 +9,7 @@ pub mod Chains
 pub mod Viewing
 pub mod Attributes
 pub mod CursorRead
+pub mod InputRead
 pub mod Colored
 pub mod ColoredMoves
 pub mod Sizes

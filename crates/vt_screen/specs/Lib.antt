@@ -15,4 +15,5 @@ pub mod Telling
 pub mod Contents
 pub mod RowItems
 pub mod InputTexts
+pub mod States
 pub mod Capture
