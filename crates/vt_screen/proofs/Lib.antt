@@ -10,6 +10,7 @@ pub mod Viewing
 pub mod Attributes
 pub mod CursorRead
 pub mod InputRead
+pub mod StateRead
 pub mod Colored
 pub mod ColoredMoves
 pub mod Sizes

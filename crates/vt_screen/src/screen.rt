@@ -13,6 +13,7 @@ mod pages;
 mod redraw;
 mod resizing;
 mod scrolling;
+mod state;
 
 use crate::modes::Modes;
 use crate::sgr::Setting;
