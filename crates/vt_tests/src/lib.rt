@@ -27,6 +27,8 @@ mod scrolling_tests;
 #[cfg(test)]
 mod seen;
 #[cfg(test)]
+mod state_tests;
+#[cfg(test)]
 mod steps;
 #[cfg(test)]
 mod tests;
