@@ -85,15 +85,21 @@ pub(crate) fn expect_at_each_cut(
     expect(alloc, change, example, Pieces::Single)
 }
 
-fn expect(
+fn expect(alloc: Global, change: Change, example: &Example, pieces: Pieces) -> Result<(), Fail> {
+    let (size, capacity, prev, _steps, _wanted) = example;
+    let parser = taken(alloc, *size, *capacity, prev, pieces)?;
+    expect_from(alloc, change, parser.screen(), example, pieces)
+}
+
+fn expect_from(
     alloc: Global,
     change: Change,
-    (size, capacity, prev, steps, wanted): &Example,
+    prev: &Screen,
+    (size, capacity, _prev, steps, wanted): &Example,
     pieces: Pieces,
 ) -> Result<(), Fail> {
-    let prev = taken(alloc, *size, *capacity, prev, pieces)?;
     let parser = taken(alloc, *size, *capacity, steps, pieces)?;
-    expect_change(alloc, change, prev.screen(), parser.screen(), wanted)
+    expect_change(alloc, change, prev, parser.screen(), wanted)
 }
 
 fn expect_change(
