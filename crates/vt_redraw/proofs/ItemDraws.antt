@@ -80,6 +80,14 @@ first_half (blank a ∷ xs) h = refl
 first_half (glyph text wide a ∷ xs) h = refl
 first_half (right_half ∷ xs) h = absurd h
 
+-- a whole row is a range that cuts nothing
+pub whole_cuts_none : (self : Picture) (r : ℕ) → IsPicture self → r < length self.rows → CutsNone 0 self.width (row_or self.width self.rows r).cells
+whole_cuts_none self r is low =
+    let row = is.rows r (blank_row default_attrs self.width) low in
+    let e = row.columns in
+    let cells = (row_or self.width self.rows r).cells in
+    (first_half cells (paired_of cells row.paired), past_half cells self.width (omega arith))
+
 -- ---- rows that do not go on stay so
 
 cells_off : (r c : ℕ) (pen : Pen) (k : ℕ) (xs ys : List CellValue) → (cells_written r c pen false k xs ys).flag ≡ false

@@ -92,6 +92,11 @@ pub fn heart_steady()
     ensures { (width : ℕ) → (attrs : Attrs) → 1 < width → IsSteadyCell width (glyph heart_text true attrs) }
 {}
 
+/// A whole row is a range that cuts no wide glyph.
+pub fn whole_cuts_none()
+    ensures { (self : Picture) → (r : ℕ) → IsPicture self → r < length self.rows → CutsNone 0 self.width (row_of_picture self r).cells }
+{}
+
 /// A row's item of a difference, drawn on a plain canvas over the row that it
 /// starts from, gives that row the cells of its range; besides only the row's
 /// flag, the cursor and the attributes may change.
