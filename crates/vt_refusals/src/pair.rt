@@ -1,6 +1,6 @@
 //! Two parsers, and what is done with them.
 
-use crate::step::{Answer, Step, difference};
+use crate::step::{Answer, Step, changed_rows, difference};
 use crate::tally::Tally;
 use std::{fmt, mem};
 use vt100::Parser;
@@ -29,6 +29,9 @@ pub enum Act {
 
     /// `contents_diff` of the screen of the first one from that of the second one.
     Difference,
+
+    /// `rows_diff` of the screen of the first one from that of the second one, over all columns.
+    ChangedRows,
 }
 
 impl Pair {
@@ -49,13 +52,14 @@ impl Pair {
                 Err(error) => Answer::Refused(error),
             },
             Act::Difference => difference(self.first.screen(), self.second.screen()),
+            Act::ChangedRows => changed_rows(self.first.screen(), self.second.screen()),
         }
     }
 
     /// The parser that this changes; of two the second one.
     pub fn changed_by(&self, act: Act) -> &Parser<Tally> {
         match act {
-            Act::First(_) | Act::Copy | Act::Difference => &self.first,
+            Act::First(_) | Act::Copy | Act::Difference | Act::ChangedRows => &self.first,
             Act::Second(_) | Act::Exchange => &self.second,
         }
     }
@@ -69,6 +73,7 @@ impl fmt::Display for Act {
             Act::Exchange => write!(f, "exchange"),
             Act::Copy => write!(f, "first gets a copy"),
             Act::Difference => write!(f, "first differs from second"),
+            Act::ChangedRows => write!(f, "rows of first differ from second"),
         }
     }
 }

@@ -20,6 +20,9 @@ pub enum Step {
     /// `attributes_formatted` of the screen.
     Attributes,
 
+    /// `rows_formatted` of the screen, over all columns: each item, and what comes behind them.
+    Rows,
+
     /// `set_scrollback` of the screen to this many rows.
     SetScrollback(usize),
 
@@ -45,6 +48,7 @@ impl Step {
             Step::Redraw => told(parser.screen().contents_formatted()),
             Step::Cursor => told(parser.screen().cursor_state_formatted()),
             Step::Attributes => told(parser.screen().attributes_formatted()),
+            Step::Rows => formatted_rows(parser.screen()),
             Step::SetScrollback(rows) => done(parser.screen_mut().set_scrollback(rows)),
             Step::SetSize(rows, cols) => {
                 let (rows, cols) = size((rows, cols));
@@ -84,6 +88,62 @@ pub fn difference(screen: &Screen, prev: &Screen) -> Answer {
     told(screen.contents_diff(prev))
 }
 
+/// The first items of `rows_formatted` over all columns.
+fn formatted_rows(screen: &Screen) -> Answer {
+    let (_rows, _cols) = screen.size();
+    let mut rows = screen.rows_formatted(0, u16::MAX);
+    Answer::Rows(Items {
+        first: rows.next(),
+        second: rows.next(),
+        behind: rows.next(),
+    })
+}
+
+/// The first items of `rows_diff` over all columns, for screens of one size.
+pub fn changed_rows(screen: &Screen, prev: &Screen) -> Answer {
+    let (rows, cols) = screen.size();
+    let (other_rows, other_cols) = prev.size();
+    if rows.get() != other_rows.get() || cols.get() != other_cols.get() {
+        return Answer::TwoSizes;
+    }
+    let mut rows = screen.rows_diff(prev, 0, u16::MAX);
+    Answer::Rows(Items {
+        first: rows.next(),
+        second: rows.next(),
+        behind: rows.next(),
+    })
+}
+
+/// The items of two rows, and what comes behind them.
+#[derive(Drop)]
+pub struct Items {
+    first: Option<Result<String, Error>>,
+    second: Option<Result<String, Error>>,
+    behind: Option<Result<String, Error>>,
+}
+
+impl fmt::Display for Items {
+    fn fmt<W: fmt::Write>(&self, f: &mut fmt::Formatter<W>) -> fmt::Result {
+        write_item(f, &self.first)?;
+        write!(f, ", ")?;
+        write_item(f, &self.second)?;
+        write!(f, ", ")?;
+        write_item(f, &self.behind)
+    }
+}
+
+/// Writes an item, or that there is none.
+fn write_item<W: fmt::Write>(
+    f: &mut fmt::Formatter<W>,
+    item: &Option<Result<String, Error>>,
+) -> fmt::Result {
+    match item {
+        None => write!(f, "none"),
+        Some(Ok(text)) => write!(f, "{} bytes {}", text.len(), text.as_bytes().escape_ascii()),
+        Some(Err(_)) => write!(f, "refused"),
+    }
+}
+
 impl fmt::Display for Step {
     fn fmt<W: fmt::Write>(&self, f: &mut fmt::Formatter<W>) -> fmt::Result {
         match self {
@@ -91,6 +151,7 @@ impl fmt::Display for Step {
             Step::Redraw => write!(f, "redraw"),
             Step::Cursor => write!(f, "cursor"),
             Step::Attributes => write!(f, "attributes"),
+            Step::Rows => write!(f, "rows"),
             Step::SetScrollback(rows) => write!(f, "set_scrollback {rows}"),
             Step::SetSize(rows, cols) => write!(f, "set_size {rows} {cols}"),
             Step::SetScreenSize(rows, cols) => write!(f, "screen set_size {rows} {cols}"),
@@ -107,6 +168,9 @@ pub enum Answer {
     /// A text.
     Text(String),
 
+    /// The items of an iterator over rows.
+    Rows(Items),
+
     /// That memory was refused, now or before.
     Refused(Error),
 
@@ -122,6 +186,7 @@ impl fmt::Display for Answer {
                 let bytes = text.as_bytes();
                 write!(f, "ok, {} bytes {}", bytes.len(), bytes.escape_ascii())
             }
+            Answer::Rows(items) => write!(f, "{items}"),
             Answer::Refused(Error::OutOfMemory) => write!(f, "refused"),
             Answer::Refused(Error::Failed) => write!(f, "failed"),
             Answer::TwoSizes => write!(f, "two sizes"),
