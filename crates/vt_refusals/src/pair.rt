@@ -72,6 +72,7 @@ impl fmt::Display for Act {
             Act::Differ(Change::Picture) => write!(f, "first differs from second"),
             Act::Differ(Change::State) => write!(f, "state of first differs from second"),
             Act::Differ(Change::Modes) => write!(f, "modes of first differ from second"),
+            Act::Differ(Change::Rows) => write!(f, "rows of first differ from second"),
         }
     }
 }

@@ -174,3 +174,12 @@ pub const MORE_TEXTS: [Act; 20] = [
     Act::Second(Step::Capture),
     Act::Second(Step::Capture),
 ];
+
+/// The texts of the rows of two screens, each item in its turn: what comes behind a refused item is
+/// the next row's.
+pub const ROWS: [Act; 4] = [
+    Act::Second(Step::Process(b"ab\r\ncd")),
+    Act::First(Step::Process(b"\x1b[1;31mxy\r\nzw")),
+    Act::First(Step::Rows),
+    Act::Differ(Change::Rows),
+];

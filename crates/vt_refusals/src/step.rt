@@ -43,6 +43,9 @@ pub enum Step {
     /// `write_contents_formatted_basic` of all rows of the screen into a `String`.
     Capture,
 
+    /// `rows_formatted` of the screen, over all columns: each item, and what comes behind them.
+    Rows,
+
     /// `set_scrollback` of the screen to this many rows.
     SetScrollback(usize),
 
@@ -65,6 +68,7 @@ impl Step {
     pub fn make(self, alloc: Global, parser: &mut Parser<Tally>) -> Answer {
         match self {
             Step::Process(bytes) => done(parser.process(bytes)),
+            Step::Rows => formatted_rows(parser.screen()),
             Step::SetScrollback(rows) => done(parser.screen_mut().set_scrollback(rows)),
             Step::SetSize(rows, cols) => {
                 let (rows, cols) = size((rows, cols));
@@ -146,6 +150,9 @@ pub enum Change {
 
     /// `input_mode_diff`.
     Modes,
+
+    /// `rows_diff` over all columns: each item, and what comes behind them.
+    Rows,
 }
 
 impl Change {
@@ -160,7 +167,56 @@ impl Change {
             Change::Picture => told(screen.contents_diff(prev)),
             Change::State => told(screen.state_diff(prev)),
             Change::Modes => told(screen.input_mode_diff(prev)),
+            Change::Rows => {
+                let mut rows = screen.rows_diff(prev, 0, u16::MAX);
+                Answer::Rows(Items {
+                    first: rows.next(),
+                    second: rows.next(),
+                    behind: rows.next(),
+                })
+            }
         }
+    }
+}
+
+/// The first items of `rows_formatted` over all columns.
+fn formatted_rows(screen: &Screen) -> Answer {
+    let (_rows, _cols) = screen.size();
+    let mut rows = screen.rows_formatted(0, u16::MAX);
+    Answer::Rows(Items {
+        first: rows.next(),
+        second: rows.next(),
+        behind: rows.next(),
+    })
+}
+
+/// The items of two rows, and what comes behind them.
+#[derive(Drop)]
+pub struct Items {
+    first: Option<Result<String, Error>>,
+    second: Option<Result<String, Error>>,
+    behind: Option<Result<String, Error>>,
+}
+
+impl fmt::Display for Items {
+    fn fmt<W: fmt::Write>(&self, f: &mut fmt::Formatter<W>) -> fmt::Result {
+        write_item(f, &self.first)?;
+        write!(f, ", ")?;
+        write_item(f, &self.second)?;
+        write!(f, ", ")?;
+        write_item(f, &self.behind)
+    }
+}
+
+/// Writes an item, or that there is none.
+fn write_item<W: fmt::Write>(
+    f: &mut fmt::Formatter<W>,
+    item: &Option<Result<String, Error>>,
+) -> fmt::Result {
+    match item {
+        None => write!(f, "none"),
+        Some(Ok(text)) => write!(f, "{} bytes {}", text.len(), text.as_bytes().escape_ascii()),
+        Some(Err(_)) => write!(f, "refused"),
     }
 }
 
@@ -178,6 +234,7 @@ impl fmt::Display for Step {
             Step::Row(row) => write!(f, "row {row}"),
             Step::Basic => write!(f, "basic"),
             Step::Capture => write!(f, "capture"),
+            Step::Rows => write!(f, "rows"),
             Step::SetScrollback(rows) => write!(f, "set_scrollback {rows}"),
             Step::SetSize(rows, cols) => write!(f, "set_size {rows} {cols}"),
             Step::SetScreenSize(rows, cols) => write!(f, "screen set_size {rows} {cols}"),
@@ -193,6 +250,9 @@ pub enum Answer {
 
     /// A text.
     Text(String),
+
+    /// The items of an iterator over rows.
+    Rows(Items),
 
     /// That memory was refused, now or before.
     Refused(Error),
@@ -212,6 +272,7 @@ impl fmt::Display for Answer {
                 let bytes = text.as_bytes();
                 write!(f, "ok, {} bytes {}", bytes.len(), bytes.escape_ascii())
             }
+            Answer::Rows(items) => write!(f, "{items}"),
             Answer::Refused(Error::OutOfMemory) => write!(f, "refused"),
             Answer::Refused(Error::Failed) => write!(f, "failed"),
             Answer::TwoSizes => write!(f, "two sizes"),

@@ -22,6 +22,9 @@ mod Reporting
 mod Kept
 mod KeptMoves
 pub mod ContentTexts
+pub mod RowTexts
+pub mod RowItemsRead
+pub mod RowItemsTold
 pub mod Tops
 pub mod TouchedReads
 pub mod TouchedTexts

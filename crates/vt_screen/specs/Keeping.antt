@@ -1,5 +1,5 @@
 -- What the fields of a screen are together; for its model only.
-use Rattle.std.specs.Prelude.{◌≡◌, ◌≢◌, ℕ, Bool, true, [], Option, Some, None, IfSome, IsSome, option_map, not, if◌then◌else◌}
+use Rattle.std.specs.Prelude.{◌≡◌, ◌≢◌, ℕ, ◌≤◌, Bool, true, [], Option, Some, None, IfSome, IsSome, option_map, not, if◌then◌else◌}
 use Rattle.vt_grid.specs.Page.{Page, IsPage}
 use Rattle.vt_grid.specs.Scrollback.{Scrollback, IsScrollback, no_scrollback}
 use Rattle.vt_grid.specs.Resize.{page_resized, scrollback_resized}
@@ -76,3 +76,8 @@ pages_resized rows cols screen = record screen {
   other = option_map (page_resized rows cols (no_scrollback 0)) screen.other;
   scrollback = scrollback_resized rows screen.page screen.scrollback;
 }
+
+-- columns of a screen from `start` up to `stop`
+pub record IsColumns (start stop : ℕ) (screen : ScreenValue) : Type 0 where
+  pub order : start ≤ stop
+  pub inside : stop ≤ screen.page.width

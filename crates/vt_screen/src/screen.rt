@@ -12,6 +12,7 @@ mod input;
 mod pages;
 mod redraw;
 mod resizing;
+mod row_items;
 mod scrolling;
 mod state;
 

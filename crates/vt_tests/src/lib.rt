@@ -23,6 +23,8 @@ mod redraw_tests;
 #[cfg(test)]
 mod rendition_tests;
 #[cfg(test)]
+mod row_items_tests;
+#[cfg(test)]
 mod scrolling_tests;
 #[cfg(test)]
 mod seen;

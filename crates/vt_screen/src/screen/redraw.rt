@@ -161,7 +161,7 @@ impl Screen {
     }
 
     /// The picture that the screen shows.
-    fn view(&self) -> View<'_>
+    pub(super) fn view(&self) -> View<'_>
         ensures value { result ≡ shown self.now }
         ensures whole { IsScreen self.now }
         ensures colored { IsColored self.now }
