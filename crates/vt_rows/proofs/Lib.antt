@@ -11,3 +11,5 @@ pub mod PlainTexts
 pub mod Examples
 pub mod Pieces
 pub mod CaptureRows
+pub mod Outside
+pub mod OnePieces
