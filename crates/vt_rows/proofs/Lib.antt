@@ -13,3 +13,4 @@ pub mod Pieces
 pub mod CaptureRows
 pub mod Outside
 pub mod OnePieces
+pub mod CutRows

@@ -1,13 +1,13 @@
 -- The pieces of a text, by the places of its bytes.
 use Rattle.std.proofs.Common.{◌≡◌, ◌≢◌, ◌↔◌, ◌⊎◌, inl, inr, ℕ, zero, suc, ◌+◌, ◌-◌, ◌<◌, ◌≤◌, Bool, true, false, ◌||◌, not, List, [], ◌∷◌, ◌++◌, length, take, drop, get_or, refl, sym, true≢false, ap, subst, ◌∙◌, append_assoc, append-nil, arith, if◌then◌else◌}
-use Rattle.std.specs.List.{concat}
+use Rattle.std.specs.List.{concat, fold}
 use Rattle.std.proofs.lemmas.Bool.{eqb-true, ne_eqb}
 use Rattle.std.proofs.lemmas.Bool.Decides.{nat_tests}
 use Rattle.std.proofs.lemmas.List.{length-append, length-drop, drop-drop}
 use Rattle.std.proofs.Math.Seq.{take-append_seam, drop-append_seam}
 use Rattle.vt_rows.specs.Keeping.{piece_at, pieces_behind, pieces_within, pieces_from}
 use Rattle.vt_rows.specs.Pieces.{Piece, end_of, IsIn, IsInSome, IsPieceOf, AreApart, ArePiecesOf, texts_of, plain_from, plain_text}
-use Rattle.vt_rows.specs.Stretches.{IsInStretch, begins_stretch, ends_stretch, is_within_after}
+use Rattle.vt_rows.specs.Stretches.{IsInStretch, begins_stretch, ends_stretch, is_within, is_within_after}
 
 -- byte k stands in a stretch, for a text that begins within one or not
 abbrev in_stretch : Bool → List ℕ → ℕ → Bool
@@ -42,8 +42,8 @@ goes_on_from false b (inl e) ne = rw e refl
 goes_on_from false b (inr e) ne = absurd (true≢false (sym e))
 
 -- what the test says, by places
-pub told : (within : Bool) (text : List ℕ) (k : ℕ) → k < length text → in_stretch within text k ≡ true → IsInStretch text k ⊎ ((within ≡ true) × NoEnd text k)
-told within [] k lt e = absurd (omega (arith, lt))
+pub told : (within : Bool) (text : List ℕ) (k : ℕ) → k ≤ length text → in_stretch within text k ≡ true → IsInStretch text k ⊎ ((within ≡ true) × NoEnd text k)
+told within [] k lt e = inr (e, λ j low. absurd (omega (arith, low, lt)))
 told true (b ∷ text) zero lt e = inr (refl, λ j low. absurd (omega (arith, low)))
 told false (b ∷ text) zero lt e = inl (0, omega arith, eqb-true b 0x1B e, λ j low high. absurd (omega (arith, low, high)))
 told within (b ∷ text) (suc k) lt e = by (told (is_within_after within b) text k (omega (arith, lt)) e) where
@@ -54,8 +54,9 @@ told within (b ∷ text) (suc k) lt e = by (told (is_within_after within b) text
     begun (inl esc, ne) = inl (0, omega arith, esc, λ j low high. end_first b k text ne s.1 j high)
     begun (inr was, ne) = inr (was, end_first b k text ne s.1)
 
-tells : (within : Bool) (text : List ℕ) (k : ℕ) → k < length text → IsInStretch text k ⊎ ((within ≡ true) × NoEnd text k) → in_stretch within text k ≡ true
-tells within [] k lt s = absurd (omega (arith, lt))
+tells : (within : Bool) (text : List ℕ) (k : ℕ) → k ≤ length text → IsInStretch text k ⊎ ((within ≡ true) × NoEnd text k) → in_stretch within text k ≡ true
+tells within [] k lt (inl s) = absurd (omega (arith, s.2))
+tells within [] k lt (inr s) = s.0
 tells true (b ∷ text) zero lt s = refl
 tells false (b ∷ text) zero lt (inl (zero, le, esc, h)) = rw esc refl
 tells false (b ∷ text) zero lt (inl (suc i, le, esc, h)) = absurd (omega (arith, le))
@@ -141,10 +142,10 @@ not_in_one at k (b ∷ piece) later = (to, λ h. inr h) where
   to (inr h) = h
 
 -- before byte n, at it, or behind it
-abbrev Place : ℕ → ℕ → Type 0
+abbrev pub Place : ℕ → ℕ → Type 0
 Place k n = (k < n) ⊎ ((k ≡ n + 0) ⊎ ((j : ℕ) × (k ≡ n + suc j)))
 
-place : (k n : ℕ) → Place k n
+pub place : (k n : ℕ) → Place k n
 place zero zero = inr (inl (omega arith))
 place (suc k) zero = inr (inr (k, omega arith))
 place zero (suc n) = inl (omega arith)
@@ -175,10 +176,10 @@ covers_begin capture at piece text later lacks apart covers k lt = by (place k (
   by (inr (inr j)) = behind j.0 j.1
 
 -- the text stands in the capture behind its first bytes
-abbrev StandsAt : List ℕ → ℕ → List ℕ → Type 0
+abbrev pub StandsAt : List ℕ → ℕ → List ℕ → Type 0
 StandsAt capture at text = drop at capture ≡ text
 
-stands_later : (capture : List ℕ) (at : ℕ) (front rest : List ℕ) (n : ℕ) → StandsAt capture at (front ++ rest) → n ≡ at + length front → StandsAt capture n rest
+pub stands_later : (capture : List ℕ) (at : ℕ) (front rest : List ℕ) (n : ℕ) → StandsAt capture at (front ++ rest) → n ≡ at + length front → StandsAt capture n rest
 stands_later capture at front rest n e same =
     rw same (sym (drop-drop (length front) at capture) ∙ ap (drop (length front)) e ∙ drop-append_seam front rest)
 
@@ -250,13 +251,24 @@ mutual
 
 -- the test says the same as the places
 in_places : (text : List ℕ) (k : ℕ) → k < length text → (in_stretch false text k ≡ false) ↔ ¬ (IsInStretch text k)
-in_places text k lt = (λ e s. true≢false (sym (tells false text k lt (inl s)) ∙ e), λ none. by (in_stretch false text k) refl none) where
+in_places text k lt = (λ e s. true≢false (sym (tells false text k (omega (arith, lt)) (inl s)) ∙ e), λ none. by (in_stretch false text k) refl none) where
   by : (b : Bool) → b ≡ in_stretch false text k → ¬ (IsInStretch text k) → b ≡ false
   by false e none = refl
-  by true e none = absurd (within (told false text k lt (sym e))) where
+  by true e none = absurd (within (told false text k (omega (arith, lt)) (sym e))) where
     within : IsInStretch text k ⊎ ((false ≡ true) × NoEnd text k) → ⊥
     within (inl s) = none s
     within (inr s) = true≢false (sym s.0)
+
+-- the test of what a text ends in, by places
+at_end : (within : Bool) (text : List ℕ) → in_stretch within text (length text) ≡ fold is_within_after within text
+at_end within [] = refl
+at_end within (b ∷ text) = at_end (is_within_after within b) text
+
+pub within_by_places : (text : List ℕ) → (is_within text ≡ true) ↔ IsInStretch text (length text)
+within_by_places text = (λ e. by (told false text (length text) (omega arith) (at_end false text ∙ e)), λ s. sym (at_end false text) ∙ tells false text (length text) (omega arith) (inl s)) where
+  by : IsInStretch text (length text) ⊎ ((false ≡ true) × NoEnd text (length text)) → IsInStretch text (length text)
+  by (inl s) = s
+  by (inr s) = absurd (true≢false (sym s.0))
 
 pub pieces_are : (capture : List ℕ) → ArePiecesOf capture (pieces_from 0 capture)
 pieces_are capture =
