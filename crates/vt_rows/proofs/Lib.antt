@@ -14,3 +14,4 @@ pub mod CaptureRows
 pub mod Outside
 pub mod OnePieces
 pub mod CutRows
+pub mod CaptureExamples
