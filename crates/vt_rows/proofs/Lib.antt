@@ -11,3 +11,7 @@ pub mod PlainTexts
 pub mod Examples
 pub mod Pieces
 pub mod CaptureRows
+pub mod Outside
+pub mod OnePieces
+pub mod CutRows
+pub mod CaptureExamples

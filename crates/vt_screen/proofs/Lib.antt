@@ -29,3 +29,4 @@ pub mod Tops
 pub mod TouchedReads
 pub mod TouchedTexts
 mod Captures
+pub mod CaptureTexts

@@ -18,3 +18,4 @@ pub mod RowItems
 pub mod InputTexts
 pub mod States
 pub mod Capture
+pub mod CaptureText

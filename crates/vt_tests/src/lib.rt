@@ -5,6 +5,8 @@
 #[cfg(test)]
 mod callbacks_tests;
 #[cfg(test)]
+mod capture_tests;
+#[cfg(test)]
 mod counter;
 #[cfg(test)]
 mod difference_tests;
