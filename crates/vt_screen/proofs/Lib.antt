@@ -24,3 +24,5 @@ pub mod Tops
 pub mod TouchedReads
 pub mod TouchedTexts
 mod Captures
+pub mod Alike
+pub mod AlikeScrollback

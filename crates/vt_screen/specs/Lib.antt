@@ -16,3 +16,4 @@ pub mod Contents
 pub mod RowItems
 pub mod InputTexts
 pub mod Capture
+pub mod Streamed
