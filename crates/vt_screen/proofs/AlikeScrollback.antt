@@ -1,12 +1,12 @@
 -- Rows that are pushed, or come into view, in scrollback: told and kept together they are alike to those before.
-use Rattle.std.proofs.Common.{◌≡◌, ℕ, ◌+◌, ◌-◌, ◌≤◌, List, [], ◌∷◌, ◌++◌, length, take, drop, map, refl, sym, ap, ap₂, subst, ◌∙◌, append_assoc, arith, min}
+use Rattle.std.proofs.Common.{◌≡◌, ℕ, ◌+◌, ◌-◌, ◌≤◌, nat_lt, List, [], ◌∷◌, ◌++◌, length, take, drop, map, refl, sym, ap, ap₂, subst, ◌∙◌, append_assoc, arith, min}
 use Rattle.std.specs.Prelude.{All, true}
 use Rattle.std.proofs.lemmas.List.{drop-drop, take-append-drop, append-nil}
 use Rattle.std.proofs.lemmas.List.Elements.{All-append, All-cons, All-drop, All-head, All-map, All-nil, All-tail, All-take, All-weaker}
 use Rattle.std.proofs.lemmas.Bool.{cond_both}
 use Rattle.vt_rows.specs.Cells.{resized}
 use Rattle.vt_rows.specs.Row.{RowValue, IsRow, resized_row, trimmed_row}
-use Rattle.vt_rows.proofs.Moves.{length-moved}
+use Rattle.vt_rows.proofs.Moves.{IsRow-resized_row, length-moved}
 use Rattle.vt_rows.proofs.Trims.{trimmed-none}
 use Rattle.vt_grid.specs.Scrollback.{Scrollback, before_last, grown_in_view, grown_row, kept_after, last_of, pushed, reported, stacked, viewed}
 use Rattle.vt_grid.proofs.Stacking.{All-stacked}
@@ -75,6 +75,26 @@ wide_grown_in_view height width above all =
     (All-map (IsWide width) (grown_row width) seen (All-weaker (IsWide width) (λ row. IsWide width (grown_row width row)) (wide_grown width) seen wide))
     (All-drop (IsWide width) (first + height) above.rows all))
 
+sound_grown : (width : ℕ) (row : RowValue) → IsRow (length row.cells) row → IsRow (length (grown_row width row).cells) (grown_row width row)
+sound_grown width row r =
+    cond_both (nat_lt (length row.cells) width) (resized_row width row) row (λ x. IsRow (length x.cells) x)
+    (λ _. let s = IsRow-resized_row (length row.cells) width row r in subst (λ (n : ℕ). IsRow n (resized_row width row)) (sym s.columns) s) (λ _. r)
+
+sound_grown_in_view : (height width : ℕ) (above : Scrollback) → AreSound above.rows → AreSound (grown_in_view height width above).rows
+unfolding grown_in_view
+sound_grown_in_view height width above all =
+    let P : RowValue → Type 0 = λ row. IsRow (length row.cells) row in
+    let first = length above.rows - above.offset in
+    let seen = take height (drop first above.rows) in
+    All-append P (take first above.rows) _ (All-take P first above.rows all)
+    (All-append P (map (grown_row width) seen) (drop (first + height) above.rows)
+    (All-map P (grown_row width) seen (All-weaker P (λ row. P (grown_row width row)) (sound_grown width) seen (All-take P height (drop first above.rows) (All-drop P first above.rows all))))
+    (All-drop P (first + height) above.rows all))
+
+pub sound_viewed : (height width n : ℕ) (above : Scrollback) → AreSound above.rows → AreSound (viewed height width n above).rows
+unfolding viewed
+sound_viewed height width n above sound = sound_grown_in_view height width (record above { offset = min n (length above.rows) }) sound
+
 -- ---- rows are pushed
 
 -- a row of a page that goes on below loses no column
@@ -85,6 +105,11 @@ pub wide_stacked : (width : ℕ) (gone : List RowValue) (above : Scrollback) →
 wide_stacked width gone above rows wide =
     All-append (IsWide width) above.rows (map trimmed_row gone) wide
     (All-map (IsWide width) trimmed_row gone (All-weaker (IsRow width) (λ row. IsWide width (trimmed_row row)) (wide_trimmed width) gone rows))
+
+sound_kept : (width : ℕ) (gone : List RowValue) (above : Scrollback) → All (IsRow width) gone → AreSound above.rows → AreSound (kept_after gone above).rows
+unfolding kept_after
+sound_kept width gone above rows sound =
+    All-drop (λ row. IsRow (length row.cells) row) (length (stacked gone above) - above.capacity) (stacked gone above) (All-stacked width gone above.rows rows sound)
 
 kept_rows : (width : ℕ) (gone : List RowValue) (above : Scrollback) → All (IsRow width) gone → AreSound above.rows → All (IsWide width) above.rows → AreSound (kept_after gone above).rows × All (IsWide width) (kept_after gone above).rows
 unfolding kept_after
@@ -123,3 +148,7 @@ alike_viewed height width n above sound wide = alike_grown_in_view height width 
 pub wide_viewed : (height width n : ℕ) (above : Scrollback) → All (IsWide width) above.rows → All (IsWide width) (viewed height width n above).rows
 unfolding viewed
 wide_viewed height width n above wide = wide_grown_in_view height width (record above { offset = min n (length above.rows) }) wide
+
+pub sound_pushed : (height width : ℕ) (gone : List RowValue) (above : Scrollback) → All (IsRow width) gone → AreSound above.rows → AreSound (pushed height width gone above).rows
+sound_pushed height width [] above rows sound = sound
+sound_pushed height width (row ∷ gone) above rows sound = sound_grown_in_view height width (kept_after (row ∷ gone) above) (sound_kept width (row ∷ gone) above rows sound)

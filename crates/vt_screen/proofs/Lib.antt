@@ -26,3 +26,4 @@ pub mod TouchedTexts
 mod Captures
 pub mod Alike
 pub mod AlikeScrollback
+pub mod Streaming
