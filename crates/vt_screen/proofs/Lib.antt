@@ -27,3 +27,4 @@ mod Captures
 pub mod Alike
 pub mod AlikeScrollback
 pub mod Streaming
+pub mod EventSteps
