@@ -7,18 +7,20 @@ use Rattle.std.proofs.lemmas.Bool.{eqb-true}
 use Rattle.vt_cells.specs.declared.modes.CursorStyle.{CursorStyle}
 use Rattle.vt_cells.specs.declared.modes.MouseProtocolMode.{MouseProtocolMode}
 use Rattle.vt_cells.specs.declared.modes.MouseProtocolEncoding.{MouseProtocolEncoding}
-use Rattle.vt_scan.specs.Automaton.{Event, Character, Executed, EscDispatch, CsiDispatch, OscDispatch}
-use Rattle.vt_scan.proofs.Scalars.{IsCoded}
+use Rattle.vt_scan.specs.Automaton.{State, Event, Character, Executed, EscDispatch, CsiDispatch, OscDispatch}
+use Rattle.vt_scan.specs.Run.{run}
+use Rattle.vt_scan.proofs.Scalars.{IsCoded, AreCoded, coded_run}
 use Rattle.vt_screen.specs.Calls.{CallValue, UnhandledCsi}
 use Rattle.vt_screen.specs.Screen.{ScreenValue}
 use Rattle.vt_screen.specs.Sgr.{group_read}
-use Rattle.vt_screen.specs.Streamed.{ris, row_told}
+use Rattle.vt_screen.specs.Streamed.{HasNoRis, ris, row_told, sent_off_in}
+use Rattle.vt_screen.specs.Telling.{calls_in, screen_in, stepped_all, steps_in, steps_of_all}
 use Rattle.vt_screen.specs.Steps.{Step, Print, Reset, Tell, alternate_step, character_steps, clipboard_steps, control_steps, counted_step, csi_steps, encoding_step, escape_steps, fresh_step, is_base64, is_clipboard_kind, is_text, marked_steps, mark_at, mode_step, mode_steps, mouse_step, named_steps, number_at, number_or, one_or, osc_steps, other_steps, page_erasing, plain_steps, private_steps, reading_steps, repeated, row_erasing, scrolling_steps, sgr_from, space_steps, steps_of, style_of, style_steps, window_steps}
 use Rattle.vt_screen.specs.declared.sgr.Reading.{Reading}
 use Rattle.vt_screen.specs.declared.sgr.Reading.TheVariants.{Silent, Set, Unhandled}
 use Rattle.vt_screen.specs.declared.sgr.Wanted.{Wanted}
 use Rattle.vt_screen.specs.declared.sgr.Wanted.TheVariants.{Any}
-use Rattle.vt_screen.proofs.Streaming.{IsPrintable, IsStreamed}
+use Rattle.vt_screen.proofs.Streaming.{Held, IsPrintable, IsStreamed, Streamed, steps_stream}
 
 -- all of these steps stream
 pub record AllStream (steps : List Step) : Type 0 where
@@ -62,18 +64,18 @@ printable c b scalar e = (scalar, λ same. grind (arith))
 
 stream_character : (c : ℕ) → IsScalar c → AllStream (character_steps c)
 unfolding character_steps
-stream_character c scalar = search (all_where, own, told, printable) depth 8
+stream_character c scalar = search (all_where, own, printable) depth 8
 
 stream_control : (b : ℕ) → AllStream (control_steps b)
 unfolding control_steps
-stream_control b = search (all_if, own, told, none) depth 20
+stream_control b = search (all_if, own, none) depth 20
 
 not_ris : (b : ℕ) → EscDispatch [] b ≢ ris → (b == 0x63) ≡ true → AllStream (Reset ∷ [])
 not_ris b other is = absurd (other (ap (EscDispatch []) (eqb-true b 0x63 is)))
 
 stream_escape : (marks : List ℕ) (b : ℕ) → EscDispatch marks b ≢ ris → AllStream (escape_steps marks b)
 unfolding escape_steps
-stream_escape [] b other = search (all_where, own, told, not_ris) depth 20
+stream_escape [] b other = search (all_where, own, not_ris) depth 20
 stream_escape (mark ∷ marks) b other = (told _ refl)
 
 -- ---- control sequences
@@ -91,7 +93,7 @@ stream_sgr groups wanted (group ∷ rest) =
 
 stream_page_erasing : (report : CallValue) (n : ℕ) → row_told report ≡ [] → AllStream (page_erasing report n)
 unfolding page_erasing
-stream_page_erasing report n e = search (all_if, own, told, none) depth 20
+stream_page_erasing report n e = search (all_if, own) depth 20
 
 stream_row_erasing : (report : CallValue) (n : ℕ) → row_told report ≡ [] → AllStream (row_erasing report n)
 unfolding row_erasing
@@ -110,11 +112,11 @@ stream_repeated n (Some c) k = by n where
 
 stream_other : (groups : List (List ℕ)) (b : ℕ) (s : ScreenValue) → AllStream (other_steps groups b s)
 unfolding other_steps
-stream_other groups b s = search (all_if, own, told, none, stream_page_erasing, stream_row_erasing, stream_sgr, stream_window) depth 20
+stream_other groups b s = search (all_if, own, stream_page_erasing, stream_row_erasing, stream_sgr, stream_window) depth 20
 
 stream_scrolling : (groups : List (List ℕ)) (b : ℕ) (s : ScreenValue) → IfSome s.last IsPrintable → AllStream (scrolling_steps groups b s)
 unfolding scrolling_steps
-stream_scrolling groups b s k = search (all_if, own, told, none, stream_other, stream_repeated) depth 20
+stream_scrolling groups b s k = search (all_if, own, stream_other, stream_repeated) depth 20
 
 stream_counted : (b n : ℕ) → SomeStreams (counted_step b n)
 unfolding counted_step
@@ -151,7 +153,7 @@ stream_fresh false = (own _ tt)
 
 stream_mode : (on : Bool) (report : CallValue) (n : ℕ) → row_told report ≡ [] → AllStream (mode_step on report n)
 unfolding mode_step
-stream_mode on report n e = search (all_if, own, told, none, stream_alternate, stream_encoding, stream_fresh, stream_mouse) depth 20
+stream_mode on report n e = search (all_if, own, stream_alternate, stream_encoding, stream_fresh, stream_mouse) depth 20
 
 stream_modes : (on : Bool) (report : CallValue) (groups : List (List ℕ)) → row_told report ≡ [] → AllStream (mode_steps on report groups)
 stream_modes on report [] e = none
@@ -161,7 +163,7 @@ stream_modes on report ((n ∷ m ∷ more) ∷ groups) e = record { all = (e, (s
 
 stream_private : (second : Option ℕ) (groups : List (List ℕ)) (b : ℕ) → AllStream (private_steps second groups b)
 unfolding private_steps
-stream_private second groups b = search (all_if, own, told, none, stream_modes, stream_page_erasing, stream_row_erasing) depth 20
+stream_private second groups b = search (all_if, own, stream_modes, stream_page_erasing, stream_row_erasing) depth 20
 
 stream_space : (second : Option ℕ) (groups : List (List ℕ)) (b : ℕ) → AllStream (space_steps second groups b)
 unfolding space_steps
@@ -169,7 +171,7 @@ stream_space second groups b = search (all_if, own, stream_style) depth 20
 
 stream_marked : (mark : ℕ) (second : Option ℕ) (groups : List (List ℕ)) (b : ℕ) → AllStream (marked_steps mark second groups b)
 unfolding marked_steps
-stream_marked mark second groups b = search (all_if, own, told, none, stream_private, stream_space) depth 20
+stream_marked mark second groups b = search (all_if, own, stream_private, stream_space) depth 20
 
 stream_csi : (groups : List (List ℕ)) (marks : List ℕ) (b : ℕ) (s : ScreenValue) → IfSome s.last IsPrintable → AllStream (csi_steps groups marks b s)
 stream_csi groups [] b s k = stream_plain groups b s k
@@ -198,3 +200,17 @@ stream_event (Executed b) s coded other k = stream_control b
 stream_event (EscDispatch marks b) s coded other k = stream_escape marks b other
 stream_event (CsiDispatch groups marks b) s coded other k = stream_csi groups marks b s k
 stream_event (OscDispatch parts) s coded other k = stream_osc parts
+
+-- ---- events, one after the other
+
+pub stream_events : (events : List Event) (s : ScreenValue) → AreCoded events → AllByRecursion (λ event. event ≢ ris) events → Held s → AllStream (steps_of_all events s)
+stream_events [] s coded others k = none
+stream_events (event ∷ events) s coded others k =
+    let steps = steps_of event s in
+    let now = stream_event event s coded.0 others.0 k.last in
+    let there = steps_stream steps s now.all k in
+    all_then steps (steps_of_all events (stepped_all steps s)) now (stream_events events (stepped_all steps s) coded.1 others.1 there.held)
+
+-- a run over bytes
+pub run_streams : (scan : State) (s : ScreenValue) (bytes : List ℕ) → HasNoRis scan bytes → Held s → Streamed (calls_in scan s bytes) (sent_off_in scan s bytes) s (screen_in scan s bytes)
+run_streams scan s bytes others k = steps_stream (steps_in scan s bytes) s (stream_events (run scan bytes).events s (coded_run scan bytes) others k).all k

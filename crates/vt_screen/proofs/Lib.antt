@@ -28,3 +28,5 @@ pub mod Alike
 pub mod AlikeScrollback
 pub mod Streaming
 pub mod EventSteps
+pub mod Bare
+pub mod StreamedTexts
