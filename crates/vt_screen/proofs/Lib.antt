@@ -30,3 +30,4 @@ pub mod Streaming
 pub mod EventSteps
 pub mod Bare
 pub mod StreamedTexts
+pub mod Heard

@@ -16,7 +16,7 @@ use Rattle.vt_grid.specs.Erasing.{erased_below, erased_above, erased_page, erase
 use Rattle.vt_grid.specs.Printing.{printed}
 use Rattle.vt_grid.specs.Outgoing.{printed_out, fed_out, scrolled_out}
 use Rattle.vt_grid.specs.Resize.{out_of_view}
-use Rattle.vt_grid.specs.Scrollback.{Scrollback, cleared, no_scrollback, pushed, reported}
+use Rattle.vt_grid.specs.Scrollback.{Scrollback, cleared, no_scrollback, pushed, reported, viewed}
 use Rattle.vt_grid.proofs.Blanking.{page_erased_start, page_erased_row, page_erased_above, page_erased_page}
 use Rattle.vt_grid.proofs.Marks.{page_printed}
 use Rattle.vt_grid.proofs.Pages.{page_blank, page_cursor_saved, page_cursor_restored, page_carriage_return, page_moved_left, page_moved_right, page_moved_to, page_line_feed, page_erased_chars, page_erased_rest, page_erased_below, page_scrolled_up}
@@ -25,12 +25,12 @@ use Rattle.vt_grid.proofs.Scrolling.{IsScrollback-pushed}
 use Rattle.vt_grid.proofs.Shifting.{page_scrolled_down, page_reverse_index, page_lines_inserted, page_lines_deleted, page_chars_inserted, page_chars_deleted}
 use Rattle.vt_screen.specs.Calls.{CallValue, OnScroll}
 use Rattle.vt_screen.specs.Pages.{fresh_page, page_aside, entered, entered_fresh, left, left_restored, saved, restored}
-use Rattle.vt_screen.specs.Screen.{ScreenValue, above_page, with_page}
+use Rattle.vt_screen.specs.Screen.{ScreenValue, fresh_screen, scrolled_back, with_page}
 use Rattle.vt_screen.specs.Steps.{Step, Print, CarriageReturn, LineFeed, ReverseIndex, MoveUp, MoveDown, MoveRight, MoveLeft, NextLine, PreviousLine, Tab, MoveTo, MoveToColumn, MoveToRow, SetRegion, UseOrigin, EraseBelow, EraseAbove, ErasePage, EraseScrollback, EraseRest, EraseStart, EraseRow, EraseChars, InsertChars, DeleteChars, InsertLines, DeleteLines, ScrollUp, ScrollDown, Render, HideCursor, UseApplicationCursor, UseBracketedPaste, SetMouseMode, ClearMouseMode, SetMouseEncoding, ClearMouseEncoding, SetCursorStyle, SaveCursor, RestoreCursor, EnterAlternate, EnterFresh, LeaveAlternate, LeaveRestoring, Reset, UseApplicationKeypad, Tell, is_kept, last_after, outgoing, reports, scrolled, stepped}
 use Rattle.vt_screen.specs.Streamed.{AreAlike, row_told, rows_told, sent_off, sent_off_all}
 use Rattle.vt_screen.specs.Telling.{calls_of, calls_of_all, stepped_all}
 use Rattle.vt_screen.proofs.Alike.{IsWide}
-use Rattle.vt_screen.proofs.AlikeScrollback.{AreSound, alike_pushed, alike_then, sound_pushed, wide_pushed}
+use Rattle.vt_screen.proofs.AlikeScrollback.{AreSound, alike_pushed, alike_then, alike_viewed, sound_pushed, sound_viewed, wide_pushed, wide_viewed}
 use Rattle.vt_screen.proofs.Asides.{rows_fed_out, rows_printed_out, rows_scrolled_out}
 use Rattle.vt_screen.proofs.Sizes.{same_back, same_itself, same_through, same_carriage_return, same_cursor_saved, same_cursor_restored, same_moved_right, same_moved_to, same_line_feed, same_erased_chars, same_erased_rest, same_erased_below, same_printed, same_chars_deleted, same_chars_inserted, same_erased_above, same_erased_page, same_erased_row, same_erased_start, same_lines_deleted, same_lines_inserted, same_moved_down, same_moved_left, same_moved_to_column, same_moved_to_row, same_moved_up, same_next_line, same_origin_set, same_previous_line, same_region_set, same_reverse_index, same_scrolled_down, same_scrolled_up, same_tabbed}
 
@@ -294,3 +294,27 @@ steps_stream (x ∷ steps) s i k =
     let one = step_streams x s i.0 k in
     streamed_then (calls_of x s) (calls_of_all steps (scrolled x s)) (sent_off x s) (sent_off_all steps (scrolled x s)) s (scrolled x s) (stepped_all steps (scrolled x s)) one
     (steps_stream steps (scrolled x s) i.1 one.held)
+
+-- ---- other rows come into view
+
+pub view_streams : (n : ℕ) (s : ScreenValue) → Held s → Streamed [] [] s (scrolled_back n s)
+view_streams n s k = by s.is_alternate where
+  now : Scrollback
+  now = viewed (length s.page.rows) s.page.width n s.scrollback
+  by : (b : Bool) → Streamed [] [] s (if b then s else record s { scrollback = now })
+  by true = record { held = k; alike = ap (map trimmed_row) (sym (append-nil s.scrollback.rows)) }
+  by false = record {
+    held = record {
+      sound = k.sound;
+      other = k.other;
+      rows = sound_viewed (length s.page.rows) s.page.width n s.scrollback k.rows;
+      wide = wide_viewed (length s.page.rows) s.page.width n s.scrollback k.wide;
+      last = k.last;
+    };
+    alike = alike_viewed (length s.page.rows) s.page.width n s.scrollback k.rows k.wide ∙ ap (map trimmed_row) (sym (append-nil s.scrollback.rows));
+  }
+
+-- ---- a fresh screen
+
+pub held_fresh : (rows cols capacity : ℕ) → IsPage (blank_page rows cols) → Held (fresh_screen rows cols capacity)
+held_fresh rows cols capacity sound = record { sound = sound; other = tt; rows = λ i d h. absurd (omega (arith, h)); wide = λ i d h. absurd (omega (arith, h)); last = tt }
