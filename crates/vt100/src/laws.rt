@@ -5,11 +5,14 @@ ghost use Rattle.std.specs.List.{AllByRecursion, FoldsTo};
 ghost use Rattle.std.specs.Prelude.{◌≡◌, ℕ, false, List, ◌∷◌, ◌++◌, Some};
 ghost use Rattle.vt100.specs.Parser.{Parsing, Ran, joined};
 ghost use Rattle.vt100.specs.Pieces.{HasRead, IsFine, IsPlainParser, Processes, Processing, ShowsLast, bytes_in};
-ghost use Rattle.vt_scan.specs.Automaton.{State};
+ghost use Rattle.vt100.specs.Streams.{IsFreshParser, Makes, ParserCall, bytes_of_calls, screen_by, told_by, whole_text};
+ghost use Rattle.vt_scan.specs.Automaton.{State, start};
 ghost use Rattle.vt_scan.specs.Scanner.{StandsFor};
 ghost use Rattle.vt_screen.specs.Chain.{CanShowOn, chain_text, last_screen};
 ghost use Rattle.vt_screen.specs.Reading.{Terminal, read, terminal};
 ghost use Rattle.vt_screen.specs.Screen.{IsScreen, ScreenValue};
+ghost use Rattle.vt_screen.specs.Streamed.{HasNoRis, streamed_text};
+ghost use Rattle.vt_screen.specs.Telling.{Heard, LeavesScreen};
 
 use vt_screen::Callbacks;
 
@@ -48,4 +51,24 @@ pub fn quiet_pieces<CB: Callbacks>()
 /// are as before.
 pub fn chain<CB: Callbacks>()
     ensures { (self : ScreenValue) → (nexts : List ScreenValue) → (p q : Parsing CB) → (calls : List Processing) → IsScreen p.screen → IsPlainParser p → CanShowOn p.screen self → AllByRecursion (CanShowOn p.screen) nexts → bytes_in calls ≡ chain_text self nexts → FoldsTo Processes p calls q → AllByRecursion IsFine calls × ShowsLast p (last_screen self nexts) q }
+{}
+
+/// A capture that is written as rows are reported has one text, whatever the
+/// scrollback: from a fresh parser, over any list of calls of `process` and
+/// `Screen::set_scrollback` that ends on the main page, the basic texts of the
+/// rows that `on_scroll` was called for with `false`, and behind them, with the
+/// same state, those of `BasicFormattedCaptureRange::Full`.
+///
+/// `heard` says what callbacks hear that leave the screen alone: the calls of
+/// the model, each once and in order. `text` says which text it is: that of all
+/// rows that the bytes send off the main page at its top, and then of the page.
+/// So it is one text (`one`) for every capacity, in whatever pieces the bytes
+/// come, and wherever the screen was scrolled back in between.
+///
+/// Premises are that each call answered Ok, that no RIS is among the bytes, and
+/// that the callbacks leave the screen alone.
+pub fn one_text<CB: Callbacks>()
+    ensures heard { (p q : Parsing CB) (calls : List ParserCall) (scan : State) → LeavesScreen CB.does → StandsFor p.scanner scan → FoldsTo (Makes CB.does) p calls q → (q.screen ≡ screen_by scan p.screen calls) × FoldsTo (Heard CB.does) p.callbacks (told_by scan p.screen calls) q.callbacks }
+    ensures text { (rows cols capacity : ℕ) (p q : Parsing CB) (calls : List ParserCall) → LeavesScreen CB.does → IsFreshParser rows cols capacity p → HasNoRis start (bytes_of_calls calls) → FoldsTo (Makes CB.does) p calls q → q.screen.is_alternate ≡ false → streamed_text (told_by start p.screen calls) q.screen ≡ whole_text rows cols (bytes_of_calls calls) }
+    ensures one { (rows cols capacity other : ℕ) (p q r s : Parsing CB) (calls others : List ParserCall) → LeavesScreen CB.does → IsFreshParser rows cols capacity p → IsFreshParser rows cols other r → bytes_of_calls calls ≡ bytes_of_calls others → HasNoRis start (bytes_of_calls calls) → FoldsTo (Makes CB.does) p calls q → FoldsTo (Makes CB.does) r others s → q.screen.is_alternate ≡ false → s.screen.is_alternate ≡ false → streamed_text (told_by start p.screen calls) q.screen ≡ streamed_text (told_by start r.screen others) s.screen }
 {}

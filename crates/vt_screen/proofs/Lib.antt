@@ -31,3 +31,4 @@ pub mod EventSteps
 pub mod Bare
 pub mod StreamedTexts
 pub mod Heard
+pub mod StepLists

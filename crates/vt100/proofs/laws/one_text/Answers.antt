@@ -1,0 +1,17 @@
+use Rattle.std.proofs.Common.{ℕ, List, sym, subst, ◌∙◌}
+use Rattle.vt_scan.specs.Automaton.{start}
+use Rattle.vt_screen.specs.Streamed.{HasNoRis}
+use Rattle.vt100.specs.Streams.{whole_text}
+use Rattle.vt100.proofs.Streams.{calls_heard, one_text}
+use Rattle.vt100.proofs.laws.one_text.Goals as goal
+
+pub returns : goal.returns
+returns g c =
+    let does = g.CB.Callbacks.does in
+    record {
+      heard = λ p q calls scan leaves stands makes. let all = calls_heard does leaves calls p q scan stands makes in (all.shown, all.heard);
+      text = λ rows cols capacity p q calls leaves fresh none makes main. one_text does leaves rows cols capacity p q calls fresh none makes main;
+      one = λ rows cols capacity other p q r s calls others leaves fresh again same none makes remakes main also.
+          one_text does leaves rows cols capacity p q calls fresh none makes main
+          ∙ rw same (sym (one_text does leaves rows cols other r s others again (subst (HasNoRis start) same none) remakes also));
+    }
