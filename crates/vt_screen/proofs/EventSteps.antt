@@ -11,7 +11,7 @@ use Rattle.vt_scan.specs.Automaton.{State, Event, Character, Executed, EscDispat
 use Rattle.vt_scan.specs.Run.{run}
 use Rattle.vt_scan.proofs.Scalars.{IsCoded, AreCoded, coded_run}
 use Rattle.vt_screen.specs.Calls.{CallValue, UnhandledCsi}
-use Rattle.vt_screen.specs.Screen.{ScreenValue}
+use Rattle.vt_screen.specs.Screen.{ScreenValue, IsPrintable}
 use Rattle.vt_screen.specs.Sgr.{group_read}
 use Rattle.vt_screen.specs.Streamed.{HasNoRis, ris, row_told, sent_off_in}
 use Rattle.vt_screen.specs.Telling.{calls_in, screen_in, stepped_all, steps_in, steps_of_all}
@@ -20,7 +20,7 @@ use Rattle.vt_screen.specs.declared.sgr.Reading.{Reading}
 use Rattle.vt_screen.specs.declared.sgr.Reading.TheVariants.{Silent, Set, Unhandled}
 use Rattle.vt_screen.specs.declared.sgr.Wanted.{Wanted}
 use Rattle.vt_screen.specs.declared.sgr.Wanted.TheVariants.{Any}
-use Rattle.vt_screen.proofs.Streaming.{Held, IsPrintable, IsStreamed, Streamed, steps_stream}
+use Rattle.vt_screen.proofs.Streaming.{Held, IsStreamed, Streamed, steps_stream}
 
 -- all of these steps stream
 pub record AllStream (steps : List Step) : Type 0 where

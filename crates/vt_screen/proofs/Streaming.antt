@@ -1,7 +1,6 @@
 -- Each step of a run but RIS: what it tells and keeps of the main page's rows is alike to what was kept before and what it sends off.
 use Rattle.std.proofs.Common.{◌≡◌, ◌≢◌, ℕ, suc, ◌+◌, ◌<◌, ◌==◌, ◌&&◌, min, Bool, true, false, List, [], ◌∷◌, ◌++◌, length, map, Option, Some, None, cond, refl, sym, ap, subst, ◌∙◌, append_assoc, arith}
 use Rattle.std.specs.Prelude.{All, IfSome, if◌then◌else◌}
-use Rattle.std.specs.Char.{IsScalar}
 use Rattle.std.specs.List.{AllByRecursion}
 use Rattle.std.proofs.lemmas.Bool.{cond_both}
 use Rattle.std.proofs.lemmas.List.{append-nil, length-replicate}
@@ -25,18 +24,14 @@ use Rattle.vt_grid.proofs.Scrolling.{IsScrollback-pushed}
 use Rattle.vt_grid.proofs.Shifting.{page_scrolled_down, page_reverse_index, page_lines_inserted, page_lines_deleted, page_chars_inserted, page_chars_deleted}
 use Rattle.vt_screen.specs.Calls.{CallValue, OnScroll}
 use Rattle.vt_screen.specs.Pages.{fresh_page, page_aside, entered, entered_fresh, left, left_restored, saved, restored}
-use Rattle.vt_screen.specs.Screen.{ScreenValue, fresh_screen, scrolled_back, with_page}
+use Rattle.vt_screen.specs.Screen.{IsPrintable, IsScreen, ScreenValue, fresh_screen, scrolled_back, with_page}
 use Rattle.vt_screen.specs.Steps.{Step, Print, CarriageReturn, LineFeed, ReverseIndex, MoveUp, MoveDown, MoveRight, MoveLeft, NextLine, PreviousLine, Tab, MoveTo, MoveToColumn, MoveToRow, SetRegion, UseOrigin, EraseBelow, EraseAbove, ErasePage, EraseScrollback, EraseRest, EraseStart, EraseRow, EraseChars, InsertChars, DeleteChars, InsertLines, DeleteLines, ScrollUp, ScrollDown, Render, HideCursor, UseApplicationCursor, UseBracketedPaste, SetMouseMode, ClearMouseMode, SetMouseEncoding, ClearMouseEncoding, SetCursorStyle, SaveCursor, RestoreCursor, EnterAlternate, EnterFresh, LeaveAlternate, LeaveRestoring, Reset, UseApplicationKeypad, Tell, is_kept, last_after, outgoing, reports, scrolled, stepped}
-use Rattle.vt_screen.specs.Streamed.{AreAlike, row_told, rows_told, sent_off, sent_off_all}
+use Rattle.vt_screen.specs.Streamed.{AreAlike, HasWideFlags, row_told, rows_told, sent_off, sent_off_all}
 use Rattle.vt_screen.specs.Telling.{calls_of, calls_of_all, stepped_all}
 use Rattle.vt_screen.proofs.Alike.{IsWide}
 use Rattle.vt_screen.proofs.AlikeScrollback.{AreSound, alike_pushed, alike_then, alike_viewed, sound_pushed, sound_viewed, wide_pushed, wide_viewed}
 use Rattle.vt_screen.proofs.Asides.{rows_fed_out, rows_printed_out, rows_scrolled_out}
 use Rattle.vt_screen.proofs.Sizes.{same_back, same_itself, same_through, same_carriage_return, same_cursor_saved, same_cursor_restored, same_moved_right, same_moved_to, same_line_feed, same_erased_chars, same_erased_rest, same_erased_below, same_printed, same_chars_deleted, same_chars_inserted, same_erased_above, same_erased_page, same_erased_row, same_erased_start, same_lines_deleted, same_lines_inserted, same_moved_down, same_moved_left, same_moved_to_column, same_moved_to_row, same_moved_up, same_next_line, same_origin_set, same_previous_line, same_region_set, same_reverse_index, same_scrolled_down, same_scrolled_up, same_tabbed}
-
--- a character that is printed, and not reported
-abbrev pub IsPrintable : ℕ → Type 0
-IsPrintable c = IsScalar c × (c ≢ 0xFFFD)
 
 -- what the steps of events are, but RIS
 abbrev pub IsStreamed : Step → Type 0
@@ -315,6 +310,13 @@ view_streams n s k = by s.is_alternate where
   }
 
 -- ---- a fresh screen
+
+-- every screen, if no row of its scrollback that goes on below is short
+pub held_screen : (s : ScreenValue) → IsScreen s → HasWideFlags s → Held s
+held_screen s is wide = record { sound = is.page; other = by s.other is.other; rows = is.scrollback.sound; wide = wide; last = is.last } where
+  by : (o : Option Page) → IfSome o (λ page. IsPage page × SameSize page s.page) → IfSome o (IsLike s.page)
+  by (Some page) both = record { sound = both.0; same = both.1 }
+  by None both = tt
 
 pub held_fresh : (rows cols capacity : ℕ) → IsPage (blank_page rows cols) → Held (fresh_screen rows cols capacity)
 held_fresh rows cols capacity sound = record { sound = sound; other = tt; rows = λ i d h. absurd (omega (arith, h)); wide = λ i d h. absurd (omega (arith, h)); last = tt }
