@@ -12,15 +12,15 @@ use Rattle.vt_scan.specs.Scanner.{StandsFor}
 use Rattle.vt_scan.proofs.Running.{run-append}
 use Rattle.vt_screen.specs.Calls.{CallValue}
 use Rattle.vt_screen.specs.Capture.{basic_texts}
-use Rattle.vt_screen.specs.Screen.{ScreenValue, fresh_screen, scrolled_back}
-use Rattle.vt_screen.specs.Streamed.{HasNoRis, bare, ris, sent_off_in, streamed_text}
+use Rattle.vt_screen.specs.Screen.{ScreenValue, IsScreen, fresh_screen, scrolled_back}
+use Rattle.vt_screen.specs.Streamed.{AreAlike, HasNoRis, HasWideFlags, bare, ris, rows_told, sent_off_in, streamed_text}
 use Rattle.vt_screen.specs.Telling.{Heard, LeavesScreen, calls_in, screen_in}
 use Rattle.vt_screen.proofs.Bare.{SameBare, bare_scrolled_back, both_screen_in, both_sent_in}
 use Rattle.vt_screen.proofs.EventSteps.{run_streams}
 use Rattle.vt_screen.proofs.Heard.{Hearing, heard_events}
 use Rattle.vt_screen.proofs.StepLists.{screen_in_then, sent_in_then}
 use Rattle.vt_screen.proofs.StreamedTexts.{streamed_is}
-use Rattle.vt_screen.proofs.Streaming.{Held, Streamed, held_fresh, streamed_then, view_streams}
+use Rattle.vt_screen.proofs.Streaming.{Held, Streamed, held_fresh, held_screen, streamed_then, view_streams}
 use Rattle.vt100.specs.Parser.{Parsing, Ran, stage}
 use Rattle.vt100.specs.Streams.{ParserCall, Process, SetScrollback, IsFreshParser, Makes, bytes_of_calls, screen_by, told_by, whole_text}
 
@@ -87,6 +87,17 @@ calls_stream (Process bytes ∷ calls) scan s r e none k =
       streams = subst (λ (rows : List RowValue). Streamed (calls_in scan s bytes ++ told_by next now calls) rows s (screen_by next now calls)) gone both;
       same = rest.same ∙ ap bare (sym (screen_in_then scan r bytes more));
     }
+
+pub ran_keeps : {S : Type 0} (does : CallValue → S → ScreenValue → S → ScreenValue → Type 0) → LeavesScreen does → (p q : Parsing S) (bytes : List ℕ) (scan : State) → StandsFor p.scanner scan → Ran does p bytes q
+    → IsScreen p.screen → HasWideFlags p.screen → HasNoRis scan bytes
+    → FoldsTo (Heard does) p.callbacks (calls_in scan p.screen bytes) q.callbacks × AreAlike (rows_told (calls_in scan p.screen bytes) ++ q.screen.scrollback.rows) (p.screen.scrollback.rows ++ sent_off_in scan p.screen bytes)
+ran_keeps does leaves p q bytes scan stands ran is wide none =
+    let hears = ran_heard does leaves p q bytes scan stands ran in
+    let calls = calls_in scan p.screen bytes in (
+      hears.heard,
+      subst (λ (t : ScreenValue). AreAlike (rows_told calls ++ t.scrollback.rows) (p.screen.scrollback.rows ++ sent_off_in scan p.screen bytes)) (sym hears.shown)
+      (run_streams scan p.screen bytes none (held_screen p.screen is wide)).alike,
+    )
 
 -- ---- one text
 

@@ -11,8 +11,8 @@ ghost use Rattle.vt_scan.specs.Scanner.{StandsFor};
 ghost use Rattle.vt_screen.specs.Chain.{CanShowOn, chain_text, last_screen};
 ghost use Rattle.vt_screen.specs.Reading.{Terminal, read, terminal};
 ghost use Rattle.vt_screen.specs.Screen.{IsScreen, ScreenValue};
-ghost use Rattle.vt_screen.specs.Streamed.{HasNoRis, streamed_text};
-ghost use Rattle.vt_screen.specs.Telling.{Heard, LeavesScreen};
+ghost use Rattle.vt_screen.specs.Streamed.{AreAlike, HasNoRis, HasWideFlags, rows_told, sent_off_in, streamed_text};
+ghost use Rattle.vt_screen.specs.Telling.{Heard, LeavesScreen, calls_in};
 
 use vt_screen::Callbacks;
 
@@ -65,10 +65,18 @@ pub fn chain<CB: Callbacks>()
 /// So it is one text (`one`) for every capacity, in whatever pieces the bytes
 /// come, and wherever the screen was scrolled back in between.
 ///
+/// `kept` is about one call of `process`, on any parser: the rows reported with
+/// `false`, followed by scrollback after the call, are those of scrollback
+/// before it followed by the rows that left the main page at its top, where no
+/// row of scrollback that goes on below was shorter than the screen. That these
+/// and the page depend neither on capacity nor on scrollback is
+/// `vt_screen::laws::streams`.
+///
 /// Premises are that each call answered Ok, that no RIS is among the bytes, and
 /// that the callbacks leave the screen alone.
 pub fn one_text<CB: Callbacks>()
     ensures heard { (p q : Parsing CB) (calls : List ParserCall) (scan : State) → LeavesScreen CB.does → StandsFor p.scanner scan → FoldsTo (Makes CB.does) p calls q → (q.screen ≡ screen_by scan p.screen calls) × FoldsTo (Heard CB.does) p.callbacks (told_by scan p.screen calls) q.callbacks }
+    ensures kept { (p q : Parsing CB) (bytes : List ℕ) (scan : State) → LeavesScreen CB.does → StandsFor p.scanner scan → Ran CB.does p bytes q → IsScreen p.screen → HasWideFlags p.screen → HasNoRis scan bytes → FoldsTo (Heard CB.does) p.callbacks (calls_in scan p.screen bytes) q.callbacks × AreAlike (rows_told (calls_in scan p.screen bytes) ++ q.screen.scrollback.rows) (p.screen.scrollback.rows ++ sent_off_in scan p.screen bytes) }
     ensures text { (rows cols capacity : ℕ) (p q : Parsing CB) (calls : List ParserCall) → LeavesScreen CB.does → IsFreshParser rows cols capacity p → HasNoRis start (bytes_of_calls calls) → FoldsTo (Makes CB.does) p calls q → q.screen.is_alternate ≡ false → streamed_text (told_by start p.screen calls) q.screen ≡ whole_text rows cols (bytes_of_calls calls) }
     ensures one { (rows cols capacity other : ℕ) (p q r s : Parsing CB) (calls others : List ParserCall) → LeavesScreen CB.does → IsFreshParser rows cols capacity p → IsFreshParser rows cols other r → bytes_of_calls calls ≡ bytes_of_calls others → HasNoRis start (bytes_of_calls calls) → FoldsTo (Makes CB.does) p calls q → FoldsTo (Makes CB.does) r others s → q.screen.is_alternate ≡ false → s.screen.is_alternate ≡ false → streamed_text (told_by start p.screen calls) q.screen ≡ streamed_text (told_by start r.screen others) s.screen }
 {}

@@ -1,8 +1,7 @@
-use Rattle.std.proofs.Common.{ℕ, List, sym, subst, ◌∙◌}
+use Rattle.std.proofs.Common.{sym, subst, ◌∙◌}
 use Rattle.vt_scan.specs.Automaton.{start}
 use Rattle.vt_screen.specs.Streamed.{HasNoRis}
-use Rattle.vt100.specs.Streams.{whole_text}
-use Rattle.vt100.proofs.Streams.{calls_heard, one_text}
+use Rattle.vt100.proofs.Streams.{calls_heard, one_text, ran_keeps}
 use Rattle.vt100.proofs.laws.one_text.Goals as goal
 
 pub returns : goal.returns
@@ -10,6 +9,7 @@ returns g c =
     let does = g.CB.Callbacks.does in
     record {
       heard = λ p q calls scan leaves stands makes. let all = calls_heard does leaves calls p q scan stands makes in (all.shown, all.heard);
+      kept = λ p q bytes scan leaves stands ran is wide none. ran_keeps does leaves p q bytes scan stands ran is wide none;
       text = λ rows cols capacity p q calls leaves fresh none makes main. one_text does leaves rows cols capacity p q calls fresh none makes main;
       one = λ rows cols capacity other p q r s calls others leaves fresh again same none makes remakes main also.
           one_text does leaves rows cols capacity p q calls fresh none makes main
