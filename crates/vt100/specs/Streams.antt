@@ -9,7 +9,7 @@ use Rattle.vt_screen.specs.Capture.{basic_texts}
 use Rattle.vt_screen.specs.Screen.{ScreenValue, fresh_screen, scrolled_back}
 use Rattle.vt_screen.specs.Streamed.{sent_off_in}
 use Rattle.vt_screen.specs.Telling.{calls_in, screen_in}
-use Rattle.vt100.specs.Parser.{Parsing, Ran, parsing}
+use Rattle.vt100.specs.Parser.{Parsing, Ran}
 
 -- a call of a parser, or of its screen
 pub data ParserCall : Type 0 where

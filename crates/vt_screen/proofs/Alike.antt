@@ -1,14 +1,14 @@
 -- Rows that differ at most in the default blanks at their ends: what is trimmed, grown or stacked stays alike, and has one text.
-use Rattle.std.proofs.Common.{◌≡◌, ◌≢◌, ℕ, suc, ◌+◌, ◌-◌, ◌<◌, ◌≤◌, ◌==◌, ◌&&◌, nat_lt, not, Bool, true, false, List, [], ◌∷◌, ◌++◌, length, map, refl, inl, inr, sym, ap, ap₂, subst, ◌∙◌, arith}
-use Rattle.std.specs.Prelude.{All, if◌then◌else◌}
+use Rattle.std.proofs.Common.{◌≡◌, ℕ, suc, ◌+◌, ◌<◌, ◌≤◌, ◌==◌, ◌&&◌, nat_lt, Bool, true, false, List, [], ◌∷◌, length, refl, inl, inr, sym, ap, ap₂, ◌∙◌, arith}
+use Rattle.std.specs.Prelude.{if◌then◌else◌}
 use Rattle.std.specs.List.{list_all}
-use Rattle.std.proofs.lemmas.Bool.{cases_lt, cases_eq, cond_both, false_from_ne_true, false≢true}
+use Rattle.std.proofs.lemmas.Bool.{cases_lt, cases_eq, false_from_ne_true}
 use Rattle.std.proofs.lemmas.Bool.Decides.{nat_tests}
 use Rattle.vt_cells.specs.Attrs.{default_attrs}
 use Rattle.vt_cells.specs.Cell.{CellValue, default_blank, is_wide, is_right_half, is_default_blank}
 use Rattle.vt_cells.proofs.Same.{same_attrs-itself}
 use Rattle.vt_rows.specs.Cells.{at, IsPaired, moved_at, resized}
-use Rattle.vt_rows.specs.Row.{RowValue, IsRow, resized_row, trimmed, trimmed_row}
+use Rattle.vt_rows.specs.Row.{RowValue, IsRow, trimmed, trimmed_row}
 use Rattle.vt_rows.proofs.Columns.{at-past}
 use Rattle.vt_rows.proofs.Moves.{at-moved, length-moved}
 use Rattle.vt_rows.proofs.Trims.{at-trimmed}

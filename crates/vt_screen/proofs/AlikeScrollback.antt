@@ -1,14 +1,14 @@
 -- Rows that are pushed, or come into view, in scrollback: told and kept together they are alike to those before.
-use Rattle.std.proofs.Common.{◌≡◌, ℕ, ◌+◌, ◌-◌, ◌≤◌, nat_lt, List, [], ◌∷◌, ◌++◌, length, take, drop, map, refl, sym, ap, ap₂, subst, ◌∙◌, append_assoc, arith, min}
-use Rattle.std.specs.Prelude.{All, true}
+use Rattle.std.proofs.Common.{◌≡◌, ℕ, ◌+◌, ◌-◌, ◌≤◌, nat_lt, List, [], ◌∷◌, ◌++◌, length, take, drop, map, refl, sym, ap, ap₂, subst, ◌∙◌, arith, min}
+use Rattle.std.specs.Prelude.{All}
 use Rattle.std.proofs.lemmas.List.{drop-drop, take-append-drop, append-nil}
-use Rattle.std.proofs.lemmas.List.Elements.{All-append, All-cons, All-drop, All-head, All-map, All-nil, All-tail, All-take, All-weaker}
+use Rattle.std.proofs.lemmas.List.Elements.{All-append, All-drop, All-head, All-map, All-tail, All-take, All-weaker}
 use Rattle.std.proofs.lemmas.Bool.{cond_both}
 use Rattle.vt_rows.specs.Cells.{resized}
 use Rattle.vt_rows.specs.Row.{RowValue, IsRow, resized_row, trimmed_row}
 use Rattle.vt_rows.proofs.Moves.{IsRow-resized_row, length-moved}
 use Rattle.vt_rows.proofs.Trims.{trimmed-none}
-use Rattle.vt_grid.specs.Scrollback.{Scrollback, before_last, grown_in_view, grown_row, kept_after, last_of, pushed, reported, stacked, viewed}
+use Rattle.vt_grid.specs.Scrollback.{Scrollback, before_last, grown_in_view, grown_row, kept_after, pushed, reported, stacked, viewed}
 use Rattle.vt_grid.proofs.Stacking.{All-stacked}
 use Rattle.vt_screen.specs.Streamed.{AreAlike}
 use Rattle.vt_screen.proofs.Alike.{IsWide, trimmed_twice, trimmed_grown}

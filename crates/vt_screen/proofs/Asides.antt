@@ -1,5 +1,5 @@
 -- What a screen has beside its active page stays whole where that page changes, rows are pushed into scrollback, or the pages change places.
-use Rattle.std.proofs.Common.{◌≡◌, ◌≢◌, ℕ, zero, suc, ◌+◌, ◌-◌, ◌<◌, ◌≤◌, ◌==◌, min, take, Bool, true, false, not, List, [], Option, Some, None, refl, sym, subst, ap, ◌∙◌, arith}
+use Rattle.std.proofs.Common.{◌≡◌, ℕ, zero, suc, ◌+◌, ◌-◌, ◌<◌, ◌≤◌, ◌==◌, min, take, Bool, true, false, not, List, [], Option, Some, None, refl, sym, subst, ap, ◌∙◌, arith}
 use Rattle.std.specs.Prelude.{if◌then◌else◌, IfSome, All, length, map, option_map, ◌^◌}
 use Rattle.std.proofs.lemmas.List.{length-map, length-replicate, length-set}
 use Rattle.std.proofs.lemmas.List.Elements.{All-take}

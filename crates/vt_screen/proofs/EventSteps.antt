@@ -1,8 +1,8 @@
 -- The steps of each event but RIS are steps that stream: none starts the screen anew, what they print can be printed, and they tell of no row themselves.
-use Rattle.std.proofs.Common.{◌≡◌, ◌≢◌, ℕ, zero, suc, ◌+◌, ◌==◌, ◌&&◌, nat_le, nat_lt, not, Bool, true, false, List, [], ◌∷◌, ◌++◌, length, Option, Some, None, refl, ap, replicate, arith}
-use Rattle.std.specs.Prelude.{◌||◌, IfSome, codes, if◌then◌else◌}
+use Rattle.std.proofs.Common.{◌≡◌, ◌≢◌, ℕ, zero, suc, ◌==◌, Bool, true, false, List, [], ◌∷◌, ◌++◌, Option, Some, None, refl, ap, replicate, arith}
+use Rattle.std.specs.Prelude.{◌||◌, IfSome, if◌then◌else◌}
 use Rattle.std.specs.Char.{IsScalar}
-use Rattle.std.specs.List.{AllByRecursion, list_all}
+use Rattle.std.specs.List.{AllByRecursion}
 use Rattle.std.proofs.lemmas.Bool.{eqb-true}
 use Rattle.vt_cells.specs.declared.modes.CursorStyle.{CursorStyle}
 use Rattle.vt_cells.specs.declared.modes.MouseProtocolMode.{MouseProtocolMode}
@@ -10,16 +10,15 @@ use Rattle.vt_cells.specs.declared.modes.MouseProtocolEncoding.{MouseProtocolEnc
 use Rattle.vt_scan.specs.Automaton.{State, Event, Character, Executed, EscDispatch, CsiDispatch, OscDispatch}
 use Rattle.vt_scan.specs.Run.{run}
 use Rattle.vt_scan.proofs.Scalars.{IsCoded, AreCoded, coded_run}
-use Rattle.vt_screen.specs.Calls.{CallValue, UnhandledCsi}
+use Rattle.vt_screen.specs.Calls.{CallValue}
 use Rattle.vt_screen.specs.Screen.{ScreenValue, IsPrintable}
 use Rattle.vt_screen.specs.Sgr.{group_read}
 use Rattle.vt_screen.specs.Streamed.{HasNoRis, ris, row_told, sent_off_in}
 use Rattle.vt_screen.specs.Telling.{calls_in, screen_in, stepped_all, steps_in, steps_of_all}
-use Rattle.vt_screen.specs.Steps.{Step, Print, Reset, Tell, alternate_step, character_steps, clipboard_steps, control_steps, counted_step, csi_steps, encoding_step, escape_steps, fresh_step, is_base64, is_clipboard_kind, is_text, marked_steps, mark_at, mode_step, mode_steps, mouse_step, named_steps, number_at, number_or, one_or, osc_steps, other_steps, page_erasing, plain_steps, private_steps, reading_steps, repeated, row_erasing, scrolling_steps, sgr_from, space_steps, steps_of, style_of, style_steps, window_steps}
+use Rattle.vt_screen.specs.Steps.{Step, Print, Reset, Tell, alternate_step, character_steps, clipboard_steps, control_steps, counted_step, csi_steps, encoding_step, escape_steps, fresh_step, marked_steps, mark_at, mode_step, mode_steps, mouse_step, named_steps, number_or, one_or, osc_steps, other_steps, page_erasing, plain_steps, private_steps, reading_steps, repeated, row_erasing, scrolling_steps, sgr_from, space_steps, steps_of, style_steps, window_steps}
 use Rattle.vt_screen.specs.declared.sgr.Reading.{Reading}
 use Rattle.vt_screen.specs.declared.sgr.Reading.TheVariants.{Silent, Set, Unhandled}
 use Rattle.vt_screen.specs.declared.sgr.Wanted.{Wanted}
-use Rattle.vt_screen.specs.declared.sgr.Wanted.TheVariants.{Any}
 use Rattle.vt_screen.proofs.Streaming.{Held, IsStreamed, Streamed, steps_stream}
 
 -- all of these steps stream

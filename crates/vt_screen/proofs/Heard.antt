@@ -1,5 +1,5 @@
 -- What callbacks hear in a run, if they leave the screen alone: the calls of the model, one by one, while the screen is that of the model.
-use Rattle.std.proofs.Common.{◌≡◌, ℕ, Bool, List, [], ◌∷◌, ◌++◌, map, refl, sym, ap, subst, ◌∙◌}
+use Rattle.std.proofs.Common.{◌≡◌, List, [], ◌∷◌, map, refl, sym, ap, subst}
 use Rattle.std.specs.List.{FoldsTo}
 use Rattle.vt_rows.specs.Row.{RowValue}
 use Rattle.vt_rows.proofs.Folds.{folds_then}

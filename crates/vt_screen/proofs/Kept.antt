@@ -1,5 +1,5 @@
 -- Each step leaves a screen whole.
-use Rattle.std.proofs.Common.{◌≢◌, ℕ, ◌<◌, ◌^◌, Option, Some, None, false, refl}
+use Rattle.std.proofs.Common.{◌≢◌, ℕ, ◌<◌, ◌^◌, Option, None, false, refl}
 use Rattle.std.specs.Char.{IsScalar}
 use Rattle.std.specs.Prelude.{IfSome}
 use Rattle.vt_cells.specs.Op.{FitsAttrs}

@@ -1,5 +1,5 @@
 -- Steps, events and bytes, one list behind the other.
-use Rattle.std.proofs.Common.{◌≡◌, ℕ, List, [], ◌∷◌, ◌++◌, refl, sym, ap, ap₂, ◌∙◌, append_assoc}
+use Rattle.std.proofs.Common.{◌≡◌, ℕ, List, [], ◌∷◌, ◌++◌, refl, sym, ap, ◌∙◌, append_assoc}
 use Rattle.vt_rows.specs.Row.{RowValue}
 use Rattle.vt_scan.specs.Automaton.{State, Event, Step as Outcome}
 use Rattle.vt_scan.specs.Run.{run}

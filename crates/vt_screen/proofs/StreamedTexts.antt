@@ -1,7 +1,6 @@
 -- The text of what was told and of a full capture behind it is the text of all rows that left, and of the page.
 use Rattle.std.proofs.Common.{◌≡◌, ℕ, Bool, false, List, [], ◌∷◌, ◌++◌, map, refl, sym, ap, ap₂, ◌∙◌, append_assoc}
 use Rattle.std.specs.Prelude.{if◌then◌else◌}
-use Rattle.vt_cells.specs.Cell.{CellValue}
 use Rattle.vt_grid.specs.Scrollback.{Scrollback, no_scrollback}
 use Rattle.vt_rows.specs.Basic.{Written, unwritten, basic_text, written_after}
 use Rattle.vt_rows.specs.Row.{RowValue, trimmed, trimmed_row}
