@@ -1,28 +1,28 @@
 -- Calls of a parser, one after the other: what is told of them, what is kept, and the one text of both.
-use Rattle.std.proofs.Common.{◌≡◌, ◌≢◌, ℕ, false, List, [], ◌∷◌, ◌++◌, map, refl, sym, ap, subst, ◌∙◌}
+use Rattle.std.proofs.Common.{◌≡◌, ◌≢◌, ℕ, Bool, true, false, List, [], ◌∷◌, ◌++◌, map, refl, sym, ap, ap₂, subst, ◌∙◌, append_assoc}
 use Rattle.std.proofs.lemmas.List.{append-nil}
 use Rattle.std.specs.List.{AllByRecursion, FoldsTo}
 use Rattle.vt_grid.proofs.Pages.{page_blank}
 use Rattle.vt_rows.proofs.Folds.{folds_then}
-use Rattle.vt_rows.specs.Basic.{unwritten}
+use Rattle.vt_rows.specs.Basic.{Written, unwritten}
 use Rattle.vt_rows.specs.Row.{RowValue, trimmed_row}
 use Rattle.vt_scan.specs.Automaton.{State, Event, Step as Outcome, start}
 use Rattle.vt_scan.specs.Run.{run}
 use Rattle.vt_scan.specs.Scanner.{StandsFor}
 use Rattle.vt_scan.proofs.Running.{run-append}
 use Rattle.vt_screen.specs.Calls.{CallValue}
-use Rattle.vt_screen.specs.Capture.{basic_texts}
+use Rattle.vt_screen.specs.Capture.{all_rows, basic_texts, written_after_all}
 use Rattle.vt_screen.specs.Screen.{ScreenValue, IsScreen, fresh_screen, scrolled_back}
-use Rattle.vt_screen.specs.Streamed.{AreAlike, HasNoRis, HasWideFlags, bare, ris, rows_told, sent_off_in, streamed_text}
+use Rattle.vt_screen.specs.Streamed.{AreAlike, HasNoRis, HasWideFlags, bare, ris, row_told, rows_told, sent_off_in, streamed_text}
 use Rattle.vt_screen.specs.Telling.{Heard, LeavesScreen, calls_in, screen_in}
 use Rattle.vt_screen.proofs.Bare.{SameBare, bare_scrolled_back, both_screen_in, both_sent_in}
 use Rattle.vt_screen.proofs.EventSteps.{run_streams}
 use Rattle.vt_screen.proofs.Heard.{Hearing, heard_events}
 use Rattle.vt_screen.proofs.StepLists.{screen_in_then, sent_in_then}
-use Rattle.vt_screen.proofs.StreamedTexts.{streamed_is}
+use Rattle.vt_screen.proofs.StreamedTexts.{after_then, streamed_is, texts_then}
 use Rattle.vt_screen.proofs.Streaming.{Held, Streamed, held_fresh, held_screen, streamed_then, view_streams}
 use Rattle.vt100.specs.Parser.{Parsing, Ran, stage}
-use Rattle.vt100.specs.Streams.{ParserCall, Process, SetScrollback, IsFreshParser, Makes, bytes_of_calls, screen_by, told_by, whole_text}
+use Rattle.vt100.specs.Streams.{ParserCall, Process, SetScrollback, IsFreshParser, IsRecorder, Makes, bytes_of_calls, screen_by, told_by, whole_text}
 
 -- ---- what callbacks hear
 
@@ -120,3 +120,43 @@ one_text does leaves rows cols capacity p q calls fresh none makes main =
     ap (λ (t : ScreenValue). streamed_text (told_by start t calls) q.screen) fresh.shown
     ∙ (ap (streamed_text (told_by start s calls)) there
     ∙ text_by rows cols capacity calls held none (sym (ap (λ (t : ScreenValue). t.is_alternate) there) ∙ main))
+
+-- ---- recorders
+
+-- what a recorder has written, after these calls
+record HasRecorded {S : Type 0} (text_of : S → List ℕ) (state_of : S → Written) (is_whole : S → Bool) (calls : List CallValue) (old new : S) : Type 0 where
+  whole : is_whole old ≡ true
+  text : text_of new ≡ text_of old ++ basic_texts (state_of old) (rows_told calls)
+  state : state_of new ≡ written_after_all (state_of old) (rows_told calls)
+
+has_recorded : {S : Type 0} (does : CallValue → S → ScreenValue → S → ScreenValue → Type 0) (text_of : S → List ℕ) (state_of : S → Written) (is_whole : S → Bool) → IsRecorder does text_of state_of is_whole → (calls : List CallValue) (old new : S) → FoldsTo (Heard does) old calls new → is_whole new ≡ true
+    → HasRecorded text_of state_of is_whole calls old new
+has_recorded does text_of state_of is_whole r [] old new e w =
+    record { whole = ap is_whole e ∙ w; text = ap text_of (sym e) ∙ sym (append-nil (text_of old)); state = ap state_of (sym e) }
+has_recorded does text_of state_of is_whole r (call ∷ calls) old new t w =
+    let mid = t.0 in
+    let does_it = t.1.1 in
+    let rest = has_recorded does text_of state_of is_whole r calls mid new t.2 w in
+    let text = r.text call old mid t.1.0 t.1.0 does_it rest.whole in
+    let state = r.state call old mid t.1.0 t.1.0 does_it rest.whole in
+    let here = row_told call in
+    let told = rows_told calls in
+    record {
+      whole = r.whole call old mid t.1.0 t.1.0 does_it rest.whole;
+      text = rest.text
+          ∙ (ap₂ (λ (xs : List ℕ) (v : Written). xs ++ basic_texts v told) text state
+          ∙ (append_assoc (text_of old) (basic_texts (state_of old) here) (basic_texts (written_after_all (state_of old) here) told)
+          ∙ ap (λ (xs : List ℕ). text_of old ++ xs) (sym (texts_then (state_of old) here told))));
+      state = rest.state ∙ (ap (λ (v : Written). written_after_all v told) state ∙ sym (after_then (state_of old) here told));
+    }
+
+pub recorded_text : {S : Type 0} (does : CallValue → S → ScreenValue → S → ScreenValue → Type 0) (text_of : S → List ℕ) (state_of : S → Written) (is_whole : S → Bool) → IsRecorder does text_of state_of is_whole → (rows cols capacity : ℕ) (p q : Parsing S) (calls : List ParserCall)
+    → IsFreshParser rows cols capacity p → text_of p.callbacks ≡ [] → state_of p.callbacks ≡ unwritten → HasNoRis start (bytes_of_calls calls) → FoldsTo (Makes does) p calls q → q.screen.is_alternate ≡ false → is_whole q.callbacks ≡ true
+    → text_of q.callbacks ++ basic_texts (state_of q.callbacks) (all_rows q.screen) ≡ whole_text rows cols (bytes_of_calls calls)
+recorded_text does text_of state_of is_whole r rows cols capacity p q calls fresh empty begun none makes main w =
+    let told = told_by start p.screen calls in
+    let heard = (calls_heard does r.leaves calls p q start fresh.begun makes).heard in
+    let done = has_recorded does text_of state_of is_whole r told p.callbacks q.callbacks heard w in
+    ap₂ (λ (xs : List ℕ) (v : Written). xs ++ basic_texts v (all_rows q.screen)) done.text done.state
+    ∙ (ap₂ (λ (xs : List ℕ) (v : Written). (xs ++ basic_texts v (rows_told told)) ++ basic_texts (written_after_all v (rows_told told)) (all_rows q.screen)) empty begun
+    ∙ one_text does r.leaves rows cols capacity p q calls fresh none makes main)

@@ -1,14 +1,14 @@
 -- Calls of a parser between which its screen is scrolled back and forth: what they tell the callbacks, and the one text of what is told and captured.
-use Rattle.std.specs.Prelude.{◌≡◌, ℕ, ◌<◌, ◌^◌, List, [], ◌∷◌, ◌++◌}
-use Rattle.vt_rows.specs.Basic.{unwritten}
+use Rattle.std.specs.Prelude.{◌≡◌, ℕ, ◌<◌, ◌^◌, Bool, true, List, [], ◌∷◌, ◌++◌}
+use Rattle.vt_rows.specs.Basic.{Written, unwritten}
 use Rattle.vt_scan.specs.Automaton.{State, start}
 use Rattle.vt_scan.specs.Run.{run}
 use Rattle.vt_scan.specs.Scanner.{StandsFor}
 use Rattle.vt_screen.specs.Calls.{CallValue}
-use Rattle.vt_screen.specs.Capture.{basic_texts}
+use Rattle.vt_screen.specs.Capture.{basic_texts, written_after_all}
 use Rattle.vt_screen.specs.Screen.{ScreenValue, fresh_screen, scrolled_back}
-use Rattle.vt_screen.specs.Streamed.{sent_off_in}
-use Rattle.vt_screen.specs.Telling.{calls_in, screen_in}
+use Rattle.vt_screen.specs.Streamed.{row_told, sent_off_in}
+use Rattle.vt_screen.specs.Telling.{LeavesScreen, calls_in, screen_in}
 use Rattle.vt100.specs.Parser.{Parsing, Ran}
 
 -- a call of a parser, or of its screen
@@ -52,3 +52,11 @@ abbrev pub whole_text : (rows cols : ℕ) → List ℕ → List ℕ
 whole_text rows cols bytes =
     let fresh = fresh_screen rows cols 0 in
     basic_texts unwritten (sent_off_in start fresh bytes ++ (screen_in start fresh bytes).page.rows)
+
+-- callbacks that write each row that is reported of the main page behind their text, with one state of captures; they may not be
+-- whole any more where their sink refused some of it
+pub record IsRecorder {S : Type 0} (does : CallValue → S → ScreenValue → S → ScreenValue → Type 0) (text_of : S → List ℕ) (state_of : S → Written) (is_whole : S → Bool) : Type 0 where
+  pub leaves : LeavesScreen does
+  pub whole : (call : CallValue) (old new : S) (before after : ScreenValue) → does call old before new after → is_whole new ≡ true → is_whole old ≡ true
+  pub text : (call : CallValue) (old new : S) (before after : ScreenValue) → does call old before new after → is_whole new ≡ true → text_of new ≡ text_of old ++ basic_texts (state_of old) (row_told call)
+  pub state : (call : CallValue) (old new : S) (before after : ScreenValue) → does call old before new after → is_whole new ≡ true → state_of new ≡ written_after_all (state_of old) (row_told call)

@@ -34,11 +34,15 @@ same_texts w rows others e = sym (texts_trimmed w rows) ∙ (ap (basic_texts w) 
 
 -- ---- one list behind the other
 
-texts_then : (w : Written) (xs ys : List RowValue) → basic_texts w (xs ++ ys) ≡ basic_texts w xs ++ basic_texts (written_after_all w xs) ys
+pub texts_then : (w : Written) (xs ys : List RowValue) → basic_texts w (xs ++ ys) ≡ basic_texts w xs ++ basic_texts (written_after_all w xs) ys
 texts_then w [] ys = refl
 texts_then w (x ∷ xs) ys =
     ap (λ (text : List ℕ). basic_text w x ++ text) (texts_then (written_after w x) xs ys)
     ∙ sym (append_assoc (basic_text w x) (basic_texts (written_after w x) xs) (basic_texts (written_after_all (written_after w x) xs) ys))
+
+pub after_then : (w : Written) (xs ys : List RowValue) → written_after_all w (xs ++ ys) ≡ written_after_all (written_after_all w xs) ys
+after_then w [] ys = refl
+after_then w (x ∷ xs) ys = after_then (written_after w x) xs ys
 
 above_main : (b : Bool) (z : Scrollback) → b ≡ false → (if b then no_scrollback 0 else z) ≡ z
 above_main b z e = rw e refl
