@@ -96,7 +96,7 @@ ran_keeps does leaves p q bytes scan stands ran is wide none =
     let calls = calls_in scan p.screen bytes in (
       hears.heard,
       subst (λ (t : ScreenValue). AreAlike (rows_told calls ++ t.scrollback.rows) (p.screen.scrollback.rows ++ sent_off_in scan p.screen bytes)) (sym hears.shown)
-      (run_streams scan p.screen bytes none (held_screen p.screen is wide)).alike,
+          (run_streams scan p.screen bytes none (held_screen p.screen is wide)).alike,
     )
 
 -- ---- one text

@@ -294,6 +294,7 @@ pub view_streams : (n : ℕ) (s : ScreenValue) → Held s → Streamed [] [] s (
 view_streams n s k = by s.is_alternate where
   now : Scrollback
   now = viewed (length s.page.rows) s.page.width n s.scrollback
+
   by : (b : Bool) → Streamed [] [] s (if b then s else record s { scrollback = now })
   by true = record { held = k; alike = ap (map trimmed_row) (sym (append-nil s.scrollback.rows)) }
   by false = record {
