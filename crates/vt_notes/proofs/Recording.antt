@@ -1,15 +1,11 @@
 -- Callbacks that write a capture as rows are reported.
-use Rattle.std.proofs.Common.{◌≡◌, ◌⊎◌, inl, inr, ℕ, Bool, true, false, List, [], ◌∷◌, ◌++◌, refl, sym, ap, ◌∙◌, rules}
+use Rattle.std.proofs.Common.{◌≡◌, ◌⊎◌, inl, inr, ℕ, true, false, List, [], sym, ap, ◌∙◌, rules}
 use Rattle.std.proofs.lemmas.Bool.{false≢true}
 use Rattle.std.proofs.lemmas.List.{append-nil}
-use Rattle.vt_rows.specs.Basic.{Written}
 use Rattle.vt_rows.specs.Row.{RowValue}
-use Rattle.vt_screen.specs.Calls.{CallValue, OnScroll}
 use Rattle.vt_screen.specs.Meanings.{call_of}
-use Rattle.vt_screen.specs.Screen.{ScreenValue}
 use Rattle.vt_screen.specs.Streamed.{row_told}
 use Rattle.vt_screen.specs.declared.callbacks.Call.{Call}
-use Rattle.vt_screen.specs.declared.callbacks.Call.TheVariants as call
 use Rattle.vt100.specs.Streams.{IsRecorder}
 use Rattle.vt_notes.specs.Recording.{Recorded, Records, with_rows}
 

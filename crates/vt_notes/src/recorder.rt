@@ -1,12 +1,13 @@
 //! Callbacks that write a capture as rows are reported.
 
-ghost use Rattle.std.specs.Prelude.{◌≡◌};
+ghost use Rattle.std.specs.Prelude.{◌≡◌, ◌++◌, true, OnOk};
 ghost use Rattle.vt_notes.specs.Recording.{nothing_recorded};
+ghost use Rattle.vt_screen.specs.Capture.{all_rows, basic_texts};
 
 use std::alloc::Global;
 use std::marker::Model;
-use vt100::capture::{BasicFormattedCaptureState, RowContents};
-use vt100::{Call, Callbacks, Screen};
+use vt100::capture::{BasicFormattedCaptureRange, BasicFormattedCaptureState, RowContents};
+use vt100::{Call, Callbacks, Error, Screen};
 
 /// The capture so far: the basic texts of the rows that left the main page and
 /// aren't kept. Memory for one may be refused, which isn't forgotten.
@@ -36,6 +37,29 @@ impl Recorder {
             state: BasicFormattedCaptureState::new(),
             is_whole: true,
         }
+    }
+
+    /// The capture so far.
+    pub fn text(&self) -> &str
+        ensures { result.now ≡ self.now.text }
+    {
+        self.text.as_str()
+    }
+
+    /// Writes the scrollback and the page of a screen behind the rows so far.
+    ///
+    /// Fails where memory is refused, or was refused for a row before.
+    pub fn capture(&mut self, screen: &Screen) -> Result<(), Error>
+        ensures whole { OnOk result (self.old.is_whole ≡ true) }
+        ensures text { OnOk result (self.new.text ≡ self.old.text ++ basic_texts self.old.state (all_rows screen.now)) }
+    {
+        if !self.is_whole {
+            return Err(Error::OutOfMemory);
+        }
+        screen.write_contents_formatted_basic(
+            &mut self.text,
+            BasicFormattedCaptureRange::Full(&mut self.state),
+        )
     }
 }
 
