@@ -77,7 +77,10 @@ impl Callbacks for Recorder {
         if alternate {
             return;
         }
-        if row.write_formatted_basic(&mut self.text, &mut self.state).is_err() {
+        if row
+            .write_formatted_basic(&mut self.text, &mut self.state)
+            .is_err()
+        {
             self.is_whole = false;
         }
     }
