@@ -30,3 +30,11 @@ pub mod TouchedReads
 pub mod TouchedTexts
 mod Captures
 pub mod CaptureTexts
+pub mod Alike
+pub mod AlikeScrollback
+pub mod Streaming
+pub mod EventSteps
+pub mod Bare
+pub mod StreamedTexts
+pub mod Heard
+pub mod StepLists

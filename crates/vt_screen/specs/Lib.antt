@@ -19,3 +19,4 @@ pub mod InputTexts
 pub mod States
 pub mod Capture
 pub mod CaptureText
+pub mod Streamed
