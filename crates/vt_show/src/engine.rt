@@ -83,6 +83,10 @@ fn text(screen: &Screen, mode: Mode) -> Result<String, Fault>
             Ok(text) => Ok(text),
             Err(_) => Err(Fault::Memory),
         },
+        Mode::Basic => match screen.contents_formatted_basic() {
+            Ok(text) => Ok(text),
+            Err(_) => Err(Fault::Memory),
+        },
     }
 }
 
