@@ -2,6 +2,7 @@
 
 ghost use Rattle.std.specs.Prelude.{◌≡◌, [], ◌∷◌, ◌++◌, if◌then◌else◌, length, IfOk, OnErr, OnOk};
 ghost use Rattle.vt_cells.specs.Op.{change_text};
+ghost use Rattle.vt_cells.specs.PieceKeeping.{gathered};
 ghost use Rattle.vt_rows.specs.Basic.{attrs_after, attrs_after_all, basic_text, cells_text, shown_text, unwritten, written_after};
 ghost use Rattle.vt_rows.specs.Row.{IsRow, trimmed_row};
 
@@ -17,7 +18,7 @@ pub use plain::{
 pub use rows::{BasicFormattedRows, basic_formatted_rows};
 use std::marker::Model;
 use vt_cells::term::{BufWrite, ChangeAttrs, LineFeed};
-use vt_cells::{Attrs, Cell, Sink};
+use vt_cells::{Attrs, Cell, Piece, Sink};
 
 /// The contents of a row: its cells, and whether its text goes on in the row
 /// below. It is as a row of a page is, in its own width.
@@ -151,30 +152,41 @@ fn write_line_end<S: Sink>(sink: &mut S, is_due: bool) -> Result<(), S::Error>
 
 /// Writes cells behind a text in `attrs`, and answers the attributes of the
 /// last text.
+#[tactic(auto, using(vt_cells::proofs::Pieces::nothing_gathered))]
 fn write_cells<S: Sink>(sink: &mut S, cells: &[Cell], attrs: Attrs) -> Result<Attrs, S::Error>
     ensures text { OnOk result (S.text sink.new ≡ S.text sink.old ++ cells_text attrs cells.now) }
     ensures attrs { IfOk result (λ last. last ≡ attrs_after_all attrs cells.now) }
 {
+    let mut piece = Piece::new();
     let mut last = attrs;
     for cell in cells {
-        last = write_cell(sink, cell, last)?;
+        last = add_cell(sink, &mut piece, cell, last)?;
     }
+    piece.flush(sink)?;
     Ok(last)
 }
 
-/// Writes a cell behind a text in `attrs`, and answers the attributes then.
-fn write_cell<S: Sink>(sink: &mut S, cell: &Cell, attrs: Attrs) -> Result<Attrs, S::Error>
-    ensures text { OnOk result (S.text sink.new ≡ S.text sink.old ++ (change_text attrs (attrs_after attrs cell.now) ++ shown_text cell.now)) }
+/// Adds a cell behind a text in `attrs`, and answers the attributes then.
+#[inline]
+fn add_cell<S: Sink>(
+    sink: &mut S,
+    piece: &mut Piece,
+    cell: &Cell,
+    attrs: Attrs,
+) -> Result<Attrs, S::Error>
+    ensures text { OnOk result (gathered (S.text sink.new) piece.new
+        ≡ gathered (S.text sink.old) piece.old ++ (change_text attrs (attrs_after attrs cell.now) ++ shown_text cell.now)) }
     ensures attrs { IfOk result (λ new. new ≡ attrs_after attrs cell.now) }
 {
     let new = attrs_after(attrs, cell);
-    ChangeAttrs { was: attrs, new }.write_buf(sink)?;
-    sink.write_str(shown_text(cell))?;
+    ChangeAttrs { was: attrs, new }.add(sink, piece)?;
+    piece.add(sink, shown_text(cell))?;
     Ok(new)
 }
 
 /// The attributes of the text that ends in the cell, where it was in `attrs`
 /// before: a default blank and a right half leave them.
+#[inline]
 fn attrs_after(attrs: Attrs, cell: &Cell) -> Attrs
     ensures { result ≡ attrs_after attrs cell.now }
 {
@@ -186,6 +198,7 @@ fn attrs_after(attrs: Attrs, cell: &Cell) -> Attrs
 }
 
 /// The text of a cell, where a blank is a space.
+#[inline]
 fn shown_text(cell: &Cell) -> &str
     ensures { result.now ≡ shown_text cell.now }
 {

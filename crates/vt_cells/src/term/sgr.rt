@@ -1,13 +1,15 @@
 //! The numbers of SGR, the sequence that changes attributes.
 
-ghost use Rattle.std.specs.Prelude.{◌≡◌, ◌+◌, ◌≤◌, ℕ, List, [], ◌∷◌, ◌++◌, length, take, if◌then◌else◌, OnOk};
+ghost use Rattle.std.specs.Prelude.{◌≡◌, ◌+◌, ◌≤◌, ℕ, List, [], ◌∷◌, ◌++◌, decimal, length, take, if◌then◌else◌, OnOk};
 ghost use Rattle.vt_cells.specs.Attrs.{same_bool, same_color, same_intensity};
 ghost use Rattle.vt_cells.specs.Op.{background_numbers, change_numbers, foreground_numbers, intensity_number, joined, part};
+ghost use Rattle.vt_cells.specs.PieceKeeping.{gathered};
 
 use crate::attrs::{Attrs, Intensity};
 use crate::color::Color;
+use crate::piece::Piece;
 use crate::sink::Sink;
-use crate::term::decimal::write_decimal;
+use itoa::Buffer;
 use std::marker::Model;
 
 /// As many numbers as one change can have: five for each colour, and four single ones.
@@ -47,17 +49,17 @@ impl Numbers {
         numbers
     }
 
-    /// Appends the numbers to `sink`, joined by `;`.
-    pub fn write_joined<S: Sink>(&self, sink: &mut S) -> Result<(), S::Error>
-        ensures { OnOk result (S.text sink.new ≡ S.text sink.old ++ joined self.now) }
+    /// Adds the numbers, joined by `;`.
+    pub fn add_joined<S: Sink>(&self, sink: &mut S, piece: &mut Piece) -> Result<(), S::Error>
+        ensures { OnOk result (gathered (S.text sink.new) piece.new ≡ gathered (S.text sink.old) piece.old ++ joined self.now) }
     {
         let Some((first, rest)) = self.items[..self.len].split_first() else {
             return Ok(());
         };
-        write_decimal(sink, u32::from(*first))?;
+        add_number(sink, piece, *first)?;
         for number in rest {
-            sink.write_str(";")?;
-            write_decimal(sink, u32::from(*number))?;
+            piece.add(sink, ";")?;
+            add_number(sink, piece, *number)?;
         }
         Ok(())
     }
@@ -131,4 +133,12 @@ impl Numbers {
         self.items[self.len..end].copy_from_slice(numbers);
         self.len = end;
     }
+}
+
+/// Adds a number in decimal.
+fn add_number<S: Sink>(sink: &mut S, piece: &mut Piece, number: u8) -> Result<(), S::Error>
+    ensures { OnOk result (gathered (S.text sink.new) piece.new ≡ gathered (S.text sink.old) piece.old ++ decimal number) }
+{
+    let mut buffer = Buffer::new();
+    piece.add(sink, buffer.format(number))
 }
