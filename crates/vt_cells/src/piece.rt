@@ -59,7 +59,7 @@ impl Piece {
         Ok(())
     }
 
-    /// Writes what was added.
+    /// Writes what was added, if anything was.
     ///
     /// An error is the sink's own; then part of the text may have been written.
     #[inline(never)]
@@ -68,6 +68,9 @@ impl Piece {
         ensures text { OnOk result (S.text sink.new ≡ gathered (S.text sink.old) self.old) }
         ensures empty { OnOk result (self.new ≡ []) }
     {
+        if self.len == 0 {
+            return Ok(());
+        }
         sink.write_str(self.as_str())?;
         self.clear();
         Ok(())
