@@ -8,3 +8,4 @@ pub mod KeptCells
 pub mod Same
 pub mod SameCells
 pub mod Widths
+pub mod Digits

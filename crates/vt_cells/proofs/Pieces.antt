@@ -13,6 +13,27 @@ one_set [] (y ∷ ys) e f = let none : ⊥ = omega (arith, e) in absurd none
 one_set xs [] e f = let none : ⊥ = omega (arith, f) in absurd none
 one_set xs (y ∷ (z ∷ ys)) e f = let none : ⊥ = omega (arith, f) in absurd none
 
+-- the only two, and the only three
+pub two_set : (xs ys : List ℕ) → length xs ≡ length ys → length ys ≡ 2 → slice_set (slice_set xs 0 (slice_index_or ys 0 0)) 1 (slice_index_or ys 1 0) ≡ ys
+two_set (x ∷ (z ∷ [])) (y ∷ (w ∷ [])) e f = refl
+two_set [] ys e f = let none : ⊥ = omega (arith, e, f) in absurd none
+two_set (x ∷ []) ys e f = let none : ⊥ = omega (arith, e, f) in absurd none
+two_set (x ∷ (z ∷ (v ∷ xs))) ys e f = let none : ⊥ = omega (arith, e, f) in absurd none
+two_set (x ∷ (z ∷ [])) [] e f = let none : ⊥ = omega (arith, f) in absurd none
+two_set (x ∷ (z ∷ [])) (y ∷ []) e f = let none : ⊥ = omega (arith, f) in absurd none
+two_set (x ∷ (z ∷ [])) (y ∷ (w ∷ (v ∷ ys))) e f = let none : ⊥ = omega (arith, f) in absurd none
+
+pub three_set : (xs ys : List ℕ) → length xs ≡ length ys → length ys ≡ 3 → slice_set (slice_set (slice_set xs 0 (slice_index_or ys 0 0)) 1 (slice_index_or ys 1 0)) 2 (slice_index_or ys 2 0) ≡ ys
+three_set (x ∷ (z ∷ (v ∷ []))) (y ∷ (w ∷ (u ∷ []))) e f = refl
+three_set [] ys e f = let none : ⊥ = omega (arith, e, f) in absurd none
+three_set (x ∷ []) ys e f = let none : ⊥ = omega (arith, e, f) in absurd none
+three_set (x ∷ (z ∷ [])) ys e f = let none : ⊥ = omega (arith, e, f) in absurd none
+three_set (x ∷ (z ∷ (v ∷ (t ∷ xs)))) ys e f = let none : ⊥ = omega (arith, e, f) in absurd none
+three_set (x ∷ (z ∷ (v ∷ []))) [] e f = let none : ⊥ = omega (arith, f) in absurd none
+three_set (x ∷ (z ∷ (v ∷ []))) (y ∷ []) e f = let none : ⊥ = omega (arith, f) in absurd none
+three_set (x ∷ (z ∷ (v ∷ []))) (y ∷ (w ∷ [])) e f = let none : ⊥ = omega (arith, f) in absurd none
+three_set (x ∷ (z ∷ (v ∷ []))) (y ∷ (w ∷ (u ∷ (t ∷ ys)))) e f = let none : ⊥ = omega (arith, f) in absurd none
+
 longer : (old text : List ℕ) (n : ℕ) → IsPiece (length old) old → n ≡ length old + length text → n ≤ 128 → IsUtf8 text → IsPiece n (old ++ text)
 longer old text n piece e fits utf8 = record {
   bounded = fits;

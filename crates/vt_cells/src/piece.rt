@@ -109,15 +109,25 @@ impl Piece {
     }
 }
 
-/// Copies bytes; where it is one, as of most glyphs, without a call.
+/// Copies bytes; where they are at most three, as of most glyphs, without a
+/// call.
 #[inline]
+#[tactic(auto, using(crate::proofs::Pieces::one_set, crate::proofs::Pieces::two_set, crate::proofs::Pieces::three_set))]
 fn copy(to: &mut [u8], from: &[u8])
     requires { length to.old ≡ length from.now }
     ensures { to.new ≡ from.now }
 {
-    if from.len() == 1 {
-        to[0] = from[0];
-        return;
+    match from.len() {
+        1 => to[0] = from[0],
+        2 => {
+            to[0] = from[0];
+            to[1] = from[1];
+        }
+        3 => {
+            to[0] = from[0];
+            to[1] = from[1];
+            to[2] = from[2];
+        }
+        _ => to.copy_from_slice(from),
     }
-    to.copy_from_slice(from);
 }

@@ -1,6 +1,7 @@
 //! Rows that are lent to be read, and their texts.
 
-ghost use Rattle.std.specs.Prelude.{◌≡◌, [], ◌∷◌, ◌++◌, if◌then◌else◌, length, IfOk, OnErr, OnOk};
+ghost use Rattle.std.specs.Prelude.{◌≡◌, [], ◌∷◌, ◌++◌, if◌then◌else◌, false, length, true, IfOk, OnErr, OnOk};
+ghost use Rattle.vt_cells.specs.Cell.{attrs_of};
 ghost use Rattle.vt_cells.specs.Op.{change_text};
 ghost use Rattle.vt_cells.specs.PieceKeeping.{gathered};
 ghost use Rattle.vt_rows.specs.Basic.{attrs_after, attrs_after_all, basic_text, cells_text, shown_text, unwritten, written_after};
@@ -160,41 +161,48 @@ fn write_cells<S: Sink>(sink: &mut S, cells: &[Cell], attrs: Attrs) -> Result<At
     let mut piece = Piece::new();
     let mut last = attrs;
     for cell in cells {
-        last = add_cell(sink, &mut piece, cell, last)?;
+        add_cell(sink, &mut piece, cell, &mut last)?;
     }
     piece.flush(sink)?;
     Ok(last)
 }
 
-/// Adds a cell behind a text in `attrs`, and answers the attributes then.
+/// Adds a cell behind a text in `attrs`, which become those of the text then.
 #[inline]
 fn add_cell<S: Sink>(
     sink: &mut S,
     piece: &mut Piece,
     cell: &Cell,
-    attrs: Attrs,
-) -> Result<Attrs, S::Error>
+    attrs: &mut Attrs,
+) -> Result<(), S::Error>
     ensures text { OnOk result (gathered (S.text sink.new) piece.new
-        ≡ gathered (S.text sink.old) piece.old ++ (change_text attrs (attrs_after attrs cell.now) ++ shown_text cell.now)) }
-    ensures attrs { IfOk result (λ new. new ≡ attrs_after attrs cell.now) }
+        ≡ gathered (S.text sink.old) piece.old ++ (change_text attrs.old (attrs_after attrs.old cell.now) ++ shown_text cell.now)) }
+    ensures attrs { OnOk result (attrs.new ≡ attrs_after attrs.old cell.now) }
 {
-    let new = attrs_after(attrs, cell);
-    ChangeAttrs { was: attrs, new }.add(sink, piece)?;
-    piece.add(sink, shown_text(cell))?;
-    Ok(new)
+    if keeps_attrs(cell, attrs) {
+        return piece.add(sink, shown_text(cell));
+    }
+    let was = *attrs;
+    *attrs = cell.attrs();
+    ChangeAttrs { was, new: *attrs }.add(sink, piece)?;
+    piece.add(sink, shown_text(cell))
 }
 
-/// The attributes of the text that ends in the cell, where it was in `attrs`
-/// before: a default blank and a right half leave them.
+/// Whether a cell leaves the attributes of the text before it: a default blank
+/// and a right half do, and what has the same ones.
 #[inline]
-fn attrs_after(attrs: Attrs, cell: &Cell) -> Attrs
-    ensures { result ≡ attrs_after attrs cell.now }
+#[tactic(auto, using(crate::proofs::BasicTexts::kept_same, crate::proofs::BasicTexts::kept_default, crate::proofs::BasicTexts::kept_right, crate::proofs::BasicTexts::own))]
+fn keeps_attrs(cell: &Cell, attrs: &Attrs) -> bool
+    ensures yes { result ≡ true → (attrs_after attrs.now cell.now ≡ attrs.now) × (change_text attrs.now (attrs_after attrs.now cell.now) ≡ []) }
+    ensures no { result ≡ false → attrs_after attrs.now cell.now ≡ attrs_of cell.now }
 {
-    if cell.is_wide_continuation() || cuts::is_default(cell) {
-        attrs
-    } else {
-        cell.attrs()
+    if cell.has_attrs(attrs) {
+        return true;
     }
+    if cell.is_wide_continuation() {
+        return true;
+    }
+    cuts::is_default(cell)
 }
 
 /// The text of a cell, where a blank is a space.
