@@ -46,7 +46,7 @@ impl Piece {
     /// text itself are written.
     ///
     /// An error is the sink's own; then part of the text may have been written.
-    #[inline]
+    #[inline(always)]
     #[tactic(auto, unfolding(crate::specs::PieceKeeping::gathered))]
     pub fn add<S: Sink>(&mut self, sink: &mut S, text: &str) -> Result<(), S::Error>
         ensures { OnOk result (gathered (S.text sink.new) self.new ≡ gathered (S.text sink.old) self.old ++ text.now) }
@@ -91,7 +91,7 @@ impl Piece {
         ROOM - self.len
     }
 
-    #[inline]
+    #[inline(always)]
     fn push(&mut self, text: &str)
         requires { length self.old + length text.now ≤ 128 }
         ensures { self.new ≡ self.old ++ text.now }
@@ -111,7 +111,7 @@ impl Piece {
 
 /// Copies bytes; where they are at most three, as of most glyphs, without a
 /// call.
-#[inline]
+#[inline(always)]
 #[tactic(auto, using(crate::proofs::Pieces::one_set, crate::proofs::Pieces::two_set, crate::proofs::Pieces::three_set))]
 fn copy(to: &mut [u8], from: &[u8])
     requires { length to.old ≡ length from.now }
