@@ -1,3 +1,4 @@
+pub mod Pieces
 pub mod Changes
 pub mod Texts
 pub mod Cells
@@ -7,3 +8,4 @@ pub mod KeptCells
 pub mod Same
 pub mod SameCells
 pub mod Widths
+pub mod Digits

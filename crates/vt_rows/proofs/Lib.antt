@@ -8,6 +8,7 @@ pub mod ShiftSteps
 pub mod Trims
 pub mod Folds
 pub mod PlainTexts
+pub mod BasicTexts
 pub mod Examples
 pub mod Pieces
 pub mod CaptureRows
