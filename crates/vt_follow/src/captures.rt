@@ -3,7 +3,7 @@
 use anyhow::Result;
 use std::alloc::Global;
 use std::num::NonZeroU16;
-use vt_notes::Streamed;
+use vt_notes::Recorder;
 use vt100::Parser;
 
 /// How many rows scrollback keeps, each time the stream is captured.
@@ -36,16 +36,17 @@ fn captured(
     capacity: usize,
     bytes: &[u8],
 ) -> Result<String> {
-    let streamed = Streamed::new(alloc);
-    let mut parser = Parser::new_with_callbacks(alloc, rows, cols, capacity, streamed)?;
+    let recorder = Recorder::new(alloc);
+    let mut parser = Parser::new_with_callbacks(alloc, rows, cols, capacity, recorder)?;
     capture(alloc, &mut parser, bytes)
 }
 
-fn capture(alloc: Global, parser: &mut Parser<Streamed>, bytes: &[u8]) -> Result<String> {
+fn capture(alloc: Global, parser: &mut Parser<Recorder>, bytes: &[u8]) -> Result<String> {
     parser.process(bytes)?;
     parser.process(END)?;
-    let (screen, streamed) = parser.screen_and_callbacks_mut();
+    let (screen, recorder) = parser.screen_and_callbacks_mut();
+    recorder.capture(screen)?;
     let mut text = String::new(alloc);
-    text.push_str(streamed.finish(screen)?)?;
+    text.push_str(recorder.text())?;
     Ok(text)
 }

@@ -7,11 +7,9 @@ mod lines;
 pub mod note;
 pub mod notes;
 mod reading;
-pub mod streamed;
 pub mod recorder;
 
 pub use note::{KeptRow, Note};
 pub use notes::Notes;
 pub use reading::read;
-pub use streamed::Streamed;
 pub use recorder::Recorder;

@@ -1,5 +1,5 @@
 -- What the fields of a screen are together; for its model only.
-use Rattle.std.specs.Prelude.{◌≡◌, ◌≢◌, ℕ, ◌≤◌, Bool, true, [], Option, Some, None, IfSome, IsSome, option_map, not, if◌then◌else◌}
+use Rattle.std.specs.Prelude.{◌≡◌, ℕ, ◌≤◌, Bool, true, [], Option, Some, None, IfSome, IsSome, option_map, not, if◌then◌else◌}
 use Rattle.vt_grid.specs.Page.{Page, IsPage}
 use Rattle.vt_grid.specs.Scrollback.{Scrollback, IsScrollback, no_scrollback}
 use Rattle.vt_grid.specs.Resize.{page_resized, scrollback_resized}

@@ -4,7 +4,7 @@ use crate::steps::{Pieces, feed, size_of, taken};
 use std::alloc::Global;
 use std::process::Abort;
 use std::test::Fail;
-use vt_notes::Streamed;
+use vt_notes::Recorder;
 use vt100::capture::{
     BasicFormattedCaptureRange, BasicFormattedCaptureState, basic_formatted_rows,
     basic_formatted_to_plain,
@@ -98,21 +98,22 @@ fn expect_streamed(
     wanted: &str,
 ) -> Result<(), Fail> {
     let (rows, cols) = size_of(size)?;
-    let streamed = Streamed::new(alloc);
-    let mut parser = Parser::new_with_callbacks(alloc, rows, cols, capacity, streamed)?;
+    let recorder = Recorder::new(alloc);
+    let mut parser = Parser::new_with_callbacks(alloc, rows, cols, capacity, recorder)?;
     expect_capture(&mut parser, text, pieces, wanted)
 }
 
 fn expect_capture(
-    parser: &mut Parser<Streamed>,
+    parser: &mut Parser<Recorder>,
     text: &str,
     pieces: Pieces,
     wanted: &str,
 ) -> Result<(), Fail> {
     feed(parser, text.as_bytes(), pieces)?;
-    let (screen, streamed) = parser.screen_and_callbacks_mut();
+    let (screen, recorder) = parser.screen_and_callbacks_mut();
     let capacity = screen.scrollback_capacity();
-    let found = streamed.finish(screen)?;
+    recorder.capture(screen)?;
+    let found = recorder.text();
     if found != wanted {
         return Err(Fail::new(format_args!(
             "{text:?} with {capacity} rows of scrollback gives {found:?} and not {wanted:?}"
