@@ -8,4 +8,3 @@ pub mod KeptCells
 pub mod Same
 pub mod SameCells
 pub mod Widths
-pub mod Digits

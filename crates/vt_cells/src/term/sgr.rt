@@ -1,6 +1,6 @@
 //! The numbers of SGR, the sequence that changes attributes.
 
-ghost use Rattle.std.specs.Prelude.{◌≡◌, ◌+◌, ◌≤◌, ◌<◌, ◌/◌, ◌%◌, ℕ, List, [], ◌∷◌, ◌++◌, decimal, length, take, if◌then◌else◌, OnOk};
+ghost use Rattle.std.specs.Prelude.{◌≡◌, ◌+◌, ◌≤◌, ℕ, List, [], ◌∷◌, ◌++◌, decimal, length, take, if◌then◌else◌, OnOk};
 ghost use Rattle.vt_cells.specs.Attrs.{same_bool, same_color, same_intensity};
 ghost use Rattle.vt_cells.specs.Op.{background_numbers, change_numbers, foreground_numbers, intensity_number, joined, part};
 ghost use Rattle.vt_cells.specs.PieceKeeping.{gathered};
@@ -9,6 +9,7 @@ use crate::attrs::{Attrs, Intensity};
 use crate::color::Color;
 use crate::piece::Piece;
 use crate::sink::Sink;
+use itoa::Buffer;
 use std::marker::Model;
 
 /// As many numbers as one change can have: five for each colour, and four single ones.
@@ -143,40 +144,10 @@ impl Numbers {
     }
 }
 
-/// The digits of decimal numbers.
-const DIGITS: [&str; 10] = ["0", "1", "2", "3", "4", "5", "6", "7", "8", "9"];
-
-/// Adds a number in decimal, which has at most three digits.
-#[tactic(auto, using(crate::proofs::Digits::one_digit, crate::proofs::Digits::two_digits, crate::proofs::Digits::three_digits))]
+/// Adds a number in decimal.
 fn add_number<S: Sink>(sink: &mut S, piece: &mut Piece, number: u8) -> Result<(), S::Error>
     ensures { OnOk result (gathered (S.text sink.new) piece.new ≡ gathered (S.text sink.old) piece.old ++ decimal number) }
 {
-    if number < 10 {
-        return add_digit(sink, piece, number);
-    }
-    if number < 100 {
-        return add_two_digits(sink, piece, number);
-    }
-    add_digit(sink, piece, number / 100)?;
-    add_two_digits(sink, piece, number % 100)
-}
-
-/// Adds the two digits of a number below 100.
-#[inline]
-#[tactic(auto, using(crate::proofs::Digits::one_behind))]
-fn add_two_digits<S: Sink>(sink: &mut S, piece: &mut Piece, number: u8) -> Result<(), S::Error>
-    requires { number < 100 }
-    ensures { OnOk result (gathered (S.text sink.new) piece.new ≡ gathered (S.text sink.old) piece.old ++ (48 + number / 10) ∷ (48 + number % 10) ∷ []) }
-{
-    add_digit(sink, piece, number / 10)?;
-    add_digit(sink, piece, number % 10)
-}
-
-/// Adds a digit.
-#[inline]
-fn add_digit<S: Sink>(sink: &mut S, piece: &mut Piece, digit: u8) -> Result<(), S::Error>
-    requires { digit < 10 }
-    ensures { OnOk result (gathered (S.text sink.new) piece.new ≡ gathered (S.text sink.old) piece.old ++ (48 + digit) ∷ []) }
-{
-    piece.add(sink, DIGITS[usize::from(digit)])
+    let mut buffer = Buffer::new();
+    piece.add(sink, buffer.format(number))
 }
