@@ -45,7 +45,7 @@ makes text reader after canvas M reads e m =
 
 -- it is plain again, and keeps what is no part of its page
 kept_rest : (reader : ScreenValue) (r : ℕ) (row : RowValue) (pen : Pen) (last : Option ℕ) → KeepsRest reader (left_with (row_drawn r row pen (canvas_of reader)) last reader)
-kept_rest reader r row pen last = record { other = refl; is_alternate = refl; scrollback = refl; modes = refl; width = refl; top = refl; bottom = refl; origin = refl }
+kept_rest reader r row pen last = record { but_modes = record { other = refl; is_alternate = refl; scrollback = refl; width = refl; top = refl; bottom = refl; origin = refl }; modes = refl }
 
 -- ---- one row of a page
 
@@ -176,7 +176,7 @@ wrap_read picture r reader is colors steady low on at =
     (redraw_item_wraps picture r above (canvas_of reader) is steady (item_awaited picture r picture.width above reader stands) at.full low at.below))
 
 rest_wrapped : (r : ℕ) (row : RowValue) (pen : Pen) (reader : ScreenValue) (last : Option ℕ) → KeepsRest reader (left_with (wrap_canvas r row pen reader) last reader)
-rest_wrapped r row pen reader last = record { other = refl; is_alternate = refl; scrollback = refl; modes = refl; width = refl; top = refl; bottom = refl; origin = refl }
+rest_wrapped r row pen reader last = record { but_modes = record { other = refl; is_alternate = refl; scrollback = refl; width = refl; top = refl; bottom = refl; origin = refl }; modes = refl }
 
 plain_wrapped : (picture : Picture) (r : ℕ) (row : RowValue) (pen : Pen) (reader : ScreenValue) (last : Option ℕ) → IsReader picture reader → IsPlain (left_with (wrap_canvas r row pen reader) last reader)
 plain_wrapped picture r row pen reader last is =
