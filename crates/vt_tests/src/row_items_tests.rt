@@ -56,15 +56,35 @@ fn rows_formatted(rt: HostRuntime) -> Result<(), Fail> {
 fn rows_diff(rt: HostRuntime) -> Result<(), Fail> {
     for (size, was, text, range, wanted) in &CHANGED {
         let prev = taken(rt.alloc(), *size, 0, &[Text(*was)], Pieces::Single)?;
-        for most in 0..=text.len() {
-            let parser = taken(rt.alloc(), *size, 0, &[Text(*text)], Pieces::Two(most))?;
-            expect_texts(
-                changed(rt.alloc(), parser.screen(), prev.screen(), *range)?,
-                *wanted,
-            )?;
-        }
+        expect_changes(rt.alloc(), prev.screen(), *size, *text, *range, *wanted)?;
     }
     Ok(())
+}
+
+// Fails where what a text changes is told by other texts, wherever it is cut.
+fn expect_changes(
+    alloc: Global,
+    prev: &Screen,
+    size: (u16, u16),
+    text: &str,
+    range: (u16, u16),
+    wanted: &[&str],
+) -> Result<(), Fail> {
+    for most in 0..=text.len() {
+        let parser = taken(alloc, size, 0, &[Text(text)], Pieces::Two(most))?;
+        expect_change(alloc, parser.screen(), prev, range, wanted)?;
+    }
+    Ok(())
+}
+
+fn expect_change(
+    alloc: Global,
+    screen: &Screen,
+    prev: &Screen,
+    range: (u16, u16),
+    wanted: &[&str],
+) -> Result<(), Fail> {
+    expect_texts(changed(alloc, screen, prev, range)?, wanted)
 }
 
 // All texts of rows in a range, which has to begin at a column.
@@ -117,23 +137,42 @@ const OTHER: &[u8] = b"\x1b[32mfgh\xe4\xb8\xadij\x1b[1mklm\xe4\xb8\xadnopqr";
 #[test]
 fn rows_are_read(rt: HostRuntime) -> Result<(), Fail> {
     let shown = read_keeping(rt.alloc(), (4, 6), 0, &[ONE])?;
-    let mut reader = read_keeping(rt.alloc(), (4, 6), 0, &[])?;
-    for (row, text) in (1..=4).zip(shown.screen().rows_formatted(0, 6)) {
-        read_at(rt.alloc(), &mut reader, row, text?.as_str())?;
-    }
-    assert!(rt; have_same_cells(reader.screen(), shown.screen(), 4));
-    Ok(())
+    let texts = formatted(rt.alloc(), shown.screen(), (0, 6))?;
+    expect_read(rt.alloc(), shown.screen(), b"", texts)
 }
 
 #[test]
 fn changed_rows_are_read(rt: HostRuntime) -> Result<(), Fail> {
     let shown = read_keeping(rt.alloc(), (4, 6), 0, &[ONE])?;
-    let prev = read_keeping(rt.alloc(), (4, 6), 0, &[OTHER])?;
-    let mut reader = read_keeping(rt.alloc(), (4, 6), 0, &[OTHER])?;
-    for (row, text) in (1..=4).zip(changed(rt.alloc(), shown.screen(), prev.screen(), (0, 6))?) {
-        read_at(rt.alloc(), &mut reader, row, text.as_str())?;
+    expect_change_read(rt.alloc(), shown.screen())
+}
+
+fn expect_change_read(alloc: Global, shown: &Screen) -> Result<(), Fail> {
+    let prev = read_keeping(alloc, (4, 6), 0, &[OTHER])?;
+    let texts = changed(alloc, shown, prev.screen(), (0, 6))?;
+    expect_read(alloc, shown, OTHER, texts)
+}
+
+// Fails where a terminal that has read these bytes, and then the texts of rows, has other cells.
+fn expect_read(
+    alloc: Global,
+    shown: &Screen,
+    bytes: &[u8],
+    texts: Vec<String>,
+) -> Result<(), Fail> {
+    let mut reader = read_keeping(alloc, (4, 6), 0, &[bytes])?;
+    read_rows(alloc, &mut reader, texts)?;
+    if have_same_cells(reader.screen(), shown, 4) {
+        Ok(())
+    } else {
+        Err(Fail::new("other cells"))
     }
-    assert!(rt; have_same_cells(reader.screen(), shown.screen(), 4));
+}
+
+fn read_rows(alloc: Global, reader: &mut Parser<Notes>, texts: Vec<String>) -> Result<(), Fail> {
+    for (row, text) in (1..=4).zip(texts) {
+        read_at(alloc, reader, row, text.as_str())?;
+    }
     Ok(())
 }
 
@@ -142,6 +181,25 @@ fn read_at(alloc: Global, reader: &mut Parser<Notes>, row: u16, text: &str) -> R
     let mut bytes = String::new(alloc);
     write!(bytes, "\x1b[{row}H\x1b[m{text}")?;
     reader.process(bytes.as_bytes())?;
+    Ok(())
+}
+
+#[test]
+fn rows_come_in_turn(rt: HostRuntime) -> Result<(), Fail> {
+    let parser = read_keeping(rt.alloc(), (2, 4), 0, &[b"ab\r\n\x1b[1mcd"])?;
+    expect_in_turn(parser.screen())
+}
+
+fn expect_in_turn(screen: &Screen) -> Result<(), Fail> {
+    let (_rows, cols) = screen.size();
+    if cols.get() == 0 {
+        return Err(Fail::new("no columns"));
+    }
+    for (text, wanted) in screen.rows_formatted(0, 4).zip(["ab", "\x1b[1mcd"]) {
+        if text?.as_str() != wanted {
+            return Err(Fail::new("other texts"));
+        }
+    }
     Ok(())
 }
 
