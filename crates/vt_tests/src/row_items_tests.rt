@@ -66,7 +66,7 @@ fn expect_changes(
     alloc: Global,
     prev: &Screen,
     size: (u16, u16),
-    text: &str,
+    text: &'static str,
     range: (u16, u16),
     wanted: &[&str],
 ) -> Result<(), Fail> {
