@@ -43,7 +43,6 @@ pub struct Attrs {
 
 impl Attrs {
     /// The attributes of a fresh screen: default colours, nothing set.
-    #[inline]
     pub fn new() -> Self
         ensures { result ≡ default_attrs }
     {

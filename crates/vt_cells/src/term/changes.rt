@@ -81,7 +81,6 @@ impl ChangeAttrs {
 impl BufWrite for ChangeAttrs {
     ghost bytes = { λ it. bytes_of (op.ChangeAttrs it.was it.new) };
 
-    #[inline]
     #[tactic(auto, unfolding(crate::specs::Op::change_text))]
     fn write_buf<S: Sink>(&self, sink: &mut S) -> Result<(), S::Error> {
         if self.was.is_same(&self.new) {
