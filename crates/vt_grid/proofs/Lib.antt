@@ -1,3 +1,4 @@
+pub mod Flats
 pub mod Drawing
 pub mod Dispatch
 pub mod Carries
