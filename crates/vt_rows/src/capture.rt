@@ -196,6 +196,33 @@ fn shown_text(cell: &Cell) -> &str
     }
 }
 
+/// Cells and a flag as a row to be read.
+#[inline]
+pub fn lent<'a>(cells: &'a [Cell], wrapped: bool) -> RowContents<'a>
+    requires { IsRow (length cells.now) (record { cells = cells.now; wrapped = wrapped }) }
+    ensures { result ≡ record { cells = cells.now; wrapped = wrapped } }
+{
+    RowContents { cells, wrapped }
+}
+
+/// The cells of a row, for as long as they are lent.
+#[inline]
+pub fn cells_of<'a>(row: &RowContents<'a>) -> &'a [Cell]
+    ensures { result.now ≡ row.now.cells }
+{
+    row.cells
+}
+
+/// A row without the default blanks at its end.
+pub fn trimmed<'a>(row: &RowContents<'a>) -> RowContents<'a>
+    ensures { result ≡ trimmed_row row.now }
+{
+    RowContents {
+        cells: &row.cells[..cuts::trimmed_len(row.cells)],
+        wrapped: row.wrapped,
+    }
+}
+
 impl Row {
     /// The row as it stands.
     #[inline]
@@ -203,10 +230,7 @@ impl Row {
         requires { IsRow (length self.now.cells) self.now }
         ensures { result ≡ self.now }
     {
-        RowContents {
-            cells: self.cells(),
-            wrapped: self.wrapped(),
-        }
+        lent(self.cells(), self.wrapped())
     }
 
     /// The row without the default blanks at its end.
@@ -214,11 +238,7 @@ impl Row {
         requires { IsRow (length self.now.cells) self.now }
         ensures { result ≡ trimmed_row self.now }
     {
-        let cells = self.cells();
-        RowContents {
-            cells: &cells[..cuts::trimmed_len(cells)],
-            wrapped: self.wrapped(),
-        }
+        trimmed(&self.contents())
     }
 }
 

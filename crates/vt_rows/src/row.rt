@@ -57,6 +57,18 @@ impl Row {
         })
     }
 
+    /// A row of cells and a flag, without the default blanks at its end.
+    ///
+    /// Fails where its memory is refused.
+    pub fn trimmed_copy(alloc: Global, cells: &[Cell], wrapped: bool) -> Result<Row, Error>
+        ensures ok { IfOk result (λ row. row ≡ trimmed_row (record { cells = cells.now; wrapped = wrapped })) }
+        ensures memory { IfErr result (λ error. error ≡ Error.OutOfMemory) }
+    {
+        let kept = &cells[..cuts::trimmed_len(cells)];
+        let cells = kept.to_vec(alloc)?;
+        Ok(Row { cells, wrapped })
+    }
+
     /// How many columns the row has.
     #[inline]
     pub fn cols(&self) -> usize
