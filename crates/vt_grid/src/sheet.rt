@@ -13,28 +13,30 @@ ghost use Rattle.vt_grid.specs.Sheet.{blank_sheet, sheet_flagged, sheet_row, wit
 
 mod resizing;
 
-use crate::row_lists::{blank_rows, copied_rows};
+use crate::flat::Flat;
 use crate::scrollback::Scrollback;
 use crate::size::Size;
 use std::alloc::Global;
 use std::marker::Model;
 use vt_cells::{Attrs, Cell, Error};
-use vt_rows::shifts::turn;
-use vt_rows::{Leaving, Row, cells};
+use vt_rows::capture::lent;
+use vt_rows::{Leaving, RowContents, cells, shifts};
 
 /// Rows of one width, changed one at a time or put in another order.
 #[derive(Debug, Drop)]
 pub struct Sheet {
-    rows: Vec<Row>,
-    width: u16,
+    flat: Flat,
 }
 
 impl Model for Sheet {
+    ghost use Rattle.vt_grid.specs.Flat.{IsFlat, rows_of};
     ghost use Rattle.vt_grid.specs.Sheet.{SheetValue};
 
     ghost Value = { SheetValue };
 
-    ghost view = { λ s. record { rows = s.rows.items; width = s.width } };
+    ghost view = { λ s. record { rows = rows_of s.flat; width = s.flat.width } };
+
+    ghost invariant = { λ s. IsFlat s.flat };
 }
 
 impl Sheet {
@@ -45,10 +47,8 @@ impl Sheet {
         ensures ok { IfOk result (λ sheet. sheet ≡ blank_sheet size.rows size.cols) }
         ensures memory { IfErr result (λ error. error ≡ Error.OutOfMemory) }
     {
-        Ok(Sheet {
-            rows: blank_rows(alloc, usize::from(size.cols), usize::from(size.rows))?,
-            width: size.cols,
-        })
+        let flat = Flat::new(alloc, size)?;
+        Ok(Sheet { flat })
     }
 
     /// A copy of the sheet.
@@ -58,10 +58,8 @@ impl Sheet {
         ensures ok { IfOk result (λ sheet. sheet ≡ self.now) }
         ensures memory { IfErr result (λ error. error ≡ Error.OutOfMemory) }
     {
-        Ok(Sheet {
-            rows: copied_rows(alloc, &self.rows)?,
-            width: self.width,
-        })
+        let flat = self.flat.try_clone(alloc)?;
+        Ok(Sheet { flat })
     }
 
     /// How many rows and columns the sheet has.
@@ -72,31 +70,37 @@ impl Sheet {
         ensures cols { result.cols ≡ self.now.width }
     {
         Size {
-            rows: self.rows.len() as u16,
-            cols: self.width,
+            rows: self.flat.lines.len() as u16,
+            cols: self.flat.width,
         }
     }
 
-    /// The rows, from the top.
+    /// How many rows the sheet has.
     #[inline]
-    pub fn rows(&self) -> &[Row]
-        ensures { result.now ≡ self.now.rows }
+    pub fn len(&self) -> usize
+        ensures { result ≡ length self.now.rows }
     {
-        &self.rows
+        self.flat.lines.len()
     }
 
-    /// The row at a place, if the sheet has it.
+    /// A row, to be read where it lies.
     #[inline]
-    pub fn row(&self, row: u16) -> Option<&Row>
-        ensures inside { IsSome result ↔ (row < length self.now.rows) }
-        ensures value { IfSome result (λ found. found.now ≡ sheet_row self.now row) }
+    pub fn row(&self, row: u16) -> RowContents<'_>
+        requires inside { row < length self.now.rows }
+        requires sound { All (IsRow self.now.width) self.now.rows }
+        ensures { result ≡ sheet_row self.now row }
     {
-        let row = usize::from(row);
-        if row < self.rows.len() {
-            Some(&self.rows[row])
-        } else {
-            None
-        }
+        let (start, end) = self.flat.part(row);
+        lent(&self.flat.cells[start..end], self.flat.wrapped(row))
+    }
+
+    /// Whether the text of a row goes on in the row below.
+    #[inline]
+    pub fn wrapped(&self, row: u16) -> bool
+        requires { row < length self.now.rows }
+        ensures { result ≡ (sheet_row self.now row).wrapped }
+    {
+        self.flat.wrapped(row)
     }
 
     /// The cell at a column of a row.
@@ -106,7 +110,8 @@ impl Sheet {
         requires column { col < length (sheet_row self.now row).cells }
         ensures { result.now ≡ at (sheet_row self.now row).cells col }
     {
-        &self.rows[usize::from(row)].cells()[usize::from(col)]
+        let (start, end) = self.flat.part(row);
+        &self.flat.cells[start..end][usize::from(col)]
     }
 
     /// Whether the last column of a row is blank.
@@ -115,7 +120,8 @@ impl Sheet {
         requires { row < length self.now.rows }
         ensures { result ≡ ends_blank (sheet_row self.now row).cells }
     {
-        cells::ends_blank(self.rows[usize::from(row)].cells())
+        let (start, end) = self.flat.part(row);
+        cells::ends_blank(&self.flat.cells[start..end])
     }
 
     /// Says whether a row goes on in the row below.
@@ -124,7 +130,7 @@ impl Sheet {
         requires { row < length self.old.rows }
         ensures { self.new ≡ with_sheet_row row (record (sheet_row self.old row) { wrapped = wrapped }) self.old }
     {
-        self.rows[usize::from(row)].wrap(wrapped);
+        self.flat.wrap(row, wrapped);
     }
 
     /// Says whether the row that a wrap left, if there is one, goes on below.
@@ -147,7 +153,12 @@ impl Sheet {
         requires columns { columns_of c ≡ Some 1 }
         ensures { self.new ≡ with_row_cells row (put_narrow col (encode_utf8 c) attrs (sheet_row self.old row).cells) self.old }
     {
-        self.rows[usize::from(row)].put_narrow(usize::from(col), c, attrs);
+        let goes_on = self.flat.wrapped(row);
+        let (start, end) = self.flat.part(row);
+        let cells = &mut self.flat.cells[start..end];
+        cells::put_narrow(cells, usize::from(col), c, attrs);
+        let goes_on = cells::flag_left(cells, goes_on);
+        self.flat.wrap(row, goes_on);
     }
 
     /// Puts a wide glyph at a column of a row and the next; see `Row::put_wide`.
@@ -159,7 +170,12 @@ impl Sheet {
         requires columns { columns_of c ≡ Some 2 }
         ensures { self.new ≡ with_row_cells row (put_wide col (encode_utf8 c) attrs (sheet_row self.old row).cells) self.old }
     {
-        self.rows[usize::from(row)].put_wide(usize::from(col), c, attrs);
+        let goes_on = self.flat.wrapped(row);
+        let (start, end) = self.flat.part(row);
+        let cells = &mut self.flat.cells[start..end];
+        cells::put_wide(cells, usize::from(col), c, attrs);
+        let goes_on = cells::flag_left(cells, goes_on);
+        self.flat.wrap(row, goes_on);
     }
 
     /// Puts a mark on the cell at a column of a row; see `Row::append`.
@@ -170,7 +186,12 @@ impl Sheet {
         requires mark { columns_of mark ≡ Some 0 }
         ensures { self.new ≡ with_row_cells row (marked_at col mark (sheet_row self.old row).cells) self.old }
     {
-        self.rows[usize::from(row)].append(usize::from(col), mark);
+        let goes_on = self.flat.wrapped(row);
+        let (start, end) = self.flat.part(row);
+        let cells = &mut self.flat.cells[start..end];
+        cells::append(cells, usize::from(col), mark);
+        let goes_on = cells::flag_left(cells, goes_on);
+        self.flat.wrap(row, goes_on);
     }
 
     /// Makes the glyph at a column of a row wide; see `Row::widen`.
@@ -183,7 +204,12 @@ impl Sheet {
         requires fits { IsCell (widened true (at (sheet_row self.old row).cells col)) }
         ensures { self.new ≡ with_row_cells row (widened_at col attrs (sheet_row self.old row).cells) self.old }
     {
-        self.rows[usize::from(row)].widen(usize::from(col), attrs);
+        let goes_on = self.flat.wrapped(row);
+        let (start, end) = self.flat.part(row);
+        let cells = &mut self.flat.cells[start..end];
+        cells::widen(cells, usize::from(col), attrs);
+        let goes_on = cells::flag_left(cells, goes_on);
+        self.flat.wrap(row, goes_on);
     }
 
     /// Makes the glyph at a column of a row narrow; see `Row::narrow`.
@@ -195,7 +221,12 @@ impl Sheet {
         requires fits { IsCell (widened false (at (sheet_row self.old row).cells col)) }
         ensures { self.new ≡ with_row_cells row (narrowed_at col attrs (sheet_row self.old row).cells) self.old }
     {
-        self.rows[usize::from(row)].narrow(usize::from(col), attrs);
+        let goes_on = self.flat.wrapped(row);
+        let (start, end) = self.flat.part(row);
+        let cells = &mut self.flat.cells[start..end];
+        cells::narrow(cells, usize::from(col), attrs);
+        let goes_on = cells::flag_left(cells, goes_on);
+        self.flat.wrap(row, goes_on);
     }
 
     /// Takes the cell at a column of a row out; see `Row::lift`.
@@ -206,7 +237,13 @@ impl Sheet {
         ensures lifted { result ≡ at (sheet_row self.old row).cells col }
         ensures value { self.new ≡ with_row_cells row (erased col 1 attrs (sheet_row self.old row).cells) self.old }
     {
-        self.rows[usize::from(row)].lift(usize::from(col), attrs)
+        let goes_on = self.flat.wrapped(row);
+        let (start, end) = self.flat.part(row);
+        let cells = &mut self.flat.cells[start..end];
+        let cell = cells::lift(cells, usize::from(col), attrs);
+        let goes_on = cells::flag_left(cells, goes_on);
+        self.flat.wrap(row, goes_on);
+        cell
     }
 
     /// Puts a cell that was taken out back at a column of a row, and the row's
@@ -216,7 +253,10 @@ impl Sheet {
         requires column { col < length (sheet_row self.old row).cells }
         ensures { self.new ≡ with_sheet_row row (record { cells = slice_set (sheet_row self.old row).cells col cell; wrapped = goes_on }) self.old }
     {
-        self.rows[usize::from(row)].put_back(usize::from(col), cell, goes_on);
+        let (start, end) = self.flat.part(row);
+        let cells = &mut self.flat.cells[start..end];
+        cells[usize::from(col)] = cell;
+        self.flat.wrap(row, goes_on);
     }
 
     /// Puts a wide cell at a column of a row and the next; see `Row::put_wide_cell`.
@@ -227,18 +267,28 @@ impl Sheet {
         requires wide { is_wide cell ≡ true }
         ensures { self.new ≡ with_row_cells row (put_wide col (text_of cell) (attrs_of cell) (sheet_row self.old row).cells) self.old }
     {
-        self.rows[usize::from(row)].put_wide_cell(usize::from(col), cell);
+        let goes_on = self.flat.wrapped(row);
+        let (start, end) = self.flat.part(row);
+        let cells = &mut self.flat.cells[start..end];
+        cells::put_wide_cell(cells, usize::from(col), cell);
+        let goes_on = cells::flag_left(cells, goes_on);
+        self.flat.wrap(row, goes_on);
     }
 
-    /// Makes the columns of a row from `start` up to `end` blank; see `Row::erase`.
-    pub fn erase(&mut self, row: u16, start: u16, end: u16, attrs: Attrs)
+    /// Makes the columns of a row from `from` up to `to` blank; see `Row::erase`.
+    pub fn erase(&mut self, row: u16, from: u16, to: u16, attrs: Attrs)
         requires inside { row < length self.old.rows }
         requires paired { IsPaired (sheet_row self.old row).cells }
-        requires some { start < end }
-        requires columns { end ≤ length (sheet_row self.old row).cells }
-        ensures { self.new ≡ with_row_cells row (erased start (end - start) attrs (sheet_row self.old row).cells) self.old }
+        requires some { from < to }
+        requires columns { to ≤ length (sheet_row self.old row).cells }
+        ensures { self.new ≡ with_row_cells row (erased from (to - from) attrs (sheet_row self.old row).cells) self.old }
     {
-        self.rows[usize::from(row)].erase(usize::from(start), usize::from(end), attrs);
+        let goes_on = self.flat.wrapped(row);
+        let (start, end) = self.flat.part(row);
+        let cells = &mut self.flat.cells[start..end];
+        cells::erase(cells, usize::from(from), usize::from(to), attrs);
+        let goes_on = cells::flag_left(cells, goes_on);
+        self.flat.wrap(row, goes_on);
     }
 
     /// Inserts default blanks at a column of a row; see `Row::insert`.
@@ -248,7 +298,10 @@ impl Sheet {
         requires column { col ≤ length (sheet_row self.old row).cells }
         ensures { self.new ≡ with_sheet_row row (inserted_row col count (sheet_row self.old row)) self.old }
     {
-        self.rows[usize::from(row)].insert(usize::from(col), usize::from(count));
+        let (start, end) = self.flat.part(row);
+        let cells = &mut self.flat.cells[start..end];
+        shifts::insert(cells, usize::from(col), usize::from(count));
+        self.flat.wrap(row, false);
     }
 
     /// Deletes columns of a row; see `Row::delete`.
@@ -258,7 +311,10 @@ impl Sheet {
         requires column { col ≤ length (sheet_row self.old row).cells }
         ensures { self.new ≡ with_sheet_row row (deleted_row col count (sheet_row self.old row)) self.old }
     {
-        self.rows[usize::from(row)].delete(usize::from(col), usize::from(count));
+        let (start, end) = self.flat.part(row);
+        let cells = &mut self.flat.cells[start..end];
+        shifts::delete(cells, usize::from(col), usize::from(count));
+        self.flat.wrap(row, false);
     }
 
     /// Makes a row blank.
@@ -267,7 +323,7 @@ impl Sheet {
         requires columns { length (sheet_row self.old row).cells ≡ self.old.width }
         ensures { self.new ≡ with_sheet_row row (blank_row attrs self.old.width) self.old }
     {
-        self.rows[usize::from(row)].clear(attrs);
+        self.flat.blank(row, attrs);
     }
 
     /// Makes all rows blank.
@@ -275,7 +331,7 @@ impl Sheet {
         requires sound { All (IsRow self.old.width) self.old.rows }
         ensures { self.new ≡ record self.old { rows = replicate (length self.old.rows) (blank_row attrs self.old.width) } }
     {
-        clear_from(&mut self.rows, 0, attrs);
+        self.clear_rows(0, self.flat.lines.len() as u16, attrs);
     }
 
     /// Makes the rows above a row blank.
@@ -284,7 +340,7 @@ impl Sheet {
         requires sound { All (IsRow self.old.width) self.old.rows }
         ensures { self.new ≡ record self.old { rows = replicate row (blank_row attrs self.old.width) ++ drop row self.old.rows } }
     {
-        clear_before(&mut self.rows, usize::from(row), attrs);
+        self.clear_rows(0, row, attrs);
     }
 
     /// Makes the rows below a row blank.
@@ -293,7 +349,7 @@ impl Sheet {
         requires sound { All (IsRow self.old.width) self.old.rows }
         ensures { self.new ≡ record self.old { rows = take (row + 1) self.old.rows ++ replicate (length self.old.rows - (row + 1)) (blank_row attrs self.old.width) } }
     {
-        clear_from(&mut self.rows, usize::from(row) + 1, attrs);
+        self.clear_rows(row + 1, self.flat.lines.len() as u16, attrs);
     }
 
     /// Moves the rows from `top` to `bottom` up by `count`; blank rows come in

@@ -275,18 +275,18 @@ impl Row {
     ///
     /// A left half that comes to stand in the last column becomes blank, in
     /// its own attributes. The flag stays where the widths are equal.
-    pub fn refit(&mut self, mut from: Row)
+    pub fn refit(&mut self, from: Row)
         requires blank { self.old ≡ blank_row default_attrs (length self.old.cells) }
         requires paired { IsPaired from.cells }
         ensures { self.new ≡ resized_row (length self.old.cells) from }
     {
         self.wrapped = flag_kept(from.wrapped, from.cells.len() == self.cells.len());
-        cuts::refit(&mut self.cells, &mut from.cells);
+        cuts::refit(&mut self.cells, &from.cells);
     }
 }
 
 /// The flag of a row that got another width, or the same.
-fn flag_kept(wrapped: bool, same: bool) -> bool
+pub fn flag_kept(wrapped: bool, same: bool) -> bool
     ensures { result ≡ (wrapped && same) }
 {
     wrapped && same
