@@ -1,5 +1,5 @@
 -- Rows in one list of cells: what an edit of a row's cells, a flag and a rotation of the table make of them.
-use Rattle.std.proofs.Common.{◌≡◌, ◌≢◌, ℕ, ◌+◌, ◌*◌, ◌-◌, ◌<◌, ◌≤◌, Bool, false, List, [], ◌∷◌, ◌++◌, length, take, drop, replicate, map, Vec, Global, get_or, set, refl, inl, inr, sym, ap, ◌∙◌, arith}
+use Rattle.std.proofs.Common.{◌≡◌, ◌≢◌, ℕ, ◌+◌, ◌*◌, ◌-◌, ◌<◌, ◌≤◌, ◌&&◌, not, Bool, false, List, [], ◌∷◌, ◌++◌, length, take, drop, replicate, map, Vec, Global, get_or, set, refl, inl, inr, sym, ap, subst, ◌∙◌, arith}
 use Rattle.std.specs.List.{slice_range, range_with_len}
 use Rattle.std.proofs.lemmas.Bool.{cases_lt, cases_eq}
 use Rattle.std.proofs.lemmas.Bool.Decides.{nat_tests}
@@ -11,12 +11,14 @@ use Rattle.std.proofs.lemmas.Slice.{between_is, take-put_mid_below, drop-put_mid
 use borrow.Rule.Slice.PartMut.{put_mid, same_len_mid}
 use Rattle.vt_cells.specs.Cell.{CellValue, blank, default_blank}
 use Rattle.vt_cells.specs.declared.attrs.Attrs.{Attrs}
-use Rattle.vt_rows.specs.Cells.{blanks}
+use Rattle.vt_rows.specs.Cells.{blanks, ends_blank}
+use Rattle.vt_grid.specs.Sheet.{SheetValue, with_sheet_row, with_row_cells}
 use Rattle.vt_rows.proofs.Columns.{blanks_is}
 use Rattle.vt_rows.specs.Row.{RowValue, blank_row}
 use Rattle.vt_grid.specs.Page.{row_or}
 use Rattle.vt_grid.specs.declared.flat.Line.{Line}
-use Rattle.vt_grid.specs.Flat.{cells_at, row_in, rows_in, no_line, line_at, in_order, IsTable}
+use Rattle.vt_grid.specs.declared.flat.Flat.{Flat}
+use Rattle.vt_grid.specs.Flat.{IsFlat, rows_of, cells_at, row_in, rows_in, no_line, line_at, in_order, IsTable}
 
 -- ---- places
 
@@ -54,9 +56,9 @@ written w n p a k v now xs new e was f h i j l =
 
 -- ---- rows
 
-pub length-rows_in : (w : ℕ) (cells : List CellValue) (lines : List Line) → length (rows_in w cells lines) ≡ length lines
+pub rows_counted : (w : ℕ) (cells : List CellValue) (lines : List Line) → length (rows_in w cells lines) ≡ length lines
 unfolding rows_in
-length-rows_in w cells lines = length-map lines (row_in w cells)
+rows_counted w cells lines = length-map lines (row_in w cells)
 
 pub row_found : (w r : ℕ) (cells : List CellValue) (lines : List Line) (d : RowValue) → r < length lines → get_or (rows_in w cells lines) r d ≡ row_in w cells (line_at lines r)
 unfolding rows_in
@@ -65,7 +67,7 @@ row_found w r cells lines d h = get_or-map (row_in w cells) lines r no_line d h
 -- the rows of a page whose lines are others, which stand for these rows
 pub rows_in_by : (w : ℕ) (cells : List CellValue) (lines : List Line) (rows : List RowValue) (d : RowValue) → length rows ≡ length lines → ((k : ℕ) → k < length lines → row_in w cells (line_at lines k) ≡ get_or rows k d) → rows_in w cells lines ≡ rows
 rows_in_by w cells lines rows d e f =
-    let l = length-rows_in w cells lines in
+    let l = rows_counted w cells lines in
     ext_get_or d (rows_in w cells lines) rows (l ∙ sym e) (λ k h. let i : k < length lines = omega (arith, l) in row_found w k cells lines d i ∙ f k i)
 
 -- row r has other cells and another flag
@@ -78,7 +80,7 @@ rows_in-edited w r cells new flag lines t h l =
     let table = set lines r line in
     let row : RowValue = record { cells = new; wrapped = flag } in
     let n : length table ≡ length lines = length-set lines r line in
-    let m = length-rows_in w cells lines in
+    let m = rows_counted w cells lines in
     rows_in_by w now table (set (rows_in w cells lines) r row) row (length-set (rows_in w cells lines) r row ∙ (m ∙ sym n)) (λ k i.
     let k_in : k < length lines = omega (arith, n) in
     elim (cases_eq k r) [
@@ -196,3 +198,34 @@ pub length-cells_at : (w n p : ℕ) (cells : List CellValue) → length cells �
 length-cells_at w n p cells e h =
     let inside = place_inside p n w h in
     omega (arith, length-take (p * w + w - p * w) (drop (p * w) cells), length-drop (p * w) cells, inside, e)
+
+-- ---- edits of a row
+
+abbrev pub sheet_of : Flat → SheetValue
+sheet_of flat = record { rows = rows_of flat; width = flat.width }
+
+-- the cells of row r were lent and became `new`, and its flag is another
+pub row_changed : (r a b : ℕ) (flat edited : Flat) (xs new : List CellValue) (flag : Bool) → IsFlat flat → r < length flat.lines.items →
+    edited.cells ≡ with_items flat.cells (put_mid a (b - a) xs new) → xs ≡ flat.cells.items → a ≡ (line_at flat.lines.items r).place * flat.width → b ≡ a + flat.width → b ≤ length flat.cells.items →
+    length new ≡ length (take (b - a) (drop a xs)) → edited.width ≡ flat.width → edited.lines.items ≡ set flat.lines.items r (record (line_at flat.lines.items r) { wrapped = flag }) →
+    (sheet_of edited ≡ with_sheet_row r (record { cells = new; wrapped = flag }) (sheet_of flat)) × IsFlat edited
+row_changed r a b flat edited xs new flag t inside e was i j m size w f =
+    let lines = flat.lines.items in
+    let l : length new ≡ flat.width = size ∙ omega (arith, length-take (b - a) (drop a xs), length-drop a xs, ap length was, j, m) in
+    let cells = written flat.width (length lines) (line_at lines r).place a (b - a) flat.cells edited.cells xs new e was t.filled (t.inside r inside) i (omega (arith, j)) l in
+    let rows : rows_of edited ≡ set (rows_of flat) r (record { cells = new; wrapped = flag }) = (λ z. rows_in (w z) (cells z) (f z)) ∙ rows_in-edited flat.width r flat.cells.items new flag lines t inside l in (
+      (λ z. record { rows = rows z; width = w z }),
+      subst (λ (x : ℕ × (List CellValue × List Line)). IsTable x.0 x.1.0 x.1.1) (λ z. (sym w z, (sym cells z, sym f z))) (IsTable-edited flat.width r flat.cells.items new flag lines t inside l),
+    )
+
+-- by a print or an erase
+pub row_printed : (r a b : ℕ) (flat edited : Flat) (xs new : List CellValue) (was_flag flag : Bool) → IsFlat flat → r < length flat.lines.items →
+    edited.cells ≡ with_items flat.cells (put_mid a (b - a) xs new) → xs ≡ flat.cells.items → a ≡ (line_at flat.lines.items r).place * flat.width → b ≡ a + flat.width → b ≤ length flat.cells.items →
+    length new ≡ length (take (b - a) (drop a xs)) → edited.width ≡ flat.width → edited.lines.items ≡ set flat.lines.items r (record (line_at flat.lines.items r) { wrapped = flag }) →
+    was_flag ≡ (row_or flat.width (rows_of flat) r).wrapped → flag ≡ (was_flag && not (ends_blank new)) →
+    (sheet_of edited ≡ with_row_cells r new (sheet_of flat)) × IsFlat edited
+row_printed r a b flat edited xs new was_flag flag t inside e was i j m size w f g k =
+    let all = row_changed r a b flat edited xs new flag t inside e was i j m size w f in (
+      all.0 ∙ ap (λ (x : Bool). with_sheet_row r (record { cells = new; wrapped = x }) (sheet_of flat)) (k ∙ ap (λ (x : Bool). x && not (ends_blank new)) g),
+      all.1,
+    )

@@ -69,44 +69,48 @@ impl Flat {
     }
 
     /// Where the cells of a row begin and end.
+    #[tactic(auto, using(crate::proofs::Flats::rows_counted))]
     #[inline]
-    pub fn part(&self, row: u16) -> (usize, usize)
+    pub fn part(&self, row: usize) -> (usize, usize)
         requires flat { IsFlat self.now }
-        requires inside { row < length self.now.lines.items }
+        requires inside { row < length (rows_of self.now) }
         ensures start { result.0 ≡ (line_at self.now.lines.items row).place * self.now.width }
         ensures end { result.1 ≡ result.0 + self.now.width }
         ensures inside { result.1 ≤ length self.now.cells.items }
+        ensures line { row < length self.now.lines.items }
         ensures row { slice_range self.now.cells.items result.0 result.1 ≡ (row_or self.now.width (rows_of self.now) row).cells }
     {
-        let start = usize::from(self.lines[usize::from(row)].place) * usize::from(self.width);
+        let start = usize::from(self.lines[row].place) * usize::from(self.width);
         (start, start + usize::from(self.width))
     }
 
     /// Whether a row's text goes on in the row below.
+    #[tactic(auto, using(crate::proofs::Flats::rows_counted))]
     #[inline]
-    pub fn wrapped(&self, row: u16) -> bool
-        requires { row < length self.now.lines.items }
+    pub fn wrapped(&self, row: usize) -> bool
+        requires { row < length (rows_of self.now) }
         ensures { result ≡ (row_or self.now.width (rows_of self.now) row).wrapped }
     {
-        self.lines[usize::from(row)].wrapped
+        self.lines[row].wrapped
     }
 
     /// Says whether a row's text goes on in the row below. No cell changes.
     #[inline]
-    pub fn wrap(&mut self, row: u16, wrapped: bool)
+    pub fn wrap(&mut self, row: usize, wrapped: bool)
         requires { row < length self.old.lines.items }
         ensures cells { self.new.cells ≡ self.old.cells }
         ensures width { self.new.width ≡ self.old.width }
         ensures lines { self.new.lines.items ≡ slice_set self.old.lines.items row (record (line_at self.old.lines.items row) { wrapped = wrapped }) }
     {
-        self.lines[usize::from(row)].wrapped = wrapped;
+        self.lines[row].wrapped = wrapped;
     }
 
     /// Rotates the rows from `from` up to `to` up by `count`, with their flags.
     /// No cell changes.
+    #[tactic(auto, using(crate::proofs::Flats::rows_counted))]
     pub fn rotate(&mut self, from: usize, to: usize, count: usize)
         requires in_order { from + count ≤ to }
-        requires inside { to ≤ length self.old.lines.items }
+        requires inside { to ≤ length (rows_of self.old) }
         ensures cells { self.new.cells ≡ self.old.cells }
         ensures width { self.new.width ≡ self.old.width }
         ensures len { length self.new.lines.items ≡ length self.old.lines.items }
@@ -117,9 +121,10 @@ impl Flat {
 
     /// Makes a row blank, so that it goes on no more. The cells of every other
     /// place stay.
-    pub fn blank(&mut self, row: u16, attrs: Attrs)
+    #[tactic(auto, using(crate::proofs::Flats::rows_counted))]
+    pub fn blank(&mut self, row: usize, attrs: Attrs)
         requires flat { IsFlat self.old }
-        requires inside { row < length self.old.lines.items }
+        requires inside { row < length (rows_of self.old) }
         ensures own { cells_at self.old.width self.new.cells.items (line_at self.old.lines.items row).place ≡ blanks attrs self.old.width }
         ensures others { (place : ℕ) → place < length self.old.lines.items → place ≢ (line_at self.old.lines.items row).place → cells_at self.old.width self.new.cells.items place ≡ cells_at self.old.width self.old.cells.items place }
         ensures len { length self.new.cells.items ≡ length self.old.cells.items }

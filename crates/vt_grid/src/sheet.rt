@@ -5,7 +5,6 @@ ghost use Rattle.vt_cells.specs.Cell.{IsCell, attrs_of, is_blank, is_right_half,
 ghost use Rattle.vt_cells.specs.Glyph.{columns_of};
 ghost use Rattle.vt_rows.specs.Cells.{IsPaired, at, ends_blank, erased, marked_at, narrowed_at, put_narrow, put_wide, widened_at};
 ghost use Rattle.vt_rows.specs.Row.{RowValue, IsRow, blank_row, deleted_row, inserted_row};
-ghost use Rattle.vt_grid.specs.Keeping.{cleared_row};
 ghost use Rattle.vt_grid.specs.Page.{rows_up};
 ghost use Rattle.vt_grid.specs.Shifts.{rows_down};
 ghost use Rattle.vt_grid.specs.Scrollback.{Sends, TakesMemory};
@@ -85,7 +84,7 @@ impl Sheet {
 
     /// A row, to be read where it lies.
     #[inline]
-    pub fn row(&self, row: u16) -> RowContents<'_>
+    pub fn row(&self, row: usize) -> RowContents<'_>
         requires inside { row < length self.now.rows }
         requires sound { All (IsRow self.now.width) self.now.rows }
         ensures { result ≡ sheet_row self.now row }
@@ -100,7 +99,7 @@ impl Sheet {
         requires { row < length self.now.rows }
         ensures { result ≡ (sheet_row self.now row).wrapped }
     {
-        self.flat.wrapped(row)
+        self.flat.wrapped(usize::from(row))
     }
 
     /// The cell at a column of a row.
@@ -110,7 +109,7 @@ impl Sheet {
         requires column { col < length (sheet_row self.now row).cells }
         ensures { result.now ≡ at (sheet_row self.now row).cells col }
     {
-        let (start, end) = self.flat.part(row);
+        let (start, end) = self.flat.part(usize::from(row));
         &self.flat.cells[start..end][usize::from(col)]
     }
 
@@ -120,13 +119,14 @@ impl Sheet {
         requires { row < length self.now.rows }
         ensures { result ≡ ends_blank (sheet_row self.now row).cells }
     {
-        let (start, end) = self.flat.part(row);
+        let (start, end) = self.flat.part(usize::from(row));
         cells::ends_blank(&self.flat.cells[start..end])
     }
 
     /// Says whether a row goes on in the row below.
     #[inline]
-    pub fn wrap(&mut self, row: u16, wrapped: bool)
+    #[tactic(auto, using(crate::proofs::Flats::rows_counted))]
+    pub fn wrap(&mut self, row: usize, wrapped: bool)
         requires { row < length self.old.rows }
         ensures { self.new ≡ with_sheet_row row (record (sheet_row self.old row) { wrapped = wrapped }) self.old }
     {
@@ -139,7 +139,7 @@ impl Sheet {
         ensures { self.new ≡ sheet_flagged left goes_on self.old }
     {
         if let Some(row) = left {
-            self.wrap(row, goes_on);
+            self.wrap(usize::from(row), goes_on);
         }
     }
 
@@ -153,6 +153,7 @@ impl Sheet {
         requires columns { columns_of c ≡ Some 1 }
         ensures { self.new ≡ with_row_cells row (put_narrow col (encode_utf8 c) attrs (sheet_row self.old row).cells) self.old }
     {
+        let row = usize::from(row);
         let goes_on = self.flat.wrapped(row);
         let (start, end) = self.flat.part(row);
         let cells = &mut self.flat.cells[start..end];
@@ -170,6 +171,7 @@ impl Sheet {
         requires columns { columns_of c ≡ Some 2 }
         ensures { self.new ≡ with_row_cells row (put_wide col (encode_utf8 c) attrs (sheet_row self.old row).cells) self.old }
     {
+        let row = usize::from(row);
         let goes_on = self.flat.wrapped(row);
         let (start, end) = self.flat.part(row);
         let cells = &mut self.flat.cells[start..end];
@@ -186,6 +188,7 @@ impl Sheet {
         requires mark { columns_of mark ≡ Some 0 }
         ensures { self.new ≡ with_row_cells row (marked_at col mark (sheet_row self.old row).cells) self.old }
     {
+        let row = usize::from(row);
         let goes_on = self.flat.wrapped(row);
         let (start, end) = self.flat.part(row);
         let cells = &mut self.flat.cells[start..end];
@@ -204,6 +207,7 @@ impl Sheet {
         requires fits { IsCell (widened true (at (sheet_row self.old row).cells col)) }
         ensures { self.new ≡ with_row_cells row (widened_at col attrs (sheet_row self.old row).cells) self.old }
     {
+        let row = usize::from(row);
         let goes_on = self.flat.wrapped(row);
         let (start, end) = self.flat.part(row);
         let cells = &mut self.flat.cells[start..end];
@@ -221,6 +225,7 @@ impl Sheet {
         requires fits { IsCell (widened false (at (sheet_row self.old row).cells col)) }
         ensures { self.new ≡ with_row_cells row (narrowed_at col attrs (sheet_row self.old row).cells) self.old }
     {
+        let row = usize::from(row);
         let goes_on = self.flat.wrapped(row);
         let (start, end) = self.flat.part(row);
         let cells = &mut self.flat.cells[start..end];
@@ -237,6 +242,7 @@ impl Sheet {
         ensures lifted { result ≡ at (sheet_row self.old row).cells col }
         ensures value { self.new ≡ with_row_cells row (erased col 1 attrs (sheet_row self.old row).cells) self.old }
     {
+        let row = usize::from(row);
         let goes_on = self.flat.wrapped(row);
         let (start, end) = self.flat.part(row);
         let cells = &mut self.flat.cells[start..end];
@@ -253,6 +259,7 @@ impl Sheet {
         requires column { col < length (sheet_row self.old row).cells }
         ensures { self.new ≡ with_sheet_row row (record { cells = slice_set (sheet_row self.old row).cells col cell; wrapped = goes_on }) self.old }
     {
+        let row = usize::from(row);
         let (start, end) = self.flat.part(row);
         let cells = &mut self.flat.cells[start..end];
         cells[usize::from(col)] = cell;
@@ -267,6 +274,7 @@ impl Sheet {
         requires wide { is_wide cell ≡ true }
         ensures { self.new ≡ with_row_cells row (put_wide col (text_of cell) (attrs_of cell) (sheet_row self.old row).cells) self.old }
     {
+        let row = usize::from(row);
         let goes_on = self.flat.wrapped(row);
         let (start, end) = self.flat.part(row);
         let cells = &mut self.flat.cells[start..end];
@@ -283,6 +291,7 @@ impl Sheet {
         requires columns { to ≤ length (sheet_row self.old row).cells }
         ensures { self.new ≡ with_row_cells row (erased from (to - from) attrs (sheet_row self.old row).cells) self.old }
     {
+        let row = usize::from(row);
         let goes_on = self.flat.wrapped(row);
         let (start, end) = self.flat.part(row);
         let cells = &mut self.flat.cells[start..end];
@@ -298,6 +307,7 @@ impl Sheet {
         requires column { col ≤ length (sheet_row self.old row).cells }
         ensures { self.new ≡ with_sheet_row row (inserted_row col count (sheet_row self.old row)) self.old }
     {
+        let row = usize::from(row);
         let (start, end) = self.flat.part(row);
         let cells = &mut self.flat.cells[start..end];
         shifts::insert(cells, usize::from(col), usize::from(count));
@@ -311,6 +321,7 @@ impl Sheet {
         requires column { col ≤ length (sheet_row self.old row).cells }
         ensures { self.new ≡ with_sheet_row row (deleted_row col count (sheet_row self.old row)) self.old }
     {
+        let row = usize::from(row);
         let (start, end) = self.flat.part(row);
         let cells = &mut self.flat.cells[start..end];
         shifts::delete(cells, usize::from(col), usize::from(count));
@@ -318,9 +329,8 @@ impl Sheet {
     }
 
     /// Makes a row blank.
-    pub fn clear_row(&mut self, row: u16, attrs: Attrs)
+    pub fn clear_row(&mut self, row: usize, attrs: Attrs)
         requires inside { row < length self.old.rows }
-        requires columns { length (sheet_row self.old row).cells ≡ self.old.width }
         ensures { self.new ≡ with_sheet_row row (blank_row attrs self.old.width) self.old }
     {
         self.flat.blank(row, attrs);
@@ -331,7 +341,8 @@ impl Sheet {
         requires sound { All (IsRow self.old.width) self.old.rows }
         ensures { self.new ≡ record self.old { rows = replicate (length self.old.rows) (blank_row attrs self.old.width) } }
     {
-        self.clear_rows(0, self.flat.lines.len() as u16, attrs);
+        let end = self.flat.lines.len();
+        self.clear_rows(0, end, attrs);
     }
 
     /// Makes the rows above a row blank.
@@ -340,7 +351,7 @@ impl Sheet {
         requires sound { All (IsRow self.old.width) self.old.rows }
         ensures { self.new ≡ record self.old { rows = replicate row (blank_row attrs self.old.width) ++ drop row self.old.rows } }
     {
-        self.clear_rows(0, row, attrs);
+        self.clear_rows(0, usize::from(row), attrs);
     }
 
     /// Makes the rows below a row blank.
@@ -349,7 +360,8 @@ impl Sheet {
         requires sound { All (IsRow self.old.width) self.old.rows }
         ensures { self.new ≡ record self.old { rows = take (row + 1) self.old.rows ++ replicate (length self.old.rows - (row + 1)) (blank_row attrs self.old.width) } }
     {
-        self.clear_rows(row + 1, self.flat.lines.len() as u16, attrs);
+        let end = self.flat.lines.len();
+        self.clear_rows(usize::from(row) + 1, end, attrs);
     }
 
     /// Moves the rows from `top` to `bottom` up by `count`; blank rows come in
@@ -362,12 +374,10 @@ impl Sheet {
         requires sound { All (IsRow self.old.width) self.old.rows }
         ensures { self.new ≡ record self.old { rows = rows_up self.old.width top bottom count self.old.rows } }
     {
-        scroll_rows(
-            &mut self.rows,
-            usize::from(top),
-            usize::from(bottom),
-            usize::from(count),
-        );
+        let (top, end) = (usize::from(top), usize::from(bottom) + 1);
+        let count = usize::from(count).min(end - top);
+        self.flat.rotate(top, end, count);
+        self.clear_rows(end - count, end, Attrs::new());
     }
 
     /// Moves the rows from `top` to `bottom` down by `count`; blank rows come
@@ -381,12 +391,11 @@ impl Sheet {
         requires sound { All (IsRow self.old.width) self.old.rows }
         ensures { self.new ≡ record self.old { rows = rows_down self.old.width top bottom count self.old.rows } }
     {
-        scroll_rows_down(
-            &mut self.rows,
-            usize::from(top),
-            usize::from(bottom),
-            usize::from(count),
-        );
+        let (top, end) = (usize::from(top), usize::from(bottom) + 1);
+        let count = usize::from(count).min(end - top);
+        self.flat.rotate(top, end, end - top - count);
+        self.clear_rows(top, top + count, Attrs::new());
+        self.wrap(usize::from(bottom), false);
     }
 
     /// Moves the rows from the first to `bottom` up by `count`, as `scroll_up`
@@ -412,92 +421,22 @@ impl Sheet {
         ensures grows { IsErr result → TakesMemory (take (min count (bottom + 1)) self.old.rows) above.old }
         ensures memory { IfErr result (λ error. error ≡ Error.OutOfMemory) }
     {
-        send_rows(
-            &mut self.rows,
-            usize::from(bottom),
-            usize::from(count),
-            size,
-            above,
-            leaving,
-        )?;
+        let gone = usize::from(count).min(usize::from(bottom) + 1);
+        above.push(self, gone, size, leaving)?;
+        self.scroll_up(0, bottom, count);
         Ok(())
     }
-}
 
-/// Moves rows up by `count` and hands those that leave to scrollback; see
-/// `Sheet::send_up`.
-fn send_rows<L: Leaving>(
-    rows: &mut [Row],
-    bottom: usize,
-    count: usize,
-    size: Size,
-    above: &mut Scrollback,
-    leaving: &mut L,
-) -> Result<(), Error>
-    requires inside { bottom < length rows.old }
-    requires sound { All (IsRow size.cols) rows.old }
-    ensures rows { OnOk result (rows.new ≡ rows_up size.cols 0 bottom count rows.old) }
-    ensures sent { OnOk result (Sends L.leaves size.rows size.cols (take (min count (bottom + 1)) rows.old) above.old leaving.old above.new leaving.new) }
-    ensures err { OnErr result ((rows.new ≡ rows.old) × ((above.new ≡ above.old) × (leaving.new ≡ leaving.old))) }
-    ensures grows { IsErr result → TakesMemory (take (min count (bottom + 1)) rows.old) above.old }
-    ensures memory { IfErr result (λ error. error ≡ Error.OutOfMemory) }
-{
-    let count = count.min(bottom + 1);
-    above.push(&mut rows[..count], size, leaving)?;
-    scroll_rows(rows, 0, bottom, count);
-    Ok(())
-}
-
-/// Moves rows up by `count`; see `Sheet::scroll_up`.
-fn scroll_rows(rows: &mut [Row], top: usize, bottom: usize, count: usize)
-    requires in_order { top ≤ bottom }
-    requires inside { bottom < length rows.old }
-    ensures { (width : ℕ) → All (IsRow width) rows.old → rows.new ≡ rows_up width top bottom count rows.old }
-{
-    let end = bottom + 1;
-    let count = count.min(end - top);
-    turn(rows, top, end, count);
-    clear_rows(rows, end - count, end, Attrs::new());
-}
-
-/// Moves rows down by `count`; see `Sheet::scroll_down`.
-fn scroll_rows_down(rows: &mut [Row], top: usize, bottom: usize, count: usize)
-    requires in_order { top ≤ bottom }
-    requires inside { bottom < length rows.old }
-    ensures { (width : ℕ) → All (IsRow width) rows.old → rows.new ≡ rows_down width top bottom count rows.old }
-{
-    let end = bottom + 1;
-    let count = count.min(end - top);
-    turn(rows, top, end, end - top - count);
-    clear_rows(rows, top, top + count, Attrs::new());
-    rows[bottom].wrap(false);
-}
-
-/// Makes the rows before `to` blank; see `Sheet::clear_above`.
-fn clear_before(rows: &mut [Row], to: usize, attrs: Attrs)
-    requires { to ≤ length rows.old }
-    ensures { (width : ℕ) → All (IsRow width) rows.old → rows.new ≡ replicate to (blank_row attrs width) ++ drop to rows.old }
-{
-    clear_rows(rows, 0, to, attrs);
-}
-
-/// Makes the rows from `from` on blank; see `Sheet::clear_below`.
-fn clear_from(rows: &mut [Row], from: usize, attrs: Attrs)
-    requires { from ≤ length rows.old }
-    ensures { (width : ℕ) → All (IsRow width) rows.old → rows.new ≡ take from rows.old ++ replicate (length rows.old - from) (blank_row attrs width) }
-{
-    let end = rows.len();
-    clear_rows(rows, from, end, attrs);
-}
-
-/// Makes the rows from `from` up to `to` blank, each in its width.
-fn clear_rows(rows: &mut [Row], from: usize, to: usize, attrs: Attrs)
-    requires in_order { from ≤ to }
-    requires inside { to ≤ length rows.old }
-    ensures len { length rows.new ≡ length rows.old }
-    ensures by_index { (k : ℕ) (d : RowValue) → slice_index_or rows.new k d ≡ (if nat_le from k && nat_lt k to then cleared_row attrs (slice_index_or rows.old k d) else slice_index_or rows.old k d) }
-{
-    for k in from..to {
-        rows[k].clear(attrs);
+    /// Makes the rows from `from` up to `to` blank.
+    fn clear_rows(&mut self, from: usize, to: usize, attrs: Attrs)
+        requires in_order { from ≤ to }
+        requires inside { to ≤ length self.old.rows }
+        ensures len { length self.new.rows ≡ length self.old.rows }
+        ensures width { self.new.width ≡ self.old.width }
+        ensures by_index { (k : ℕ) (d : RowValue) → k < length self.old.rows → slice_index_or self.new.rows k d ≡ (if nat_le from k && nat_lt k to then blank_row attrs self.old.width else slice_index_or self.old.rows k d) }
+    {
+        for row in from..to {
+            self.clear_row(row, attrs);
+        }
     }
 }

@@ -2,7 +2,7 @@ use Rattle.std.proofs.Common.{◌≡◌, ◌-◌, List, length, take, drop, ap, 
 use Rattle.std.proofs.lemmas.List.{length-take, length-drop, length-replicate}
 use Rattle.vt_cells.specs.Cell.{CellValue, blank}
 use Rattle.vt_grid.specs.Flat.{line_at, cells_at}
-use Rattle.vt_grid.proofs.Flats.{cells_at-put_other, place_inside, written}
+use Rattle.vt_grid.proofs.Flats.{cells_at-put_other, rows_counted, place_inside, written}
 use Rattle.vt_grid.proofs.flat.Flat.blank.Goals as goal
 
 pub returns-clause-others : goal.returns-clause-others
@@ -13,7 +13,7 @@ returns-clause-others c =
     let p = (line_at flat.lines.items c.args.row).place in
     let s = c.part-start.result.0 in
     let k = c.part-start.result.1 - s in
-    let h = c.requires.flat.inside c.args.row c.requires.inside in
+    let h = c.requires.flat.inside c.args.row (omega (arith, c.requires.inside, rows_counted w flat.cells.items flat.lines.items)) in
     let inside = place_inside p n w h in
     let new = c.clear.new.cells in
     let xs = c.deref_mut.result.now in
