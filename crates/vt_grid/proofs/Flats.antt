@@ -12,7 +12,8 @@ use borrow.Rule.Slice.PartMut.{put_mid, same_len_mid}
 use Rattle.vt_cells.specs.Cell.{CellValue, blank, default_blank}
 use Rattle.vt_cells.specs.declared.attrs.Attrs.{Attrs}
 use Rattle.vt_rows.specs.Cells.{blanks, ends_blank}
-use Rattle.vt_grid.specs.Sheet.{SheetValue, with_sheet_row, with_row_cells}
+use Rattle.vt_cells.specs.Attrs.{default_attrs}
+use Rattle.vt_grid.specs.Sheet.{SheetValue, blank_sheet, sheet_row, with_sheet_row, with_row_cells}
 use Rattle.vt_rows.proofs.Columns.{blanks_is}
 use Rattle.vt_rows.specs.Row.{RowValue, blank_row}
 use Rattle.vt_grid.specs.Page.{row_or}
@@ -70,12 +71,11 @@ rows_in_by w cells lines rows d e f =
     let l = rows_counted w cells lines in
     ext_get_or d (rows_in w cells lines) rows (l ∙ sym e) (λ k h. let i : k < length lines = omega (arith, l) in row_found w k cells lines d i ∙ f k i)
 
--- row r has other cells and another flag
-pub rows_in-edited : (w r : ℕ) (cells new : List CellValue) (flag : Bool) (lines : List Line) → IsTable w cells lines → r < length lines → length new ≡ w →
-    rows_in w (put_mid ((line_at lines r).place * w) w cells new) (set lines r (record (line_at lines r) { wrapped = flag })) ≡ set (rows_in w cells lines) r (record { cells = new; wrapped = flag })
-rows_in-edited w r cells new flag lines t h l =
-    let p = (line_at lines r).place in
-    let now = put_mid (p * w) w cells new in
+-- row r has other cells and another flag, and the cells of each other place are as they were
+pub rows_in-replaced : (w r : ℕ) (cells now new : List CellValue) (flag : Bool) (lines : List Line) → IsTable w cells lines → r < length lines → cells_at w now (line_at lines r).place ≡ new →
+    ((q : ℕ) → q < length lines → q ≢ (line_at lines r).place → cells_at w now q ≡ cells_at w cells q) →
+    rows_in w now (set lines r (record (line_at lines r) { wrapped = flag })) ≡ set (rows_in w cells lines) r (record { cells = new; wrapped = flag })
+rows_in-replaced w r cells now new flag lines t h own others =
     let line = record (line_at lines r) { wrapped = flag } in
     let table = set lines r line in
     let row : RowValue = record { cells = new; wrapped = flag } in
@@ -86,12 +86,19 @@ rows_in-edited w r cells new flag lines t h l =
     elim (cases_eq k r) [
       | inl same ↦
           rw (same, get_or-set_same lines r line no_line h, get_or-set_same (rows_in w cells lines) r row row (omega (arith, m)))
-          (ap (λ (xs : List CellValue). record { cells = xs; wrapped = flag }) (cells_at-put_same w (length lines) p cells new t.filled (t.inside r h) l))
+          (ap (λ (xs : List CellValue). record { cells = xs; wrapped = flag }) own)
       | inr other ↦
-          let apart : (line_at lines k).place ≢ p = λ e. other (t.distinct k r k_in h e) in
+          let apart : (line_at lines k).place ≢ (line_at lines r).place = λ e. other (t.distinct k r k_in h e) in
           rw (get_or-set_other lines r k line no_line other, get_or-set_other (rows_in w cells lines) r k row row other, row_found w k cells lines row k_in)
-          (ap (λ (xs : List CellValue). record { cells = xs; wrapped = (line_at lines k).wrapped }) (cells_at-put_other w (length lines) p (line_at lines k).place cells new t.filled (t.inside r h) (t.inside k k_in) apart l))
+          (ap (λ (xs : List CellValue). record { cells = xs; wrapped = (line_at lines k).wrapped }) (others (line_at lines k).place (t.inside k k_in) apart))
     ])
+
+pub rows_in-edited : (w r : ℕ) (cells new : List CellValue) (flag : Bool) (lines : List Line) → IsTable w cells lines → r < length lines → length new ≡ w →
+    rows_in w (put_mid ((line_at lines r).place * w) w cells new) (set lines r (record (line_at lines r) { wrapped = flag })) ≡ set (rows_in w cells lines) r (record { cells = new; wrapped = flag })
+rows_in-edited w r cells new flag lines t h l =
+    let p = (line_at lines r).place in
+    rows_in-replaced w r cells (put_mid (p * w) w cells new) new flag lines t h (cells_at-put_same w (length lines) p cells new t.filled (t.inside r h) l)
+    (λ q i other. cells_at-put_other w (length lines) p q cells new t.filled (t.inside r h) i other l)
 
 -- row r has another flag
 pub rows_in-flagged : (w r : ℕ) (cells : List CellValue) (flag : Bool) (lines : List Line) → r < length lines →
@@ -229,3 +236,46 @@ row_printed r a b flat edited xs new was_flag flag t inside e was i j m size w f
       all.0 ∙ ap (λ (x : Bool). with_sheet_row r (record { cells = new; wrapped = x }) (sheet_of flat)) (k ∙ ap (λ (x : Bool). x && not (ends_blank new)) g),
       all.1,
     )
+
+-- row r was made blank
+pub row_blanked : (r : ℕ) (attrs : Attrs) (flat edited : Flat) → IsFlat flat → r < length (rows_of flat) → cells_at flat.width edited.cells.items (line_at flat.lines.items r).place ≡ blanks attrs flat.width →
+    ((q : ℕ) → q < length flat.lines.items → q ≢ (line_at flat.lines.items r).place → cells_at flat.width edited.cells.items q ≡ cells_at flat.width flat.cells.items q) →
+    edited.width ≡ flat.width → edited.lines.items ≡ set flat.lines.items r (record (line_at flat.lines.items r) { wrapped = false }) → sheet_of edited ≡ with_sheet_row r (blank_row attrs flat.width) (sheet_of flat)
+row_blanked r attrs flat edited t h own others w f =
+    let inside : r < length flat.lines.items = omega (arith, h, rows_counted flat.width flat.cells.items flat.lines.items) in
+    let rows : rows_of edited ≡ set (rows_of flat) r (blank_row attrs flat.width) = (λ z. rows_in (w z) edited.cells.items (f z)) ∙ rows_in-replaced flat.width r flat.cells.items edited.cells.items (blanks attrs flat.width) false flat.lines.items t inside own others in
+    λ z. record { rows = rows z; width = w z }
+
+-- row r has another flag
+pub row_flagged : (r : ℕ) (flag : Bool) (flat edited : Flat) → r < length flat.lines.items → edited.cells ≡ flat.cells → edited.width ≡ flat.width →
+    edited.lines.items ≡ set flat.lines.items r (record (line_at flat.lines.items r) { wrapped = flag }) → sheet_of edited ≡ with_sheet_row r (record (sheet_row (sheet_of flat) r) { wrapped = flag }) (sheet_of flat)
+row_flagged r flag flat edited h c w f =
+    let n = rows_counted flat.width flat.cells.items flat.lines.items in
+    let d = row_in flat.width flat.cells.items no_line in
+    let rows : rows_of edited ≡ set (rows_of flat) r (record (sheet_row (sheet_of flat) r) { wrapped = flag }) =
+    (λ z. rows_in (w z) (c z).items (f z)) ∙ (rows_in-flagged flat.width r flat.cells.items flag flat.lines.items h
+    ∙ ap (λ (row : RowValue). set (rows_of flat) r (record row { wrapped = flag })) (get_or_default (rows_of flat) r d (blank_row default_attrs flat.width) (omega (arith, n)))) in
+    λ z. record { rows = rows z; width = w z }
+
+-- ---- the whole table
+
+pub flat_turned : (from to n : ℕ) (flat turned : Flat) → IsFlat flat → from + n ≤ to → to ≤ length (rows_of flat) → turned.cells ≡ flat.cells → turned.width ≡ flat.width → length turned.lines.items ≡ length flat.lines.items →
+    ((k : ℕ) → line_at turned.lines.items k ≡ line_at flat.lines.items (turn_source from to n k)) → IsFlat turned
+flat_turned from to n flat turned t h i c w e f =
+    let all = rows_counted flat.width flat.cells.items flat.lines.items in
+    subst (λ (x : ℕ × List CellValue). IsTable x.0 x.1 turned.lines.items) (λ z. (sym w z, (sym c z).items)) (IsTable-turned flat.width from to n flat.cells.items flat.lines.items turned.lines.items h (omega (arith, i, all)) e f t)
+
+pub rows_turned : (from to n : ℕ) (flat turned : Flat) → from + n ≤ to → to ≤ length (rows_of flat) → turned.cells ≡ flat.cells → turned.width ≡ flat.width → length turned.lines.items ≡ length flat.lines.items →
+    ((k : ℕ) → line_at turned.lines.items k ≡ line_at flat.lines.items (turn_source from to n k)) → (k : ℕ) (d : RowValue) → k < length (rows_of flat) → get_or (rows_of turned) k d ≡ get_or (rows_of flat) (turn_source from to n k) d
+rows_turned from to n flat turned h i c w e f k d l =
+    let all = rows_counted flat.width flat.cells.items flat.lines.items in
+    ap (λ (x : ℕ × List CellValue). get_or (rows_in x.0 x.1 turned.lines.items) k d) (λ z. (w z, (c z).items))
+    ∙ rows_in-turned flat.width from to n flat.cells.items flat.lines.items turned.lines.items h (omega (arith, i, all)) e f k d (omega (arith, l, all))
+
+-- ---- a fresh sheet
+
+pub fresh_flat : (rows width : ℕ) (flat : Flat) → flat.cells.items ≡ blanks default_attrs (rows * width) → flat.lines.items ≡ in_order rows → flat.width ≡ width → (sheet_of flat ≡ blank_sheet rows width) × IsFlat flat
+fresh_flat rows width flat c l w = (
+  (λ z. record { rows = rows_in (w z) (c z) (l z); width = w z }) ∙ (λ z. record { rows = rows_in_order width rows default_attrs z; width = width }),
+  subst (λ (x : ℕ × (List CellValue × List Line)). IsTable x.0 x.1.0 x.1.1) (λ z. (sym w z, (sym c z, sym l z))) (IsTable-in_order width rows default_attrs),
+)

@@ -10,6 +10,7 @@ pub mod Prints
 pub mod Regions
 pub mod ScrollExamples
 pub mod Scrolls
+pub mod Turns
 pub mod Shifting
 pub mod ShiftExamples
 pub mod Blanking

@@ -374,7 +374,8 @@ impl Sheet {
         requires sound { All (IsRow self.old.width) self.old.rows }
         ensures { self.new ≡ record self.old { rows = rows_up self.old.width top bottom count self.old.rows } }
     {
-        let (top, end) = (usize::from(top), usize::from(bottom) + 1);
+        let top = usize::from(top);
+        let end = usize::from(bottom) + 1;
         let count = usize::from(count).min(end - top);
         self.flat.rotate(top, end, count);
         self.clear_rows(end - count, end, Attrs::new());
@@ -391,7 +392,8 @@ impl Sheet {
         requires sound { All (IsRow self.old.width) self.old.rows }
         ensures { self.new ≡ record self.old { rows = rows_down self.old.width top bottom count self.old.rows } }
     {
-        let (top, end) = (usize::from(top), usize::from(bottom) + 1);
+        let top = usize::from(top);
+        let end = usize::from(bottom) + 1;
         let count = usize::from(count).min(end - top);
         self.flat.rotate(top, end, end - top - count);
         self.clear_rows(top, top + count, Attrs::new());
