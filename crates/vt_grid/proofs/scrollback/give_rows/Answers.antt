@@ -7,10 +7,10 @@ use Rattle.vt_grid.proofs.scrollback.give_rows.Goals as goal
 
 pub loop-k-init : goal.loop-k-init
 loop-k-init c =
-    let n = length c.args.fresh.now in
+    let n = c.args.up in
     let kept = c.args.kept.now.items in
     record {
-      moved = moved_none (λ j. length kept + j - n) n n kept c.args.fresh.now (omega arith);
+      moved = moved_none (λ j. length kept + j - n) n n kept c.args.page.now.rows (omega arith);
       long = refl;
       left = sym (take_all (length kept + n - n) kept (omega arith));
       few = omega arith;
@@ -20,7 +20,7 @@ loop-k-init c =
 pub returns-in_default-clause-kept : goal.returns-in_default-clause-kept
 returns-in_default-clause-kept c =
     let at = c.loop-k in
-    let n = length c.args.fresh.now in
+    let n = c.args.up in
     let kept = c.args.kept.now.items in
     let inv = at.invariant in
     let none : length at.kept.items ≡ 0 = sym at.kept.ok.0 ∙ (c.in_default.ensures).cases.0 in
@@ -30,27 +30,27 @@ returns-in_default-clause-kept c =
 pub returns-in_default-clause-by_index : goal.returns-in_default-clause-by_index
 returns-in_default-clause-by_index c =
     let at = c.loop-k in
-    let n = length c.args.fresh.now in
+    let n = c.args.up in
     let kept = c.args.kept.now.items in
     let inv = at.invariant in
     let none : length at.kept.items ≡ 0 = sym at.kept.ok.0 ∙ (c.in_default.ensures).cases.0 in
     let end : length kept + at.k - n ≡ 0 = sym (ap length inv.left ∙ omega (arith, length-take (length kept + at.k - n) kept, inv.few)) ∙ none in
-    moved_all (λ j. length kept + j - n) at.k n kept c.args.fresh.now at.fresh (λ j. nat_le n (length kept + j))
+    moved_all (λ j. length kept + j - n) at.k n kept c.args.page.now.rows at.page.rows (λ j. nat_lt j n && nat_le n (length kept + j))
     (λ j h. let some = inv.some in grind (arith, nat_tests)) inv.moved
 
-pub refit-requires-clause-blank : goal.refit-requires-clause-blank
-refit-requires-clause-blank c =
+pub fit_row-requires-clause-blank : goal.fit_row-requires-clause-blank
+fit_row-requires-clause-blank c =
     let at = c.loop-k in
-    let n = length c.args.fresh.now in
+    let n = c.args.up in
     let kept = c.args.kept.now.items in
     let s : at.k ≡ (at.k - 1) + 1 = omega arith in
-    blank_there (λ j. length kept + j - n) (at.k - 1) n kept c.args.fresh.now at.fresh c.index-fresh-k.result (omega (arith, at.invariant.few)) c.requires.blank
-    (subst (λ (k : ℕ). MovedInto (λ j. length kept + j - n) k n kept c.args.fresh.now at.fresh) s at.invariant.moved)
+    blank_there (λ j. length kept + j - n) (at.k - 1) n kept c.args.page.now.rows at.page.rows c.index-fresh-k.result (omega (arith, at.invariant.few)) c.requires.blank
+    (subst (λ (k : ℕ). MovedInto (λ j. length kept + j - n) k n kept c.args.page.now.rows at.page.rows) s at.invariant.moved)
 
-pub refit-requires-clause-paired : goal.refit-requires-clause-paired
-refit-requires-clause-paired c =
+pub fit_row-requires-clause-paired : goal.fit_row-requires-clause-paired
+fit_row-requires-clause-paired c =
     let at = c.loop-k in
-    let n = length c.args.fresh.now in
+    let n = c.args.up in
     let kept = c.args.kept.now.items in
     let inv = at.invariant in
     let len : deque_len at.kept ≡ length kept + at.k - n = at.kept.ok.0 ∙ (ap length inv.left ∙ omega (arith, length-take (length kept + at.k - n) kept, inv.few)) in
@@ -63,7 +63,7 @@ refit-requires-clause-paired c =
 pub loop-k-preserved : goal.loop-k-preserved
 loop-k-preserved c =
     let at = c.loop-k in
-    let n = length c.args.fresh.now in
+    let n = c.args.up in
     let kept = c.args.kept.now.items in
     let inv = at.invariant in
     let s : at.k ≡ (at.k - 1) + 1 = omega arith in
@@ -73,9 +73,9 @@ loop-k-preserved c =
     let some : 0 < deque_len at.kept = omega (arith, c.in-Some.ensures.cases) in
     let there = last_taken (length kept + at.k - n) (length kept + (at.k - 1) - n) kept at.kept.items c.in-Some.row inv.left (omega (arith, len, some)) (omega (arith, inv.few)) found in
     record {
-      moved = moved_more (λ j. length kept + j - n) (at.k - 1) n kept c.args.fresh.now at.fresh c.in-Some.row c.index-fresh-k.result c.refit.new.self (omega (arith, inv.few)) (omega (arith, inv.few)) inv.long
-          (omega (arith, len, some, inv.few)) there c.refit.ensures (subst (λ (k : ℕ). MovedInto (λ j. length kept + j - n) k n kept c.args.fresh.now at.fresh) s inv.moved);
-      long = length-set at.fresh (at.k - 1) c.refit.new.self ∙ inv.long;
+      moved = moved_more (λ j. length kept + j - n) (at.k - 1) n kept c.args.page.now.rows at.page.rows c.in-Some.row c.index-fresh-k.result c.refit.new.self (omega (arith, inv.few)) (omega (arith, inv.few)) inv.long
+          (omega (arith, len, some, inv.few)) there c.refit.ensures (subst (λ (k : ℕ). MovedInto (λ j. length kept + j - n) k n kept c.args.page.now.rows at.page.rows) s inv.moved);
+      long = length-set at.page.rows (at.k - 1) c.refit.new.self ∙ inv.long;
       left = left_taken (length kept + at.k - n) (length kept + (at.k - 1) - n) kept at.kept.items c.pop_back.new.self.items inv.left (omega arith)
           (c.in-Some.ensures.rest ∙ ap (λ (m : ℕ). take m at.kept.items) (omega (arith, len, some)));
       few = omega (arith, inv.few);
@@ -90,8 +90,8 @@ returns-clause-kept c =
 pub returns-clause-by_index : goal.returns-clause-by_index
 returns-clause-by_index c =
     let at = c.loop-k in
-    let n = length c.args.fresh.now in
+    let n = c.args.up in
     let kept = c.args.kept.now.items in
     let inv = at.invariant in
-    moved_all (λ j. length kept + j - n) at.k n kept c.args.fresh.now at.fresh (λ j. nat_le n (length kept + j))
+    moved_all (λ j. length kept + j - n) at.k n kept c.args.page.now.rows at.page.rows (λ j. nat_lt j n && nat_le n (length kept + j))
     (λ j h. let some = inv.some in grind (arith, nat_tests)) inv.moved

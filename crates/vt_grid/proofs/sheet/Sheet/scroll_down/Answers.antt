@@ -21,6 +21,11 @@ clear_rows-requires-clause-inside c =
     let all = ap (λ (s : SheetValue). length s.rows) c.self.view_is in
     omega (arith, all, c.requires.inside, c.requires.in_order, c.from-end.ensures, c.from-top.ensures, c.min-count.ensures, counted_turned c.self.inside.flat c.rotate.new.self c.rotate.ensures.len)
 
+pub wrap-requires : goal.wrap-requires
+wrap-requires c =
+    let all = ap (λ (s : SheetValue). length s.rows) c.self.view_is in
+    omega (arith, all, c.requires.inside, c.from-2.ensures, c.clear_rows.ensures.len, counted_turned c.self.inside.flat c.rotate.new.self c.rotate.ensures.len)
+
 pub returns : goal.returns
 returns c =
     let flat = c.self.inside.flat in
