@@ -65,7 +65,7 @@ impl Sheet {
         ensures width { self.new.width ≡ self.old.width }
         ensures by_index { (k : ℕ) (d : RowValue) → k < length self.old.rows → slice_index_or self.new.rows k d ≡ (if nat_le up k && nat_lt (down + (k - up)) (length rows.now.rows) then resized_row (length (slice_index_or self.old.rows k d).cells) (slice_index_or rows.now.rows (down + (k - up)) d) else slice_index_or self.old.rows k d) }
     {
-        let mut k = (self.flat.lines.len() - up).min(rows.len().saturating_sub(down));
+        let mut k = (self.len() - up).min(rows.len().saturating_sub(down));
         while k > 0 {
             k -= 1;
             let row = rows.row(down + k);

@@ -1,7 +1,11 @@
-use Rattle.std.proofs.Common.{refl, ◌≡◌, ℕ, ◌+◌, ◌-◌, ◌<◌, ◌∙◌, length, take, get_or, sym, ap, subst, nat_le, arith}
+use Rattle.std.proofs.Common.{refl, ◌≡◌, ℕ, ◌+◌, ◌-◌, ◌<◌, ◌∙◌, List, length, take, set, get_or, sym, ap, subst, nat_le, nat_lt, ◌&&◌, arith}
 use Rattle.std.proofs.lemmas.Bool.Decides.{nat_tests}
 use Rattle.std.specs.VecDeque.{deque_len}
 use Rattle.std.proofs.lemmas.List.{length-take, length-set, take_all}
+use Rattle.vt_cells.specs.Attrs.{default_attrs}
+use Rattle.vt_rows.specs.Cells.{IsPaired}
+use Rattle.vt_rows.specs.Row.{RowValue, blank_row, resized_row}
+use Rattle.vt_grid.specs.Sheet.{SheetValue}
 use Rattle.vt_grid.proofs.Moving.{MovedInto, moved_none, blank_there, moved_more, moved_all, last_taken, last_paired, left_taken, none_left}
 use Rattle.vt_grid.proofs.scrollback.give_rows.Goals as goal
 
@@ -13,6 +17,7 @@ loop-k-init c =
       moved = moved_none (λ j. length kept + j - n) n n kept c.args.page.now.rows (omega arith);
       long = refl;
       left = sym (take_all (length kept + n - n) kept (omega arith));
+      width = refl;
       few = omega arith;
       some = omega arith;
     }
@@ -44,7 +49,7 @@ fit_row-requires-clause-blank c =
     let n = c.args.up in
     let kept = c.args.kept.now.items in
     let s : at.k ≡ (at.k - 1) + 1 = omega arith in
-    blank_there (λ j. length kept + j - n) (at.k - 1) n kept c.args.page.now.rows at.page.rows c.index-fresh-k.result (omega (arith, at.invariant.few)) c.requires.blank
+    blank_there (λ j. length kept + j - n) (at.k - 1) n kept c.args.page.now.rows at.page.rows (blank_row default_attrs at.page.width) (omega (arith, at.invariant.few, c.requires.inside)) c.requires.blank
     (subst (λ (k : ℕ). MovedInto (λ j. length kept + j - n) k n kept c.args.page.now.rows at.page.rows) s at.invariant.moved)
 
 pub fit_row-requires-clause-paired : goal.fit_row-requires-clause-paired
@@ -58,7 +63,7 @@ fit_row-requires-clause-paired c =
     = c.in-Some.ensures.lookup ∙ ap (λ (i : ℕ). get_or at.kept.items i c.in-Some.row) (omega (arith, len, inv.some)) in
     let some : 0 < deque_len at.kept = omega (arith, c.in-Some.ensures.cases) in
     let there = last_taken (length kept + at.k - n) (length kept + (at.k - 1) - n) kept at.kept.items c.in-Some.row inv.left (omega (arith, len, some)) (omega (arith, inv.few)) found in
-    last_paired (length kept + (at.k - 1) - n) kept c.in-Some.row (omega (arith, len, some, inv.few)) there c.requires.sound
+    subst IsPaired (sym c.cells.ensures) (last_paired (length kept + (at.k - 1) - n) kept c.in-Some.row (omega (arith, len, some, inv.few)) there c.requires.sound)
 
 pub loop-k-preserved : goal.loop-k-preserved
 loop-k-preserved c =
@@ -72,12 +77,20 @@ loop-k-preserved c =
     = c.in-Some.ensures.lookup ∙ ap (λ (i : ℕ). get_or at.kept.items i c.in-Some.row) (omega (arith, len, inv.some)) in
     let some : 0 < deque_len at.kept = omega (arith, c.in-Some.ensures.cases) in
     let there = last_taken (length kept + at.k - n) (length kept + (at.k - 1) - n) kept at.kept.items c.in-Some.row inv.left (omega (arith, len, some)) (omega (arith, inv.few)) found in
+    let row = c.in-Some.row in
+    let d = blank_row default_attrs at.page.width in
+    let new = resized_row (length (get_or at.page.rows (at.k - 1) d).cells) row in
+    let rows : c.fit_row.new.self.rows ≡ set at.page.rows (at.k - 1) new =
+    ap (λ (s : SheetValue). s.rows) c.fit_row.ensures
+    ∙ (λ z. set at.page.rows (at.k - 1) (resized_row (length (get_or at.page.rows (at.k - 1) d).cells) (record { cells = c.cells.ensures z; wrapped = c.wrapped.ensures z }))) in
     record {
-      moved = moved_more (λ j. length kept + j - n) (at.k - 1) n kept c.args.page.now.rows at.page.rows c.in-Some.row c.index-fresh-k.result c.refit.new.self (omega (arith, inv.few)) (omega (arith, inv.few)) inv.long
-          (omega (arith, len, some, inv.few)) there c.refit.ensures (subst (λ (k : ℕ). MovedInto (λ j. length kept + j - n) k n kept c.args.page.now.rows at.page.rows) s inv.moved);
-      long = length-set at.page.rows (at.k - 1) c.refit.new.self ∙ inv.long;
+      moved = subst (λ (fresh : List RowValue). MovedInto (λ j. length kept + j - n) (at.k - 1) n kept c.args.page.now.rows fresh) (sym rows)
+          (moved_more (λ j. length kept + j - n) (at.k - 1) n kept c.args.page.now.rows at.page.rows row d new (omega (arith, inv.few)) (omega (arith, inv.few, c.requires.inside)) inv.long
+          (omega (arith, len, some, inv.few)) there refl (subst (λ (k : ℕ). MovedInto (λ j. length kept + j - n) k n kept c.args.page.now.rows at.page.rows) s inv.moved));
+      long = ap length rows ∙ (length-set at.page.rows (at.k - 1) new ∙ inv.long);
       left = left_taken (length kept + at.k - n) (length kept + (at.k - 1) - n) kept at.kept.items c.pop_back.new.self.items inv.left (omega arith)
           (c.in-Some.ensures.rest ∙ ap (λ (m : ℕ). take m at.kept.items) (omega (arith, len, some)));
+      width = ap (λ (s : SheetValue). s.width) c.fit_row.ensures ∙ inv.width;
       few = omega (arith, inv.few);
       some = omega (arith, len, some);
     }

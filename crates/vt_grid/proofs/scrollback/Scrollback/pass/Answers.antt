@@ -1,4 +1,4 @@
-use Rattle.std.proofs.Common.{◌≡◌, ℕ, ◌+◌, length, take, min, sym, subst, ◌∙◌, ap, List, arith}
+use Rattle.std.proofs.Common.{◌≡◌, ℕ, ◌+◌, ◌<◌, length, take, min, sym, subst, ◌∙◌, ap, List, arith}
 use Rattle.std.proofs.lemmas.List.{length-take}
 use Rattle.std.specs.List.{FoldsTo}
 use Rattle.vt_rows.specs.Row.{RowValue}
@@ -13,7 +13,7 @@ returns g c = λ height width.
     let new : Scrollback = record { rows = inside.rows.items; capacity = inside.capacity; theoretical = c.saturating_add-self-inside.result; offset = inside.offset } in
     let gone = take c.args.count c.args.page.now.rows in
     let n : length gone ≡ c.args.count = omega (arith, length-take c.args.count c.args.page.now.rows, c.requires.inside) in
-    let some = omega (arith, n, c.requires.some) in
+    let some : 0 < length gone = omega (arith, n, c.requires.some) in
     let none = ap (λ (a : Scrollback). a.capacity) c.self.view_is ∙ c.requires.none in
     subst (λ (old : Scrollback). Sends g.L.Leaving.leaves height width gone old c.args.leaving.now new c.report_trimmed.new.leaving) c.self.view_is (
       passed_is height width gone above c.saturating_add-self-inside.result c.self.invariant none some (c.saturating_add-self-inside.ensures ∙ ap (λ (m : ℕ). min (inside.theoretical + m) greatest) (sym n)),

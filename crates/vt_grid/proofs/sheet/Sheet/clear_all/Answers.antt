@@ -9,6 +9,7 @@ pub returns : goal.returns
 returns c =
     let flat = c.self.inside.flat in
     let end : c.len-end.result ≡ length (sheet_of flat).rows = c.len-end.ensures ∙ (flat.lines.ok.0 ∙ sym (rows_counted flat.width flat.cells.items flat.lines.items)) in
+    let whole : length (sheet_of flat).rows - 0 ≡ length (sheet_of flat).rows = omega arith in
     blank_from 0 c.len-end.result c.args.attrs (sheet_of flat) c.clear_rows.new.self (omega arith) end c.clear_rows.ensures.len c.clear_rows.ensures.width c.clear_rows.ensures.by_index
-    ∙ ((λ z. record { rows = replicate ((omega arith : length (sheet_of flat).rows - 0 ≡ length (sheet_of flat).rows) z) (blank_row c.args.attrs (sheet_of flat).width); width = (sheet_of flat).width })
+    ∙ ((λ z. record { rows = replicate (whole z) (blank_row c.args.attrs (sheet_of flat).width); width = (sheet_of flat).width })
     ∙ ap (λ (s : SheetValue). record s { rows = replicate (length s.rows) (blank_row c.args.attrs s.width) }) c.self.view_is)

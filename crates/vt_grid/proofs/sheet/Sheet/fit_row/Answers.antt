@@ -23,8 +23,9 @@ returns c =
     c.wrap.ensures.cells c.deref_mut.ensures.value c.part-start.ensures.start c.part-start.ensures.end c.part-start.ensures.inside c.refit.auto.cells c.wrap.ensures.width c.wrap.ensures.lines in
     let cells = ap (λ (items : List CellValue). slice_range items a b) c.deref_mut.ensures.value ∙ c.part-start.ensures.row in
     let xs = c.deref_mut.result.now in
-    let columns : b - a ≡ length (sheet_row (sheet_of flat) r).cells = sym (omega (arith, length-take (b - a) (drop a xs), length-drop a xs, ap length c.deref_mut.ensures.value, c.part-start.ensures.inside, c.part-start.ensures.end) : length (take (b - a) (drop a xs)) ≡ b - a) ∙ ap length cells in
-    let flag = c.flag_kept.ensures ∙ (λ z. c.args.wrapped && (c.len.ensures z == columns z)) in
+    let size : length (take (b - a) (drop a xs)) ≡ b - a = omega (arith, length-take (b - a) (drop a xs), length-drop a xs, ap length c.deref_mut.ensures.value, c.part-start.ensures.inside, c.part-start.ensures.end) in
+    let columns : b - a ≡ length (sheet_row (sheet_of flat) r).cells = sym size ∙ ap length cells in
+    let flag = c.flag_kept.ensures ∙ (λ z. c.args.wrapped && (length c.args.from.now == columns z)) in
     edited.0
     ∙ ((λ z. with_sheet_row r (record { cells = (c.refit.ensures ∙ ap (λ (ys : List CellValue). resized (length ys) c.args.from.now) cells) z; wrapped = flag z }) (sheet_of flat))
     ∙ ap (λ (s : SheetValue). with_sheet_row r (resized_row (length (sheet_row s r).cells) (record { cells = c.args.from.now; wrapped = c.args.wrapped })) s) c.self.view_is)
