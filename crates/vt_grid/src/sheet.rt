@@ -341,7 +341,7 @@ impl Sheet {
         requires sound { All (IsRow self.old.width) self.old.rows }
         ensures { self.new ≡ record self.old { rows = replicate (length self.old.rows) (blank_row attrs self.old.width) } }
     {
-        let end = self.flat.lines.len();
+        let end = self.len();
         self.clear_rows(0, end, attrs);
     }
 
@@ -360,7 +360,7 @@ impl Sheet {
         requires sound { All (IsRow self.old.width) self.old.rows }
         ensures { self.new ≡ record self.old { rows = take (row + 1) self.old.rows ++ replicate (length self.old.rows - (row + 1)) (blank_row attrs self.old.width) } }
     {
-        let end = self.flat.lines.len();
+        let end = self.len();
         self.clear_rows(usize::from(row) + 1, end, attrs);
     }
 
