@@ -1,6 +1,7 @@
 //! Rows that are lent to be read, and their texts.
 
-ghost use Rattle.std.specs.Prelude.{◌≡◌, [], ◌∷◌, ◌++◌, if◌then◌else◌, length, IfOk, OnErr, OnOk};
+ghost use Rattle.std.specs.Prelude.{◌≡◌, ◌<◌, ◌↔◌, [], ◌∷◌, ◌++◌, if◌then◌else◌, length, IfOk, IfSome, IsSome, OnErr, OnOk};
+ghost use Rattle.vt_rows.specs.Cells.{at};
 ghost use Rattle.vt_cells.specs.Op.{change_text};
 ghost use Rattle.vt_rows.specs.Basic.{attrs_after, attrs_after_all, basic_text, cells_text, shown_text, unwritten, written_after};
 ghost use Rattle.vt_rows.specs.Row.{IsRow, trimmed_row};
@@ -211,6 +212,20 @@ pub fn cells_of<'a>(row: &RowContents<'a>) -> &'a [Cell]
     ensures { result.now ≡ row.now.cells }
 {
     row.cells
+}
+
+/// The cell at a column of a row, if the row has it, for as long as the row is
+/// lent.
+#[inline]
+pub fn cell_of<'a>(row: &RowContents<'a>, column: usize) -> Option<&'a Cell>
+    ensures inside { IsSome result ↔ (column < length row.now.cells) }
+    ensures value { IfSome result (λ cell. cell.now ≡ at row.now.cells column) }
+{
+    if column < row.cells.len() {
+        Some(&row.cells[column])
+    } else {
+        None
+    }
 }
 
 /// A row without the default blanks at its end.
