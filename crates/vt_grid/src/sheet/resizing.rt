@@ -29,13 +29,7 @@ impl Sheet {
         ensures width { self.new.width ≡ fresh.width }
         ensures above { above.new ≡ taken_back up above.old }
     {
-        fill(
-            &mut fresh,
-            self,
-            usize::from(down),
-            usize::from(up),
-            above,
-        );
+        fill(&mut fresh, self, usize::from(down), usize::from(up), above);
         let last = fresh.len() - 1;
         fresh.wrap(last, false);
         self.flat = fresh.flat;
@@ -52,7 +46,8 @@ impl Sheet {
         let (start, end) = self.flat.part(row);
         let cells = &mut self.flat.cells[start..end];
         cuts::refit(cells, from);
-        self.flat.wrap(row, flag_kept(wrapped, from.len() == end - start));
+        self.flat
+            .wrap(row, flag_kept(wrapped, from.len() == end - start));
     }
 
     /// Copies the rows of another sheet from `down` on into blank rows from

@@ -187,7 +187,12 @@ fn text_of(alloc: Global, row: &RowContents<'_>, start: usize, stop: usize) -> R
 }
 
 /// Writes a row over the columns of the screen, with its line end.
-fn write_line<S: Sink>(sink: &mut S, row: &RowContents<'_>, cols: usize, goes_on: bool) -> Result<(), S::Error>
+fn write_line<S: Sink>(
+    sink: &mut S,
+    row: &RowContents<'_>,
+    cols: usize,
+    goes_on: bool,
+) -> Result<(), S::Error>
     ensures { OnOk result (S.text sink.new ≡ S.text sink.old ++ (gap_line cols goes_on row.now ++ (plain_text 0 cols row.now.cells ++ line_end row.now))) }
 {
     write_gap_line(sink, row, cols, goes_on)?;
@@ -224,7 +229,11 @@ fn write_line_end<S: Sink>(sink: &mut S, row: &RowContents<'_>) -> Result<(), S:
 }
 
 /// Writes a row's line end, unless it is the last row.
-fn write_end_unless<S: Sink>(sink: &mut S, is_last: bool, row: &RowContents<'_>) -> Result<(), S::Error>
+fn write_end_unless<S: Sink>(
+    sink: &mut S,
+    is_last: bool,
+    row: &RowContents<'_>,
+) -> Result<(), S::Error>
     ensures { OnOk result (S.text sink.new ≡ S.text sink.old ++ (if is_last then [] else line_end row.now)) }
 {
     if is_last {
