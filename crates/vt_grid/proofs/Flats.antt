@@ -1,6 +1,5 @@
 -- Rows in one list of cells: what an edit of a row's cells, a flag and a rotation of the table make of them.
 use Rattle.std.proofs.Common.{◌≡◌, ◌≢◌, ℕ, ◌+◌, ◌*◌, ◌-◌, ◌<◌, ◌≤◌, ◌&&◌, not, Bool, false, List, [], ◌∷◌, ◌++◌, length, take, drop, replicate, map, Vec, Global, get_or, set, refl, inl, inr, sym, ap, subst, ◌∙◌, arith}
-use Rattle.std.specs.List.{slice_range, range_with_len}
 use Rattle.std.proofs.lemmas.Bool.{cases_lt, cases_eq}
 use Rattle.std.proofs.lemmas.Bool.Decides.{nat_tests}
 use Rattle.vt_rows.specs.Keeping.{turn_source}

@@ -1,10 +1,10 @@
 -- Another size of a page: what the fresh rows take over, and that what results is a page.
-use Rattle.std.proofs.Common.{◌≡◌, ℕ, ◌+◌, ◌-◌, ◌<◌, ◌≤◌, ◌^◌, nat_le, nat_lt, min, Bool, true, false, List, [], ◌∷◌, ◌++◌, length, take, drop, map, get_or, set, replicate, refl, inl, inr, sym, ap, subst, ◌∙◌, arith}
+use Rattle.std.proofs.Common.{◌≡◌, ℕ, ◌+◌, ◌-◌, ◌<◌, ◌≤◌, ◌^◌, nat_le, nat_lt, min, Bool, true, false, List, [], ◌∷◌, ◌++◌, length, take, drop, map, get_or, replicate, refl, inl, inr, sym, ap, subst, ◌∙◌, arith}
 use Rattle.std.specs.Prelude.{All, ◌&&◌, if◌then◌else◌}
 use Rattle.std.proofs.lemmas.Bool.{cases_lt, cases_eq, cond_both}
 use Rattle.std.proofs.lemmas.Bool.Decides.{nat_tests}
 use Rattle.std.proofs.lemmas.Grind.{get_or-set_at}
-use Rattle.std.proofs.lemmas.List.{take_all, drop_all, append-nil, ext_get_or, get_or_default, get_or_past, get_or-map, get_or-drop, get_or-replicate, get_or_append_left, get_or-append_right, length-map, length-replicate, length-set, length-take}
+use Rattle.std.proofs.lemmas.List.{take_all, drop_all, append-nil, ext_get_or, get_or_past, get_or-map, get_or-drop, get_or-replicate, get_or_append_left, get_or-append_right, length-map, length-replicate, length-set, length-take}
 use Rattle.std.proofs.lemmas.List.FromFn.{length-map-range_with_len, get_or-map-range_with_len}
 use Rattle.std.proofs.lemmas.List.Elements.{All-append, All-from_get_or, All-get_or, All-map, All-replicate, All-same, All-set, All-take, All-weaker}
 use Rattle.vt_cells.specs.Attrs.{default_attrs}

@@ -1,19 +1,16 @@
 -- Rows turned and cleared are rows moved up or down.
 use Rattle.std.proofs.Common.{◌≡◌, ℕ, ◌+◌, ◌-◌, ◌<◌, ◌≤◌, ◌&&◌, nat_lt, nat_le, min, Bool, true, false, List, ◌++◌, length, take, drop, replicate, get_or, refl, inl, inr, sym, ap, ◌∙◌, arith}
-use Rattle.std.specs.Prelude.{if◌then◌else◌, All}
+use Rattle.std.specs.Prelude.{if◌then◌else◌}
 use Rattle.std.proofs.lemmas.Bool.{cases_lt}
 use Rattle.std.proofs.lemmas.Bool.Decides.{nat_tests}
 use Rattle.std.proofs.lemmas.List.{get_or_past, ext_get_or, length-append, length-take, length-drop, length-replicate, get_or-take, get_or-drop, get_or_append_left, get_or-append_right, get_or-replicate}
 use Rattle.std.proofs.lemmas.List.FromFn.{fill_by_all}
-use Rattle.std.proofs.lemmas.List.Elements.{All-get_or}
 use Rattle.vt_cells.specs.Attrs.{default_attrs}
 use Rattle.vt_cells.specs.declared.attrs.Attrs.{Attrs}
-use Rattle.vt_rows.specs.Row.{RowValue, IsRow, blank_row}
+use Rattle.vt_rows.specs.Row.{RowValue, blank_row}
 use Rattle.vt_rows.specs.Keeping.{turn_source}
-use Rattle.vt_grid.specs.Keeping.{cleared_row}
 use Rattle.vt_grid.specs.Page.{row_or, moved_rows, up_source, rows_up}
 use Rattle.vt_grid.specs.Shifts.{down_source}
-use Rattle.vt_grid.proofs.Pages.{row_or-moved_rows, length-moved_rows}
 
 source_inside : (from to n k len : ℕ) → from + n ≤ to → to ≤ len → k < len → turn_source from to n k < len
 source_inside from to n k len h t l = grind (arith, nat_tests)

@@ -1,12 +1,12 @@
 -- A sheet whose table was turned, and of which some rows were made blank, scrolled up or down.
-use Rattle.std.proofs.Common.{◌≡◌, ℕ, ◌+◌, ◌-◌, ◌<◌, ◌≤◌, ◌&&◌, nat_le, nat_lt, min, List, ◌++◌, length, take, drop, replicate, get_or, ap, ◌∙◌, arith}
+use Rattle.std.proofs.Common.{◌≡◌, ℕ, ◌+◌, ◌-◌, ◌<◌, ◌≤◌, ◌&&◌, nat_le, nat_lt, min, ◌++◌, length, take, drop, replicate, get_or, ap, ◌∙◌, arith}
 use Rattle.std.specs.Prelude.{if◌then◌else◌}
 use Rattle.vt_cells.specs.Attrs.{default_attrs}
 use Rattle.vt_cells.specs.declared.attrs.Attrs.{Attrs}
 use Rattle.vt_rows.specs.Row.{RowValue, blank_row}
 use Rattle.vt_rows.specs.Keeping.{turn_source}
 use Rattle.vt_grid.specs.declared.flat.Flat.{Flat}
-use Rattle.vt_grid.specs.Flat.{rows_of, line_at, rows_in}
+use Rattle.vt_grid.specs.Flat.{rows_of, line_at}
 use Rattle.vt_grid.specs.Page.{rows_up, moved_rows}
 use Rattle.vt_grid.specs.Shifts.{down_source}
 use Rattle.vt_grid.specs.Sheet.{SheetValue}

@@ -1,7 +1,7 @@
-use Rattle.std.proofs.Common.{◌≡◌, ◌++◌, ◌∷◌, [], List, length, take, map, sym, ap, ◌∙◌, arith}
+use Rattle.std.proofs.Common.{◌++◌, ◌∷◌, [], length, take, sym, ap, ◌∙◌, arith}
 use Rattle.std.proofs.lemmas.List.{length-map, length-take}
 use Rattle.vt_cells.specs.Attrs.{default_attrs}
-use Rattle.vt_rows.specs.Row.{RowValue, blank_row, trimmed_row}
+use Rattle.vt_rows.specs.Row.{blank_row, trimmed_row}
 use Rattle.vt_grid.proofs.Stacking.{copied_more}
 use Rattle.vt_grid.proofs.row_lists.trimmed_rows.Goals as goal
 

@@ -1,4 +1,4 @@
-use Rattle.std.proofs.Common.{List, take, map, drop, length, refl, sym, ap, subst, ◌∙◌, arith}
+use Rattle.std.proofs.Common.{List, take, map, refl, sym, ap, subst, ◌∙◌, arith}
 use Rattle.std.specs.List.{FoldsTo}
 use Rattle.std.proofs.lemmas.List.{drop_all, length-take}
 use Rattle.vt_cells.specs.Attrs.{default_attrs}

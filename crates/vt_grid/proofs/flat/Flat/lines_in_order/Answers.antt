@@ -1,7 +1,4 @@
-use Rattle.std.proofs.Common.{◌≡◌, ◌++◌, ◌∷◌, [], length, sym, ap, ◌∙◌, false, arith}
-use Rattle.std.proofs.lemmas.List.FromFn.{length-map-range_with_len, map-range_with_len_more}
-use Rattle.vt_grid.specs.declared.flat.Line.{Line}
-use Rattle.vt_grid.specs.Flat.{in_order}
+use Rattle.std.proofs.Common.{length, sym, ap, ◌∙◌, arith}
 use Rattle.vt_grid.proofs.Flats.{length-in_order, in_order_more}
 use Rattle.vt_grid.proofs.flat.Flat.lines_in_order.Goals as goal
 

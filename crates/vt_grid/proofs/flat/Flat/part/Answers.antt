@@ -1,7 +1,6 @@
 use Rattle.std.proofs.Common.{◌<◌, length, sym, ap, arith}
 use Rattle.std.proofs.lemmas.List.{get_or_default}
 use Rattle.vt_grid.specs.Flat.{line_at, no_line}
-use Rattle.vt_grid.specs.declared.flat.Line.{Line}
 use Rattle.vt_grid.proofs.Flats.{rows_counted, place_inside, row_found}
 use Rattle.vt_cells.specs.Attrs.{default_attrs}
 use Rattle.vt_rows.specs.Row.{RowValue, blank_row}

@@ -1,8 +1,6 @@
-use Rattle.std.proofs.Common.{◌≡◌, ℕ, ◌+◌, ◌-◌, ◌<◌, ◌≤◌, ◌++◌, length, take, drop, replicate, sym, ap, ◌∙◌, refl, arith}
+use Rattle.std.proofs.Common.{◌++◌, drop, replicate, ◌∙◌, arith}
 use Rattle.vt_rows.specs.Row.{blank_row}
-use Rattle.vt_grid.specs.Sheet.{SheetValue}
-use Rattle.vt_grid.proofs.Flats.{rows_counted, sheet_of}
-use Rattle.vt_grid.proofs.Turns.{blank_before, blank_from}
+use Rattle.vt_grid.proofs.Turns.{blank_before}
 use Rattle.vt_grid.proofs.sheet.Sheet.clear_above.Goals as goal
 
 pub returns : goal.returns

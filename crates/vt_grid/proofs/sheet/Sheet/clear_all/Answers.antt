@@ -1,4 +1,4 @@
-use Rattle.std.proofs.Common.{◌≡◌, ℕ, ◌+◌, ◌-◌, ◌++◌, length, take, replicate, ◌∙◌, arith}
+use Rattle.std.proofs.Common.{◌≡◌, ◌-◌, length, replicate, ◌∙◌, arith}
 use Rattle.vt_rows.specs.Row.{blank_row}
 use Rattle.vt_grid.proofs.Turns.{blank_from}
 use Rattle.vt_grid.proofs.sheet.Sheet.clear_all.Goals as goal

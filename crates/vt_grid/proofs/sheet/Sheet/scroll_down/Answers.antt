@@ -1,10 +1,10 @@
-use Rattle.std.proofs.Common.{false, ◌≡◌, ℕ, ◌+◌, ◌-◌, ◌<◌, ◌≤◌, length, ap, ◌∙◌, arith}
+use Rattle.std.proofs.Common.{false, ◌+◌, ◌-◌, ◌<◌, length, ap, ◌∙◌, arith}
 use Rattle.vt_grid.specs.Flat.{rows_of}
-use Rattle.vt_grid.specs.Page.{rows_up, moved_rows}
-use Rattle.vt_grid.specs.Shifts.{down_source, rows_down, unflagged}
+use Rattle.vt_grid.specs.Page.{moved_rows}
+use Rattle.vt_grid.specs.Shifts.{down_source}
 use Rattle.vt_grid.specs.Sheet.{SheetValue, sheet_row, with_sheet_row}
 use Rattle.vt_grid.proofs.Flats.{flat_turned}
-use Rattle.vt_grid.proofs.Turns.{counted_turned, turned_up, turned_down}
+use Rattle.vt_grid.proofs.Turns.{counted_turned, turned_down}
 use Rattle.vt_grid.proofs.sheet.Sheet.scroll_down.Goals as goal
 
 pub invariant_of-self : goal.invariant_of-self

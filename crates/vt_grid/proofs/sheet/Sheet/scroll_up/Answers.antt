@@ -1,10 +1,9 @@
-use Rattle.std.proofs.Common.{◌≡◌, ℕ, ◌+◌, ◌-◌, ◌<◌, ◌≤◌, length, ap, ◌∙◌, arith}
+use Rattle.std.proofs.Common.{◌+◌, ◌<◌, length, ap, ◌∙◌, arith}
 use Rattle.vt_grid.specs.Flat.{rows_of}
-use Rattle.vt_grid.specs.Page.{rows_up, moved_rows}
-use Rattle.vt_grid.specs.Shifts.{down_source, rows_down, unflagged}
-use Rattle.vt_grid.specs.Sheet.{SheetValue, sheet_row, with_sheet_row}
+use Rattle.vt_grid.specs.Page.{rows_up}
+use Rattle.vt_grid.specs.Sheet.{SheetValue}
 use Rattle.vt_grid.proofs.Flats.{flat_turned}
-use Rattle.vt_grid.proofs.Turns.{counted_turned, turned_up, turned_down}
+use Rattle.vt_grid.proofs.Turns.{counted_turned, turned_up}
 use Rattle.vt_grid.proofs.sheet.Sheet.scroll_up.Goals as goal
 
 pub invariant_of-self : goal.invariant_of-self

@@ -1,12 +1,9 @@
 use Rattle.std.proofs.Common.{refl, ◌≡◌, ℕ, ◌+◌, ◌-◌, ◌<◌, ◌∙◌, ◌&&◌, List, length, min, set, get_or, sym, ap, subst, nat_le, nat_lt, arith}
 use Rattle.std.proofs.lemmas.Bool.Decides.{nat_tests}
 use Rattle.std.proofs.lemmas.List.{length-set, get_or_default}
-use Rattle.std.proofs.lemmas.List.Elements.{All-get_or}
 use Rattle.vt_cells.specs.Attrs.{default_attrs}
-use Rattle.vt_rows.specs.Cells.{IsPaired}
-use Rattle.vt_rows.specs.Row.{RowValue, IsRow, blank_row, resized_row}
+use Rattle.vt_rows.specs.Row.{RowValue, blank_row, resized_row}
 use Rattle.vt_grid.specs.Sheet.{SheetValue}
-use Rattle.vt_grid.proofs.Flats.{rows_counted}
 use Rattle.vt_grid.proofs.Moving.{MovedInto, moved_none, moved_more, moved_all, still_blank}
 use Rattle.vt_grid.proofs.sheet.Sheet.take_rows.Goals as goal
 

@@ -1,11 +1,4 @@
-use Rattle.std.proofs.Common.{◌≡◌, ◌+◌, ◌-◌, ◌<◌, ◌≤◌, ◌&&◌, nat_le, nat_lt, Bool, false, List, length, replicate, get_or, refl, sym, ap, subst, ◌∙◌, arith}
-use Rattle.std.specs.Prelude.{All, if◌then◌else◌}
-use Rattle.std.proofs.lemmas.Bool.Decides.{nat_tests}
-use Rattle.std.proofs.lemmas.List.{length-replicate}
-use Rattle.std.proofs.lemmas.List.Elements.{All-get_or, All-replicate, All-same}
-use Rattle.vt_cells.specs.Attrs.{default_attrs}
-use Rattle.vt_cells.specs.Cell.{default_blank}
-use Rattle.vt_rows.specs.Row.{RowValue, blank_row, resized_row}
+use Rattle.std.proofs.Common.{length, ap}
 use Rattle.vt_grid.specs.Sheet.{SheetValue}
 use Rattle.vt_grid.proofs.Resizing.{all_blank, refilled_by, still_fresh}
 use Rattle.vt_grid.proofs.sheet.resizing.fill.Goals as goal
