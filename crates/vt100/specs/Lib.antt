@@ -1,3 +1,4 @@
 pub mod Parser
 pub mod Keeping
 pub mod Pieces
+pub mod Streams

@@ -2,14 +2,19 @@
 //! their clauses say what is proved.
 
 ghost use Rattle.std.specs.List.{AllByRecursion, FoldsTo};
-ghost use Rattle.std.specs.Prelude.{◌≡◌, ℕ, false, List, ◌∷◌, ◌++◌, Some};
+ghost use Rattle.std.specs.Prelude.{◌≡◌, ℕ, Bool, false, true, List, [], ◌∷◌, ◌++◌, Some};
 ghost use Rattle.vt100.specs.Parser.{Parsing, Ran, joined};
 ghost use Rattle.vt100.specs.Pieces.{HasRead, IsFine, IsPlainParser, Processes, Processing, ShowsLast, bytes_in};
-ghost use Rattle.vt_scan.specs.Automaton.{State};
+ghost use Rattle.vt100.specs.Streams.{IsFreshParser, IsRecorder, Makes, ParserCall, bytes_of_calls, screen_by, told_by, whole_text};
+ghost use Rattle.vt_rows.specs.Basic.{Written, unwritten};
+ghost use Rattle.vt_scan.specs.Automaton.{State, start};
 ghost use Rattle.vt_scan.specs.Scanner.{StandsFor};
+ghost use Rattle.vt_screen.specs.Capture.{all_rows, basic_texts};
 ghost use Rattle.vt_screen.specs.Chain.{CanShowOn, chain_text, last_screen};
 ghost use Rattle.vt_screen.specs.Reading.{Terminal, read, terminal};
 ghost use Rattle.vt_screen.specs.Screen.{IsScreen, ScreenValue};
+ghost use Rattle.vt_screen.specs.Streamed.{AreAlike, HasNoRis, HasWideFlags, rows_told, sent_off_in, streamed_text};
+ghost use Rattle.vt_screen.specs.Telling.{Heard, LeavesScreen, calls_in};
 
 use vt_screen::Callbacks;
 
@@ -48,4 +53,36 @@ pub fn quiet_pieces<CB: Callbacks>()
 /// are as before.
 pub fn chain<CB: Callbacks>()
     ensures { (self : ScreenValue) → (nexts : List ScreenValue) → (p q : Parsing CB) → (calls : List Processing) → IsScreen p.screen → IsPlainParser p → CanShowOn p.screen self → AllByRecursion (CanShowOn p.screen) nexts → bytes_in calls ≡ chain_text self nexts → FoldsTo Processes p calls q → AllByRecursion IsFine calls × ShowsLast p (last_screen self nexts) q }
+{}
+
+/// A capture that is written as rows are reported has one text, whatever the
+/// scrollback: from a fresh parser, over any list of calls of `process` and
+/// `Screen::set_scrollback` that ends on the main page, the basic texts of the
+/// rows that `on_scroll` was called for with `false`, and behind them, with the
+/// same state, those of `BasicFormattedCaptureRange::Full`.
+///
+/// `heard` says what callbacks hear that leave the screen alone: the calls of
+/// the model, each once and in order. `text` says which text it is: that of all
+/// rows that the bytes send off the main page at its top, and then of the page.
+/// So it is one text (`one`) for every capacity, in whatever pieces the bytes
+/// come, and wherever the screen was scrolled back in between. `recorded` says
+/// the same of what callbacks have written that keep a text and its state:
+/// with a full capture behind it, it is that text, if their sink refused
+/// nothing.
+///
+/// `kept` is about one call of `process`, on any parser: the rows reported with
+/// `false`, followed by scrollback after the call, are those of scrollback
+/// before it followed by the rows that left the main page at its top, where no
+/// row of scrollback that goes on below was shorter than the screen. That these
+/// and the page depend neither on capacity nor on scrollback is
+/// `vt_screen::laws::streams`.
+///
+/// Premises are that each call answered Ok, that no RIS is among the bytes, and
+/// that the callbacks leave the screen alone.
+pub fn one_text<CB: Callbacks>()
+    ensures heard { (p q : Parsing CB) (calls : List ParserCall) (scan : State) → LeavesScreen CB.does → StandsFor p.scanner scan → FoldsTo (Makes CB.does) p calls q → (q.screen ≡ screen_by scan p.screen calls) × FoldsTo (Heard CB.does) p.callbacks (told_by scan p.screen calls) q.callbacks }
+    ensures kept { (p q : Parsing CB) (bytes : List ℕ) (scan : State) → LeavesScreen CB.does → StandsFor p.scanner scan → Ran CB.does p bytes q → IsScreen p.screen → HasWideFlags p.screen → HasNoRis scan bytes → FoldsTo (Heard CB.does) p.callbacks (calls_in scan p.screen bytes) q.callbacks × AreAlike (rows_told (calls_in scan p.screen bytes) ++ q.screen.scrollback.rows) (p.screen.scrollback.rows ++ sent_off_in scan p.screen bytes) }
+    ensures text { (rows cols capacity : ℕ) (p q : Parsing CB) (calls : List ParserCall) → LeavesScreen CB.does → IsFreshParser rows cols capacity p → HasNoRis start (bytes_of_calls calls) → FoldsTo (Makes CB.does) p calls q → q.screen.is_alternate ≡ false → streamed_text (told_by start p.screen calls) q.screen ≡ whole_text rows cols (bytes_of_calls calls) }
+    ensures recorded { (text_of : CB → List ℕ) (state_of : CB → Written) (is_whole : CB → Bool) (rows cols capacity : ℕ) (p q : Parsing CB) (calls : List ParserCall) → IsRecorder CB.does text_of state_of is_whole → IsFreshParser rows cols capacity p → text_of p.callbacks ≡ [] → state_of p.callbacks ≡ unwritten → HasNoRis start (bytes_of_calls calls) → FoldsTo (Makes CB.does) p calls q → q.screen.is_alternate ≡ false → is_whole q.callbacks ≡ true → text_of q.callbacks ++ basic_texts (state_of q.callbacks) (all_rows q.screen) ≡ whole_text rows cols (bytes_of_calls calls) }
+    ensures one { (rows cols capacity other : ℕ) (p q r s : Parsing CB) (calls others : List ParserCall) → LeavesScreen CB.does → IsFreshParser rows cols capacity p → IsFreshParser rows cols other r → bytes_of_calls calls ≡ bytes_of_calls others → HasNoRis start (bytes_of_calls calls) → FoldsTo (Makes CB.does) p calls q → FoldsTo (Makes CB.does) r others s → q.screen.is_alternate ≡ false → s.screen.is_alternate ≡ false → streamed_text (told_by start p.screen calls) q.screen ≡ streamed_text (told_by start r.screen others) s.screen }
 {}

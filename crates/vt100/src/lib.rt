@@ -19,4 +19,4 @@ pub use parser::Parser;
 pub use vt_cells::{
     Cell, Color, CursorStyle, Error, MouseProtocolEncoding, MouseProtocolMode, Sink,
 };
-pub use vt_screen::{Call, Callbacks, Rows, Screen};
+pub use vt_screen::{Call, Callbacks, Rows, RowsDiff, RowsFormatted, Screen};

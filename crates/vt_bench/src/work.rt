@@ -17,6 +17,12 @@ pub enum Work {
     /// What differs from the screen itself is written.
     Same,
 
+    /// The text of the screen is written.
+    Contents,
+
+    /// The text of the screen is written with its attributes.
+    Basic,
+
     /// The screen is copied.
     Clone,
 }
@@ -29,6 +35,8 @@ impl Work {
             "formatted" => Some(Work::Formatted),
             "diff" => Some(Work::Diff),
             "same" => Some(Work::Same),
+            "contents" => Some(Work::Contents),
+            "basic" => Some(Work::Basic),
             "clone" => Some(Work::Clone),
             _ => None,
         }
@@ -41,6 +49,8 @@ impl Work {
             Work::Formatted => Ok(screen.contents_formatted()?.len()),
             Work::Diff => difference(screen, prev),
             Work::Same => difference(screen, screen),
+            Work::Contents => Ok(screen.contents()?.len()),
+            Work::Basic => Ok(screen.contents_formatted_basic()?.len()),
             Work::Clone => rows_of_copy(screen),
         }
     }

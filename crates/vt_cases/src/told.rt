@@ -3,16 +3,17 @@
 use crate::text::bytes_of;
 use anyhow::{Context, Result, bail};
 use std::alloc::Global;
-use vt100::Screen;
+use vt100::{Error, Screen};
 
 /// Whether a screen gives the text of a line, or the texts; `prev` is the screen that differences
-/// start from. Texts that no call gives yet are passed over.
+/// start from.
 pub fn is_told(alloc: Global, screen: &Screen, prev: &Screen, line: &str) -> Result<bool> {
     let (word, rest) = line.split_once(' ').unwrap_or((line, ""));
     match word {
         "rows" => are_rows_told(alloc, screen, rest),
+        "rows_formatted" => are_rows_formatted(alloc, screen, rest),
+        "rows_diff" => are_rows_changed(alloc, screen, prev, rest),
         "between" => is_range_told(alloc, screen, rest),
-        "rows_formatted" | "rows_diff" => Ok(true),
         _ => {
             let text = text_of(screen, prev, word)?;
             is_text(alloc, text.as_str(), rest)
@@ -52,13 +53,53 @@ pub fn difference(screen: &Screen, prev: &Screen) -> Result<String> {
     Ok(screen.contents_diff(prev)?)
 }
 
+// The texts of rows, or want of memory for one.
+type Texts = std::result::Result<Vec<String>, Error>;
+
 // Whether the rows have the texts of `START WIDTH BYTES ..`.
 fn are_rows_told(alloc: Global, screen: &Screen, line: &str) -> Result<bool> {
-    let mut words = line.split(' ');
-    let start = number(words.next())?;
-    let width = number(words.next())?;
-    for text in screen.rows(start, width) {
-        let text = text?;
+    let (start, width, words) = range_of(line)?;
+    let texts: Texts = screen.rows(start, width).try_collect(alloc);
+    are_texts(alloc, texts?, words)
+}
+
+// The same for the texts that draw them on blank rows.
+fn are_rows_formatted(alloc: Global, screen: &Screen, line: &str) -> Result<bool> {
+    let (start, width, words) = range_of(line)?;
+    let (_, cols) = screen.size();
+    if start >= cols.get() {
+        bail!("a range that begins past the columns");
+    }
+    let texts: Texts = screen.rows_formatted(start, width).try_collect(alloc);
+    are_texts(alloc, texts?, words)
+}
+
+// And for those that draw them on the rows of another screen of the same size.
+fn are_rows_changed(alloc: Global, screen: &Screen, prev: &Screen, line: &str) -> Result<bool> {
+    let (start, width, words) = range_of(line)?;
+    let (rows, cols) = screen.size();
+    let (prev_rows, prev_cols) = prev.size();
+    if rows.get() != prev_rows.get() || cols.get() != prev_cols.get() {
+        bail!("rows that differ from those of another size");
+    }
+    if start >= cols.get() {
+        bail!("a range that begins past the columns");
+    }
+    let texts: Texts = screen.rows_diff(prev, start, width).try_collect(alloc);
+    are_texts(alloc, texts?, words)
+}
+
+// Start and width of a range of columns, and the texts behind them.
+fn range_of(line: &str) -> Result<(u16, u16, &str)> {
+    let (start, rest) = line.split_once(' ').context("a range without a width")?;
+    let (width, words) = rest.split_once(' ').context("a range without texts")?;
+    Ok((start.parse::<u16>()?, width.parse::<u16>()?, words))
+}
+
+// Whether the texts are those of the words, one for each.
+fn are_texts(alloc: Global, texts: Vec<String>, words: &str) -> Result<bool> {
+    let mut words = words.split(' ');
+    for text in &texts {
         let word = words.next().context("fewer texts than rows")?;
         if !is_text(alloc, text.as_str(), word)? {
             return Ok(false);

@@ -1,3 +1,4 @@
+pub mod Pieces
 pub mod Changes
 pub mod Texts
 pub mod Cells

@@ -6,3 +6,4 @@ pub mod ErrorText
 pub mod Glyph
 pub mod InputModes
 pub mod Op
+pub mod PieceKeeping

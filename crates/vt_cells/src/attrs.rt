@@ -43,6 +43,7 @@ pub struct Attrs {
 
 impl Attrs {
     /// The attributes of a fresh screen: default colours, nothing set.
+    #[inline]
     pub fn new() -> Self
         ensures { result ≡ default_attrs }
     {

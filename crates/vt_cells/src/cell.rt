@@ -1,7 +1,7 @@
 //! One cell of a screen.
 
 ghost use Rattle.std.specs.Prelude.{◌≡◌, ◌≢◌, ◌<◌, ◌≤◌, ◌++◌, ◌+◌, ◌%◌, ◌↔◌, [], ◌∷◌, length, take, false, Some, if◌then◌else◌, IsTrue, encode_utf8, bytes_eq};
-ghost use Rattle.vt_cells.specs.Attrs.{default_attrs, is_bold, is_dim};
+ghost use Rattle.vt_cells.specs.Attrs.{default_attrs, is_bold, is_dim, same_attrs};
 ghost use Rattle.vt_cells.specs.Cell.{blank, glyph, right_half, cell_of, is_wide, is_blank, is_glyph, is_right_half, text_of, attrs_of, same_cell, marked, widened, redrawn, IsCell};
 ghost use Rattle.vt_cells.specs.CellKeeping.{spaced};
 ghost use Rattle.vt_cells.specs.Glyph.{columns_of, is_wide_text};
@@ -311,6 +311,14 @@ impl Cell {
         ensures { result ≡ attrs_of self.now }
     {
         self.attrs
+    }
+
+    /// Whether these are its attributes; they are compared where they lie.
+    #[inline]
+    pub fn has_attrs(&self, attrs: &Attrs) -> bool
+        ensures { result ≡ same_attrs attrs.now (attrs_of self.now) }
+    {
+        attrs.is_same(&self.attrs)
     }
 
     /// The foreground colour.

@@ -18,7 +18,7 @@ pub enum Color {
 }
 
 impl Color {
-    /// Whether both are the same colour. Two default ones are told apart from the others at once.
+    /// Whether both are the same colour. Default ones, and two of the palette, are told without a call.
     #[inline]
     #[tactic(auto, unfolding(crate::specs::Attrs::same_color))]
     pub fn is_same(&self, other: &Color) -> bool
@@ -26,6 +26,7 @@ impl Color {
     {
         match (*self, *other) {
             (Color::Default, Color::Default) => true,
+            (Color::Idx(index), Color::Idx(other)) => index == other,
             _ => self.equals(other),
         }
     }

@@ -1,10 +1,12 @@
 //! `vt_follow ROWS COLS SEED FILE`: keeps a terminal equal to one that reads a recorded stream, by one
-//! redraw and differences alone, and compares both after each update.
+//! redraw and differences alone, and compares both after each update; and captures the stream with
+//! more and less scrollback.
 //!
 //! A line with the counts is printed, and behind it what differs first, if anything does. The status
 //! is 1 where something differs.
 #![tactic(auto)]
 
+mod captures;
 mod follow;
 mod pace;
 mod picture;
@@ -12,6 +14,7 @@ mod tally;
 
 use anyhow::{Context, Result};
 use pace::Pace;
+use picture::Part;
 use std::num::NonZeroU16;
 use std::process::ExitCode;
 use std::rt::{Env, Files};
@@ -31,7 +34,11 @@ fn follow_file<R: AllocGlobal + Env + Files>(rt: &R) -> Result<Tally> {
     let (rows, cols) = (size(rows.as_str())?, size(cols.as_str())?);
     let seed = seed.parse::<u32>().context("reading the seed")?;
     let bytes = fs::read(rt, file.as_str())?;
-    follow::follow(rt.alloc(), (rows, cols), Pace::new(seed), bytes.as_slice())
+    let mut tally = follow::follow(rt.alloc(), (rows, cols), Pace::new(seed), bytes.as_slice())?;
+    if tally.differs.is_none() && !captures::are_one(rt.alloc(), (rows, cols), bytes.as_slice())? {
+        tally.differs = Some(Part::Captures);
+    }
+    Ok(tally)
 }
 
 fn main(rt: HostRuntime) -> Result<ExitCode> {

@@ -23,6 +23,9 @@ pub enum Part {
 
     /// The page that isn't drawn on, or scrollback.
     Rest,
+
+    /// Captures of the whole stream, with more or less scrollback.
+    Captures,
 }
 
 impl fmt::Display for Part {
@@ -34,6 +37,7 @@ impl fmt::Display for Part {
             Part::Attributes => "attributes",
             Part::Calls => "calls",
             Part::Rest => "main page or scrollback",
+            Part::Captures => "captures",
         })
     }
 }

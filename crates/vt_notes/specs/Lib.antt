@@ -1,2 +1,3 @@
 pub mod Noting
 pub mod Meanings
+pub mod Recording

@@ -1,11 +1,16 @@
-//! What notes say after a run, as facts: this function does nothing, and its clauses say what is
-//! proved.
+//! What notes and recorders say after a run, as facts: these functions do nothing, and their clauses
+//! say what is proved.
 
-ghost use Rattle.std.specs.Prelude.{◌≡◌, ℕ, List, ◌++◌, true};
+ghost use Rattle.std.specs.List.{FoldsTo};
+ghost use Rattle.std.specs.Prelude.{◌≡◌, ℕ, List, ◌++◌, false, true};
 ghost use Rattle.vt100.specs.Parser.{Parsing, Ran};
+ghost use Rattle.vt100.specs.Streams.{IsFreshParser, IsRecorder, Makes, ParserCall, bytes_of_calls, whole_text};
 ghost use Rattle.vt_notes.specs.Noting.{Noted, NotesIt};
-ghost use Rattle.vt_scan.specs.Automaton.{State};
+ghost use Rattle.vt_notes.specs.Recording.{Recorded, Records, nothing_recorded};
+ghost use Rattle.vt_scan.specs.Automaton.{State, start};
 ghost use Rattle.vt_scan.specs.Scanner.{StandsFor};
+ghost use Rattle.vt_screen.specs.Capture.{all_rows, basic_texts};
+ghost use Rattle.vt_screen.specs.Streamed.{HasNoRis};
 ghost use Rattle.vt_screen.specs.Telling.{calls_in, screen_in};
 
 /// A run whose callbacks note each call: the screen is what the bytes make of it, and where no note
@@ -14,4 +19,12 @@ pub fn runs()
     ensures shown { (old new : Parsing Noted) (bytes : List ℕ) (scan : State) → Ran NotesIt old bytes new → StandsFor old.scanner scan → new.screen ≡ screen_in scan old.screen bytes }
     ensures complete { (old new : Parsing Noted) (bytes : List ℕ) (scan : State) → Ran NotesIt old bytes new → StandsFor old.scanner scan → new.callbacks.is_complete ≡ true → old.callbacks.is_complete ≡ true }
     ensures noted { (old new : Parsing Noted) (bytes : List ℕ) (scan : State) → Ran NotesIt old bytes new → StandsFor old.scanner scan → new.callbacks.is_complete ≡ true → new.callbacks.calls ≡ old.callbacks.calls ++ calls_in scan old.screen bytes }
+{}
+
+/// What a recorder has written, with a full capture behind it, is one text, whatever the capacity of
+/// scrollback, in whatever pieces the bytes came, and wherever the screen was scrolled back in
+/// between: that of all rows which the bytes sent off the main page, and then of the page.
+pub fn recorded()
+    ensures recorder { IsRecorder Records (λ recorded. recorded.text) (λ recorded. recorded.state) (λ recorded. recorded.is_whole) }
+    ensures text { (rows cols capacity : ℕ) (p q : Parsing Recorded) (calls : List ParserCall) → IsFreshParser rows cols capacity p → p.callbacks ≡ nothing_recorded → HasNoRis start (bytes_of_calls calls) → FoldsTo (Makes Records) p calls q → q.screen.is_alternate ≡ false → q.callbacks.is_whole ≡ true → q.callbacks.text ++ basic_texts q.callbacks.state (all_rows q.screen) ≡ whole_text rows cols (bytes_of_calls calls) }
 {}

@@ -7,7 +7,9 @@ mod lines;
 pub mod note;
 pub mod notes;
 mod reading;
+pub mod recorder;
 
 pub use note::{KeptRow, Note};
 pub use notes::Notes;
 pub use reading::read;
+pub use recorder::Recorder;

@@ -23,10 +23,10 @@ use Rattle.vt_redraw.specs.Redraw.{row_written, link_of, rows_below, rows_writte
 
 -- ---- lists of operations
 
-abbrev AllFit : List Op → Type 0
+abbrev pub AllFit : List Op → Type 0
 AllFit ops = AllByRecursion Fits ops
 
-fits_append : (xs ys : List Op) → AllFit xs → AllFit ys → AllFit (xs ++ ys)
+pub fits_append : (xs ys : List Op) → AllFit xs → AllFit ys → AllFit (xs ++ ys)
 fits_append [] ys p q = q
 fits_append (x ∷ xs) ys p q = (p.0, fits_append xs ys p.1 q)
 
@@ -59,7 +59,7 @@ space_fits = printable_text (0x20 ∷ []) false IsGlyphText-space
 
 -- ---- cells
 
-abbrev IsFit : CellValue → Type 0
+abbrev pub IsFit : CellValue → Type 0
 IsFit cell = IsCell cell × FitsAttrs (attrs_of cell)
 
 all_fit : (cells : List CellValue) → AllByRecursion IsCell cells → AllByRecursion (λ cell. FitsAttrs (attrs_of cell)) cells → AllByRecursion IsFit cells
@@ -80,10 +80,10 @@ pub record FitsWritten (w : Written) : Type 0 where
   pub ops : AllFit w.ops
   pub attrs : FitsAttrs w.pen.attrs
 
-fits_after : (ops : List Op) (w : Written) → AllFit ops → FitsWritten w → FitsWritten (after ops w)
+pub fits_after : (ops : List Op) (w : Written) → AllFit ops → FitsWritten w → FitsWritten (after ops w)
 fits_after ops w h k = record { ops = fits_append ops w.ops h k.ops; attrs = k.attrs }
 
-cells_fit : (r c : ℕ) (pen : Pen) (flag : Bool) (k : ℕ) (xs ys : List CellValue) → r < 65535 → c + length xs < 2 ^ 16 → FitsAttrs pen.attrs → AllByRecursion IsFit xs → FitsWritten (cells_written r c pen flag k xs ys)
+pub cells_fit : (r c : ℕ) (pen : Pen) (flag : Bool) (k : ℕ) (xs ys : List CellValue) → r < 65535 → c + length xs < 2 ^ 16 → FitsAttrs pen.attrs → AllByRecursion IsFit xs → FitsWritten (cells_written r c pen flag k xs ys)
 unfolding cells_written
 cells_fit r c pen flag k [] ys h l was fit = record { ops = tt; attrs = was }
 cells_fit r c pen flag k (x ∷ xs) [] h l was fit = record { ops = tt; attrs = was }
@@ -115,18 +115,18 @@ cells_fit r c pen flag zero (glyph text wide a ∷ xs) (y ∷ ys) h l was fit =
 last_low : (cells : List CellValue) → 0 < length cells → length cells < 2 ^ 16 → last_column cells < 65535
 last_low cells some h = cond_both (is_right_half (at cells (length cells - 1))) (length cells - 2) (length cells - 1) (λ (k : ℕ). k < 65535) (λ _. omega arith) (λ _. omega arith)
 
-behind_fits : (r : ℕ) (pen : Pen) (cells : List CellValue) → r < 65535 → 0 < length cells → length cells < 2 ^ 16 → FitsAttrs pen.attrs → AllByRecursion IsFit cells → FitsWritten (going_behind r pen cells)
+pub behind_fits : (r : ℕ) (pen : Pen) (cells : List CellValue) → r < 65535 → 0 < length cells → length cells < 2 ^ 16 → FitsAttrs pen.attrs → AllByRecursion IsFit cells → FitsWritten (going_behind r pen cells)
 behind_fits r pen cells h some l was fit =
     let last = at_fits cells (last_column cells) fit in
     let again : Written = record { ops = doing pen r (last_column cells) (attrs_of (last_glyph cells)) (Print (text_of (last_glyph cells))); pen = behind r cells; flag = true } in
     cond_both (is_at pen r (length cells)) (nothing pen true) again FitsWritten (λ _. record { ops = tt; attrs = was })
     (λ _. record { ops = doing_fits pen r (last_column cells) (attrs_of (last_glyph cells)) (Print (text_of (last_glyph cells))) h (last_low cells some l) was last.1 (text_fits (last_glyph cells) last.0); attrs = last.1 })
 
-record FitsLinked (j : Linked) : Type 0 where
+pub record FitsLinked (j : Linked) : Type 0 where
   pub ops : AllFit j.ops
   pub attrs : FitsAttrs j.pen.attrs
 
-first_fits : (r : ℕ) (pen : Pen) (flag : Bool) (xs ys : List CellValue) → FitsAttrs pen.attrs → AllByRecursion IsFit xs → FitsLinked (first_written r pen flag xs ys)
+pub first_fits : (r : ℕ) (pen : Pen) (flag : Bool) (xs ys : List CellValue) → FitsAttrs pen.attrs → AllByRecursion IsFit xs → FitsLinked (first_written r pen flag xs ys)
 first_fits r pen flag [] ys was fit = record { ops = tt; attrs = was }
 first_fits r pen flag (x ∷ xs) [] was fit = record { ops = tt; attrs = was }
 first_fits r pen flag (right_half ∷ xs) (y ∷ ys) was fit = record { ops = tt; attrs = was }
@@ -149,7 +149,7 @@ linked_fits r pen above on flag xs ys h some l was over fit =
     (λ _. record { ops = fits_append w.ops (first_written (r + 1) w.pen flag xs ys).ops one.ops two.ops; attrs = two.attrs })
     (λ _. record { ops = tt; attrs = was })
 
-broken_fits : (r : ℕ) (pen : Pen) (flag wanted : Bool) (cells : List CellValue) → r < 65535 → 0 < length cells → length cells < 2 ^ 16 → FitsAttrs pen.attrs → AllByRecursion IsFit cells → FitsWritten (broken r pen flag wanted cells)
+pub broken_fits : (r : ℕ) (pen : Pen) (flag wanted : Bool) (cells : List CellValue) → r < 65535 → 0 < length cells → length cells < 2 ^ 16 → FitsAttrs pen.attrs → AllByRecursion IsFit cells → FitsWritten (broken r pen flag wanted cells)
 unfolding broken
 broken_fits r pen flag wanted cells h some l was fit =
     let last = at_fits cells (last_column cells) fit in
@@ -165,7 +165,7 @@ broken_fits r pen flag wanted cells h some l was fit =
 
 -- ---- rows
 
-record IsFitRow (width : ℕ) (row : RowValue) : Type 0 where
+pub record IsFitRow (width : ℕ) (row : RowValue) : Type 0 where
   pub columns : length row.cells ≡ width
   pub cells : AllByRecursion IsFit row.cells
 
@@ -203,7 +203,7 @@ rows_fit width pen (x ∷ xs) (y ∷ ys) h some l was fit =
 
 -- ---- the cursor
 
-row_at_fits : (width : ℕ) (rows : List RowValue) (r : ℕ) → AllByRecursion (IsFitRow width) rows → r < length rows → IsFitRow width (row_or width rows r)
+pub row_at_fits : (width : ℕ) (rows : List RowValue) (r : ℕ) → AllByRecursion (IsFitRow width) rows → r < length rows → IsFitRow width (row_or width rows r)
 row_at_fits width [] r h lt = absurd (omega arith)
 row_at_fits width (x ∷ xs) zero h lt = h.0
 row_at_fits width (x ∷ xs) (suc r) h lt = row_at_fits width xs r h.1 (omega arith)
@@ -257,11 +257,14 @@ fit_rows width [] is colors = tt
 fit_rows width (row ∷ rows) is colors =
     (record { columns = is.0.columns; cells = all_fit row.cells (recursion_from_All IsCell row.cells is.0.sound) (recursion_from_All (λ cell. FitsAttrs (attrs_of cell)) row.cells colors.0) }, fit_rows width rows is.1 colors.1)
 
+pub picture_fits : (self : Picture) → IsPicture self → IsColoredPicture self → AllByRecursion (IsFitRow self.width) self.rows
+picture_fits self is colors = fit_rows self.width self.rows (recursion_from_All (IsRow self.width) self.rows is.rows) (recursion_from_All (λ row. All (λ cell. FitsAttrs (attrs_of cell)) row.cells) self.rows colors.cells)
+
 script_fits : (self prev : Picture) → IsPicture self → IsColoredPicture self → FitsAttrs prev.attrs → AllFit (script self prev)
 unfolding script
 script_fits self prev is colors was =
     let w = rows_written (pen_of prev) self.rows prev.rows in
-    let fit = fit_rows self.width self.rows (recursion_from_All (IsRow self.width) self.rows is.rows) (recursion_from_All (λ row. All (λ cell. FitsAttrs (attrs_of cell)) row.cells) self.rows colors.cells) in
+    let fit = picture_fits self is colors in
     let rows = rows_fit self.width (pen_of prev) self.rows prev.rows colors.height is.has_columns colors.columns was fit in
     fits_append w.ops (cursor_written w.pen self.width self.rows self.row self.column ++ changing w.pen.attrs self.attrs) rows.ops
     (fits_append (cursor_written w.pen self.width self.rows self.row self.column) (changing w.pen.attrs self.attrs)
@@ -307,7 +310,7 @@ alone_fits (Some i) width rows r near lt h some l fit =
 pub cursor_state_fits : (self : Picture) → IsPicture self → IsColoredPicture self → AllByRecursion Fits (cursor_state self)
 unfolding cursor_state
 cursor_state_fits self is colors =
-    let fit = fit_rows self.width self.rows (recursion_from_All (IsRow self.width) self.rows is.rows) (recursion_from_All (λ row. All (λ cell. FitsAttrs (attrs_of cell)) row.cells) self.rows colors.cells) in
+    let fit = picture_fits self is colors in
     let row = is.cursor_row in
     let tall = colors.height in
     let wide = colors.columns in

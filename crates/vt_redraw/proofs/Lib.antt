@@ -27,6 +27,9 @@ pub mod Fitting
 pub mod CursorAlone
 pub mod RangeDraws
 pub mod WholeItems
+pub mod ItemDraws
+pub mod ItemEmpty
+pub mod ItemFits
 pub mod PlainSteady
 pub mod Cuts
 pub mod Chain

@@ -9,7 +9,7 @@ use Rattle.vt_grid.specs.Canvas.{Canvas}
 use Rattle.vt_redraw.specs.Script.{pen_at}
 use Rattle.vt_redraw.proofs.Steps.{Reads, Within}
 use Rattle.vt_redraw.specs.Script.{cells_written}
-use Rattle.vt_redraw.specs.Items.{in_range, begun, begun_over, range_written}
+use Rattle.vt_redraw.specs.Items.{in_range, begun, begun_over, range_written, with_range}
 use Rattle.vt_redraw.proofs.Halves.{Paired, paired_loose, opened_paired}
 use Rattle.vt_redraw.proofs.Flags.{Sound}
 use Rattle.vt_redraw.proofs.Edits.{mid}
@@ -28,13 +28,13 @@ lets_any r c (blank a ∷ xs) (y ∷ ys) = (tt, lets_any r (c + 1) xs ys)
 lets_any r c (glyph text wide a ∷ xs) (y ∷ ys) = (λ _. (tt, λ _. tt), lets_any r (c + 1) xs ys)
 lets_any r c (right_half ∷ xs) (y ∷ ys) = lets_any r (c + 1) xs ys
 
-begun_paired : (xs : List CellValue) → Paired xs → begun xs ≡ xs
+pub begun_paired : (xs : List CellValue) → Paired xs → begun xs ≡ xs
 begun_paired [] h = refl
 begun_paired (blank a ∷ xs) h = refl
 begun_paired (glyph text wide a ∷ xs) h = refl
 begun_paired (right_half ∷ xs) h = absurd h
 
-begun_over_paired : (xs ys : List CellValue) → Paired xs → begun_over xs ys ≡ ys
+pub begun_over_paired : (xs ys : List CellValue) → Paired xs → begun_over xs ys ≡ ys
 begun_over_paired [] ys h = refl
 begun_over_paired (blank a ∷ xs) ys h = refl
 begun_over_paired (glyph text wide a ∷ xs) ys h = refl
@@ -73,14 +73,10 @@ pub record IsItem (base : Canvas) (done below : List RowValue) (r start stop hei
   pub rows : r + suc (length below) ≡ height
   pub self : length xs ≡ base.page.width
   pub other : length ys ≡ base.page.width
-  pub some : start < stop
+  pub some : start ≤ stop
   pub inside : stop ≤ base.page.width
   pub prints : PrintsCells base.page.width xs
   pub clean : IsClean start stop xs ys
-
--- the row after an item
-abbrev pub with_range : (start stop : ℕ) → (xs ys : List CellValue) → List CellValue
-with_range start stop xs ys = take start ys ++ (in_range start stop xs ++ drop stop ys)
 
 pub range_draws : (base : Canvas) (done below : List RowValue) (r start stop height : ℕ) (flag : Bool) (xs ys : List CellValue) → IsItem base done below r start stop height xs ys → Sound flag ys →
     Wrote Any (range_written r start stop flag xs ys) base done below (mid base done below ys flag (pen_at r start default_attrs)) (with_range start stop xs ys) height

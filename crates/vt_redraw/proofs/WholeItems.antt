@@ -16,7 +16,7 @@ use Rattle.vt_redraw.specs.declared.pen.Pen.{Pen}
 use Rattle.vt_grid.proofs.Drawing.{Draws}
 use Rattle.vt_redraw.proofs.Steps.{Reads, Within, changing_draws}
 use Rattle.vt_redraw.specs.Script.{Written, after, is_nil, flag_behind, Linked, first_written, cells_written, going_behind, broken}
-use Rattle.vt_redraw.specs.Items.{range_written, is_whole, marked_on, item_of_difference, linked_item}
+use Rattle.vt_redraw.specs.Items.{range_written, with_range, is_whole, marked_on, item_of_difference, linked_item}
 use Rattle.vt_redraw.proofs.Halves.{Paired, paired_loose, paired_blanks, loose_step, opened_paired}
 use Rattle.vt_redraw.proofs.Flags.{ends, Sound}
 use Rattle.vt_redraw.proofs.Edits.{row_of, mid, two, two_mid, orphan}
@@ -33,7 +33,7 @@ use Rattle.vt_redraw.proofs.RangeDraws.{Any, IsItem, range_draws, lets_any}
 
 -- ---- items of a difference
 
-range_all : (xs ys : List CellValue) (w : ℕ) → length xs ≡ w → length ys ≡ w → take 0 ys ++ (take (w - 0) (drop 0 xs) ++ drop w ys) ≡ xs
+pub range_all : (xs ys : List CellValue) (w : ℕ) → length xs ≡ w → length ys ≡ w → with_range 0 w xs ys ≡ xs
 range_all xs ys w e f =
     let n : w - 0 ≡ length xs = omega arith in
     ap (λ (k : ℕ). take k xs ++ drop w ys) n ∙ (ap (λ (z : List CellValue). z ++ drop w ys) (take_whole xs) ∙ (ap (λ (z : List CellValue). xs ++ z) (drop_all w ys (omega arith)) ∙ append-nil xs))

@@ -1,11 +1,14 @@
 -- One row written for itself: its columns from `start` up to `stop`, for a reader whose cursor is at (r, start) with default attributes.
-use Rattle.std.specs.Prelude.{ℕ, zero, suc, ◌-◌, ◌==◌, ◌&&◌, not, Bool, false, List, [], ◌∷◌, ◌++◌, length, take, drop, if◌then◌else◌}
+use Rattle.std.specs.Prelude.{◌≡◌, ℕ, zero, suc, ◌-◌, ◌==◌, ◌&&◌, not, Bool, true, false, List, [], ◌∷◌, ◌++◌, length, take, drop, if◌then◌else◌}
 use Rattle.vt_cells.specs.Attrs.{default_attrs}
-use Rattle.vt_cells.specs.Cell.{CellValue, blank, glyph, right_half, default_blank}
-use Rattle.vt_rows.specs.Cells.{blanks}
+use Rattle.vt_cells.specs.Cell.{CellValue, blank, glyph, right_half, default_blank, is_right_half}
+use Rattle.vt_rows.specs.Cells.{at, blanks}
 use Rattle.vt_rows.specs.Row.{RowValue}
-use Rattle.vt_grid.specs.Page.{row_or}
+use Rattle.vt_grid.specs.Canvas.{Canvas}
+use Rattle.vt_grid.specs.Page.{IsPlainPage, row_at, row_or, with_row}
+use Rattle.vt_redraw.specs.Picture.{Picture, IsPicture, SamePictureSize, picture_of}
 use Rattle.vt_redraw.specs.Script.{pen_at}
+use Rattle.vt_redraw.specs.declared.pen.Pen.{Pen}
 use Rattle.vt_redraw.specs.Script.{Written, after, cells_written, first_written, going_behind, broken}
 
 -- the columns of a row in a range
@@ -61,3 +64,42 @@ abbrev pub item_of_redraw : (r start stop : ℕ) → (linked : Bool) → RowValu
 item_of_redraw r start stop linked x =
     if is_whole start stop (length x.cells) && linked then linked_item r x.cells
     else range_written r start stop false x.cells (blanks default_attrs (length x.cells))
+
+-- ---- items that are drawn
+
+-- a row with the cells of another one in a range
+abbrev pub with_range : (start stop : ℕ) → (xs ys : List CellValue) → List CellValue
+with_range start stop xs ys = take start ys ++ (in_range start stop xs ++ drop stop ys)
+
+-- the range cuts no wide glyph of a row in two
+abbrev pub CutsNone : (start stop : ℕ) → List CellValue → Type 0
+CutsNone start stop cells = (is_right_half (at cells start) ≡ false) × (is_right_half (at cells stop) ≡ false)
+
+-- a plain canvas of a picture's size that has this row as its row r, and the cursor in column c of it, with default attributes
+pub record AwaitsItem (self : Picture) (r c : ℕ) (stood : RowValue) (any : Canvas) : Type 0 where
+  pub plain : IsPlainPage any.page
+  pub is : IsPicture (picture_of any)
+  pub size : SamePictureSize self (picture_of any)
+  pub row : any.page.row ≡ r
+  pub column : any.page.column ≡ c
+  pub attrs : any.attrs ≡ default_attrs
+  pub stands : row_at any.page r ≡ stood
+
+-- the row after an item of a difference over it
+abbrev pub changed_row : (r start stop : ℕ) → (x y : RowValue) → RowValue
+changed_row r start stop x y = record { cells = with_range start stop x.cells y.cells; wrapped = (item_of_difference r start stop x y).flag }
+
+-- the row after an item of a redraw over a blank row
+abbrev pub formatted_row : (start stop width : ℕ) → RowValue → RowValue
+formatted_row start stop width x = record { cells = with_range start stop x.cells (blanks default_attrs width); wrapped = false }
+
+-- a canvas with another row as its row r, its cursor and attributes at a pen
+abbrev pub row_drawn : ℕ → RowValue → Pen → Canvas → Canvas
+row_drawn r row pen any = record any {
+  page = record (with_row r row any.page) { row = pen.row; column = pen.col };
+  attrs = pen.attrs;
+}
+
+-- a canvas whose row r goes on below
+abbrev pub going_on : ℕ → Canvas → Canvas
+going_on r any = record any { page = with_row r (record (row_at any.page r) { wrapped = true }) any.page }

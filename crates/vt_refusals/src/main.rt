@@ -13,7 +13,7 @@ mod tally;
 mod users;
 
 use pair::{Act, Pair};
-use scenes::{ACTS, SCENES, Scene, TEXTS};
+use scenes::{ACTS, MORE_TEXTS, ROWS, SCENES, Scene, TEXTS};
 use shown::Shown;
 use std::alloc::Global;
 use std::io;
@@ -38,7 +38,9 @@ fn main(rt: HostRuntime) -> io::Result<()> {
     users::run_writer(&rt)?;
     users::run_notes(&rt)?;
     users::run_show(&rt)?;
-    run_pair(&rt, "texts of two screens", &TEXTS)
+    run_pair(&rt, "texts of two screens", &TEXTS)?;
+    run_pair(&rt, "states, plain texts and captures", &MORE_TEXTS)?;
+    run_pair(&rt, "texts of the rows of two screens", &ROWS)
 }
 
 /// Makes a growth for each byte of standard input, and gives it back; false if one is refused.
@@ -69,7 +71,7 @@ fn make_steps<R: AllocGlobal + Print>(
 ) -> io::Result<()> {
     println!(rt; "new: ok; {}", Shown(parser))?;
     for step in steps {
-        let answer = step.make(parser);
+        let answer = step.make(rt.alloc(), parser);
         println!(rt; "{step}: {answer}; {}", Shown(parser))?;
     }
     Ok(())
@@ -97,7 +99,7 @@ fn new_pair(alloc: Global) -> Result<Pair, &'static str> {
 
 fn make_acts<R: AllocGlobal + Print>(rt: &R, pair: &mut Pair, acts: &[Act]) -> io::Result<()> {
     for act in acts {
-        let answer = pair.make(*act);
+        let answer = pair.make(rt.alloc(), *act);
         println!(rt; "{act}: {answer}; {}", Shown(pair.changed_by(*act)))?;
     }
     Ok(())

@@ -1,7 +1,8 @@
 //! Two parsers, and what is done with them.
 
-use crate::step::{Answer, Step, difference};
+use crate::step::{Answer, Change, Step};
 use crate::tally::Tally;
+use std::alloc::Global;
 use std::{fmt, mem};
 use vt100::Parser;
 
@@ -27,16 +28,16 @@ pub enum Act {
     /// The first one gets a `clone` of the screen of the second one.
     Copy,
 
-    /// `contents_diff` of the screen of the first one from that of the second one.
-    Difference,
+    /// What differs in the screen of the first one from that of the second one.
+    Differ(Change),
 }
 
 impl Pair {
     /// Does this.
-    pub fn make(&mut self, act: Act) -> Answer {
+    pub fn make(&mut self, alloc: Global, act: Act) -> Answer {
         match act {
-            Act::First(step) => step.make(&mut self.first),
-            Act::Second(step) => step.make(&mut self.second),
+            Act::First(step) => step.make(alloc, &mut self.first),
+            Act::Second(step) => step.make(alloc, &mut self.second),
             Act::Exchange => {
                 mem::swap(self.first.screen_mut(), self.second.screen_mut());
                 Answer::Done
@@ -48,14 +49,14 @@ impl Pair {
                 }
                 Err(error) => Answer::Refused(error),
             },
-            Act::Difference => difference(self.first.screen(), self.second.screen()),
+            Act::Differ(change) => change.make(self.first.screen(), self.second.screen()),
         }
     }
 
     /// The parser that this changes; of two the second one.
     pub fn changed_by(&self, act: Act) -> &Parser<Tally> {
         match act {
-            Act::First(_) | Act::Copy | Act::Difference => &self.first,
+            Act::First(_) | Act::Copy | Act::Differ(_) => &self.first,
             Act::Second(_) | Act::Exchange => &self.second,
         }
     }
@@ -68,7 +69,10 @@ impl fmt::Display for Act {
             Act::Second(step) => write!(f, "second {step}"),
             Act::Exchange => write!(f, "exchange"),
             Act::Copy => write!(f, "first gets a copy"),
-            Act::Difference => write!(f, "first differs from second"),
+            Act::Differ(Change::Picture) => write!(f, "first differs from second"),
+            Act::Differ(Change::State) => write!(f, "state of first differs from second"),
+            Act::Differ(Change::Modes) => write!(f, "modes of first differ from second"),
+            Act::Differ(Change::Rows) => write!(f, "rows of first differ from second"),
         }
     }
 }

@@ -1,7 +1,7 @@
 //! The calls that are made.
 
 use crate::pair::Act;
-use crate::step::Step;
+use crate::step::{Change, Step};
 
 /// A parser, and its calls.
 #[derive(Clone, Copy)]
@@ -141,8 +141,45 @@ pub const TEXTS: [Act; 13] = [
     Act::First(Step::Cursor),
     Act::First(Step::Attributes),
     Act::First(Step::Attributes),
-    Act::Difference,
-    Act::Difference,
+    Act::Differ(Change::Picture),
+    Act::Differ(Change::Picture),
     Act::Second(Step::Redraw),
     Act::Second(Step::Redraw),
+];
+
+/// Other texts of two screens, each asked for twice; the text of a row also where that of the row before
+/// it was refused.
+///
+/// The second one has a row in scrollback, and reports mouse events. The first one has a row that goes
+/// on in the next one, wide glyphs, attributes, the keypad's application mode and another cursor.
+pub const MORE_TEXTS: [Act; 20] = [
+    Act::Second(Step::Process(b"a\r\nb\r\nc\x1b[?1000h")),
+    Act::First(Step::Process(b"\x1b[1;31mab\xe4\xb8\xadxy\x1b=\x1b[2 q")),
+    Act::First(Step::State),
+    Act::First(Step::State),
+    Act::First(Step::Modes),
+    Act::First(Step::Modes),
+    Act::Differ(Change::State),
+    Act::Differ(Change::State),
+    Act::Differ(Change::Modes),
+    Act::Differ(Change::Modes),
+    Act::First(Step::Contents),
+    Act::First(Step::Contents),
+    Act::First(Step::Range),
+    Act::First(Step::Range),
+    Act::First(Step::Row(1)),
+    Act::First(Step::Row(1)),
+    Act::First(Step::Basic),
+    Act::First(Step::Basic),
+    Act::Second(Step::Capture),
+    Act::Second(Step::Capture),
+];
+
+/// The texts of the rows of two screens, each item in its turn: what comes behind a refused item is
+/// the next row's.
+pub const ROWS: [Act; 4] = [
+    Act::Second(Step::Process(b"ab\r\ncd")),
+    Act::First(Step::Process(b"\x1b[1;31mxy\r\nzw")),
+    Act::First(Step::Rows),
+    Act::Differ(Change::Rows),
 ];

@@ -1,8 +1,10 @@
 //! Calls that may take memory, and their answers.
 
 use crate::tally::Tally;
+use std::alloc::Global;
 use std::fmt;
 use std::num::NonZeroU16;
+use vt100::capture::{BasicFormattedCaptureRange, BasicFormattedCaptureState};
 use vt100::{Error, Parser, Screen};
 
 /// A call.
@@ -19,6 +21,30 @@ pub enum Step {
 
     /// `attributes_formatted` of the screen.
     Attributes,
+
+    /// `state_formatted` of the screen.
+    State,
+
+    /// `input_mode_formatted` of the screen.
+    Modes,
+
+    /// `contents` of the screen.
+    Contents,
+
+    /// `contents_between` the corner of the screen and its second row's fifth column.
+    Range,
+
+    /// The item of this row among the `rows` of the screen, whatever those before it are.
+    Row(u16),
+
+    /// `contents_formatted_basic` of the screen.
+    Basic,
+
+    /// `write_contents_formatted_basic` of all rows of the screen into a `String`.
+    Capture,
+
+    /// `rows_formatted` of the screen, over all columns: each item, and what comes behind them.
+    Rows,
 
     /// `set_scrollback` of the screen to this many rows.
     SetScrollback(usize),
@@ -39,12 +65,10 @@ pub fn size((rows, cols): (u16, u16)) -> (NonZeroU16, NonZeroU16) {
 
 impl Step {
     /// Makes the call.
-    pub fn make(self, parser: &mut Parser<Tally>) -> Answer {
+    pub fn make(self, alloc: Global, parser: &mut Parser<Tally>) -> Answer {
         match self {
             Step::Process(bytes) => done(parser.process(bytes)),
-            Step::Redraw => told(parser.screen().contents_formatted()),
-            Step::Cursor => told(parser.screen().cursor_state_formatted()),
-            Step::Attributes => told(parser.screen().attributes_formatted()),
+            Step::Rows => formatted_rows(parser.screen()),
             Step::SetScrollback(rows) => done(parser.screen_mut().set_scrollback(rows)),
             Step::SetSize(rows, cols) => {
                 let (rows, cols) = size((rows, cols));
@@ -54,6 +78,24 @@ impl Step {
                 let (rows, cols) = size((rows, cols));
                 done(parser.screen_mut().set_size(rows, cols))
             }
+            _ => self.text(alloc, parser.screen()),
+        }
+    }
+
+    /// The answer of a call that gives a text of the screen.
+    fn text(self, alloc: Global, screen: &Screen) -> Answer {
+        match self {
+            Step::Redraw => told(screen.contents_formatted()),
+            Step::Cursor => told(screen.cursor_state_formatted()),
+            Step::Attributes => told(screen.attributes_formatted()),
+            Step::State => told(screen.state_formatted()),
+            Step::Modes => told(screen.input_mode_formatted()),
+            Step::Contents => told(screen.contents()),
+            Step::Range => told(screen.contents_between(0, 0, 1, 4)),
+            Step::Row(row) => row_text(screen, row),
+            Step::Basic => told(screen.contents_formatted_basic()),
+            Step::Capture => captured(alloc, screen),
+            _ => Answer::NoText,
         }
     }
 }
@@ -74,14 +116,108 @@ fn told(made: Result<String, Error>) -> Answer {
     }
 }
 
-/// The answer of `contents_diff`, for screens of one size.
-pub fn difference(screen: &Screen, prev: &Screen) -> Answer {
-    let (rows, cols) = screen.size();
-    let (other_rows, other_cols) = prev.size();
-    if rows.get() != other_rows.get() || cols.get() != other_cols.get() {
-        return Answer::TwoSizes;
+/// The answer of one item of `rows`.
+fn row_text(screen: &Screen, row: u16) -> Answer {
+    let mut rows = screen.rows(0, u16::MAX);
+    for _ in 0..row {
+        let _before = rows.next();
     }
-    told(screen.contents_diff(prev))
+    match rows.next() {
+        Some(text) => told(text),
+        None => Answer::NoText,
+    }
+}
+
+/// The basic text of all rows, written into a `String`.
+fn captured(alloc: Global, screen: &Screen) -> Answer {
+    let mut text = String::new(alloc);
+    let mut state = BasicFormattedCaptureState::new();
+    let range = BasicFormattedCaptureRange::Full(&mut state);
+    match screen.write_contents_formatted_basic(&mut text, range) {
+        Ok(()) => Answer::Text(text),
+        Err(_) => Answer::Refused(Error::OutOfMemory),
+    }
+}
+
+/// What differs between two screens.
+#[derive(Clone, Copy)]
+pub enum Change {
+    /// `contents_diff`.
+    Picture,
+
+    /// `state_diff`.
+    State,
+
+    /// `input_mode_diff`.
+    Modes,
+
+    /// `rows_diff` over all columns: each item, and what comes behind them.
+    Rows,
+}
+
+impl Change {
+    /// The answer of this call, for screens of one size.
+    pub fn make(self, screen: &Screen, prev: &Screen) -> Answer {
+        let (rows, cols) = screen.size();
+        let (other_rows, other_cols) = prev.size();
+        if rows.get() != other_rows.get() || cols.get() != other_cols.get() {
+            return Answer::TwoSizes;
+        }
+        match self {
+            Change::Picture => told(screen.contents_diff(prev)),
+            Change::State => told(screen.state_diff(prev)),
+            Change::Modes => told(screen.input_mode_diff(prev)),
+            Change::Rows => {
+                let mut rows = screen.rows_diff(prev, 0, u16::MAX);
+                Answer::Rows(Items {
+                    first: rows.next(),
+                    second: rows.next(),
+                    behind: rows.next(),
+                })
+            }
+        }
+    }
+}
+
+/// The first items of `rows_formatted` over all columns.
+fn formatted_rows(screen: &Screen) -> Answer {
+    let (_rows, _cols) = screen.size();
+    let mut rows = screen.rows_formatted(0, u16::MAX);
+    Answer::Rows(Items {
+        first: rows.next(),
+        second: rows.next(),
+        behind: rows.next(),
+    })
+}
+
+/// The items of two rows, and what comes behind them.
+#[derive(Drop)]
+pub struct Items {
+    first: Option<Result<String, Error>>,
+    second: Option<Result<String, Error>>,
+    behind: Option<Result<String, Error>>,
+}
+
+impl fmt::Display for Items {
+    fn fmt<W: fmt::Write>(&self, f: &mut fmt::Formatter<W>) -> fmt::Result {
+        write_item(f, &self.first)?;
+        write!(f, ", ")?;
+        write_item(f, &self.second)?;
+        write!(f, ", ")?;
+        write_item(f, &self.behind)
+    }
+}
+
+/// Writes an item, or that there is none.
+fn write_item<W: fmt::Write>(
+    f: &mut fmt::Formatter<W>,
+    item: &Option<Result<String, Error>>,
+) -> fmt::Result {
+    match item {
+        None => write!(f, "none"),
+        Some(Ok(text)) => write!(f, "{} bytes {}", text.len(), text.as_bytes().escape_ascii()),
+        Some(Err(_)) => write!(f, "refused"),
+    }
 }
 
 impl fmt::Display for Step {
@@ -91,6 +227,14 @@ impl fmt::Display for Step {
             Step::Redraw => write!(f, "redraw"),
             Step::Cursor => write!(f, "cursor"),
             Step::Attributes => write!(f, "attributes"),
+            Step::State => write!(f, "state"),
+            Step::Modes => write!(f, "modes"),
+            Step::Contents => write!(f, "contents"),
+            Step::Range => write!(f, "range"),
+            Step::Row(row) => write!(f, "row {row}"),
+            Step::Basic => write!(f, "basic"),
+            Step::Capture => write!(f, "capture"),
+            Step::Rows => write!(f, "rows"),
             Step::SetScrollback(rows) => write!(f, "set_scrollback {rows}"),
             Step::SetSize(rows, cols) => write!(f, "set_size {rows} {cols}"),
             Step::SetScreenSize(rows, cols) => write!(f, "screen set_size {rows} {cols}"),
@@ -107,11 +251,17 @@ pub enum Answer {
     /// A text.
     Text(String),
 
+    /// The items of an iterator over rows.
+    Rows(Items),
+
     /// That memory was refused, now or before.
     Refused(Error),
 
     /// Nothing, since two screens are of two sizes.
     TwoSizes,
+
+    /// Nothing, since it gives no text.
+    NoText,
 }
 
 impl fmt::Display for Answer {
@@ -122,9 +272,11 @@ impl fmt::Display for Answer {
                 let bytes = text.as_bytes();
                 write!(f, "ok, {} bytes {}", bytes.len(), bytes.escape_ascii())
             }
+            Answer::Rows(items) => write!(f, "{items}"),
             Answer::Refused(Error::OutOfMemory) => write!(f, "refused"),
             Answer::Refused(Error::Failed) => write!(f, "failed"),
             Answer::TwoSizes => write!(f, "two sizes"),
+            Answer::NoText => write!(f, "no text"),
         }
     }
 }

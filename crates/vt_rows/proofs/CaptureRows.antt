@@ -9,7 +9,8 @@ use Rattle.std.proofs.lemmas.List.{length-append}
 use Rattle.unicode_width.specs.Width.{char_width}
 use Rattle.std.proofs.lemmas.Bool.Decides.{nat_tests}
 use Rattle.std.proofs.lemmas.Str.{length-encode, len_utf8_ascii, IsUtf8-past_char, chars_past_char, encodes-append, drop_past_char, IsCharBoundary-from_drop, chars-nil}
-use Rattle.vt_rows.specs.CaptureRows.{ends_row, is_beyond, overflows, rows_behind, rows_of}
+use Rattle.vt_rows.specs.CaptureRows.{ends_row, is_beyond, overflows}
+use Rattle.vt_rows.specs.Keeping.{rows_behind, rows_of}
 use Rattle.vt_rows.specs.Stretches.{begins_stretch, shown_columns, shown_columns_or, is_within_after, is_within, columns_added, columns_from, columns_in}
 
 within_more : (within : Bool) (text : List ℕ) (c : ℕ) → fold is_within_after within (text ++ c ∷ []) ≡ is_within_after (fold is_within_after within text) c
@@ -34,7 +35,7 @@ pub record IsRead (width : ℕ) (text row rest : List ℕ) : Type 0 where
   pub utf8 : IsUtf8 rest
   pub rows : rows_behind width row (chars rest) ≡ rows_behind width [] (chars text)
 
-beyond_outside : (width used : ℕ) (within : Bool) (c : ℕ) → is_beyond width used (columns_added within c) ≡ true → within ≡ false
+pub beyond_outside : (width used : ℕ) (within : Bool) (c : ℕ) → is_beyond width used (columns_added within c) ≡ true → within ≡ false
 beyond_outside width used true c e = absurd (grind (arith, nat_tests))
 beyond_outside width used false c e = refl
 

@@ -8,6 +8,11 @@ pub mod ShiftSteps
 pub mod Trims
 pub mod Folds
 pub mod PlainTexts
+pub mod BasicTexts
 pub mod Examples
 pub mod Pieces
 pub mod CaptureRows
+pub mod Outside
+pub mod OnePieces
+pub mod CutRows
+pub mod CaptureExamples

@@ -1,7 +1,8 @@
 -- The pieces of a text that is cut at its first ESC, or at its first `m`.
 use Rattle.std.proofs.Common.{◌≡◌, ◌≢◌, ℕ, suc, ◌+◌, ◌<◌, false, List, [], ◌∷◌, ◌++◌, length, get_or, refl, sym, ap, ◌∙◌, append_assoc, append-nil, arith}
 use Rattle.std.proofs.lemmas.Bool.{ne_eqb}
-use Rattle.vt_rows.specs.Pieces.{Piece, piece_at, pieces_behind, pieces_within, pieces_from}
+use Rattle.vt_rows.specs.Keeping.{piece_at, pieces_behind, pieces_within, pieces_from}
+use Rattle.vt_rows.specs.Pieces.{Piece}
 use Rattle.vt_rows.specs.Stretches.{begins_stretch, ends_stretch}
 
 -- the byte does not stand in the text

@@ -1,5 +1,6 @@
 -- The rows of a capture on a terminal of some width.
-use Rattle.std.specs.Prelude.{ℕ, Bool, not, ◌==◌, ◌&&◌, nat_lt, List, [], ◌∷◌, ◌++◌, ◌+◌, chars, encode_utf8_all, map, if◌then◌else◌}
+use Rattle.std.specs.Prelude.{◌≡◌, ◌⊎◌, ℕ, Bool, true, false, not, ◌==◌, ◌&&◌, nat_lt, List, [], ◌∷◌, ◌+◌, ◌<◌, IsUtf8, chars, get_or, length, take, drop}
+use Rattle.vt_rows.specs.Pieces.{Piece, end_of}
 use Rattle.vt_rows.specs.Stretches.{columns_added, columns_in, is_within}
 
 -- the character is a line end behind the row: LF outside a stretch
@@ -13,13 +14,36 @@ is_beyond width used added = nat_lt 0 used && (nat_lt 0 added && nat_lt width (u
 abbrev pub overflows : ℕ → List ℕ → ℕ → Bool
 overflows width row c = is_beyond width (columns_in row) (columns_added (is_within row) c)
 
--- the rows of the characters behind those of `row`: a line end is dropped, and what overflows begins the next row
-abbrev pub rows_behind : ℕ → List ℕ → List ℕ → List (List ℕ)
-rows_behind width row [] = row ∷ []
-rows_behind width row (c ∷ text) = if ends_row row c then row ∷ rows_behind width [] text
-    else if overflows width row c then row ∷ rows_behind width (c ∷ []) text
-    else rows_behind width (row ++ c ∷ []) text
+-- no character k of the row ends or overflows what stands before it in the row
+abbrev pub IsUncut : ℕ → List ℕ → Type 0
+IsUncut width row = (k : ℕ) → k < length row → (ends_row (take k row) (get_or row k 0) ≡ false) × (overflows width (take k row) (get_or row k 0) ≡ false)
 
--- the rows of a capture, as they stand in it; the last one may be empty
-abbrev pub rows_of : ℕ → List ℕ → List (List ℕ)
-rows_of width capture = map encode_utf8_all (rows_behind width [] (chars capture))
+-- a row is the slice of the capture at its place, of whole characters, and uncut
+pub record IsRowOf (width : ℕ) (capture : List ℕ) (row : Piece) : Type 0 where
+  pub slice : take (length row.1) (drop row.0 capture) ≡ row.1
+  pub utf8 : IsUtf8 row.1
+  pub uncut : IsUncut width (chars row.1)
+
+-- the next row begins behind the one byte that ends this one
+pub record IsBehindEnd (capture : List ℕ) (row next : Piece) : Type 0 where
+  pub place : next.0 ≡ end_of row + 1
+  pub ends : ends_row (chars row.1) (get_or capture (end_of row) 0) ≡ true
+
+-- the next row begins at the end of this one, with a character that overflows it
+pub record IsBehindFull (width : ℕ) (row next : Piece) : Type 0 where
+  pub place : next.0 ≡ end_of row
+  pub first : ℕ
+  pub rest : List ℕ
+  pub begins : chars next.1 ≡ first ∷ rest
+  pub overflows : overflows width (chars row.1) first ≡ true
+
+-- rows from byte `at` on, one behind the other; the last one goes to the end of the capture
+abbrev pub AreRowsFrom : ℕ → List ℕ → ℕ → List Piece → Type 0
+AreRowsFrom width capture at [] = ⊥
+AreRowsFrom width capture at (row ∷ []) = (row.0 ≡ at) × IsRowOf width capture row × (end_of row ≡ length capture)
+AreRowsFrom width capture at (row ∷ next ∷ rows) =
+    (row.0 ≡ at) × IsRowOf width capture row × (IsBehindEnd capture row next ⊎ IsBehindFull width row next) × AreRowsFrom width capture next.0 (next ∷ rows)
+
+-- the rows of a capture
+abbrev pub AreRowsOf : ℕ → List ℕ → List Piece → Type 0
+AreRowsOf width capture rows = AreRowsFrom width capture 0 rows

@@ -1,7 +1,10 @@
--- What the helpers of the edits leave; for their contracts, that of `shifts::turn`, and proofs.
-use Rattle.std.specs.Prelude.{◌≡◌, ℕ, ◌+◌, ◌-◌, ◌<◌, ◌&&◌, nat_le, nat_lt, true, List, [], ◌∷◌, ◌++◌, length, replicate, slice_set, if◌then◌else◌}
+-- What the helpers of the edits leave, and what iterators over captures have still to give; for their contracts, that of `shifts::turn`, and proofs.
+use Rattle.std.specs.Prelude.{◌≡◌, ℕ, ◌+◌, ◌-◌, ◌<◌, ◌&&◌, nat_le, nat_lt, true, List, [], ◌∷◌, ◌++◌, length, replicate, slice_set, chars, encode_utf8_all, map, if◌then◌else◌}
 use Rattle.vt_cells.specs.Cell.{CellValue, blank, glyph, right_half, is_wide, is_right_half, attrs_of}
+use Rattle.vt_rows.specs.CaptureRows.{ends_row, overflows}
 use Rattle.vt_rows.specs.Cells.{at}
+use Rattle.vt_rows.specs.Pieces.{Piece}
+use Rattle.vt_rows.specs.Stretches.{begins_stretch, ends_stretch}
 
 -- before column c is overwritten: the left half of a right half there is blank, in its own attributes
 unfoldable pub left_blanked : ℕ → List CellValue → List CellValue
@@ -39,3 +42,34 @@ gap_behind n right_half = n
 abbrev pub plain_behind : ℕ → List CellValue → List ℕ
 plain_behind n [] = []
 plain_behind n (cell ∷ cells) = text_behind n cell ++ plain_behind (gap_behind n cell) cells
+
+-- a piece from byte `at` on, if it has any text
+abbrev pub piece_at : ℕ → List ℕ → List Piece
+piece_at at [] = []
+piece_at at (b ∷ text) = (at, b ∷ text) ∷ []
+
+abbrev mutual
+  -- the pieces of a text behind the plain text `piece`, which begins at byte `at`
+  pub pieces_behind : ℕ → List ℕ → List ℕ → List Piece
+  pieces_behind at piece [] = piece_at at piece
+  pieces_behind at piece (b ∷ text) = if begins_stretch b then piece_at at piece ++ pieces_within (at + length piece + 1) text else pieces_behind at (piece ++ b ∷ []) text
+
+  -- the pieces of a text that begins at byte `at`, within a stretch
+  pub pieces_within : ℕ → List ℕ → List Piece
+  pieces_within at [] = []
+  pieces_within at (b ∷ text) = if ends_stretch b then pieces_behind (at + 1) [] text else pieces_within (at + 1) text
+
+-- the pieces of a text that begins at byte `at`
+abbrev pub pieces_from : ℕ → List ℕ → List Piece
+pieces_from at text = pieces_behind at [] text
+
+-- the rows of the characters behind those of `row`: a line end is dropped, and what overflows begins the next row
+abbrev pub rows_behind : ℕ → List ℕ → List ℕ → List (List ℕ)
+rows_behind width row [] = row ∷ []
+rows_behind width row (c ∷ text) = if ends_row row c then row ∷ rows_behind width [] text
+    else if overflows width row c then row ∷ rows_behind width (c ∷ []) text
+    else rows_behind width (row ++ c ∷ []) text
+
+-- the rows of a text that is left of a capture, as they stand in it; the last one may be empty
+abbrev pub rows_of : ℕ → List ℕ → List (List ℕ)
+rows_of width text = map encode_utf8_all (rows_behind width [] (chars text))

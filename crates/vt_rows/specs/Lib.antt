@@ -2,7 +2,7 @@ pub mod Row
 pub mod Cells
 pub mod Basic
 pub mod Plain
-pub mod Keeping
 pub mod Stretches
 pub mod Pieces
 pub mod CaptureRows
+pub mod Keeping

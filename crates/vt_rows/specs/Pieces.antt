@@ -1,34 +1,40 @@
 -- The plain text of a capture: the longest pieces that stand outside each stretch of SGR.
-use Rattle.std.specs.Prelude.{◌≡◌, ◌≢◌, ℕ, Bool, true, false, List, [], ◌∷◌, ◌++◌, ◌+◌, length, take, drop, map, if◌then◌else◌}
-use Rattle.vt_rows.specs.Stretches.{begins_stretch, ends_stretch, is_within_after}
+use Rattle.std.specs.Prelude.{◌≡◌, ◌≢◌, ◌<◌, ◌≤◌, ◌↔◌, ◌⊎◌, ℕ, Bool, true, false, List, [], ◌∷◌, ◌+◌, length, take, drop, map, if◌then◌else◌, ⊤}
+use Rattle.vt_rows.specs.Stretches.{IsInStretch, begins_stretch, is_within_after}
 
 -- a slice of a capture, with the number of bytes before it
 abbrev pub Piece : Type 0
 Piece = ℕ × List ℕ
 
--- a piece from byte `at` on, if it has any text
-abbrev pub piece_at : ℕ → List ℕ → List Piece
-piece_at at [] = []
-piece_at at (b ∷ text) = (at, b ∷ text) ∷ []
+-- the number of bytes before its end
+abbrev pub end_of : Piece → ℕ
+end_of piece = piece.0 + length piece.1
 
-abbrev mutual
-  -- the pieces of a text behind the plain text `piece`, which begins at byte `at`
-  pub pieces_behind : ℕ → List ℕ → List ℕ → List Piece
-  pieces_behind at piece [] = piece_at at piece
-  pieces_behind at piece (b ∷ text) = if begins_stretch b then piece_at at piece ++ pieces_within (at + length piece + 1) text else pieces_behind at (piece ++ b ∷ []) text
+-- byte k of the capture stands in the piece, or in one of the pieces
+abbrev pub IsIn : ℕ → Piece → Type 0
+IsIn k piece = (piece.0 ≤ k) × (k < end_of piece)
 
-  -- the pieces of a text that begins at byte `at`, within a stretch
-  pub pieces_within : ℕ → List ℕ → List Piece
-  pieces_within at [] = []
-  pieces_within at (b ∷ text) = if ends_stretch b then pieces_behind (at + 1) [] text else pieces_within (at + 1) text
+abbrev pub IsInSome : ℕ → List Piece → Type 0
+IsInSome k [] = ⊥
+IsInSome k (piece ∷ pieces) = IsIn k piece ⊎ IsInSome k pieces
 
--- the pieces of a text that begins at byte `at`
-abbrev pub pieces_from : ℕ → List ℕ → List Piece
-pieces_from at text = pieces_behind at [] text
+-- a piece has text, and is the slice of the capture at its place
+abbrev pub IsPieceOf : List ℕ → Piece → Type 0
+IsPieceOf capture piece = (piece.1 ≢ []) × (take (length piece.1) (drop piece.0 capture) ≡ piece.1)
 
--- the pieces of a capture
-abbrev pub pieces_of : List ℕ → List Piece
-pieces_of capture = pieces_from 0 capture
+-- pieces in order, from byte `at` on, with a byte at least between one and the next
+abbrev pub AreApart : List ℕ → ℕ → List Piece → Type 0
+AreApart capture at [] = ⊤
+AreApart capture at (piece ∷ pieces) = IsPieceOf capture piece × (at ≤ piece.0) × AreApart capture (end_of piece + 1) pieces
+
+-- the pieces of a capture: a byte stands in one of them exactly if it stands in no stretch
+pub record ArePiecesOf (capture : List ℕ) (pieces : List Piece) : Type 0 where
+  pub apart : AreApart capture 0 pieces
+  pub plain : (k : ℕ) → k < length capture → IsInSome k pieces ↔ ¬ (IsInStretch capture k)
+
+-- the texts of pieces
+abbrev pub texts_of : List Piece → List (List ℕ)
+texts_of pieces = map (λ p. p.1) pieces
 
 -- the bytes outside each stretch, for a text that begins within one or not
 abbrev pub plain_from : Bool → List ℕ → List ℕ
@@ -39,11 +45,3 @@ plain_from false (b ∷ text) = if begins_stretch b then plain_from true text el
 -- a capture without each stretch
 abbrev pub plain_text : List ℕ → List ℕ
 plain_text capture = plain_from false capture
-
--- the texts of pieces
-abbrev pub texts_of : List Piece → List (List ℕ)
-texts_of pieces = map (λ p. p.1) pieces
-
--- a piece has text, and is the slice of the capture at its place
-abbrev pub IsPieceOf : List ℕ → Piece → Type 0
-IsPieceOf capture piece = (piece.1 ≢ []) × (take (length piece.1) (drop piece.0 capture) ≡ piece.1)

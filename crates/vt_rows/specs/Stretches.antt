@@ -1,5 +1,5 @@
 -- SGR within a capture: a stretch from ESC through the next `m`, or to the end (ECMA-48's CSI and SGR).
-use Rattle.std.specs.Prelude.{ℕ, not, Bool, true, false, ◌==◌, min, List, [], ◌∷◌, ◌+◌, Option, Some, None, if◌then◌else◌}
+use Rattle.std.specs.Prelude.{◌≡◌, ◌≢◌, ◌<◌, ◌≤◌, get_or, ℕ, not, Bool, true, false, ◌==◌, min, List, [], ◌∷◌, ◌+◌, Option, Some, None, if◌then◌else◌}
 use Rattle.std.specs.List.{fold}
 use Rattle.unicode_width.specs.Width.{char_width}
 
@@ -15,6 +15,10 @@ ends_stretch c = c == 0x6D
 abbrev pub is_within_after : Bool → ℕ → Bool
 is_within_after true c = not (ends_stretch c)
 is_within_after false c = begins_stretch c
+
+-- byte or character k of a text stands in a stretch: an ESC stands there or before it, and no `m` from the ESC up to k
+abbrev pub IsInStretch : List ℕ → ℕ → Type 0
+IsInStretch text k = (i : ℕ) × (i ≤ k) × (get_or text i 0 ≡ 0x1B) × ((j : ℕ) → i ≤ j → j < k → get_or text j 0 ≢ 0x6D)
 
 -- the text ends within a stretch
 abbrev pub is_within : List ℕ → Bool

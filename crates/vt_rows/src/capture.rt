@@ -1,8 +1,10 @@
 //! Rows that are lent to be read, and their texts.
 
-ghost use Rattle.std.specs.Prelude.{◌≡◌, ◌<◌, ◌↔◌, [], ◌∷◌, ◌++◌, if◌then◌else◌, length, IfOk, IfSome, IsSome, OnErr, OnOk};
+ghost use Rattle.std.specs.Prelude.{◌≡◌, ◌<◌, ◌↔◌, [], ◌∷◌, ◌++◌, if◌then◌else◌, false, length, true, IfOk, IfSome, IsSome, OnErr, OnOk};
 ghost use Rattle.vt_rows.specs.Cells.{at};
+ghost use Rattle.vt_cells.specs.Cell.{attrs_of};
 ghost use Rattle.vt_cells.specs.Op.{change_text};
+ghost use Rattle.vt_cells.specs.PieceKeeping.{gathered};
 ghost use Rattle.vt_rows.specs.Basic.{attrs_after, attrs_after_all, basic_text, cells_text, shown_text, unwritten, written_after};
 ghost use Rattle.vt_rows.specs.Row.{IsRow, trimmed_row};
 
@@ -18,7 +20,7 @@ pub use plain::{
 pub use rows::{BasicFormattedRows, basic_formatted_rows};
 use std::marker::Model;
 use vt_cells::term::{BufWrite, ChangeAttrs, LineFeed};
-use vt_cells::{Attrs, Cell, Sink};
+use vt_cells::{Attrs, Cell, Piece, Sink};
 
 /// The contents of a row: its cells, and whether its text goes on in the row
 /// below. It is as a row of a page is, in its own width.
@@ -152,41 +154,60 @@ fn write_line_end<S: Sink>(sink: &mut S, is_due: bool) -> Result<(), S::Error>
 
 /// Writes cells behind a text in `attrs`, and answers the attributes of the
 /// last text.
+#[tactic(auto, using(vt_cells::proofs::Pieces::nothing_gathered))]
 fn write_cells<S: Sink>(sink: &mut S, cells: &[Cell], attrs: Attrs) -> Result<Attrs, S::Error>
     ensures text { OnOk result (S.text sink.new ≡ S.text sink.old ++ cells_text attrs cells.now) }
     ensures attrs { IfOk result (λ last. last ≡ attrs_after_all attrs cells.now) }
 {
+    let mut piece = Piece::new();
     let mut last = attrs;
     for cell in cells {
-        last = write_cell(sink, cell, last)?;
+        add_cell(sink, &mut piece, cell, &mut last)?;
     }
+    piece.flush(sink)?;
     Ok(last)
 }
 
-/// Writes a cell behind a text in `attrs`, and answers the attributes then.
-fn write_cell<S: Sink>(sink: &mut S, cell: &Cell, attrs: Attrs) -> Result<Attrs, S::Error>
-    ensures text { OnOk result (S.text sink.new ≡ S.text sink.old ++ (change_text attrs (attrs_after attrs cell.now) ++ shown_text cell.now)) }
-    ensures attrs { IfOk result (λ new. new ≡ attrs_after attrs cell.now) }
+/// Adds a cell behind a text in `attrs`, which become those of the text then.
+#[inline]
+fn add_cell<S: Sink>(
+    sink: &mut S,
+    piece: &mut Piece,
+    cell: &Cell,
+    attrs: &mut Attrs,
+) -> Result<(), S::Error>
+    ensures text { OnOk result (gathered (S.text sink.new) piece.new
+        ≡ gathered (S.text sink.old) piece.old ++ (change_text attrs.old (attrs_after attrs.old cell.now) ++ shown_text cell.now)) }
+    ensures attrs { OnOk result (attrs.new ≡ attrs_after attrs.old cell.now) }
 {
-    let new = attrs_after(attrs, cell);
-    ChangeAttrs { was: attrs, new }.write_buf(sink)?;
-    sink.write_str(shown_text(cell))?;
-    Ok(new)
+    if keeps_attrs(cell, attrs) {
+        return piece.add(sink, shown_text(cell));
+    }
+    let was = *attrs;
+    *attrs = cell.attrs();
+    ChangeAttrs { was, new: *attrs }.add(sink, piece)?;
+    piece.add(sink, shown_text(cell))
 }
 
-/// The attributes of the text that ends in the cell, where it was in `attrs`
-/// before: a default blank and a right half leave them.
-fn attrs_after(attrs: Attrs, cell: &Cell) -> Attrs
-    ensures { result ≡ attrs_after attrs cell.now }
+/// Whether a cell leaves the attributes of the text before it: a default blank
+/// and a right half do, and what has the same ones.
+#[inline]
+#[tactic(auto, using(crate::proofs::BasicTexts::kept_same, crate::proofs::BasicTexts::kept_default, crate::proofs::BasicTexts::kept_right, crate::proofs::BasicTexts::own))]
+fn keeps_attrs(cell: &Cell, attrs: &Attrs) -> bool
+    ensures yes { result ≡ true → (attrs_after attrs.now cell.now ≡ attrs.now) × (change_text attrs.now (attrs_after attrs.now cell.now) ≡ []) }
+    ensures no { result ≡ false → attrs_after attrs.now cell.now ≡ attrs_of cell.now }
 {
-    if cell.is_wide_continuation() || cuts::is_default(cell) {
-        attrs
-    } else {
-        cell.attrs()
+    if cell.has_attrs(attrs) {
+        return true;
     }
+    if cell.is_wide_continuation() {
+        return true;
+    }
+    cuts::is_default(cell)
 }
 
 /// The text of a cell, where a blank is a space.
+#[inline]
 fn shown_text(cell: &Cell) -> &str
     ensures { result.now ≡ shown_text cell.now }
 {

@@ -54,8 +54,9 @@ pub fn blank_end(cells: &mut [Cell])
 }
 
 /// Whether the cell is a default blank.
+#[inline]
 pub(crate) fn is_default(cell: &Cell) -> bool
     ensures { result ≡ is_default_blank cell.now }
 {
-    cell.is_blank() && cell.attrs() == Attrs::new()
+    cell.is_blank() && cell.attrs().is_same(&Attrs::new())
 }

@@ -4,6 +4,7 @@
 pub mod capture;
 pub mod cells;
 pub mod cuts;
+pub mod laws;
 pub mod plain;
 pub mod row;
 pub mod shifts;

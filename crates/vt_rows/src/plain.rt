@@ -1,10 +1,11 @@
 //! The plain text of columns of a row.
 
 ghost use Rattle.std.specs.Prelude.{◌≡◌, ◌≤◌, ◌+◌, ◌++◌, drop, length, replicate, take, IfOk, OnOk};
+ghost use Rattle.vt_cells.specs.PieceKeeping.{gathered};
 ghost use Rattle.vt_rows.specs.Keeping.{gap_behind, plain_behind, text_behind};
 ghost use Rattle.vt_rows.specs.Plain.{has_glyph, plain_text};
 
-use vt_cells::{Cell, Sink};
+use vt_cells::{Cell, Piece, Sink};
 
 /// As many spaces as are written at once.
 const SPACES: &str = "                ";
@@ -58,28 +59,36 @@ fn columns_between(cells: &[Cell], start: usize, stop: usize) -> &[Cell]
 }
 
 /// Writes the text of cells behind `gap` columns without a glyph.
+#[tactic(auto, using(vt_cells::proofs::Pieces::nothing_gathered))]
 fn write_behind<S: Sink>(sink: &mut S, cells: &[Cell], gap: usize) -> Result<(), S::Error>
     requires { gap + length cells.now ≤ 18446744073709551615 }
     ensures { OnOk result (S.text sink.new ≡ S.text sink.old ++ plain_behind gap cells.now) }
 {
+    let mut piece = Piece::new();
     let mut gap = gap;
     for cell in cells {
-        gap = write_cell(sink, cell, gap)?;
+        gap = add_cell(sink, &mut piece, cell, gap)?;
     }
+    piece.flush(sink)?;
     Ok(())
 }
 
-/// Writes a cell behind `gap` columns without a glyph, if it is one, and
-/// answers how many such columns there are behind it.
+/// Adds a cell behind `gap` columns without a glyph, if it is one, and answers
+/// how many such columns there are behind it.
 #[inline]
-fn write_cell<S: Sink>(sink: &mut S, cell: &Cell, gap: usize) -> Result<usize, S::Error>
+fn add_cell<S: Sink>(
+    sink: &mut S,
+    piece: &mut Piece,
+    cell: &Cell,
+    gap: usize,
+) -> Result<usize, S::Error>
     requires { gap + 1 ≤ 18446744073709551615 }
-    ensures text { OnOk result (S.text sink.new ≡ S.text sink.old ++ text_behind gap cell.now) }
+    ensures text { OnOk result (gathered (S.text sink.new) piece.new ≡ gathered (S.text sink.old) piece.old ++ text_behind gap cell.now) }
     ensures gap { IfOk result (λ new. new ≡ gap_behind gap cell.now) }
 {
     if cell.has_contents() {
-        write_spaces(sink, gap)?;
-        sink.write_str(cell.contents())?;
+        add_spaces(sink, piece, gap)?;
+        piece.add(sink, cell.contents())?;
         Ok(0)
     } else if cell.is_wide_continuation() {
         Ok(gap)
@@ -88,18 +97,18 @@ fn write_cell<S: Sink>(sink: &mut S, cell: &Cell, gap: usize) -> Result<usize, S
     }
 }
 
-/// Writes a number of spaces.
+/// Adds a number of spaces.
 #[inline]
-fn write_spaces<S: Sink>(sink: &mut S, count: usize) -> Result<(), S::Error>
-    ensures { OnOk result (S.text sink.new ≡ S.text sink.old ++ replicate count 0x20) }
+fn add_spaces<S: Sink>(sink: &mut S, piece: &mut Piece, count: usize) -> Result<(), S::Error>
+    ensures { OnOk result (gathered (S.text sink.new) piece.new ≡ gathered (S.text sink.old) piece.old ++ replicate count 0x20) }
 {
     let mut left = count;
     while left >= SPACES.len() {
-        sink.write_str(SPACES)?;
+        piece.add(sink, SPACES)?;
         left -= SPACES.len();
     }
     while left > 0 {
-        sink.write_str(" ")?;
+        piece.add(sink, " ")?;
         left -= 1;
     }
     Ok(())

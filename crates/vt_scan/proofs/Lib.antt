@@ -13,3 +13,4 @@ pub mod Standing
 pub mod Stepping
 pub mod Tables
 pub mod Written
+pub mod Scalars

@@ -1,5 +1,5 @@
 -- What a screen has beside its active page stays whole where that page changes, rows are pushed into scrollback, or the pages change places.
-use Rattle.std.proofs.Common.{◌≡◌, ◌≢◌, ℕ, zero, suc, ◌+◌, ◌-◌, ◌<◌, ◌≤◌, ◌==◌, min, take, Bool, true, false, not, List, [], Option, Some, None, refl, sym, subst, ap, ◌∙◌, arith}
+use Rattle.std.proofs.Common.{◌≡◌, ℕ, zero, suc, ◌+◌, ◌-◌, ◌<◌, ◌≤◌, ◌==◌, min, take, Bool, true, false, not, List, [], Option, Some, None, refl, sym, subst, ap, ◌∙◌, arith}
 use Rattle.std.specs.Prelude.{if◌then◌else◌, IfSome, All, length, map, option_map, ◌^◌}
 use Rattle.std.proofs.lemmas.List.{length-map, length-replicate, length-set}
 use Rattle.std.proofs.lemmas.List.Elements.{All-take}
@@ -23,6 +23,7 @@ use Rattle.std.proofs.lemmas.Bool.{false≢true}
 use Rattle.vt_grid.specs.Resize.{leaving, out_of_view, page_resized, returning, scrollback_resized, window}
 use Rattle.vt_grid.proofs.Resizing.{length-window, page_page_resized, scrollback_resized_is}
 use Rattle.vt_grid.specs.Page.{SameSize}
+use Rattle.vt_screen.specs.Screen.{IsPrintable}
 use Rattle.vt_screen.specs.Keeping.{AreColored, Aside, IsAbove, IsKept, IsNothing, IsOther, main_scrollback, alternate_scrollback}
 use Rattle.vt_screen.proofs.Sizes.{same_back, same_through}
 use Rattle.vt_screen.proofs.ColoredScrollback.{colored_page_resized, colored_pushed, colored_scrollback_resized, colored_viewed, pushed_capacity, grown_nothing, pushed_nothing, reported_nothing, visible_nothing}
@@ -37,16 +38,16 @@ pub kept_page : (page new : Page) (last : Option ℕ) (aside : Aside) → IsPage
 kept_page page new last aside sound colored same k = record {
   sound = sound;
   colored = colored;
-  reported = k.reported;
+  printable = k.printable;
   other = other_stays page new aside.other same k.other;
   entered = k.entered;
   nothing = k.nothing;
   above = k.above;
 }
 
-pub kept_last : (page : Page) (last new : Option ℕ) (aside : Aside) → new ≢ Some 0xFFFD → IsKept page last aside → IsKept page new aside
-kept_last page last new aside reported k =
-    record { sound = k.sound; colored = k.colored; reported = reported; other = k.other; entered = k.entered; nothing = k.nothing; above = k.above }
+pub kept_last : (page : Page) (last new : Option ℕ) (aside : Aside) → IfSome new IsPrintable → IsKept page last aside → IsKept page new aside
+kept_last page last new aside printable k =
+    record { sound = k.sound; colored = k.colored; printable = printable; other = k.other; entered = k.entered; nothing = k.nothing; above = k.above }
 
 -- ---- scrollback changes
 
@@ -66,7 +67,7 @@ pub kept_above : (page : Page) (last : Option ℕ) (aside : Aside) (above : Scro
 kept_above page last aside above f g k = record {
   sound = k.sound;
   colored = k.colored;
-  reported = k.reported;
+  printable = k.printable;
   other = k.other;
   entered = k.entered;
   nothing = nothing_above aside.is_alternate aside.active above aside.idle f k.nothing;
@@ -156,7 +157,7 @@ kept_exchanged page other last aside e k =
     record {
       sound = o.sound;
       colored = o.colored;
-      reported = k.reported;
+      printable = k.printable;
       other = record { sound = k.sound; colored = k.colored; same = same_back other page o.same };
       entered = λ h. refl;
       nothing = nothing_turned aside.is_alternate aside.active aside.idle k.nothing;
@@ -176,7 +177,7 @@ pub kept_other : (page : Page) (last : Option ℕ) (aside : Aside) (height width
 kept_other page last aside height width h w k = record {
   sound = k.sound;
   colored = k.colored;
-  reported = k.reported;
+  printable = k.printable;
   other = other_fresh page height width h w k.sound;
   entered = λ h. refl;
   nothing = k.nothing;
@@ -268,7 +269,7 @@ kept_resized height width page last aside idle a b c d main n k =
     record {
       sound = page_page_resized height width aside.active page k.sound above.sound a b c d;
       colored = colored_page_resized height width aside.active page above.colored k.colored;
-      reported = k.reported;
+      printable = k.printable;
       other = other_resized height width aside.active page aside.other a b c d k.other;
       entered = λ e. absurd (false≢true (sym main ∙ e));
       nothing = nothing_back aside.is_alternate (scrollback_resized height page aside.active) idle main n;

@@ -44,7 +44,10 @@ has_cursor picture reader after b =
 
 pub keeps_rest : (picture : Picture) (reader after : ScreenValue) → Became picture reader after → KeepsRest reader after
 keeps_rest picture reader after b =
-    subst (KeepsRest reader) (sym b.is) (record { other = refl; is_alternate = refl; scrollback = refl; modes = refl; width = refl; top = refl; bottom = refl; origin = refl })
+    subst (KeepsRest reader) (sym b.is) (record {
+      but_modes = record { other = refl; is_alternate = refl; scrollback = refl; width = refl; top = refl; bottom = refl; origin = refl };
+      modes = refl;
+    })
 
 -- all that a text makes of its readers
 pub record Redraws (Reader : ScreenValue → Type 0) (picture : Picture) (text : List ℕ) : Type 0 where

@@ -50,7 +50,10 @@ sets picture text reads = record {
   takes = λ reader after r e. subst (TakesCursor picture reader) (after_is picture text reader after (reads reader r) e) (record { rows = refl; attrs = refl; row = refl; column = refl; hidden = refl });
   plain = λ reader after r e. subst IsPlain (after_is picture text reader after (reads reader r) e) (record { page = record { whole = r.is.plain.page.whole; origin = r.is.plain.page.origin }; offset = r.is.plain.offset });
   rest = λ reader after r e. subst (KeepsRest reader) (after_is picture text reader after (reads reader r) e)
-      (record { other = refl; is_alternate = refl; scrollback = refl; modes = refl; width = refl; top = refl; bottom = refl; origin = refl });
+      (record {
+        but_modes = record { other = refl; is_alternate = refl; scrollback = refl; width = refl; top = refl; bottom = refl; origin = refl };
+        modes = refl;
+      });
 }
 
 pub cursor_sets : (self : ScreenValue) (text : List ℕ) → text ≡ bytes_of_all (cursor_state (shown self)) → IsScreen self → IsColored self → IsSteady (shown self) → Sets (shown self) text

@@ -1,6 +1,7 @@
 -- Each step leaves a screen whole.
-use Rattle.std.proofs.Common.{◌≢◌, ℕ, ◌<◌, ◌^◌, Option, Some, None, false, refl}
+use Rattle.std.proofs.Common.{◌≢◌, ℕ, ◌<◌, ◌^◌, Option, None, false, refl}
 use Rattle.std.specs.Char.{IsScalar}
+use Rattle.std.specs.Prelude.{IfSome}
 use Rattle.vt_cells.specs.Op.{FitsAttrs}
 use Rattle.vt_cells.specs.declared.attrs.Attrs.{Attrs}
 use Rattle.vt_grid.specs.Page.{Page, blank_page}
@@ -11,6 +12,7 @@ use Rattle.vt_grid.proofs.Pages.{page_blank, page_cursor_saved, page_cursor_rest
 use Rattle.vt_grid.proofs.Marks.{page_printed}
 use Rattle.vt_grid.specs.Scrollback.{no_scrollback}
 use Rattle.vt_screen.specs.Keeping.{Aside, IsKept}
+use Rattle.vt_screen.specs.Screen.{IsPrintable}
 use Rattle.vt_screen.proofs.Asides.{above_none, kept_last, kept_page}
 use Rattle.vt_screen.proofs.Sizes.{same_carriage_return, same_cursor_saved, same_cursor_restored, same_moved_right, same_moved_to, same_line_feed, same_erased_chars, same_erased_rest, same_erased_below, same_printed}
 use Rattle.vt_screen.proofs.Colored.{colored_blank, colored_line_feed, colored_erased_chars, colored_erased_rest, colored_erased_below, colored_printed}
@@ -21,7 +23,7 @@ pub kept_blank : (height width capacity : ℕ) → 0 < height → height < 2 ^ 1
 kept_blank height width capacity a b c d = record {
   sound = page_blank height width a b c d;
   colored = colored_blank height width;
-  reported = λ e. cc;
+  printable = tt;
   other = tt;
   entered = λ e. cc;
   nothing = record { capacity = refl; rows = refl; offset = refl };
@@ -49,9 +51,9 @@ kept_erased_rest attrs page last aside h k = kept_page page (erased_rest attrs p
 pub kept_erased_below : (attrs : Attrs) (page : Page) (last : Option ℕ) (aside : Aside) → FitsAttrs attrs → IsKept page last aside → IsKept (erased_below attrs page) last aside
 kept_erased_below attrs page last aside h k = kept_page page (erased_below attrs page) last aside (page_erased_below attrs page k.sound) (colored_erased_below attrs page h k.colored) (same_erased_below attrs page) k
 
-pub kept_printed : (c : ℕ) (attrs : Attrs) (page : Page) (last new : Option ℕ) (aside : Aside) → IsScalar c → c ≢ 0xFFFD → new ≢ Some 0xFFFD → FitsAttrs attrs → IsKept page last aside → IsKept (printed c attrs page) new aside
-kept_printed c attrs page last new aside scalar other reported h k =
-    kept_last (printed c attrs page) last new aside reported
+pub kept_printed : (c : ℕ) (attrs : Attrs) (page : Page) (last new : Option ℕ) (aside : Aside) → IsScalar c → c ≢ 0xFFFD → IfSome new IsPrintable → FitsAttrs attrs → IsKept page last aside → IsKept (printed c attrs page) new aside
+kept_printed c attrs page last new aside scalar other printable h k =
+    kept_last (printed c attrs page) last new aside printable
     (kept_page page (printed c attrs page) last aside (page_printed c attrs page scalar other k.sound) (colored_printed c attrs page h k.colored) (same_printed c attrs page) k)
 
 pub kept_saved : (page : Page) (last : Option ℕ) (aside : Aside) → IsKept page last aside → IsKept (cursor_saved page) last aside

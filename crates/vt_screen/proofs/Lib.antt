@@ -9,6 +9,8 @@ pub mod Chains
 pub mod Viewing
 pub mod Attributes
 pub mod CursorRead
+pub mod InputRead
+pub mod StateRead
 pub mod Colored
 pub mod ColoredMoves
 pub mod Sizes
@@ -20,7 +22,19 @@ mod Reporting
 mod Kept
 mod KeptMoves
 pub mod ContentTexts
+pub mod RowTexts
+pub mod RowItemsRead
+pub mod RowItemsTold
 pub mod Tops
 pub mod TouchedReads
 pub mod TouchedTexts
 mod Captures
+pub mod CaptureTexts
+pub mod Alike
+pub mod AlikeScrollback
+pub mod Streaming
+pub mod EventSteps
+pub mod Bare
+pub mod StreamedTexts
+pub mod Heard
+pub mod StepLists

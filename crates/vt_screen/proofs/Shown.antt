@@ -38,7 +38,7 @@ above_by P false above p = p
 any_row : (width : ℕ) (row : RowValue) → IsRow width row → IsAnyRow row
 any_row width row is = subst (λ (w : ℕ). IsRow w row) (sym is.columns) is
 
-any_visible : (s : ScreenValue) → IsScreen s → All IsAnyRow (visible_rows s)
+pub any_visible : (s : ScreenValue) → IsScreen s → All IsAnyRow (visible_rows s)
 any_visible s is =
     rows_visible IsAnyRow (above_page s) s.page.rows (above_by IsAnyRow s.is_alternate s.scrollback is.scrollback.sound)
     (All-weaker (IsRow s.page.width) IsAnyRow (any_row s.page.width) s.page.rows is.page.rows)

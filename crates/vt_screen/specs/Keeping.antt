@@ -1,11 +1,11 @@
 -- What the fields of a screen are together; for its model only.
-use Rattle.std.specs.Prelude.{◌≡◌, ◌≢◌, ℕ, Bool, true, [], Option, Some, None, IfSome, IsSome, option_map, not, if◌then◌else◌}
+use Rattle.std.specs.Prelude.{◌≡◌, ℕ, ◌≤◌, Bool, true, [], Option, Some, None, IfSome, IsSome, option_map, not, if◌then◌else◌}
 use Rattle.vt_grid.specs.Page.{Page, IsPage}
 use Rattle.vt_grid.specs.Scrollback.{Scrollback, IsScrollback, no_scrollback}
 use Rattle.vt_grid.specs.Resize.{page_resized, scrollback_resized}
 use Rattle.vt_grid.specs.Page.{SameSize}
 use Rattle.vt_screen.specs.Pages.{fresh_page, page_aside}
-use Rattle.vt_screen.specs.Screen.{ScreenValue}
+use Rattle.vt_screen.specs.Screen.{ScreenValue, IsPrintable}
 pub use Rattle.vt_screen.specs.Screen.{IsColoredCell, IsColoredRow, AreColored}
 
 -- what a screen has beside its active page: the other page, which of them is active, scrollback above the active one, and above the
@@ -42,7 +42,7 @@ pub record IsOther (page other : Page) : Type 0 where
 pub record IsKept (page : Page) (last : Option ℕ) (aside : Aside) : Type 0 where
   pub sound : IsPage page
   pub colored : AreColored page.rows
-  pub reported : last ≢ Some 0xFFFD
+  pub printable : IfSome last IsPrintable
   pub other : IfSome aside.other (IsOther page)
   pub entered : aside.is_alternate ≡ true → IsSome aside.other
   pub nothing : IsNothing (alternate_scrollback aside.is_alternate aside.active aside.idle)
@@ -76,3 +76,8 @@ pages_resized rows cols screen = record screen {
   other = option_map (page_resized rows cols (no_scrollback 0)) screen.other;
   scrollback = scrollback_resized rows screen.page screen.scrollback;
 }
+
+-- columns of a screen from `start` up to `stop`
+pub record IsColumns (start stop : ℕ) (screen : ScreenValue) : Type 0 where
+  pub order : start ≤ stop
+  pub inside : stop ≤ screen.page.width

@@ -7,6 +7,7 @@ pub mod Steps
 pub mod Run
 pub mod Reading
 pub mod Shown
+pub mod RowsShown
 pub mod Touched
 pub mod Chain
 pub mod Reports
@@ -15,4 +16,7 @@ pub mod Telling
 pub mod Contents
 pub mod RowItems
 pub mod InputTexts
+pub mod States
 pub mod Capture
+pub mod CaptureText
+pub mod Streamed

@@ -1,5 +1,6 @@
 -- A screen: the active page and the other one, scrollback, attributes and modes.
-use Rattle.std.specs.Prelude.{◌≡◌, ℕ, Bool, true, false, List, length, All, Option, None, IfSome, IsSome, if◌then◌else◌}
+use Rattle.std.specs.Prelude.{◌≡◌, ◌≢◌, ℕ, Bool, true, false, List, length, All, Option, None, IfSome, IsSome, if◌then◌else◌}
+use Rattle.std.specs.Char.{IsScalar}
 use Rattle.vt_cells.specs.Attrs.{default_attrs}
 use Rattle.vt_cells.specs.Cell.{CellValue, attrs_of}
 use Rattle.vt_cells.specs.Op.{FitsAttrs}
@@ -79,12 +80,17 @@ scrolled_back n screen =
     if screen.is_alternate then screen
     else record screen { scrollback = viewed (length screen.page.rows) screen.page.width n screen.scrollback }
 
+-- a character that is printed: a code point, and not U+FFFD, which is reported
+abbrev pub IsPrintable : ℕ → Type 0
+IsPrintable c = IsScalar c × (c ≢ 0xFFFD)
+
 -- what every screen is
 pub record IsScreen (screen : ScreenValue) : Type 0 where
   pub page : IsPage screen.page
   pub other : IfSome screen.other (λ page. IsPage page × SameSize page screen.page)
   pub entered : screen.is_alternate ≡ true → IsSome screen.other
   pub scrollback : IsScrollback screen.scrollback
+  pub last : IfSome screen.last IsPrintable
 
 -- colours have bytes as their numbers
 abbrev pub IsColoredCell : CellValue → Type 0

@@ -71,17 +71,21 @@ pub record HasCursor (picture : Picture) (reader after : ScreenValue) : Type 0 w
   pub attrs : after.attrs ≡ picture.attrs
   pub hidden : after.hidden ≡ picture.hidden
 
--- all else is as before, but for the saved cursor, the saved origin mode, the saved attributes and the last character: scrollback and its
--- offset, the other page, the modes, the region
-pub record KeepsRest (reader after : ScreenValue) : Type 0 where
+-- all else but the modes is as before, save for the saved cursor, the saved origin mode, the saved attributes and the last character:
+-- scrollback and its offset, the other page, the region
+pub record KeepsRestButModes (reader after : ScreenValue) : Type 0 where
   pub other : after.other ≡ reader.other
   pub is_alternate : after.is_alternate ≡ reader.is_alternate
   pub scrollback : after.scrollback ≡ reader.scrollback
-  pub modes : after.modes ≡ reader.modes
   pub width : after.page.width ≡ reader.page.width
   pub top : after.page.top ≡ reader.page.top
   pub bottom : after.page.bottom ≡ reader.page.bottom
   pub origin : after.page.origin ≡ reader.page.origin
+
+-- and the modes are as before, too
+pub record KeepsRest (reader after : ScreenValue) : Type 0 where
+  pub but_modes : KeepsRestButModes reader after
+  pub modes : after.modes ≡ reader.modes
 
 -- its cursor goes to the picture's and is hidden where that is; its cells, flags and attributes stay
 pub record TakesCursor (picture : Picture) (reader after : ScreenValue) : Type 0 where

@@ -11,6 +11,6 @@ pub mod screen;
 pub mod sgr;
 
 pub use callbacks::{Call, Callbacks};
-pub use rows::Rows;
+pub use rows::{Rows, RowsDiff, RowsFormatted};
 pub use screen::Screen;
 pub use vt_rows::RowContents;

@@ -1,10 +1,16 @@
-//! The texts of the rows of a screen, one after the other.
+//! The texts of the rows of a screen, one after the other: without attributes
+//! here, and to redraw them in the modules below.
 
 ghost use Rattle.std.specs.Prelude.{◌≡◌, ◌+◌};
 ghost use Rattle.vt_screen.specs.Contents.{row_texts, rows_left};
 ghost use Rattle.vt_screen.specs.Screen.{visible_rows};
 
+mod diff;
+mod formatted;
+
 use crate::screen::Screen;
+pub use diff::RowsDiff;
+pub use formatted::RowsFormatted;
 use vt_cells::Error;
 
 /// An iterator over the texts of the rows that a screen shows; see

@@ -12,7 +12,9 @@ mod input;
 mod pages;
 mod redraw;
 mod resizing;
+mod row_items;
 mod scrolling;
+mod state;
 
 use crate::modes::Modes;
 use crate::sgr::Setting;
@@ -127,8 +129,9 @@ impl Screen {
     /// How many rows and columns the screen has.
     ///
     /// The clause `whole` says what every screen is, whatever was done to it:
-    /// both pages of one size, with rows, cursors and regions in bounds, and
-    /// scrollback within its capacity.
+    /// both pages of one size, with rows, cursors and regions in bounds,
+    /// scrollback within its capacity, and a last character that is one to
+    /// print.
     pub fn size(&self) -> (NonZeroU16, NonZeroU16)
         ensures whole { IsScreen self.now }
         ensures rows { result.0.value ≡ length self.now.page.rows }

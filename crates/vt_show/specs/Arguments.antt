@@ -2,7 +2,7 @@
 use Rattle.std.specs.Prelude.{◌≡◌, ℕ, ◌<◌, ◌^◌, List, [], ◌∷◌, codes}
 use Rattle.std.specs.Str.Parse.{IsNumeral, digits_value}
 use Rattle.vt_show.specs.declared.mode.Mode.{Mode}
-use Rattle.vt_show.specs.declared.mode.Mode.TheVariants.{Plain, Formatted}
+use Rattle.vt_show.specs.declared.mode.Mode.TheVariants.{Plain, Formatted, Basic}
 
 -- a number of rows or columns: decimal digits, leading zeros allowed, with a value from 1 to 65535
 abbrev pub IsSize : List ℕ → ℕ → Type 0
@@ -11,6 +11,7 @@ IsSize word n = IsNumeral 10 word × (digits_value 10 word ≡ n) × (0 < n) × 
 abbrev pub name_of : Mode → List ℕ
 name_of Plain = codes "plain"
 name_of Formatted = codes "formatted"
+name_of Basic = codes "basic"
 
 -- exactly three words, that ask for these rows, these columns and this mode
 abbrev pub Asks : List (List ℕ) → ℕ → ℕ → Mode → Type 0

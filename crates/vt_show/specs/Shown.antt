@@ -5,15 +5,17 @@ use Rattle.std.specs.Io.KnownBytes.{Appends}
 use Rattle.std.specs.declared.option.Option.{Option}
 use Rattle.vt_cells.specs.Op.{bytes_of_all}
 use Rattle.vt_redraw.specs.Redraw.{redraw}
+use Rattle.vt_rows.specs.Basic.{unwritten}
 use Rattle.vt_scan.specs.Automaton.{start}
 use Rattle.vt_scan.specs.Run as scan
+use Rattle.vt_screen.specs.Capture.{basic_texts}
 use Rattle.vt_screen.specs.Contents.{contents_of}
 use Rattle.vt_screen.specs.Run.{Performs, state}
-use Rattle.vt_screen.specs.Screen.{ScreenValue, fresh_screen}
+use Rattle.vt_screen.specs.Screen.{ScreenValue, fresh_screen, visible_rows}
 use Rattle.vt_screen.specs.Shown.{shown}
 use Rattle.vt100.specs.Parser.{quietly}
 use Rattle.vt_show.specs.declared.mode.Mode.{Mode}
-use Rattle.vt_show.specs.declared.mode.Mode.TheVariants.{Plain, Formatted}
+use Rattle.vt_show.specs.declared.mode.Mode.TheVariants.{Plain, Formatted, Basic}
 
 -- the screen of a run over the input, from a fresh terminal of this size without scrollback
 abbrev pub ShowsAfter : ℕ → ℕ → List ℕ → ScreenValue → Type 0
@@ -23,6 +25,7 @@ ShowsAfter rows cols input screen =
 abbrev pub text_of : Mode → ScreenValue → List ℕ
 text_of Plain screen = contents_of screen
 text_of Formatted screen = bytes_of_all (redraw (shown screen))
+text_of Basic screen = basic_texts unwritten (visible_rows screen)
 
 -- what is written grew by the text for the input, and by nothing else
 pub record Writes (mode : Mode) (rows cols : ℕ) (input : List ℕ) (old new : Option (List ℕ)) : Type 0 where

@@ -74,16 +74,12 @@ fn text(screen: &Screen, mode: Mode) -> Result<String, Fault>
     ensures text { IfOk result (λ text. string_bytes text ≡ text_of mode screen.now) }
     ensures memory { IsErr result → result ≡ Err Fault.Memory }
 {
-    match mode {
-        Mode::Plain => match screen.contents() {
-            Ok(text) => Ok(text),
-            Err(_) => Err(Fault::Memory),
-        },
-        Mode::Formatted => match screen.contents_formatted() {
-            Ok(text) => Ok(text),
-            Err(_) => Err(Fault::Memory),
-        },
-    }
+    let text = match mode {
+        Mode::Plain => screen.contents(),
+        Mode::Formatted => screen.contents_formatted(),
+        Mode::Basic => screen.contents_formatted_basic(),
+    };
+    text.map_err(|_| Fault::Memory)
 }
 
 /// Writes the text, and flushes it.

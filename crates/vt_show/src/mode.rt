@@ -8,4 +8,7 @@ pub enum Mode {
 
     /// The redraw, which shows the screen on any terminal of its size.
     Formatted,
+
+    /// The text and its attributes, and nothing else.
+    Basic,
 }

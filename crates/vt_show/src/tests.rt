@@ -103,6 +103,22 @@ fn runs_plain(rt: HostRuntime) -> Result<(), Fail> {
 }
 
 #[test]
+fn runs_basic(rt: HostRuntime) -> Result<(), Fail> {
+    let mut written = Vec::new(rt.alloc());
+    let done = run(
+        rt.alloc(),
+        &mut b"abcd\x1b[31mx\r\n".as_slice(),
+        &mut written,
+        size(4)?,
+        size(4)?,
+        Mode::Basic,
+    );
+    assert_eq!(rt; done, Ok(()));
+    assert_eq!(rt; written.as_slice(), b"abcd\x1b[31mx\n\n".as_slice());
+    Ok(())
+}
+
+#[test]
 fn fails_where_a_read_fails(rt: HostRuntime) -> Result<(), Fail> {
     for kind in [io::ErrorKind::Other, io::ErrorKind::Interrupted] {
         let mut broken = Broken {
@@ -146,6 +162,8 @@ fn takes_words(rt: HostRuntime) -> Result<(), Fail> {
     assert_eq!(rt; arguments(&["024", "0080", "formatted"]), taken);
     let taken = Some((size(24)?, size(80)?, Mode::Plain));
     assert_eq!(rt; arguments(&["24", "80", "plain"]), taken);
+    let taken = Some((size(1)?, size(65535)?, Mode::Basic));
+    assert_eq!(rt; arguments(&["1", "65535", "basic"]), taken);
     Ok(())
 }
 
@@ -157,7 +175,7 @@ const REFUSED: [&[&str]; 11] = [
     &["+24", "80", "formatted"],
     &["24", "", "formatted"],
     &["24", "8 0", "formatted"],
-    &["24", "80", "basic"],
+    &["24", "80", "Basic"],
     &["24", "80", "Formatted"],
     &["24", "80"],
     &["24", "80", "formatted", ""],

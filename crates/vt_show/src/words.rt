@@ -11,8 +11,7 @@ use std::num::NonZeroU16;
 /// Rows, columns and mode, from exactly three words; `None` for other words.
 ///
 /// Rows and columns are decimal digits with a value from 1 to 65535, leading
-/// zeros allowed. The modes that are there are `plain` and `formatted`;
-/// `basic`, which the usage line names as well, is another word so far.
+/// zeros allowed. The modes are `plain`, `formatted` and `basic`.
 ///
 /// ```text
 /// assert_eq!(arguments(&["0", "80", "formatted"]), None);
@@ -66,6 +65,9 @@ fn mode_named(word: &str) -> Option<Mode>
     }
     if word == "formatted" {
         return Some(Mode::Formatted);
+    }
+    if word == "basic" {
+        return Some(Mode::Basic);
     }
     None
 }

@@ -1,15 +1,15 @@
 //! Differences: their texts, and what a terminal shows that reads them.
 
-use crate::readback::{difference, expect_difference_read};
+use crate::readback::Change;
 use crate::steps::Step::{self, Text, View};
-use crate::steps::{Pieces, taken};
+use crate::steps::{Pieces, longest, taken};
 use std::alloc::Global;
 use std::test::Fail;
 use vt100::Screen;
 
 /// A size, how many rows scrollback keeps, what is done to the one and to the other of two fresh
-/// parsers, and the difference that makes what the first one shows into what the second one shows.
-type Example = (
+/// parsers, and the text that changes the first one into the second one.
+pub(crate) type Example = (
     (u16, u16),
     usize,
     &'static [Step],
@@ -71,49 +71,51 @@ const DIFFERENCES: [Example; 14] = [
     ),
 ];
 
-// Fails where the parsers of an example, fed in these pieces, have another difference, or where a
-// terminal that reads it shows something else; and where one of them has a difference from itself.
-fn expect(
+/// Fails where the parsers of an example, their bytes in two pieces or one by one, have another text of
+/// this kind, or where a terminal that reads it takes over something else; and where one of them has
+/// such a text against itself.
+pub(crate) fn expect_at_each_cut(
     alloc: Global,
-    (size, capacity, prev, steps, wanted): &Example,
-    pieces: Pieces,
+    change: Change,
+    example: &Example,
 ) -> Result<(), Fail> {
+    for most in 0..=longest(example.2).max(longest(example.3)) {
+        expect(alloc, change, example, Pieces::Two(most))?;
+    }
+    expect(alloc, change, example, Pieces::Single)
+}
+
+fn expect(alloc: Global, change: Change, example: &Example, pieces: Pieces) -> Result<(), Fail> {
+    let (size, capacity, prev, _steps, _wanted) = example;
     let parser = taken(alloc, *size, *capacity, prev, pieces)?;
-    expect_from(
-        alloc,
-        parser.screen(),
-        (*size, *capacity),
-        steps,
-        pieces,
-        wanted,
-    )
+    expect_from(alloc, change, parser.screen(), example, pieces)
 }
 
 fn expect_from(
     alloc: Global,
+    change: Change,
     prev: &Screen,
-    (size, capacity): ((u16, u16), usize),
-    steps: &[Step],
+    (size, capacity, _prev, steps, wanted): &Example,
     pieces: Pieces,
-    wanted: &str,
 ) -> Result<(), Fail> {
-    let parser = taken(alloc, size, capacity, steps, pieces)?;
-    expect_difference(alloc, prev, parser.screen(), wanted)
+    let parser = taken(alloc, *size, *capacity, steps, pieces)?;
+    expect_change(alloc, change, prev, parser.screen(), wanted)
 }
 
-fn expect_difference(
+fn expect_change(
     alloc: Global,
+    change: Change,
     prev: &Screen,
     screen: &Screen,
     wanted: &str,
 ) -> Result<(), Fail> {
-    let text = difference(screen, prev)?;
+    let text = change.text(screen, prev)?;
     expect_text(text.as_str(), wanted)?;
-    expect_difference_read(alloc, screen, prev, wanted)?;
-    let back = difference(prev, screen)?;
-    expect_difference_read(alloc, prev, screen, back.as_str())?;
-    expect_none_from_itself(screen)?;
-    expect_none_from_itself(prev)
+    change.expect_read(alloc, screen, prev, wanted)?;
+    let back = change.text(prev, screen)?;
+    change.expect_read(alloc, prev, screen, back.as_str())?;
+    expect_none_from_itself(change, screen)?;
+    expect_none_from_itself(change, prev)
 }
 
 fn expect_text(found: &str, wanted: &str) -> Result<(), Fail> {
@@ -128,24 +130,23 @@ fn expect_text(found: &str, wanted: &str) -> Result<(), Fail> {
     Ok(())
 }
 
-fn expect_none_from_itself(screen: &Screen) -> Result<(), Fail> {
-    let text = difference(screen, screen)?;
+fn expect_none_from_itself(change: Change, screen: &Screen) -> Result<(), Fail> {
+    let text = change.text(screen, screen)?;
     expect_text(text.as_str(), "")
 }
 
 #[test]
 fn differs(rt: HostRuntime) -> Result<(), Fail> {
     for example in &DIFFERENCES {
-        expect(rt.alloc(), example, Pieces::Two(usize::MAX))?;
-        expect(rt.alloc(), example, Pieces::Single)?;
+        expect_at_each_cut(rt.alloc(), Change::Picture, example)?;
     }
     Ok(())
 }
 
 /// Screens of one column and of two with a glyph that U+FE0F follows, a row that goes on, a pending
-/// wrap behind an erased row, and scrollback in view: a size, how many rows scrollback keeps, and what
+/// wrap behind an erased row, scrollback in view, and modes: a size, how many rows scrollback keeps, and what
 /// is done.
-const ALONE: [((u16, u16), usize, &[Step]); 8] = [
+const ALONE: [((u16, u16), usize, &[Step]); 9] = [
     ((2, 1), 0, &[Text("\u{2764}\u{fe0f}")]),
     ((2, 2), 0, &[Text("\u{2764}\u{fe0f}")]),
     ((2, 4), 0, &[Text("abc\u{2764}\u{fe0f}")]),
@@ -158,13 +159,19 @@ const ALONE: [((u16, u16), usize, &[Step]); 8] = [
         &[Text("\u{2764}\u{fe0f}\r\nab\u{4e2d}c\x1b[7m"), View(1)],
     ),
     ((2, 4), 10, &[Text("a\r\nb\r\nc\r\nd"), View(2)]),
+    (
+        (2, 1),
+        0,
+        &[Text("\u{2764}\u{fe0f}\x1b=\x1b[?1;1003;1006;2004h\x1b[5 q")],
+    ),
 ];
 
 #[test]
 fn no_screen_differs_from_itself(rt: HostRuntime) -> Result<(), Fail> {
     for (size, capacity, steps) in &ALONE {
         let parser = taken(rt.alloc(), *size, *capacity, steps, Pieces::Single)?;
-        expect_none_from_itself(parser.screen())?;
+        expect_none_from_itself(Change::Picture, parser.screen())?;
+        expect_none_from_itself(Change::State, parser.screen())?;
     }
     Ok(())
 }

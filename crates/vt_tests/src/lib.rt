@@ -5,6 +5,8 @@
 #[cfg(test)]
 mod callbacks_tests;
 #[cfg(test)]
+mod capture_tests;
+#[cfg(test)]
 mod counter;
 #[cfg(test)]
 mod difference_tests;
@@ -23,9 +25,13 @@ mod redraw_tests;
 #[cfg(test)]
 mod rendition_tests;
 #[cfg(test)]
+mod row_items_tests;
+#[cfg(test)]
 mod scrolling_tests;
 #[cfg(test)]
 mod seen;
+#[cfg(test)]
+mod state_tests;
 #[cfg(test)]
 mod steps;
 #[cfg(test)]

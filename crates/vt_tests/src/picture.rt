@@ -16,10 +16,22 @@ pub(crate) enum Part {
 
     /// What is drawn with.
     Attributes,
+
+    /// Input modes and the look of the cursor.
+    Modes,
 }
 
 /// All that is shown.
-pub(crate) const PARTS: [Part; 4] = [Part::Cells, Part::Flags, Part::Cursor, Part::Attributes];
+pub(crate) const PICTURE: [Part; 4] = [Part::Cells, Part::Flags, Part::Cursor, Part::Attributes];
+
+/// All that is shown, and the modes.
+pub(crate) const PARTS: [Part; 5] = [
+    Part::Cells,
+    Part::Flags,
+    Part::Cursor,
+    Part::Attributes,
+    Part::Modes,
+];
 
 impl Part {
     /// Whether two screens of one size have this in common.
@@ -32,6 +44,7 @@ impl Part {
                     && one.hide_cursor() == other.hide_cursor()
             }
             Part::Attributes => attributes(one) == attributes(other),
+            Part::Modes => have_same_modes(one, other),
         }
     }
 }
@@ -68,4 +81,19 @@ fn attributes(screen: &Screen) -> (Color, Color, [bool; 5]) {
         screen.inverse(),
     ];
     (screen.fgcolor(), screen.bgcolor(), switches)
+}
+
+fn have_same_modes(one: &Screen, other: &Screen) -> bool {
+    switched_modes(one) == switched_modes(other)
+        && one.mouse_protocol_mode() == other.mouse_protocol_mode()
+        && one.mouse_protocol_encoding() == other.mouse_protocol_encoding()
+        && one.cursor_style() == other.cursor_style()
+}
+
+fn switched_modes(screen: &Screen) -> [bool; 3] {
+    [
+        screen.application_keypad(),
+        screen.application_cursor(),
+        screen.bracketed_paste(),
+    ]
 }

@@ -1,6 +1,6 @@
 //! Texts of screens, read by a terminal that shows something else.
 
-use crate::picture::{PARTS, Part, have_same_cells};
+use crate::picture::{PARTS, PICTURE, Part, have_same_cells};
 use crate::seen::read_keeping;
 use crate::steps::{Pieces, feed};
 use std::alloc::Global;
@@ -9,8 +9,10 @@ use vt_notes::Notes;
 use vt100::{Error, Parser, Screen};
 
 /// Makes a terminal draw wide glyphs in colour on all of it, keep rows in scrollback, hide its cursor
-/// and draw with other attributes than the default ones. None of its modes tells in a text.
-const BUSY: &[u8] = b"\x1b[7;32mfgh\xe4\xb8\xadij\x1b[2S\x1b[1mklm\xe4\xb8\xadnopqr\x1b[?25l";
+/// and draw with other attributes than the default ones; turns on the keypad's application mode, that
+/// of the cursor keys, and bracketed paste. None of its modes tells in a text.
+const BUSY: &[u8] =
+    b"\x1b[7;32mfgh\xe4\xb8\xadij\x1b[2S\x1b[1mklm\xe4\xb8\xadnopqr\x1b[?25l\x1b=\x1b[?1;2004h";
 
 /// How a text is read here: whole, and byte by byte.
 const READ: [Pieces; 2] = [Pieces::Two(usize::MAX), Pieces::Single];
@@ -26,7 +28,22 @@ pub(crate) enum Asked {
 
     /// `attributes_formatted`.
     Attributes,
+
+    /// `state_formatted`.
+    State,
+
+    /// `input_mode_formatted`.
+    Modes,
 }
+
+/// All texts of a screen.
+pub(crate) const ASKED: [Asked; 5] = [
+    Asked::Redraw,
+    Asked::Cursor,
+    Asked::Attributes,
+    Asked::State,
+    Asked::Modes,
+];
 
 impl Asked {
     /// This text of a screen.
@@ -35,6 +52,8 @@ impl Asked {
             Asked::Redraw => screen.contents_formatted(),
             Asked::Cursor => screen.cursor_state_formatted(),
             Asked::Attributes => screen.attributes_formatted(),
+            Asked::State => screen.state_formatted(),
+            Asked::Modes => screen.input_mode_formatted(),
         }
     }
 
@@ -58,44 +77,77 @@ impl Asked {
                 text.push_str("\x1b[m\x1b[?25l")?;
                 Ok(text)
             }
-            Asked::Redraw | Asked::Attributes => Ok(String::new(alloc)),
+            _ => Ok(String::new(alloc)),
         }
     }
 
     // What a terminal has in common with the screen then; all else is as before.
     fn taken(self) -> &'static [Part] {
         match self {
-            Asked::Redraw => &PARTS,
+            Asked::Redraw => &PICTURE,
             Asked::Cursor => &[Part::Cells, Part::Flags, Part::Cursor],
             Asked::Attributes => &[Part::Attributes],
+            Asked::State => &PARTS,
+            Asked::Modes => &[Part::Modes],
         }
     }
 }
 
-/// The difference of two screens; fails where they aren't of one size.
-pub(crate) fn difference(screen: &Screen, prev: &Screen) -> Result<String, Fail> {
-    let (rows, cols) = screen.size();
-    let (other_rows, other_cols) = prev.size();
-    if rows.get() != other_rows.get() || cols.get() != other_cols.get() {
-        return Err(Fail::new("screens of two sizes"));
-    }
-    Ok(screen.contents_diff(prev)?)
+/// A text of what differs between two screens.
+#[derive(Clone, Copy, Debug)]
+pub(crate) enum Change {
+    /// `contents_diff`.
+    Picture,
+
+    /// `state_diff`.
+    State,
+
+    /// `input_mode_diff`.
+    Modes,
 }
 
-/// Fails where a terminal that shows what `prev` shows doesn't show what `screen` shows, once it has
-/// read this difference, or changes in something else, or calls a function.
-pub(crate) fn expect_difference_read(
-    alloc: Global,
-    screen: &Screen,
-    prev: &Screen,
-    text: &str,
-) -> Result<(), Fail> {
-    let before = prev.contents_formatted()?;
-    for pieces in &READ {
-        let bytes = (before.as_bytes(), text.as_bytes());
-        expect_taken(alloc, screen, bytes, *pieces, &PARTS)?;
+impl Change {
+    /// This text of a screen against another one; fails where they aren't of one size.
+    pub(crate) fn text(self, screen: &Screen, prev: &Screen) -> Result<String, Fail> {
+        let (rows, cols) = screen.size();
+        let (other_rows, other_cols) = prev.size();
+        if rows.get() != other_rows.get() || cols.get() != other_cols.get() {
+            return Err(Fail::new("screens of two sizes"));
+        }
+        let text = match self {
+            Change::Picture => screen.contents_diff(prev),
+            Change::State => screen.state_diff(prev),
+            Change::Modes => screen.input_mode_diff(prev),
+        };
+        Ok(text?)
     }
-    Ok(())
+
+    /// Fails where a terminal that shows what `prev` shows, and has its modes, doesn't take over from
+    /// `screen` what this text is for, once it has read it, or changes in something else, or calls a
+    /// function.
+    pub(crate) fn expect_read(
+        self,
+        alloc: Global,
+        screen: &Screen,
+        prev: &Screen,
+        text: &str,
+    ) -> Result<(), Fail> {
+        let before = prev.state_formatted()?;
+        for pieces in &READ {
+            let bytes = (before.as_bytes(), text.as_bytes());
+            expect_taken(alloc, screen, bytes, *pieces, self.taken())?;
+        }
+        Ok(())
+    }
+
+    // What a terminal has in common with the screen then; all else is as before.
+    fn taken(self) -> &'static [Part] {
+        match self {
+            Change::Picture => &PICTURE,
+            Change::State => &PARTS,
+            Change::Modes => &[Part::Modes],
+        }
+    }
 }
 
 // Has a busy terminal read a text and then, in pieces, another one, and looks at it.

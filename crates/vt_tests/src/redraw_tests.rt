@@ -1,5 +1,6 @@
 //! Redraws: their texts, and what a terminal shows that reads them.
 
+use crate::readback::ASKED;
 use crate::readback::Asked::{self, Attributes, Cursor, Redraw};
 use crate::steps::Step::{self, Text, View};
 use crate::steps::{Pieces, longest, taken};
@@ -12,7 +13,7 @@ const CLEAR: &str = "\x1b[?25h\x1b[m\x1b[H\x1b[J";
 
 /// A fresh parser's size, how many rows its scrollback keeps, what is done, which text is asked for,
 /// and the text; of a redraw what comes behind `CLEAR`.
-type Example = ((u16, u16), usize, &'static [Step], Asked, &'static str);
+pub(crate) type Example = ((u16, u16), usize, &'static [Step], Asked, &'static str);
 
 #[rattlefmt::skip]
 const REDRAWN: [Example; 15] = [
@@ -60,8 +61,12 @@ fn wanted_text(alloc: Global, asked: Asked, text: &str) -> Result<String, Fail> 
     Ok(wanted)
 }
 
-// Fails where these steps, their bytes in two pieces or one by one, give another text.
-fn expect_at_each_cut(alloc: Global, example: &Example, wanted: &str) -> Result<(), Fail> {
+/// Fails where these steps, their bytes in two pieces or one by one, give another text.
+pub(crate) fn expect_at_each_cut(
+    alloc: Global,
+    example: &Example,
+    wanted: &str,
+) -> Result<(), Fail> {
     for most in 0..=longest(example.2) {
         expect_after(alloc, example, Pieces::Two(most), wanted)?;
     }
@@ -91,8 +96,8 @@ fn expect_text(screen: &Screen, asked: Asked, wanted: &str) -> Result<(), Fail> 
     Ok(())
 }
 
-// Fails where a terminal that reads any text of this screen shows something else.
-fn expect_read_back(
+/// Fails where a terminal that reads any text of this screen takes over something else.
+pub(crate) fn expect_read_back(
     alloc: Global,
     (size, capacity, steps, _asked, _text): &Example,
 ) -> Result<(), Fail> {
@@ -101,7 +106,7 @@ fn expect_read_back(
 }
 
 fn expect_each_read(alloc: Global, screen: &Screen) -> Result<(), Fail> {
-    for asked in [Redraw, Cursor, Attributes] {
+    for asked in &ASKED {
         asked.expect_read(alloc, screen)?;
     }
     Ok(())

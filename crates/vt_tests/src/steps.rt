@@ -5,7 +5,7 @@ use std::alloc::Global;
 use std::num::NonZeroU16;
 use std::test::Fail;
 use vt_notes::Notes;
-use vt100::{Error, Parser};
+use vt100::{Callbacks, Error, Parser};
 
 /// What is done to a parser or its screen.
 #[derive(Clone, Copy, Debug)]
@@ -102,7 +102,11 @@ pub(crate) fn longest(steps: &[Step]) -> usize {
 }
 
 /// Has a parser read bytes in these pieces.
-pub(crate) fn feed(parser: &mut Parser<Notes>, bytes: &[u8], pieces: Pieces) -> Result<(), Error> {
+pub(crate) fn feed<CB: Callbacks>(
+    parser: &mut Parser<CB>,
+    bytes: &[u8],
+    pieces: Pieces,
+) -> Result<(), Error> {
     match pieces {
         Pieces::Two(most) => {
             let cut = most.min(bytes.len());

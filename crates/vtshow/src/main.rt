@@ -1,5 +1,6 @@
-//! `vtshow ROWS COLS formatted`: reads what a program wrote to its terminal,
-//! and writes a text that shows the same on any terminal of that size.
+//! `vtshow ROWS COLS plain|formatted|basic`: reads what a program wrote to its
+//! terminal, and writes the screen that it shows then: its text, a text that
+//! shows the same on any terminal of that size, or its text and attributes.
 #![tactic(auto)]
 
 ghost use Rattle.std.specs.Prelude.{◌≡◌, IfErr, IfSome};

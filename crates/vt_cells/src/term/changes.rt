@@ -2,9 +2,11 @@
 
 ghost use Rattle.std.specs.Prelude.{◌≡◌, ◌++◌, OnOk};
 ghost use Rattle.vt_cells.specs.Op as op;
-ghost use Rattle.vt_cells.specs.Op.{bytes_of, change_numbers, csi, joined};
+ghost use Rattle.vt_cells.specs.Op.{bytes_of, change_numbers, change_text, csi, joined};
+ghost use Rattle.vt_cells.specs.PieceKeeping.{gathered};
 
 use crate::attrs::Attrs;
+use crate::piece::Piece;
 use crate::sink::Sink;
 use crate::term::BufWrite;
 use crate::term::sgr::Numbers;
@@ -32,24 +34,59 @@ pub struct ChangeAttrs {
 }
 
 impl ChangeAttrs {
+    /// Adds the change to a text that is not yet written; nothing where both are the same.
+    ///
+    /// An error is the sink's own; then part of the text may have been written.
+    #[inline]
+    #[tactic(auto, unfolding(crate::specs::Op::change_text))]
+    pub fn add<S: Sink>(&self, sink: &mut S, piece: &mut Piece) -> Result<(), S::Error>
+        ensures { OnOk result (gathered (S.text sink.new) piece.new
+            ≡ gathered (S.text sink.old) piece.old ++ change_text self.now.was self.now.new) }
+    {
+        if self.was.is_same(&self.new) {
+            Ok(())
+        } else if self.new.is_same(&Attrs::new()) {
+            piece.add(sink, "\x1b[m")
+        } else {
+            self.add_numbers(sink, piece)
+        }
+    }
+
     /// Appends the change as the numbers of what differs, none where nothing does.
+    #[inline(never)]
+    #[tactic(auto, using(crate::proofs::Pieces::nothing_gathered))]
     fn write_numbers<S: Sink>(&self, sink: &mut S) -> Result<(), S::Error>
         ensures { OnOk result (S.text sink.new
             ≡ S.text sink.old ++ csi (joined (change_numbers self.now.was self.now.new)) 0x6D) }
     {
-        sink.write_str("\x1b[")?;
-        Numbers::of_change(self.was, self.new).write_joined(sink)?;
-        sink.write_str("m")
+        let mut piece = Piece::new();
+        self.add_numbers(sink, &mut piece)?;
+        piece.flush(sink)?;
+        Ok(())
+    }
+
+    /// Adds the same text.
+    #[inline(never)]
+    fn add_numbers<S: Sink>(&self, sink: &mut S, piece: &mut Piece) -> Result<(), S::Error>
+        ensures { OnOk result (gathered (S.text sink.new) piece.new
+            ≡ gathered (S.text sink.old) piece.old ++ csi (joined (change_numbers self.now.was self.now.new)) 0x6D) }
+    {
+        piece.add(sink, "\x1b[")?;
+        Numbers::of_change(self.was, self.new).add_joined(sink, piece)?;
+        piece.add(sink, "m")?;
+        Ok(())
     }
 }
 
 impl BufWrite for ChangeAttrs {
     ghost bytes = { λ it. bytes_of (op.ChangeAttrs it.was it.new) };
 
+    #[inline]
+    #[tactic(auto, unfolding(crate::specs::Op::change_text))]
     fn write_buf<S: Sink>(&self, sink: &mut S) -> Result<(), S::Error> {
-        if self.was == self.new {
+        if self.was.is_same(&self.new) {
             Ok(())
-        } else if self.new == Attrs::new() {
+        } else if self.new.is_same(&Attrs::new()) {
             ClearAttrs.write_buf(sink)
         } else {
             self.write_numbers(sink)

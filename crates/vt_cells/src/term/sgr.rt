@@ -1,13 +1,15 @@
 //! The numbers of SGR, the sequence that changes attributes.
 
-ghost use Rattle.std.specs.Prelude.{◌≡◌, ◌+◌, ◌≤◌, ℕ, List, [], ◌∷◌, ◌++◌, length, take, if◌then◌else◌, OnOk};
+ghost use Rattle.std.specs.Prelude.{◌≡◌, ◌+◌, ◌≤◌, ℕ, List, [], ◌∷◌, ◌++◌, decimal, length, take, if◌then◌else◌, OnOk};
 ghost use Rattle.vt_cells.specs.Attrs.{same_bool, same_color, same_intensity};
 ghost use Rattle.vt_cells.specs.Op.{background_numbers, change_numbers, foreground_numbers, intensity_number, joined, part};
+ghost use Rattle.vt_cells.specs.PieceKeeping.{gathered};
 
 use crate::attrs::{Attrs, Intensity};
 use crate::color::Color;
+use crate::piece::Piece;
 use crate::sink::Sink;
-use crate::term::decimal::write_decimal;
+use itoa::Buffer;
 use std::marker::Model;
 
 /// As many numbers as one change can have: five for each colour, and four single ones.
@@ -47,17 +49,17 @@ impl Numbers {
         numbers
     }
 
-    /// Appends the numbers to `sink`, joined by `;`.
-    pub fn write_joined<S: Sink>(&self, sink: &mut S) -> Result<(), S::Error>
-        ensures { OnOk result (S.text sink.new ≡ S.text sink.old ++ joined self.now) }
+    /// Adds the numbers, joined by `;`.
+    pub fn add_joined<S: Sink>(&self, sink: &mut S, piece: &mut Piece) -> Result<(), S::Error>
+        ensures { OnOk result (gathered (S.text sink.new) piece.new ≡ gathered (S.text sink.old) piece.old ++ joined self.now) }
     {
         let Some((first, rest)) = self.items[..self.len].split_first() else {
             return Ok(());
         };
-        write_decimal(sink, u32::from(*first))?;
+        add_number(sink, piece, *first)?;
         for number in rest {
-            sink.write_str(";")?;
-            write_decimal(sink, u32::from(*number))?;
+            piece.add(sink, ";")?;
+            add_number(sink, piece, *number)?;
         }
         Ok(())
     }
@@ -72,11 +74,11 @@ impl Numbers {
             return;
         }
         match new {
-            Color::Default => self.push(&[39]),
-            Color::Idx(i) if i < 8 => self.push(&[30 + i]),
-            Color::Idx(i) if i < 16 => self.push(&[82 + i]),
-            Color::Idx(i) => self.push(&[38, 5, i]),
-            Color::Rgb(r, g, b) => self.push(&[38, 2, r, g, b]),
+            Color::Default => self.push(39),
+            Color::Idx(i) if i < 8 => self.push(30 + i),
+            Color::Idx(i) if i < 16 => self.push(82 + i),
+            Color::Idx(i) => self.push_all(&[38, 5, i]),
+            Color::Rgb(r, g, b) => self.push_all(&[38, 2, r, g, b]),
         }
     }
 
@@ -90,11 +92,11 @@ impl Numbers {
             return;
         }
         match new {
-            Color::Default => self.push(&[49]),
-            Color::Idx(i) if i < 8 => self.push(&[40 + i]),
-            Color::Idx(i) if i < 16 => self.push(&[92 + i]),
-            Color::Idx(i) => self.push(&[48, 5, i]),
-            Color::Rgb(r, g, b) => self.push(&[48, 2, r, g, b]),
+            Color::Default => self.push(49),
+            Color::Idx(i) if i < 8 => self.push(40 + i),
+            Color::Idx(i) if i < 16 => self.push(92 + i),
+            Color::Idx(i) => self.push_all(&[48, 5, i]),
+            Color::Rgb(r, g, b) => self.push_all(&[48, 2, r, g, b]),
         }
     }
 
@@ -107,9 +109,9 @@ impl Numbers {
             return;
         }
         match new {
-            Intensity::Normal => self.push(&[22]),
-            Intensity::Bold => self.push(&[1]),
-            Intensity::Dim => self.push(&[2]),
+            Intensity::Normal => self.push(22),
+            Intensity::Bold => self.push(1),
+            Intensity::Dim => self.push(2),
         }
     }
 
@@ -119,11 +121,20 @@ impl Numbers {
         ensures room { length self.new ≤ length self.old + 1 }
     {
         if was != new {
-            self.push(&[if new { on } else { off }]);
+            self.push(if new { on } else { off });
         }
     }
 
-    fn push(&mut self, numbers: &[u8])
+    #[inline]
+    fn push(&mut self, number: u8)
+        requires { length self.old + 1 ≤ 14 }
+        ensures { self.new ≡ self.old ++ number ∷ [] }
+    {
+        self.items[self.len] = number;
+        self.len += 1;
+    }
+
+    fn push_all(&mut self, numbers: &[u8])
         requires { length self.old + length numbers.now ≤ 14 }
         ensures { self.new ≡ self.old ++ numbers.now }
     {
@@ -131,4 +142,12 @@ impl Numbers {
         self.items[self.len..end].copy_from_slice(numbers);
         self.len = end;
     }
+}
+
+/// Adds a number in decimal.
+fn add_number<S: Sink>(sink: &mut S, piece: &mut Piece, number: u8) -> Result<(), S::Error>
+    ensures { OnOk result (gathered (S.text sink.new) piece.new ≡ gathered (S.text sink.old) piece.old ++ decimal number) }
+{
+    let mut buffer = Buffer::new();
+    piece.add(sink, buffer.format(number))
 }

@@ -1,8 +1,10 @@
 //! The plain text of a capture.
 
-ghost use Rattle.std.specs.Prelude.{◌≡◌, ◌+◌, ◌-◌, ◌≤◌, ◌<◌, ◌++◌, ℕ, length};
+ghost use Rattle.std.specs.Prelude.{◌≡◌, ◌+◌, ◌-◌, ◌≤◌, ◌<◌, ◌++◌, ℕ, List, length};
 ghost use Rattle.std.specs.Iterator.{YieldsFirstBy, YieldsFirstRef, item_count};
-ghost use Rattle.vt_rows.specs.Pieces.{piece_at, pieces_from, pieces_of, pieces_within, texts_of};
+ghost use Rattle.std.specs.List.{concat};
+ghost use Rattle.vt_rows.specs.Keeping.{piece_at, pieces_from, pieces_within};
+ghost use Rattle.vt_rows.specs.Pieces.{ArePiecesOf, Piece, plain_text, texts_of};
 
 use std::iter::FusedIterator;
 use std::marker::Model;
@@ -22,7 +24,8 @@ pub struct BasicFormattedToPlainIndexed<'a> {
 /// It is the list of the pieces that are left.
 impl<'a> Model for BasicFormattedToPlainIndexed<'a> {
     ghost use Rattle.std.specs.Prelude.{◌-◌, ◌≤◌, List, length};
-    ghost use Rattle.vt_rows.specs.Pieces.{Piece, pieces_from};
+    ghost use Rattle.vt_rows.specs.Keeping.{pieces_from};
+    ghost use Rattle.vt_rows.specs.Pieces.{Piece};
 
     ghost Value = { List Piece };
 
@@ -46,7 +49,8 @@ impl<'a> Model for BasicFormattedToPlainIndexed<'a> {
 /// assert_eq!(pieces.next(), None);
 /// ```
 pub fn basic_formatted_to_plain_indexed(capture: &str) -> BasicFormattedToPlainIndexed<'_>
-    ensures { result ≡ pieces_of capture.now }
+    ensures pieces { ArePiecesOf capture.now result }
+    ensures joined { concat (texts_of result) ≡ plain_text capture.now }
 {
     BasicFormattedToPlainIndexed {
         rest: capture,
@@ -121,7 +125,8 @@ impl<'a> Model for BasicFormattedToPlain<'a> {
 /// [`basic_formatted_to_plain_indexed`] without their places. Joined they are
 /// the plain text of the capture.
 pub fn basic_formatted_to_plain(capture: &str) -> BasicFormattedToPlain<'_>
-    ensures value { result ≡ texts_of (pieces_of capture.now) }
+    ensures pieces { (pieces : List Piece) × ArePiecesOf capture.now pieces × (result ≡ texts_of pieces) }
+    ensures joined { concat result ≡ plain_text capture.now }
 {
     BasicFormattedToPlain {
         indexed: basic_formatted_to_plain_indexed(capture),

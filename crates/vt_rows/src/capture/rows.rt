@@ -1,9 +1,11 @@
 //! The rows of a capture.
 
-ghost use Rattle.std.specs.Prelude.{◌≡◌, ◌+◌, ◌≤◌, ◌∷◌, ◌&&◌, [], ◌==◌, ◌<◌, ◌^◌, false, not};
+ghost use Rattle.std.specs.Prelude.{◌≡◌, ◌+◌, ◌≤◌, ◌∷◌, ◌&&◌, [], ◌==◌, ◌<◌, ◌^◌, false, not, List};
 ghost use Rattle.std.specs.Iterator.{YieldsFirstRef, item_count};
 ghost use Rattle.std.specs.Option.{option_map_or};
-ghost use Rattle.vt_rows.specs.CaptureRows.{is_beyond, rows_of};
+ghost use Rattle.vt_rows.specs.CaptureRows.{AreRowsOf, is_beyond};
+ghost use Rattle.vt_rows.specs.Keeping.{rows_of};
+ghost use Rattle.vt_rows.specs.Pieces.{Piece, texts_of};
 ghost use Rattle.vt_rows.specs.Stretches.{columns_added, is_within_after, shown_columns};
 
 use std::iter::FusedIterator;
@@ -25,7 +27,7 @@ pub struct BasicFormattedRows<'a> {
 impl<'a> Model for BasicFormattedRows<'a> {
     ghost use Rattle.std.specs.Prelude.{List, ℕ, []};
     ghost use Rattle.std.specs.Option.{option_map_or};
-    ghost use Rattle.vt_rows.specs.CaptureRows.{rows_of};
+    ghost use Rattle.vt_rows.specs.Keeping.{rows_of};
 
     ghost Value = { List (List ℕ) };
 
@@ -51,7 +53,7 @@ impl<'a> Model for BasicFormattedRows<'a> {
 /// assert_eq!(rows.next(), None);
 /// ```
 pub fn basic_formatted_rows(capture: &str, screen_width: u16) -> BasicFormattedRows<'_>
-    ensures { result ≡ rows_of screen_width capture.now }
+    ensures { (rows : List Piece) × AreRowsOf screen_width capture.now rows × (result ≡ texts_of rows) }
 {
     BasicFormattedRows {
         rest: Some(capture),

@@ -5,6 +5,7 @@ ghost use Rattle.std.specs.List.{slice_range};
 ghost use Rattle.vt_rows.specs.Basic.{unwritten};
 ghost use Rattle.vt_rows.specs.Row.{RowValue, IsRow};
 ghost use Rattle.vt_screen.specs.Capture.{IfGiven, IsBehindSome, all_rows, basic_texts, captured_rows, given_state, written_after_all};
+ghost use Rattle.vt_screen.specs.CaptureText.{IsCaptureText};
 ghost use Rattle.vt_screen.specs.Screen.{visible_rows};
 
 use super::Screen;
@@ -13,12 +14,14 @@ use vt_rows::{BasicFormattedCaptureRange, BasicFormattedCaptureState};
 
 impl Screen {
     /// The basic text of the rows that are shown, as they stand: their text
-    /// and SGR, and nothing else. Rows of scrollback may be wider than the
+    /// and SGR, and nothing else. Its only controls are line ends and the ESC
+    /// that begins each SGR change. Rows of scrollback may be wider than the
     /// screen.
     ///
     /// Fails where memory for the text is refused.
     pub fn contents_formatted_basic(&self) -> Result<String, Error>
         ensures text { IfOk result (λ text. string_bytes text ≡ basic_texts unwritten (visible_rows self.now)) }
+        ensures controls { IfOk result (λ text. IsCaptureText (string_bytes text)) }
         ensures memory { IfErr result (λ error. error ≡ Error.OutOfMemory) }
     {
         let mut text = String::new(self.alloc);

@@ -1,8 +1,9 @@
 //! Texts that set a terminal's input modes.
 
-ghost use Rattle.std.specs.Prelude.{◌≡◌, ◌++◌, IfErr, IfOk, OnOk, string_bytes};
+ghost use Rattle.std.specs.Prelude.{◌≡◌, ◌++◌, [], IfErr, IfOk, OnOk, string_bytes};
 ghost use Rattle.vt_cells.specs.InputModes.{application_cursor_text, bracketed_paste_text, keypad_text};
 ghost use Rattle.vt_screen.specs.InputTexts.{input_change, input_text, mouse_and_style_text, where_changed};
+ghost use Rattle.vt_screen.specs.States.{HasDefaultMouseAndStyle, SetsModes};
 
 use crate::modes::Modes;
 use crate::screen::Screen;
@@ -19,7 +20,10 @@ impl Screen {
     /// mode 2004), and mouse mode, mouse encoding and cursor style (DECSCUSR)
     /// where they aren't the default ones.
     ///
-    /// Fails where memory for the text is refused.
+    /// By `sets`, such a terminal, if it is in the midst of no sequence, reads
+    /// the text without calling anybody and without taking memory, has these
+    /// modes then, and changes nothing else. Fails where memory for the text is
+    /// refused.
     ///
     /// ```text
     /// // on a fresh screen
@@ -27,10 +31,11 @@ impl Screen {
     /// ```
     pub fn input_mode_formatted(&self) -> Result<String, Error>
         ensures text { IfOk result (λ text. string_bytes text ≡ input_text self.now.modes) }
+        ensures sets { IfOk result (λ text. SetsModes HasDefaultMouseAndStyle self.now.modes (string_bytes text)) }
         ensures memory { IfErr result (λ error. error ≡ Error.OutOfMemory) }
     {
         let mut text = String::new(self.alloc);
-        match write_modes(&mut text, self.modes) {
+        match self.write_input_mode_formatted(&mut text) {
             Ok(()) => Ok(text),
             Err(_) => Err(Error::OutOfMemory),
         }
@@ -41,40 +46,52 @@ impl Screen {
     /// encoding that is the default one again is reset by the sequence of the
     /// one before.
     ///
-    /// Fails where memory for the text is refused.
+    /// By `sets`, such a terminal, if it is in the midst of no sequence, has
+    /// these modes then, and changes nothing else; by `empty` and `none` the
+    /// text is empty exactly where both screens have the same modes. Fails
+    /// where memory for the text is refused.
     pub fn input_mode_diff(&self, prev: &Screen) -> Result<String, Error>
         ensures text { IfOk result (λ text. string_bytes text ≡ input_change prev.now.modes self.now.modes) }
+        ensures sets { IfOk result (λ text. SetsModes (λ had. had ≡ prev.now.modes) self.now.modes (string_bytes text)) }
+        ensures empty { IfOk result (λ text. string_bytes text ≡ [] → self.now.modes ≡ prev.now.modes) }
+        ensures none { IfOk result (λ text. self.now.modes ≡ prev.now.modes → string_bytes text ≡ []) }
         ensures memory { IfErr result (λ error. error ≡ Error.OutOfMemory) }
     {
         let mut text = String::new(self.alloc);
-        match write_changes(&mut text, prev.modes, self.modes) {
+        match self.write_input_mode_diff(&mut text, prev) {
             Ok(()) => Ok(text),
             Err(_) => Err(Error::OutOfMemory),
         }
     }
-}
 
-/// Writes all modes.
-fn write_modes<S: Sink>(sink: &mut S, new: Modes) -> Result<(), S::Error>
-    ensures { OnOk result (S.text sink.new ≡ S.text sink.old ++ input_text new) }
-{
-    let state = new.application_keypad;
-    ApplicationKeypad { state }.write_buf(sink)?;
-    let state = new.application_cursor;
-    ApplicationCursor { state }.write_buf(sink)?;
-    let state = new.bracketed_paste;
-    BracketedPaste { state }.write_buf(sink)?;
-    write_mouse_and_style(sink, Modes::new(), new)
-}
+    /// Writes all modes.
+    pub(super) fn write_input_mode_formatted<S: Sink>(&self, sink: &mut S) -> Result<(), S::Error>
+        ensures { OnOk result (S.text sink.new ≡ S.text sink.old ++ input_text self.now.modes) }
+    {
+        let new = self.modes;
+        let state = new.application_keypad;
+        ApplicationKeypad { state }.write_buf(sink)?;
+        let state = new.application_cursor;
+        ApplicationCursor { state }.write_buf(sink)?;
+        let state = new.bracketed_paste;
+        BracketedPaste { state }.write_buf(sink)?;
+        write_mouse_and_style(sink, Modes::new(), new)
+    }
 
-/// Writes the modes that differ.
-fn write_changes<S: Sink>(sink: &mut S, was: Modes, new: Modes) -> Result<(), S::Error>
-    ensures { OnOk result (S.text sink.new ≡ S.text sink.old ++ input_change was new) }
-{
-    write_keypad(sink, was.application_keypad, new.application_keypad)?;
-    write_cursor_keys(sink, was.application_cursor, new.application_cursor)?;
-    write_paste(sink, was.bracketed_paste, new.bracketed_paste)?;
-    write_mouse_and_style(sink, was, new)
+    /// Writes the modes that differ.
+    pub(super) fn write_input_mode_diff<S: Sink>(
+        &self,
+        sink: &mut S,
+        prev: &Screen,
+    ) -> Result<(), S::Error>
+        ensures { OnOk result (S.text sink.new ≡ S.text sink.old ++ input_change prev.now.modes self.now.modes) }
+    {
+        let (was, new) = (prev.modes, self.modes);
+        write_keypad(sink, was.application_keypad, new.application_keypad)?;
+        write_cursor_keys(sink, was.application_cursor, new.application_cursor)?;
+        write_paste(sink, was.bracketed_paste, new.bracketed_paste)?;
+        write_mouse_and_style(sink, was, new)
+    }
 }
 
 /// Writes mouse mode, mouse encoding and cursor style where they differ.

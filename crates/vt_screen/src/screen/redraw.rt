@@ -129,7 +129,7 @@ impl Screen {
         }
     }
 
-    fn write_contents_formatted<S: Sink>(&self, sink: &mut S) -> Result<(), S::Error>
+    pub(super) fn write_contents_formatted<S: Sink>(&self, sink: &mut S) -> Result<(), S::Error>
         ensures whole { IsScreen self.now }
         ensures colored { IsColored self.now }
         ensures text { OnOk result (S.text sink.new ≡ S.text sink.old ++ bytes_of_all (redraw (shown self.now))) }
@@ -137,7 +137,11 @@ impl Screen {
         write_contents_formatted(sink, &self.view())
     }
 
-    fn write_contents_diff<S: Sink>(&self, sink: &mut S, prev: &Screen) -> Result<(), S::Error>
+    pub(super) fn write_contents_diff<S: Sink>(
+        &self,
+        sink: &mut S,
+        prev: &Screen,
+    ) -> Result<(), S::Error>
         requires { SameSize self.now.page prev.now.page }
         ensures whole { IsScreen self.now }
         ensures colored { IsColored self.now }
@@ -157,7 +161,7 @@ impl Screen {
     }
 
     /// The picture that the screen shows.
-    fn view(&self) -> View<'_>
+    pub(super) fn view(&self) -> View<'_>
         ensures value { result ≡ shown self.now }
         ensures whole { IsScreen self.now }
         ensures colored { IsColored self.now }

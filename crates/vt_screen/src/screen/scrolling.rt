@@ -1,10 +1,10 @@
 //! Controls that may scroll rows off the page, and scrollback.
 
-ghost use Rattle.std.specs.Prelude.{◌≡◌, ◌≢◌, IfErr, IsErr, OnErr, OnOk, Some, false, length};
+ghost use Rattle.std.specs.Prelude.{◌≡◌, ◌≢◌, IfErr, IfSome, IsErr, OnErr, OnOk, false, length};
 ghost use Rattle.vt_cells.specs.Glyph.{columns_of};
 ghost use Rattle.vt_grid.specs.Scrollback.{ViewTakesMemory};
 ghost use Rattle.vt_screen.specs.Run.{Refuses, Takes, state};
-ghost use Rattle.vt_screen.specs.Screen.{above_page, scrolled_back};
+ghost use Rattle.vt_screen.specs.Screen.{IsPrintable, above_page, scrolled_back};
 ghost use Rattle.vt_screen.specs.Steps as step;
 ghost use Rattle.vt_screen.specs.Steps.{last_after, scrolled};
 
@@ -49,7 +49,7 @@ impl Screen {
         requires sound { c ≢ 0xFFFD }
         requires columns { width ≡ columns_of c }
         ensures value { result ≡ last_after c self.now }
-        ensures reported { result ≢ Some 0xFFFD }
+        ensures printable { IfSome result IsPrintable }
     {
         let Some(columns) = width else {
             return self.last;

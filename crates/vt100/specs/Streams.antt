@@ -1,0 +1,62 @@
+-- Calls of a parser between which its screen is scrolled back and forth: what they tell the callbacks, and the one text of what is told and captured.
+use Rattle.std.specs.Prelude.{◌≡◌, ℕ, ◌<◌, ◌^◌, Bool, true, List, [], ◌∷◌, ◌++◌}
+use Rattle.vt_rows.specs.Basic.{Written, unwritten}
+use Rattle.vt_scan.specs.Automaton.{State, start}
+use Rattle.vt_scan.specs.Run.{run}
+use Rattle.vt_scan.specs.Scanner.{StandsFor}
+use Rattle.vt_screen.specs.Calls.{CallValue}
+use Rattle.vt_screen.specs.Capture.{basic_texts, written_after_all}
+use Rattle.vt_screen.specs.Screen.{ScreenValue, fresh_screen, scrolled_back}
+use Rattle.vt_screen.specs.Streamed.{row_told, sent_off_in}
+use Rattle.vt_screen.specs.Telling.{LeavesScreen, calls_in, screen_in}
+use Rattle.vt100.specs.Parser.{Parsing, Ran}
+
+-- a call of a parser, or of its screen
+pub data ParserCall : Type 0 where
+  Process : (bytes : List ℕ) → ParserCall
+  SetScrollback : (rows : ℕ) → ParserCall
+
+-- what such a call does that answers Ok
+abbrev pub Makes : {S : Type 0} → (CallValue → S → ScreenValue → S → ScreenValue → Type 0) → Parsing S → ParserCall → Parsing S → Type 0
+Makes does old (Process bytes) new = Ran does old bytes new
+Makes does old (SetScrollback rows) new = new ≡ record old { screen = scrolled_back rows old.screen }
+
+-- all bytes of these calls
+abbrev pub bytes_of_calls : List ParserCall → List ℕ
+bytes_of_calls [] = []
+bytes_of_calls (Process bytes ∷ calls) = bytes ++ bytes_of_calls calls
+bytes_of_calls (SetScrollback rows ∷ calls) = bytes_of_calls calls
+
+-- what they tell callbacks that leave the screen alone, and the screen after them
+abbrev pub told_by : State → ScreenValue → List ParserCall → List CallValue
+told_by scan screen [] = []
+told_by scan screen (Process bytes ∷ calls) = calls_in scan screen bytes ++ told_by (run scan bytes).state (screen_in scan screen bytes) calls
+told_by scan screen (SetScrollback rows ∷ calls) = told_by scan (scrolled_back rows screen) calls
+
+abbrev pub screen_by : State → ScreenValue → List ParserCall → ScreenValue
+screen_by scan screen [] = screen
+screen_by scan screen (Process bytes ∷ calls) = screen_by (run scan bytes).state (screen_in scan screen bytes) calls
+screen_by scan screen (SetScrollback rows ∷ calls) = screen_by scan (scrolled_back rows screen) calls
+
+-- a fresh parser of this size and capacity
+pub record IsFreshParser {S : Type 0} (rows cols capacity : ℕ) (parser : Parsing S) : Type 0 where
+  pub has_rows : 0 < rows
+  pub few_rows : rows < 2 ^ 16
+  pub has_columns : 0 < cols
+  pub few_columns : cols < 2 ^ 16
+  pub begun : StandsFor parser.scanner start
+  pub shown : parser.screen ≡ fresh_screen rows cols capacity
+
+-- the text of all that bytes write on a main page of this size: the rows that leave it, and then those of the page
+abbrev pub whole_text : (rows cols : ℕ) → List ℕ → List ℕ
+whole_text rows cols bytes =
+    let fresh = fresh_screen rows cols 0 in
+    basic_texts unwritten (sent_off_in start fresh bytes ++ (screen_in start fresh bytes).page.rows)
+
+-- callbacks that write each row that is reported of the main page behind their text, with one state of captures; they may not be
+-- whole any more where their sink refused some of it
+pub record IsRecorder {S : Type 0} (does : CallValue → S → ScreenValue → S → ScreenValue → Type 0) (text_of : S → List ℕ) (state_of : S → Written) (is_whole : S → Bool) : Type 0 where
+  pub leaves : LeavesScreen does
+  pub whole : (call : CallValue) (old new : S) (before after : ScreenValue) → does call old before new after → is_whole new ≡ true → is_whole old ≡ true
+  pub text : (call : CallValue) (old new : S) (before after : ScreenValue) → does call old before new after → is_whole new ≡ true → text_of new ≡ text_of old ++ basic_texts (state_of old) (row_told call)
+  pub state : (call : CallValue) (old new : S) (before after : ScreenValue) → does call old before new after → is_whole new ≡ true → state_of new ≡ written_after_all (state_of old) (row_told call)

@@ -1,0 +1,133 @@
+//! Small texts, gathered before they are written.
+
+ghost use Rattle.std.specs.Prelude.{◌≡◌, ◌+◌, ◌++◌, ◌≤◌, [], length, OnOk};
+ghost use Rattle.vt_cells.specs.PieceKeeping.{gathered};
+
+use crate::sink::Sink;
+use std::marker::Model;
+use std::str;
+
+/// How many bytes are gathered at most.
+const ROOM: usize = 128;
+
+/// A text of at most 128 bytes that is not yet written: small texts are added to
+/// it, and written together. What was added reaches the sink with
+/// [`Piece::flush`] at the latest.
+#[derive(Drop)]
+pub struct Piece {
+    bytes: [u8; ROOM],
+    len: usize,
+}
+
+impl Model for Piece {
+    ghost use Rattle.std.specs.Prelude.{ℕ, List, take};
+    ghost use Rattle.vt_cells.specs.PieceKeeping.{IsPiece};
+
+    ghost Value = { List ℕ };
+
+    ghost view = { λ p. take p.len p.bytes };
+
+    ghost invariant = { λ p. IsPiece p.len (take p.len p.bytes) };
+}
+
+impl Piece {
+    /// The empty text.
+    #[inline]
+    pub fn new() -> Self
+        ensures { result ≡ [] }
+    {
+        Piece {
+            bytes: [0; ROOM],
+            len: 0,
+        }
+    }
+
+    /// Adds a text; where there is no room for it, what was added before and the
+    /// text itself are written.
+    ///
+    /// An error is the sink's own; then part of the text may have been written.
+    #[inline(always)]
+    #[tactic(auto, unfolding(crate::specs::PieceKeeping::gathered))]
+    pub fn add<S: Sink>(&mut self, sink: &mut S, text: &str) -> Result<(), S::Error>
+        ensures { OnOk result (gathered (S.text sink.new) self.new ≡ gathered (S.text sink.old) self.old ++ text.now) }
+    {
+        if text.len() > self.room() {
+            self.flush(sink)?;
+            return sink.write_str(text);
+        }
+        self.push(text);
+        Ok(())
+    }
+
+    /// Writes what was added, if anything was.
+    ///
+    /// An error is the sink's own; then part of the text may have been written.
+    #[inline(never)]
+    #[tactic(auto, unfolding(crate::specs::PieceKeeping::gathered))]
+    pub fn flush<S: Sink>(&mut self, sink: &mut S) -> Result<(), S::Error>
+        ensures text { OnOk result (S.text sink.new ≡ gathered (S.text sink.old) self.old) }
+        ensures empty { OnOk result (self.new ≡ []) }
+    {
+        if self.len == 0 {
+            return Ok(());
+        }
+        sink.write_str(self.as_str())?;
+        self.clear();
+        Ok(())
+    }
+
+    #[inline]
+    fn as_str(&self) -> &str
+        ensures { result.now ≡ self.now }
+    {
+        unsafe { str::from_utf8_unchecked(&self.bytes[..self.len]) }
+    }
+
+    /// How many bytes there is room for.
+    #[inline]
+    fn room(&self) -> usize
+        ensures { length self.now + result ≡ 128 }
+    {
+        ROOM - self.len
+    }
+
+    #[inline(always)]
+    fn push(&mut self, text: &str)
+        requires { length self.old + length text.now ≤ 128 }
+        ensures { self.new ≡ self.old ++ text.now }
+    {
+        let end = self.len + text.len();
+        copy(&mut self.bytes[self.len..end], text.as_bytes());
+        self.len = end;
+    }
+
+    #[inline]
+    fn clear(&mut self)
+        ensures { self.new ≡ [] }
+    {
+        self.len = 0;
+    }
+}
+
+/// Copies bytes; where they are at most three, as of most glyphs, without a
+/// call.
+#[inline(always)]
+#[tactic(auto, using(crate::proofs::Pieces::one_set, crate::proofs::Pieces::two_set, crate::proofs::Pieces::three_set))]
+fn copy(to: &mut [u8], from: &[u8])
+    requires { length to.old ≡ length from.now }
+    ensures { to.new ≡ from.now }
+{
+    match from.len() {
+        1 => to[0] = from[0],
+        2 => {
+            to[0] = from[0];
+            to[1] = from[1];
+        }
+        3 => {
+            to[0] = from[0];
+            to[1] = from[1];
+            to[2] = from[2];
+        }
+        _ => to.copy_from_slice(from),
+    }
+}

@@ -1,0 +1,52 @@
+//! Captures of a recorded stream.
+
+use anyhow::Result;
+use std::alloc::Global;
+use std::num::NonZeroU16;
+use vt_notes::Recorder;
+use vt100::Parser;
+
+/// How many rows scrollback keeps, each time the stream is captured.
+const CAPACITIES: [usize; 4] = [0, 1, 7, 1000];
+
+/// Ends what the stream may have begun, and shows the main page.
+const END: &[u8] = b"\x18\x1b[?1049l";
+
+/// Whether the rows that leave the main page, with those of scrollback and of the page behind them,
+/// are one text, however many rows scrollback keeps. It has to be a stream without RIS.
+pub fn are_one(alloc: Global, size: (NonZeroU16, NonZeroU16), bytes: &[u8]) -> Result<bool> {
+    let mut first = None;
+    for capacity in CAPACITIES {
+        let text = captured(alloc, size, capacity, bytes)?;
+        match &first {
+            None => first = Some(text),
+            Some(wanted) => {
+                if text != *wanted {
+                    return Ok(false);
+                }
+            }
+        }
+    }
+    Ok(true)
+}
+
+fn captured(
+    alloc: Global,
+    (rows, cols): (NonZeroU16, NonZeroU16),
+    capacity: usize,
+    bytes: &[u8],
+) -> Result<String> {
+    let recorder = Recorder::new(alloc);
+    let mut parser = Parser::new_with_callbacks(alloc, rows, cols, capacity, recorder)?;
+    capture(alloc, &mut parser, bytes)
+}
+
+fn capture(alloc: Global, parser: &mut Parser<Recorder>, bytes: &[u8]) -> Result<String> {
+    parser.process(bytes)?;
+    parser.process(END)?;
+    let (screen, recorder) = parser.screen_and_callbacks_mut();
+    recorder.capture(screen)?;
+    let mut text = String::new(alloc);
+    text.push_str(recorder.text())?;
+    Ok(text)
+}

@@ -1,0 +1,87 @@
+//! Callbacks that write a capture as rows are reported.
+
+ghost use Rattle.std.specs.Prelude.{◌≡◌, ◌++◌, true, OnOk};
+ghost use Rattle.vt_notes.specs.Recording.{nothing_recorded};
+ghost use Rattle.vt_screen.specs.Capture.{all_rows, basic_texts};
+
+use std::alloc::Global;
+use std::marker::Model;
+use vt100::capture::{BasicFormattedCaptureRange, BasicFormattedCaptureState, RowContents};
+use vt100::{Call, Callbacks, Error, Screen};
+
+/// The capture so far: the basic texts of the rows that left the main page and
+/// aren't kept. Memory for one may be refused, which isn't forgotten.
+#[derive(Drop)]
+pub struct Recorder {
+    text: String,
+    state: BasicFormattedCaptureState,
+    is_whole: bool,
+}
+
+impl Model for Recorder {
+    ghost use Rattle.std.specs.Prelude.{string_bytes};
+    ghost use Rattle.vt_notes.specs.Recording.{Recorded};
+
+    ghost Value = { Recorded };
+
+    ghost view = { λ r. record { text = string_bytes r.text; state = r.state; is_whole = r.is_whole } };
+}
+
+impl Recorder {
+    /// Nothing written.
+    pub fn new(alloc: Global) -> Self
+        ensures { result ≡ nothing_recorded }
+    {
+        Recorder {
+            text: String::new(alloc),
+            state: BasicFormattedCaptureState::new(),
+            is_whole: true,
+        }
+    }
+
+    /// The capture so far.
+    pub fn text(&self) -> &str
+        ensures { result.now ≡ self.now.text }
+    {
+        self.text.as_str()
+    }
+
+    /// Writes the scrollback and the page of a screen behind the rows so far.
+    ///
+    /// Fails where memory is refused, or was refused for a row before.
+    pub fn capture(&mut self, screen: &Screen) -> Result<(), Error>
+        ensures whole { OnOk result (self.old.is_whole ≡ true) }
+        ensures text { OnOk result (self.new.text ≡ self.old.text ++ basic_texts self.old.state (all_rows screen.now)) }
+    {
+        if !self.is_whole {
+            return Err(Error::OutOfMemory);
+        }
+        screen.write_contents_formatted_basic(
+            &mut self.text,
+            BasicFormattedCaptureRange::Full(&mut self.state),
+        )
+    }
+}
+
+/// Each row that is reported of the main page is written once, and the screen stays.
+impl Callbacks for Recorder {
+    ghost use Rattle.vt_notes.specs.Recording.{Records};
+
+    ghost does = { Records };
+
+    #[tactic(auto, using(crate::proofs::Recording::other_call))]
+    fn otherwise(&mut self, _screen: &mut Screen, _call: Call<'_>) {}
+
+    #[tactic(auto, using(crate::proofs::Recording::with_none))]
+    fn on_scroll(&mut self, row: RowContents<'_>, alternate: bool) {
+        if alternate {
+            return;
+        }
+        if row
+            .write_formatted_basic(&mut self.text, &mut self.state)
+            .is_err()
+        {
+            self.is_whole = false;
+        }
+    }
+}

@@ -1,0 +1,400 @@
+-- A row's item, drawn on a canvas that awaits it, changes the row in its range, and at most its flag besides.
+use Rattle.std.proofs.Common.{◌≡◌, ℕ, zero, suc, ◌+◌, ◌-◌, ◌<◌, ◌≤◌, ◌==◌, ◌&&◌, Bool, true, false, not, List, [], ◌∷◌, ◌++◌, length, take, drop, Some, refl, sym, ap, ◌∙◌, subst, append_assoc, arith}
+use Rattle.std.specs.Prelude.{All, slice_index_or, slice_set}
+use Rattle.std.specs.List.{AllByRecursion}
+use Rattle.std.proofs.lemmas.Bool.{and_parts, cond_both, eqb-true}
+use Rattle.std.proofs.lemmas.Bool.Decides.{nat_tests}
+use Rattle.std.proofs.lemmas.List.{drop_more, get_or_at, set_at, length-take, length-append, length-drop, length-replicate, take-append-drop}
+use Rattle.std.proofs.lemmas.List.Elements.{recursion_from_All, All-from_recursion}
+use Rattle.vt_cells.specs.Attrs.{default_attrs, same_attrs}
+use Rattle.vt_cells.specs.Cell.{CellValue, blank, glyph, right_half, default_blank, is_right_half, same_cell}
+use Rattle.vt_cells.specs.Op.{Op, Print}
+use Rattle.vt_cells.specs.declared.attrs.Attrs.{Attrs}
+use Rattle.vt_rows.specs.Cells.{at, blanks, ends_blank}
+use Rattle.vt_rows.specs.Row.{RowValue, IsRow, blank_row}
+use Rattle.vt_grid.specs.Page.{row_at, row_or}
+use Rattle.vt_grid.specs.Canvas.{Canvas, drawn_all}
+use Rattle.vt_grid.proofs.Drawing.{Draws}
+use Rattle.vt_redraw.specs.Items.{in_range, range_written, is_whole, item_of_difference, item_of_redraw, linked_item, with_range, CutsNone, AwaitsItem, changed_row, formatted_row, row_drawn, going_on}
+use Rattle.vt_redraw.specs.Picture.{Picture, IsPicture, SamePictureSize, picture_of}
+use Rattle.vt_redraw.specs.Script.{Written, nothing, after, pen_at, run, columns, doing, erase_run, flag_past, flag_behind, cells_written, first_written, broken, breaking, going_behind}
+use Rattle.vt_redraw.specs.Steady.{IsSteady, IsSteadyCell}
+use Rattle.vt_redraw.specs.declared.pen.Pen.{Pen}
+use Rattle.vt_redraw.proofs.Difference.{row_stands, picture_prints}
+use Rattle.vt_redraw.proofs.Edits.{row_of, mid, two, two_mid}
+use Rattle.vt_redraw.proofs.Flags.{ends, ends_is}
+use Rattle.vt_redraw.proofs.Halves.{Paired, paired_of, paired_blanks}
+use Rattle.vt_redraw.proofs.Places.{PrintsCells}
+use Rattle.vt_redraw.proofs.RangeDraws.{Any, IsClean, IsItem, range_draws}
+use Rattle.vt_redraw.proofs.Rows.{PrintsRow, Stands}
+use Rattle.vt_redraw.proofs.Steps.{Reads}
+use Rattle.vt_redraw.proofs.WholeItems.{whole_item_draws, linked_item_draws, linked_item_wraps, range_all}
+
+-- ---- ranges that cut nothing
+
+split_paired : (n : ℕ) (xs : List CellValue) → Paired xs → is_right_half (at xs n) ≡ false → Paired (take n xs) × Paired (drop n xs)
+split_paired zero xs h e = (tt, h)
+split_paired (suc n) [] h e = (tt, tt)
+split_paired (suc n) (blank a ∷ xs) h e = split_paired n xs h e
+split_paired (suc n) (glyph text false a ∷ xs) h e = split_paired n xs h e
+split_paired (suc zero) (glyph text true a ∷ right_half ∷ xs) h e = absurd (cc)
+split_paired (suc (suc n)) (glyph text true a ∷ right_half ∷ xs) h e = split_paired n xs h e
+split_paired (suc n) (glyph text true a ∷ []) h e = absurd h
+split_paired (suc n) (glyph text true a ∷ blank b ∷ xs) h e = absurd h
+split_paired (suc n) (glyph text true a ∷ glyph other wide b ∷ xs) h e = absurd h
+split_paired (suc n) (right_half ∷ xs) h e = absurd h
+
+at_dropped : (n k : ℕ) (xs : List CellValue) → at (drop n xs) k ≡ at xs (n + k)
+at_dropped zero k xs = let e : 0 + k ≡ k = omega arith in ap (at xs) (sym e)
+at_dropped (suc n) k [] = refl
+at_dropped (suc n) k (x ∷ xs) = let e : suc n + k ≡ suc (n + k) = omega arith in at_dropped n k xs ∙ ap (at (x ∷ xs)) (sym e)
+
+clean_range : (start stop : ℕ) (xs ys : List CellValue) → start ≤ stop → Paired xs → Paired ys → CutsNone start stop xs → CutsNone start stop ys → IsClean start stop xs ys
+clean_range start stop xs ys le h k cx cy =
+    let one = split_paired start ys k cy.0 in
+    let e : start + (stop - start) ≡ stop = omega arith in
+    let behind = ap is_right_half (at_dropped start (stop - start) xs ∙ ap (at xs) e) ∙ cx.1 in
+    record {
+      before = one.0;
+      there = one.1;
+      behind = (split_paired stop ys k cy.1).1;
+      range = (split_paired (stop - start) (drop start xs) (split_paired start xs h cx.0).1 behind).0;
+    }
+
+no_halves : (n k : ℕ) → is_right_half (at (blanks default_attrs n) k) ≡ false
+no_halves zero k = refl
+no_halves (suc n) zero = refl
+no_halves (suc n) (suc k) = no_halves n k
+
+cuts_no_blanks : (start stop n : ℕ) → CutsNone start stop (blanks default_attrs n)
+cuts_no_blanks start stop n = (no_halves n start, no_halves n stop)
+
+past_half : (xs : List CellValue) (k : ℕ) → length xs ≤ k → is_right_half (at xs k) ≡ false
+past_half [] k h = refl
+past_half (x ∷ xs) zero h = absurd (omega arith)
+past_half (x ∷ xs) (suc k) h = past_half xs k (omega arith)
+
+first_half : (xs : List CellValue) → Paired xs → is_right_half (at xs 0) ≡ false
+first_half [] h = refl
+first_half (blank a ∷ xs) h = refl
+first_half (glyph text wide a ∷ xs) h = refl
+first_half (right_half ∷ xs) h = absurd h
+
+-- a whole row is a range that cuts nothing
+pub whole_cuts_none : (self : Picture) (r : ℕ) → IsPicture self → r < length self.rows → CutsNone 0 self.width (row_or self.width self.rows r).cells
+whole_cuts_none self r is low =
+    let row = is.rows r (blank_row default_attrs self.width) low in
+    let e = row.columns in
+    let cells = (row_or self.width self.rows r).cells in
+    (first_half cells (paired_of cells row.paired), past_half cells self.width (omega arith))
+
+-- ---- rows that do not go on stay so
+
+cells_off : (r c : ℕ) (pen : Pen) (k : ℕ) (xs ys : List CellValue) → (cells_written r c pen false k xs ys).flag ≡ false
+unfolding cells_written
+cells_off r c pen k [] ys = refl
+cells_off r c pen k (x ∷ xs) [] = refl
+cells_off r c pen (suc k) (x ∷ xs) (y ∷ ys) = cells_off r (c + 1) pen k xs ys
+cells_off r c pen zero (right_half ∷ xs) (y ∷ ys) = cells_off r (c + 1) pen zero xs ys
+cells_off r c pen zero (blank a ∷ xs) (y ∷ ys) =
+    let n = run a xs in
+    let rest = cells_written r (c + 1) (pen_at r c a) (flag_past false (drop n ys)) n xs ys in
+    cond_both (same_cell (blank a) y) (cells_written r (c + 1) pen false zero xs ys) (after (doing pen r c a (erase_run (suc n) (drop n ys))) rest) (λ (w : Written). w.flag ≡ false)
+    (λ _. cells_off r (c + 1) pen zero xs ys) (λ _. cells_off r (c + 1) (pen_at r c a) n xs ys)
+cells_off r c pen zero (glyph text wide a ∷ xs) (y ∷ ys) =
+    let k = columns wide - 1 in
+    let next = pen_at r (c + columns wide) a in
+    let rest = cells_written r (c + 1) next (flag_behind false wide (drop 1 ys)) k xs ys in
+    cond_both (same_cell (glyph text wide a) y) (cells_written r (c + 1) pen false k xs ys) (after (doing pen r c a (Print text)) rest) (λ (w : Written). w.flag ≡ false)
+    (λ _. cells_off r (c + 1) pen k xs ys) (λ _. cells_off r (c + 1) next k xs ys)
+
+first_off : (r : ℕ) (pen : Pen) (xs ys : List CellValue) → (first_written r pen false xs ys).flag ≡ false
+first_off r pen [] ys = refl
+first_off r pen (x ∷ xs) [] = refl
+first_off r pen (right_half ∷ xs) (y ∷ ys) = refl
+first_off r pen (blank a ∷ xs) (y ∷ ys) = refl
+first_off r pen (glyph text wide a ∷ xs) (y ∷ ys) = refl
+
+linked_off : (r : ℕ) (xs : List CellValue) → (linked_item r xs).flag ≡ false
+linked_off r xs =
+    let ys = blanks default_attrs (length xs) in
+    let first = first_written r (pen_at r 0 default_attrs) false xs ys in
+    ap (λ (b : Bool). (cells_written r 0 first.pen b first.settled xs ys).flag) (first_off r (pen_at r 0 default_attrs) xs ys) ∙ cells_off r 0 first.pen first.settled xs ys
+
+broken_off : (r : ℕ) (pen : Pen) (flag : Bool) (cells : List CellValue) → (broken r pen flag false cells).flag ≡ false
+unfolding broken
+broken_off r pen true cells = refl
+broken_off r pen false cells = refl
+
+-- a whole item leaves the flag off where the row does not go on
+pub item_off : (r width : ℕ) (x y : RowValue) → length x.cells ≡ width → x.wrapped ≡ false → (item_of_difference r 0 width x y).flag ≡ false
+item_off r width x y e off =
+    let w = range_written r 0 width y.wrapped x.cells y.cells in
+    let b = broken r w.pen w.flag x.wrapped x.cells in
+    let t : is_whole 0 width (length x.cells) ≡ true = grind (arith, nat_tests) in
+    let none : b.flag ≡ false = ap (λ (f : Bool). (broken r w.pen w.flag f x.cells).flag) off ∙ broken_off r w.pen w.flag x.cells in
+    rw t (cond_both (x.wrapped && not b.flag) (record { ops = (after w.ops b).ops ++ (going_behind r (after w.ops b).pen x.cells).ops; pen = (going_behind r (after w.ops b).pen x.cells).pen; flag = b.flag }) (after w.ops b) (λ (v : Written). v.flag ≡ false)
+    (λ _. none) (λ _. none))
+
+-- ---- one row among others
+
+rows_split : (rows : List RowValue) (r : ℕ) (d : RowValue) → r < length rows → take r rows ++ (slice_index_or rows r d ∷ drop (r + 1) rows) ≡ rows
+rows_split rows r d h = ap (λ (z : List RowValue). take r rows ++ z) (sym (drop_more rows r d h)) ∙ take-append-drop r rows
+
+-- where an item is to be drawn
+record Stood (self : Picture) (r start : ℕ) (y : RowValue) (any : Canvas) : Type 0 where
+  inside : r < length any.page.rows
+  reads : Reads any (length any.page.rows) any.page.width
+  splits : take r any.page.rows ++ y ∷ drop (r + 1) any.page.rows ≡ any.page.rows
+  begins : mid any (take r any.page.rows) (drop (r + 1) any.page.rows) y.cells y.wrapped (pen_at r start default_attrs) ≡ any
+  row : IsRow any.page.width y
+  self_row : IsRow any.page.width (row_or self.width self.rows r)
+  prints : PrintsCells any.page.width (row_or self.width self.rows r).cells
+
+awaited : (any : Canvas) (rows : List RowValue) (r c : ℕ) → rows ≡ any.page.rows → any.page.row ≡ r → any.page.column ≡ c → any.attrs ≡ default_attrs →
+    record any { page = record (any.page) { rows = rows; row = r; column = c }; attrs = default_attrs } ≡ any
+awaited any rows r c e f g h =
+    ap (λ (z : List RowValue). record any { page = record (any.page) { rows = z; row = r; column = c }; attrs = default_attrs }) e
+    ∙ (ap (λ (z : ℕ). record any { page = record (any.page) { row = z; column = c }; attrs = default_attrs }) (sym f)
+    ∙ (ap (λ (z : ℕ). record any { page = record (any.page) { column = z }; attrs = default_attrs }) (sym g)
+    ∙ ap (λ (z : Attrs). record any { attrs = z }) (sym h)))
+
+stood : (self : Picture) (r start : ℕ) (y : RowValue) (any : Canvas) → IsPicture self → IsSteady self → AwaitsItem self r start y any → Stood self r start y any
+stood self r start y any is steady item =
+    let width = any.page.width in
+    let rows = any.page.rows in
+    let same = item.size.width in
+    let tall = item.size.height in
+    let here = item.row in
+    let low = item.is.cursor_row in
+    let inside : r < length rows = omega arith in
+    let d = blank_row default_attrs width in
+    let splits = ap (λ (row : RowValue). take r rows ++ row ∷ drop (r + 1) rows) (sym item.stands) ∙ rows_split rows r d inside in
+    let is_rows : AllByRecursion (IsRow width) self.rows = subst (λ (w : ℕ). AllByRecursion (IsRow w) self.rows) same (recursion_from_All (IsRow self.width) self.rows is.rows) in
+    let steady_rows : AllByRecursion (λ row. All (IsSteadyCell width) row.cells) self.rows =
+    subst (λ (w : ℕ). AllByRecursion (λ row. All (IsSteadyCell w) row.cells) self.rows) same (recursion_from_All (λ row. All (IsSteadyCell self.width) row.cells) self.rows steady) in
+    let x = row_or self.width self.rows r in
+    record {
+      inside = inside;
+      reads = record { bottom = item.plain.whole.1; origin = item.plain.origin; wide = refl; has_columns = item.is.has_columns };
+      splits = splits;
+      begins = awaited any (take r rows ++ y ∷ drop (r + 1) rows) r start splits item.row item.column item.attrs;
+      row = subst (IsRow width) item.stands (item.is.rows r d inside);
+      self_row = subst (λ (w : ℕ). IsRow w x) same (is.rows r (blank_row default_attrs self.width) (omega arith));
+      prints = All-from_recursion (PrintsRow width) self.rows (picture_prints width self.rows item.is.has_columns is_rows steady_rows) r (blank_row default_attrs self.width) (omega arith);
+    }
+
+-- what is drawn in the row
+drawn_in : (self : Picture) (r start : ℕ) (y : RowValue) (any : Canvas) (ops : List Op) (cells : List CellValue) (flag : Bool) (pen : Pen) → Stood self r start y any →
+    Draws ops (mid any (take r any.page.rows) (drop (r + 1) any.page.rows) y.cells y.wrapped (pen_at r start default_attrs)) (mid any (take r any.page.rows) (drop (r + 1) any.page.rows) cells flag pen) →
+    drawn_all ops any ≡ Some (row_drawn r (row_of cells flag) pen any)
+drawn_in self r start y any ops cells flag pen at draws =
+    let rows = any.page.rows in
+    let inside = at.inside in
+    let l = length-take r rows in
+    let n : length (take r rows) ≡ r = omega arith in
+    let put : slice_set rows r (row_of cells flag) ≡ take r rows ++ row_of cells flag ∷ drop (r + 1) rows =
+    ap (λ (z : List RowValue). slice_set z r (row_of cells flag)) (sym at.splits) ∙ set_at (take r rows) y (drop (r + 1) rows) (row_of cells flag) r n in
+    ap (drawn_all ops) (sym at.begins) ∙ (draws
+    ∙ ap (λ (z : List RowValue). Some (record any { page = record (any.page) { rows = z; row = pen.row; column = pen.col }; attrs = pen.attrs })) (sym put))
+
+-- ---- items of a difference
+
+-- what an item makes of the canvas: the row has these cells, and nothing else changes but its flag, the cursor and the attributes
+abbrev DrawsItem : Written → Canvas → ℕ → List CellValue → Type 0
+DrawsItem w any r cells = drawn_all w.ops any ≡ Some (row_drawn r (record { cells = cells; wrapped = w.flag }) w.pen any)
+
+-- where an item is written, for the laws on rows
+item_of : (self : Picture) (r start stop : ℕ) (y : RowValue) (any : Canvas) → Stood self r start y any → start ≤ stop → stop ≤ any.page.width →
+    CutsNone start stop (row_or self.width self.rows r).cells → CutsNone start stop y.cells →
+    IsItem any (take r any.page.rows) (drop (r + 1) any.page.rows) r start stop (length any.page.rows) (row_or self.width self.rows r).cells y.cells
+item_of self r start stop y any at le low cx cy =
+    let x = row_or self.width self.rows r in
+    let rows = any.page.rows in
+    let inside = at.inside in
+    let l = length-take r rows in
+    let m = length-drop (r + 1) rows in
+    record {
+      reads = at.reads;
+      above = omega arith;
+      rows = omega arith;
+      self = at.self_row.columns;
+      other = at.row.columns;
+      some = le;
+      inside = low;
+      prints = at.prints;
+      clean = clean_range start stop x.cells y.cells le (paired_of x.cells at.self_row.paired) (paired_of y.cells at.row.paired) cx cy;
+    }
+
+range_drawn : (self : Picture) (r start stop : ℕ) (y : RowValue) (any : Canvas) → Stood self r start y any → start ≤ stop → stop ≤ any.page.width →
+    CutsNone start stop (row_or self.width self.rows r).cells → CutsNone start stop y.cells →
+    DrawsItem (range_written r start stop y.wrapped (row_or self.width self.rows r).cells y.cells) any r (with_range start stop (row_or self.width self.rows r).cells y.cells)
+range_drawn self r start stop y any at le low cx cy =
+    let x = row_or self.width self.rows r in
+    let rows = any.page.rows in
+    let w = range_written r start stop y.wrapped x.cells y.cells in
+    let drew = range_draws any (take r rows) (drop (r + 1) rows) r start stop (length rows) y.wrapped x.cells y.cells (item_of self r start stop y any at le low cx cy) (row_stands any.page.width y at.row).sound in
+    drawn_in self r start y any w.ops (with_range start stop x.cells y.cells) w.flag w.pen at drew.draws.draws
+
+whole_drawn : (self : Picture) (r : ℕ) (y : RowValue) (any : Canvas) → Stood self r 0 y any →
+    DrawsItem (item_of_difference r 0 any.page.width (row_or self.width self.rows r) y) any r (with_range 0 any.page.width (row_or self.width self.rows r).cells y.cells)
+whole_drawn self r y any at =
+    let x = row_or self.width self.rows r in
+    let rows = any.page.rows in
+    let width = any.page.width in
+    let px = paired_of x.cells at.self_row.paired in
+    let py = paired_of y.cells at.row.paired in
+    let ex = at.self_row.columns in
+    let ey = at.row.columns in
+    let cx : CutsNone 0 width x.cells = (first_half x.cells px, past_half x.cells width (omega arith)) in
+    let cy : CutsNone 0 width y.cells = (first_half y.cells py, past_half y.cells width (omega arith)) in
+    let w = item_of_difference r 0 width x y in
+    let drew = whole_item_draws any (take r rows) (drop (r + 1) rows) r (length rows) x y (item_of self r 0 width y any at (omega arith) (omega arith) cx cy) (row_stands width x at.self_row) (row_stands width y at.row) in
+    subst (DrawsItem w any r) (sym (range_all x.cells y.cells width ex ey)) (drawn_in self r 0 y any w.ops x.cells w.flag w.pen at drew.draws)
+
+pub difference_item_draws : (self : Picture) (r start stop : ℕ) (y : RowValue) (any : Canvas) → IsPicture self → IsSteady self → AwaitsItem self r start y any → start ≤ stop → stop ≤ self.width →
+    CutsNone start stop (row_or self.width self.rows r).cells → CutsNone start stop y.cells →
+    drawn_all (item_of_difference r start stop (row_or self.width self.rows r) y).ops any
+    ≡ Some (row_drawn r (changed_row r start stop (row_or self.width self.rows r) y) (item_of_difference r start stop (row_or self.width self.rows r) y).pen any)
+difference_item_draws self r start stop y any is steady item le low cx cy =
+    let x = row_or self.width self.rows r in
+    let at = stood self r start y any is steady item in
+    let same = item.size.width in
+    let ex = at.self_row.columns in
+    let range = range_written r start stop y.wrapped x.cells y.cells in
+    by_test (is_whole start stop (length x.cells)) refl at (omega arith) (omega arith)
+  where
+    Goal : Written → Type 0
+    Goal w = DrawsItem w any r (with_range start stop (row_or self.width self.rows r).cells y.cells)
+
+    by_test : (t : Bool) → is_whole start stop (length (row_or self.width self.rows r).cells) ≡ t → Stood self r start y any → stop ≤ any.page.width → length (row_or self.width self.rows r).cells ≡ any.page.width →
+        Goal (item_of_difference r start stop (row_or self.width self.rows r) y)
+    by_test true t at in_width ex =
+        let both = and_parts (start == 0) (stop == length (row_or self.width self.rows r).cells) t in
+        let e = eqb-true start 0 both.0 in
+        let f = eqb-true stop (length (row_or self.width self.rows r).cells) both.1 ∙ ex in
+        subst (λ (n : ℕ). DrawsItem (item_of_difference r n stop (row_or self.width self.rows r) y) any r (with_range n stop (row_or self.width self.rows r).cells y.cells)) (sym e)
+        (subst (λ (n : ℕ). DrawsItem (item_of_difference r 0 n (row_or self.width self.rows r) y) any r (with_range 0 n (row_or self.width self.rows r).cells y.cells)) (sym f)
+        (whole_drawn self r y any (subst (λ (n : ℕ). Stood self r n y any) e at)))
+    by_test false t at in_width ex = rw t (range_drawn self r start stop y any at le in_width cx cy)
+
+-- ---- items of a redraw
+
+-- the row of an item of a redraw, which is not to go on below
+abbrev DrawsOff : Written → Canvas → ℕ → List CellValue → Type 0
+DrawsOff w any r cells = drawn_all w.ops any ≡ Some (row_drawn r (record { cells = cells; wrapped = false }) w.pen any)
+
+turned_off : (w : Written) (any : Canvas) (r : ℕ) (cells : List CellValue) → w.flag ≡ false → DrawsItem w any r cells → DrawsOff w any r cells
+turned_off w any r cells off h = h ∙ ap (λ (b : Bool). Some (row_drawn r (record { cells = cells; wrapped = b }) w.pen any)) off
+
+linked_drawn : (self : Picture) (r : ℕ) (any : Canvas) → Stood self r 0 (blank_row default_attrs self.width) any → self.width ≡ any.page.width →
+    DrawsItem (linked_item r (row_or self.width self.rows r).cells) any r (row_or self.width self.rows r).cells
+linked_drawn self r any at same =
+    let x = row_or self.width self.rows r in
+    let rows = any.page.rows in
+    let width = any.page.width in
+    let w = linked_item r x.cells in
+    let inside = at.inside in
+    let l = length-take r rows in
+    let m = length-drop (r + 1) rows in
+    let ex = at.self_row.columns in
+    let drew = linked_item_draws any (take r rows) (drop (r + 1) rows) x.cells r (length rows) at.reads (omega arith) (omega arith) ex (paired_of x.cells at.self_row.paired) at.prints in
+    let e : length x.cells ≡ self.width = ex ∙ sym same in
+    drawn_in self r 0 (blank_row default_attrs self.width) any w.ops x.cells w.flag w.pen at
+    (subst (λ (n : ℕ). Draws w.ops (mid any (take r rows) (drop (r + 1) rows) (blanks default_attrs n) false (pen_at r 0 default_attrs)) (mid any (take r rows) (drop (r + 1) rows) x.cells w.flag w.pen)) e drew)
+
+range_off : (r start stop : ℕ) (xs ys : List CellValue) → (range_written r start stop false xs ys).flag ≡ false
+range_off r start stop xs ys = cells_off r start (pen_at r start default_attrs) 0 _ _
+
+pub redraw_item_draws : (self : Picture) (r start stop : ℕ) (is_linked : Bool) (any : Canvas) → IsPicture self → IsSteady self → AwaitsItem self r start (blank_row default_attrs self.width) any → start ≤ stop → stop ≤ self.width →
+    CutsNone start stop (row_or self.width self.rows r).cells →
+    drawn_all (item_of_redraw r start stop is_linked (row_or self.width self.rows r)).ops any
+    ≡ Some (row_drawn r (formatted_row start stop self.width (row_or self.width self.rows r)) (item_of_redraw r start stop is_linked (row_or self.width self.rows r)).pen any)
+redraw_item_draws self r start stop is_linked any is steady item le low cx =
+    let x = row_or self.width self.rows r in
+    let at = stood self r start (blank_row default_attrs self.width) any is steady item in
+    let same = item.size.width in
+    let ex = at.self_row.columns in
+    let e : length x.cells ≡ self.width = ex ∙ sym same in
+    let range = range_written r start stop false x.cells (blanks default_attrs (length x.cells)) in
+    let drawn : DrawsItem range any r (with_range start stop x.cells (blanks default_attrs self.width)) =
+    subst (λ (n : ℕ). DrawsItem (range_written r start stop false x.cells (blanks default_attrs n)) any r (with_range start stop x.cells (blanks default_attrs self.width))) (sym e)
+    (range_drawn self r start stop (blank_row default_attrs self.width) any at le (omega arith) cx (cuts_no_blanks start stop self.width)) in
+    cond_both (is_whole start stop (length x.cells) && is_linked) (linked_item r x.cells) range (λ (w : Written). DrawsOff w any r (with_range start stop x.cells (blanks default_attrs self.width)))
+    (λ (t : (is_whole start stop (length x.cells) && is_linked) ≡ true).
+    let both = and_parts (start == 0) (stop == length x.cells) (and_parts (is_whole start stop (length x.cells)) is_linked t).0 in
+    let b = eqb-true start 0 both.0 in
+    let f = eqb-true stop (length x.cells) both.1 ∙ e in
+    let l = length-replicate self.width default_blank in
+    let all : with_range start stop x.cells (blanks default_attrs self.width) ≡ x.cells =
+    ap (λ (n : ℕ). with_range n stop x.cells (blanks default_attrs self.width)) b ∙ (ap (λ (n : ℕ). with_range 0 n x.cells (blanks default_attrs self.width)) f ∙ range_all x.cells (blanks default_attrs self.width) self.width e l) in
+    subst (DrawsOff (linked_item r x.cells) any r) (sym all)
+    (turned_off (linked_item r x.cells) any r x.cells (linked_off r x.cells) (linked_drawn self r any (subst (λ (n : ℕ). Stood self r n (blank_row default_attrs self.width) any) b at) same)))
+    (λ _. turned_off range any r (with_range start stop x.cells (blanks default_attrs self.width)) (range_off r start stop x.cells (blanks default_attrs (length x.cells))) drawn)
+
+-- ---- read with a wrap pending above
+
+two_split : (rows : List RowValue) (r : ℕ) (d above y : RowValue) → r + 1 < length rows → slice_index_or rows r d ≡ above → slice_index_or rows (r + 1) d ≡ y →
+    take r rows ++ (above ∷ y ∷ drop (r + 1 + 1) rows) ≡ rows
+two_split rows r d above y h e f =
+    ap (λ (row : RowValue). take r rows ++ (row ∷ y ∷ drop (r + 1 + 1) rows)) (sym e)
+    ∙ (ap (λ (row : RowValue). take r rows ++ (slice_index_or rows r d ∷ row ∷ drop (r + 1 + 1) rows)) (sym f)
+    ∙ (ap (λ (z : List RowValue). take r rows ++ (slice_index_or rows r d ∷ z)) (sym (drop_more rows (r + 1) d h))
+    ∙ rows_split rows r d (omega arith)))
+
+-- two rows set, one after the other
+two_set : (rows done below : List RowValue) (above y on new : RowValue) (r : ℕ) → done ++ (above ∷ y ∷ below) ≡ rows → length done ≡ r →
+    slice_set (slice_set rows r on) (r + 1) new ≡ done ++ (on ∷ new ∷ below)
+two_set rows done below above y on new r e n =
+    let l = length-append done (on ∷ []) in
+    let m : length (done ++ on ∷ []) ≡ r + 1 = omega arith in
+    ap (λ (z : List RowValue). slice_set (slice_set z r on) (r + 1) new) (sym e)
+    ∙ (ap (λ (z : List RowValue). slice_set z (r + 1) new) (set_at done above (y ∷ below) on r n)
+    ∙ (ap (λ (z : List RowValue). slice_set z (r + 1) new) (sym (append_assoc done (on ∷ []) (y ∷ below)))
+    ∙ (set_at (done ++ on ∷ []) y below new (r + 1) m
+    ∙ append_assoc done (on ∷ []) (new ∷ below))))
+
+pub redraw_item_wraps : (self : Picture) (r : ℕ) (above : RowValue) (any : Canvas) → IsPicture self → IsSteady self → AwaitsItem self r self.width above any → ends_blank above.cells ≡ false →
+    r + 1 < length self.rows → row_at any.page (r + 1) ≡ blank_row default_attrs self.width →
+    drawn_all (item_of_redraw (r + 1) 0 self.width true (row_or self.width self.rows (r + 1))).ops any
+    ≡ Some (row_drawn (r + 1) (formatted_row 0 self.width self.width (row_or self.width self.rows (r + 1))) (item_of_redraw (r + 1) 0 self.width true (row_or self.width self.rows (r + 1))).pen (going_on r any))
+redraw_item_wraps self r above any is steady item full inside under =
+    let width = any.page.width in
+    let rows = any.page.rows in
+    let same = item.size.width in
+    let tall = item.size.height in
+    let low : r + 1 < length rows = omega arith in
+    let x = row_or self.width self.rows (r + 1) in
+    let d = blank_row default_attrs width in
+    let is_rows : AllByRecursion (IsRow width) self.rows = subst (λ (w : ℕ). AllByRecursion (IsRow w) self.rows) same (recursion_from_All (IsRow self.width) self.rows is.rows) in
+    let steady_rows : AllByRecursion (λ row. All (IsSteadyCell width) row.cells) self.rows =
+    subst (λ (w : ℕ). AllByRecursion (λ row. All (IsSteadyCell w) row.cells) self.rows) same (recursion_from_All (λ row. All (IsSteadyCell self.width) row.cells) self.rows steady) in
+    let self_row : IsRow width x = subst (λ (w : ℕ). IsRow w x) same (is.rows (r + 1) (blank_row default_attrs self.width) inside) in
+    let prints : PrintsCells width x.cells = All-from_recursion (PrintsRow width) self.rows (picture_prints width self.rows item.is.has_columns is_rows steady_rows) (r + 1) (blank_row default_attrs self.width) inside in
+    let ex = self_row.columns in
+    let e : length x.cells ≡ self.width = ex ∙ sym same in
+    let done = take r rows in
+    let below = drop (r + 1 + 1) rows in
+    let l = length-take r rows in
+    let m = length-drop (r + 1 + 1) rows in
+    let n : length done ≡ r = omega arith in
+    let split = two_split rows r d above (blank_row default_attrs self.width) low item.stands under in
+    let start : two any done below above.cells above.wrapped (blanks default_attrs self.width) false (pen_at r width default_attrs) ≡ any =
+    awaited any (done ++ (above ∷ blank_row default_attrs self.width ∷ below)) r width split item.row (item.column ∙ same) item.attrs in
+    let reads : Reads any (length rows) width = record { bottom = item.plain.whole.1; origin = item.plain.origin; wide = refl; has_columns = item.is.has_columns } in
+    let w = linked_item (r + 1) x.cells in
+    let drew = linked_item_wraps any done below above.cells x.cells above.wrapped r (length rows) reads n (omega arith) (sym (ends_is above.cells) ∙ full) ex (paired_of x.cells self_row.paired) prints in
+    let from : Draws w.ops (two any done below above.cells above.wrapped (blanks default_attrs self.width) false (pen_at r width default_attrs)) (two any done below above.cells true x.cells w.flag w.pen) =
+    subst (λ (k : ℕ). Draws w.ops (two any done below above.cells above.wrapped (blanks default_attrs k) false (pen_at r width default_attrs)) (two any done below above.cells true x.cells w.flag w.pen)) e drew in
+    let new = row_of x.cells false in
+    let put : slice_set (slice_set rows r (record (row_at any.page r) { wrapped = true })) (r + 1) new ≡ done ++ (row_of above.cells true ∷ new ∷ below) =
+    ap (λ (row : RowValue). slice_set (slice_set rows r (record row { wrapped = true })) (r + 1) new) item.stands
+    ∙ two_set rows done below above (blank_row default_attrs self.width) (row_of above.cells true) new r split n in
+    let whole : is_whole 0 self.width (length x.cells) ≡ true = grind (arith, nat_tests) in
+    let all : drawn_all w.ops any ≡ Some (row_drawn (r + 1) new w.pen (going_on r any)) =
+    ap (drawn_all w.ops) (sym start) ∙ (from
+    ∙ (ap (λ (b : Bool). Some (two any done below above.cells true x.cells b w.pen)) (linked_off (r + 1) x.cells)
+    ∙ ap (λ (z : List RowValue). Some (record any { page = record (any.page) { rows = z; row = w.pen.row; column = w.pen.col }; attrs = w.pen.attrs })) (sym put))) in
+    let blank_cells = length-replicate self.width default_blank in
+    let cells : x.cells ≡ with_range 0 self.width x.cells (blanks default_attrs self.width) = sym (range_all x.cells (blanks default_attrs self.width) self.width e blank_cells) in
+    rw whole (all ∙ ap (λ (z : List CellValue). Some (row_drawn (r + 1) (row_of z false) w.pen (going_on r any))) cells)

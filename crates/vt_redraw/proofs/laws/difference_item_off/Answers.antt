@@ -1,0 +1,5 @@
+use Rattle.vt_redraw.proofs.ItemDraws.{item_off}
+use Rattle.vt_redraw.proofs.laws.difference_item_off.Goals as goal
+
+pub returns : goal.returns
+returns c = item_off

@@ -1,0 +1,5 @@
+use Rattle.vt_redraw.proofs.ItemFits.{redraw_item_fits}
+use Rattle.vt_redraw.proofs.laws.redraw_item_fits.Goals as goal
+
+pub returns : goal.returns
+returns c = redraw_item_fits

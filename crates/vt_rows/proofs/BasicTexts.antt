@@ -1,0 +1,37 @@
+-- The attributes of cells in basic texts.
+use Rattle.std.proofs.Common.{◌≡◌, Bool, true, false, List, [], refl, sym, ap, ◌∙◌}
+use Rattle.std.specs.Prelude.{if◌then◌else◌}
+use Rattle.std.proofs.lemmas.Bool.{cond_both}
+use Rattle.vt_cells.specs.Cell.{CellValue, attrs_of, is_default_blank, is_right_half}
+use Rattle.vt_cells.specs.Attrs.{same_attrs}
+use Rattle.vt_cells.specs.Op.{change_text}
+use Rattle.vt_cells.specs.declared.attrs.Attrs.{Attrs}
+use Rattle.vt_cells.proofs.Same.{attrs_of-same, same_attrs-itself}
+use Rattle.vt_rows.specs.Basic.{attrs_after, is_bare}
+
+no_change : (attrs : Attrs) → change_text attrs attrs ≡ []
+unfolding change_text
+no_change attrs = rw (same_attrs-itself attrs) refl
+
+-- the attributes stay, and nothing is written
+both : (attrs after : Attrs) → after ≡ attrs → (after ≡ attrs) × (change_text attrs after ≡ [])
+both attrs after e = (e, ap (change_text attrs) e ∙ no_change attrs)
+
+pub kept_same : (attrs : Attrs) (cell : CellValue) → same_attrs attrs (attrs_of cell) ≡ true → (attrs_after attrs cell ≡ attrs) × (change_text attrs (attrs_after attrs cell) ≡ [])
+kept_same attrs cell e =
+    both attrs (attrs_after attrs cell) (cond_both (is_bare cell) attrs (attrs_of cell) (λ (after : Attrs). after ≡ attrs) (λ _. refl) (λ _. sym (attrs_of-same attrs (attrs_of cell) e)))
+
+bare : (attrs : Attrs) (cell : CellValue) → is_bare cell ≡ true → attrs_after attrs cell ≡ attrs
+bare attrs cell e = ap (λ (b : Bool). if b then attrs else attrs_of cell) e
+
+pub kept_default : (attrs : Attrs) (cell : CellValue) → is_default_blank cell ≡ true → (attrs_after attrs cell ≡ attrs) × (change_text attrs (attrs_after attrs cell) ≡ [])
+kept_default attrs cell e = both attrs (attrs_after attrs cell) (bare attrs cell (ap (λ (b : Bool). if b then b else is_right_half cell) e))
+
+pub kept_right : (attrs : Attrs) (cell : CellValue) → is_right_half cell ≡ true → (attrs_after attrs cell ≡ attrs) × (change_text attrs (attrs_after attrs cell) ≡ [])
+kept_right attrs cell e = both attrs (attrs_after attrs cell) (bare attrs cell (right (is_default_blank cell) refl)) where
+  right : (b : Bool) → is_default_blank cell ≡ b → is_bare cell ≡ true
+  right true d = ap (λ (b : Bool). if b then b else is_right_half cell) d
+  right false d = ap (λ (b : Bool). if b then b else is_right_half cell) d ∙ e
+
+pub own : (attrs : Attrs) (cell : CellValue) → is_default_blank cell ≡ false → is_right_half cell ≡ false → attrs_after attrs cell ≡ attrs_of cell
+own attrs cell d r = ap (λ (b : Bool). if b then attrs else attrs_of cell) (ap (λ (b : Bool). if b then b else is_right_half cell) d ∙ r)

@@ -1,0 +1,9 @@
+use Rattle.std.proofs.Common.{◌≤◌, ◌∙◌, arith}
+use Rattle.vt_cells.specs.PieceKeeping.{gathered}
+use Rattle.vt_rows.proofs.PlainTexts.{sixteen}
+use Rattle.vt_rows.proofs.plain.add_spaces.Goals as goal
+
+pub loop-left-preserved : goal.loop-left-preserved
+loop-left-preserved g c =
+    let more : 16 ≤ c.loop-left.left = omega arith in
+    sixteen (gathered (g.S.Sink.text c.loop-left.sink) c.loop-left.piece) (gathered (g.S.Sink.text c.add.new.sink) c.add.new.self) c.loop-left.left more c.in_ok-add.ensures ∙ c.loop-left.invariant

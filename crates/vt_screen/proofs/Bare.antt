@@ -1,0 +1,192 @@
+-- What a step does but for scrollback, and which rows it sends off, is the same whatever scrollback there is.
+use Rattle.std.proofs.Common.{◌≡◌, ℕ, Bool, true, false, List, length, [], ◌∷◌, ◌++◌, Some, refl, sym, ap, ap₂, ◌∙◌}
+use Rattle.std.specs.Prelude.{if◌then◌else◌}
+use Rattle.vt_rows.specs.Row.{RowValue}
+use Rattle.vt_grid.specs.Resize.{out_of_view}
+use Rattle.vt_grid.specs.Scrollback.{Scrollback, cleared, viewed}
+use Rattle.vt_scan.specs.Automaton.{State, Event, Character, Executed, EscDispatch, CsiDispatch, OscDispatch}
+use Rattle.vt_scan.specs.Run.{run}
+use Rattle.vt_screen.specs.Pages.{fresh_page, page_aside, entered, left, restored, saved}
+use Rattle.vt_screen.specs.Screen.{ScreenValue, scrolled_back}
+use Rattle.vt_screen.specs.Steps.{Step, Print, CarriageReturn, LineFeed, ReverseIndex, MoveUp, MoveDown, MoveRight, MoveLeft, NextLine, PreviousLine, Tab, MoveTo, MoveToColumn, MoveToRow, SetRegion, UseOrigin, EraseBelow, EraseAbove, ErasePage, EraseScrollback, EraseRest, EraseStart, EraseRow, EraseChars, InsertChars, DeleteChars, InsertLines, DeleteLines, ScrollUp, ScrollDown, Render, HideCursor, UseApplicationCursor, UseBracketedPaste, SetMouseMode, ClearMouseMode, SetMouseEncoding, ClearMouseEncoding, SetCursorStyle, SaveCursor, RestoreCursor, EnterAlternate, EnterFresh, LeaveAlternate, LeaveRestoring, Reset, UseApplicationKeypad, Tell, other_steps, scrolled, scrolling_steps, stepped, steps_of, window_steps}
+use Rattle.vt_screen.specs.Streamed.{bare, sent_off, sent_off_all, sent_off_in}
+use Rattle.vt_screen.specs.Telling.{screen_in, stepped_all, steps_in, steps_of_all}
+
+-- screens that are the same but for scrollback
+abbrev pub SameBare : ScreenValue → ScreenValue → Type 0
+SameBare s t = bare s ≡ bare t
+
+-- ---- one step
+
+bare_if : (b : Bool) (x y : ScreenValue) (p q : Scrollback) → SameBare x y → SameBare (if b then x else record x { scrollback = p }) (if b then y else record y { scrollback = q })
+bare_if true x y p q e = e
+bare_if false x y p q e = e
+
+bare_entered : (s : ScreenValue) → SameBare (entered s) (entered (bare s))
+bare_entered s = by s.is_alternate where
+  by : (b : Bool) → SameBare (if b then s else record s { page = page_aside s; other = Some s.page; is_alternate = true; scrollback = out_of_view s.scrollback })
+      (if b then bare s else record (bare s) { page = page_aside s; other = Some s.page; is_alternate = true; scrollback = out_of_view (bare s).scrollback })
+  by true = refl
+  by false = refl
+
+bare_left : (s : ScreenValue) → SameBare (left s) (left (bare s))
+bare_left s = by s.is_alternate where
+  by : (b : Bool) → SameBare (if b then record s { page = page_aside s; other = Some s.page; is_alternate = false } else s)
+      (if b then record (bare s) { page = page_aside s; other = Some s.page; is_alternate = false } else bare s)
+  by true = refl
+  by false = refl
+
+bare_step : (x : Step) (s : ScreenValue) → SameBare (scrolled x s) (scrolled x (bare s))
+bare_step (Print c) s = bare_if s.is_alternate (stepped (Print c) s) (stepped (Print c) (bare s)) _ _ refl
+bare_step LineFeed s = bare_if s.is_alternate (stepped LineFeed s) (stepped LineFeed (bare s)) _ _ refl
+bare_step (ScrollUp count) s = bare_if s.is_alternate (stepped (ScrollUp count) s) (stepped (ScrollUp count) (bare s)) _ _ refl
+bare_step EraseScrollback s = bare_if s.is_alternate s (bare s) (cleared s.scrollback) (cleared (bare s).scrollback) refl
+bare_step EnterAlternate s = bare_entered s
+bare_step EnterFresh s = ap (λ (t : ScreenValue). record t { page = fresh_page s }) (bare_entered (saved s))
+bare_step LeaveAlternate s = bare_left s
+bare_step LeaveRestoring s = ap restored (bare_left s)
+bare_step CarriageReturn s = refl
+bare_step ReverseIndex s = refl
+bare_step (MoveUp count) s = refl
+bare_step (MoveDown count) s = refl
+bare_step (MoveRight count) s = refl
+bare_step (MoveLeft count) s = refl
+bare_step (NextLine count) s = refl
+bare_step (PreviousLine count) s = refl
+bare_step Tab s = refl
+bare_step (MoveTo row col) s = refl
+bare_step (MoveToColumn col) s = refl
+bare_step (MoveToRow row) s = refl
+bare_step (SetRegion top bottom) s = refl
+bare_step (UseOrigin on) s = refl
+bare_step SaveCursor s = refl
+bare_step RestoreCursor s = refl
+bare_step Reset s = refl
+bare_step EraseBelow s = refl
+bare_step EraseAbove s = refl
+bare_step ErasePage s = refl
+bare_step EraseRest s = refl
+bare_step EraseStart s = refl
+bare_step EraseRow s = refl
+bare_step (EraseChars count) s = refl
+bare_step (InsertChars count) s = refl
+bare_step (DeleteChars count) s = refl
+bare_step (InsertLines count) s = refl
+bare_step (DeleteLines count) s = refl
+bare_step (ScrollDown count) s = refl
+bare_step (Render setting) s = refl
+bare_step (HideCursor hidden) s = refl
+bare_step (UseApplicationKeypad on) s = refl
+bare_step (UseApplicationCursor on) s = refl
+bare_step (UseBracketedPaste on) s = refl
+bare_step (SetMouseMode mode) s = refl
+bare_step (ClearMouseMode mode) s = refl
+bare_step (SetMouseEncoding form) s = refl
+bare_step (ClearMouseEncoding form) s = refl
+bare_step (SetCursorStyle look) s = refl
+bare_step (Tell call) s = refl
+
+sent_bare : (x : Step) (s : ScreenValue) → sent_off x s ≡ sent_off x (bare s)
+sent_bare CarriageReturn s = refl
+sent_bare ReverseIndex s = refl
+sent_bare (MoveUp count) s = refl
+sent_bare (MoveDown count) s = refl
+sent_bare (MoveRight count) s = refl
+sent_bare (MoveLeft count) s = refl
+sent_bare (NextLine count) s = refl
+sent_bare (PreviousLine count) s = refl
+sent_bare Tab s = refl
+sent_bare (MoveTo row col) s = refl
+sent_bare (MoveToColumn col) s = refl
+sent_bare (MoveToRow row) s = refl
+sent_bare (SetRegion top bottom) s = refl
+sent_bare (UseOrigin on) s = refl
+sent_bare SaveCursor s = refl
+sent_bare RestoreCursor s = refl
+sent_bare Reset s = refl
+sent_bare EraseBelow s = refl
+sent_bare EraseAbove s = refl
+sent_bare ErasePage s = refl
+sent_bare EraseRest s = refl
+sent_bare EraseStart s = refl
+sent_bare EraseRow s = refl
+sent_bare (EraseChars count) s = refl
+sent_bare (InsertChars count) s = refl
+sent_bare (DeleteChars count) s = refl
+sent_bare (InsertLines count) s = refl
+sent_bare (DeleteLines count) s = refl
+sent_bare (ScrollDown count) s = refl
+sent_bare (Render setting) s = refl
+sent_bare (HideCursor hidden) s = refl
+sent_bare (UseApplicationKeypad on) s = refl
+sent_bare (UseApplicationCursor on) s = refl
+sent_bare (UseBracketedPaste on) s = refl
+sent_bare (SetMouseMode mode) s = refl
+sent_bare (ClearMouseMode mode) s = refl
+sent_bare (SetMouseEncoding form) s = refl
+sent_bare (ClearMouseEncoding form) s = refl
+sent_bare (SetCursorStyle look) s = refl
+sent_bare (Tell call) s = refl
+sent_bare EraseScrollback s = refl
+sent_bare EnterAlternate s = refl
+sent_bare EnterFresh s = refl
+sent_bare LeaveAlternate s = refl
+sent_bare LeaveRestoring s = refl
+sent_bare (Print c) s = refl
+sent_bare LineFeed s = refl
+sent_bare (ScrollUp count) s = refl
+
+both_step : (x : Step) (s t : ScreenValue) → SameBare s t → SameBare (scrolled x s) (scrolled x t)
+both_step x s t e = bare_step x s ∙ (ap (λ (u : ScreenValue). bare (scrolled x u)) e ∙ sym (bare_step x t))
+
+both_sent : (x : Step) (s t : ScreenValue) → SameBare s t → sent_off x s ≡ sent_off x t
+both_sent x s t e = sent_bare x s ∙ (ap (sent_off x) e ∙ sym (sent_bare x t))
+
+-- ---- steps, one after the other
+
+pub both_stepped : (steps : List Step) (s t : ScreenValue) → SameBare s t → SameBare (stepped_all steps s) (stepped_all steps t)
+both_stepped [] s t e = e
+both_stepped (x ∷ steps) s t e = both_stepped steps (scrolled x s) (scrolled x t) (both_step x s t e)
+
+pub both_sent_all : (steps : List Step) (s t : ScreenValue) → SameBare s t → sent_off_all steps s ≡ sent_off_all steps t
+both_sent_all [] s t e = refl
+both_sent_all (x ∷ steps) s t e = ap₂ (λ (xs ys : List RowValue). xs ++ ys) (both_sent x s t e) (both_sent_all steps (scrolled x s) (scrolled x t) (both_step x s t e))
+
+-- ---- events
+
+steps_bare : (event : Event) (s : ScreenValue) → steps_of event s ≡ steps_of event (bare s)
+unfolding scrolling_steps other_steps window_steps
+steps_bare (Character c) s = refl
+steps_bare (Executed b) s = refl
+steps_bare (EscDispatch marks b) s = refl
+steps_bare (CsiDispatch groups [] b) s = refl
+steps_bare (CsiDispatch groups (mark ∷ marks) b) s = refl
+steps_bare (OscDispatch parts) s = refl
+
+both_steps : (event : Event) (s t : ScreenValue) → SameBare s t → steps_of event s ≡ steps_of event t
+both_steps event s t e = steps_bare event s ∙ (ap (steps_of event) e ∙ sym (steps_bare event t))
+
+pub both_steps_all : (events : List Event) (s t : ScreenValue) → SameBare s t → steps_of_all events s ≡ steps_of_all events t
+both_steps_all [] s t e = refl
+both_steps_all (event ∷ events) s t e =
+    let steps = steps_of event s in
+    ap₂ (λ (xs ys : List Step). xs ++ ys) (both_steps event s t e)
+    (both_steps_all events (stepped_all steps s) (stepped_all (steps_of event t) t)
+    (both_stepped steps s t e ∙ ap (λ (xs : List Step). bare (stepped_all xs t)) (both_steps event s t e)))
+
+-- ---- bytes
+
+pub both_sent_in : (scan : State) (s t : ScreenValue) (bytes : List ℕ) → SameBare s t → sent_off_in scan s bytes ≡ sent_off_in scan t bytes
+both_sent_in scan s t bytes e =
+    both_sent_all (steps_in scan s bytes) s t e ∙ ap (λ (steps : List Step). sent_off_all steps t) (both_steps_all (run scan bytes).events s t e)
+
+pub both_screen_in : (scan : State) (s t : ScreenValue) (bytes : List ℕ) → SameBare s t → SameBare (screen_in scan s bytes) (screen_in scan t bytes)
+both_screen_in scan s t bytes e =
+    both_stepped (steps_in scan s bytes) s t e ∙ ap (λ (steps : List Step). bare (stepped_all steps t)) (both_steps_all (run scan bytes).events s t e)
+
+-- another number of rows in view
+pub bare_scrolled_back : (n : ℕ) (s : ScreenValue) → SameBare (scrolled_back n s) s
+bare_scrolled_back n s = by s.is_alternate where
+  by : (b : Bool) → SameBare (if b then s else record s { scrollback = viewed (length s.page.rows) s.page.width n s.scrollback }) s
+  by true = refl
+  by false = refl

@@ -1,0 +1,111 @@
+-- What callbacks hear in a run, if they leave the screen alone: the calls of the model, one by one, while the screen is that of the model.
+use Rattle.std.proofs.Common.{◌≡◌, List, [], ◌∷◌, map, refl, sym, ap, subst}
+use Rattle.std.specs.List.{FoldsTo}
+use Rattle.vt_rows.specs.Row.{RowValue}
+use Rattle.vt_rows.proofs.Folds.{folds_then}
+use Rattle.vt_scan.specs.Automaton.{Event}
+use Rattle.vt_screen.specs.Calls.{CallValue, OnScroll}
+use Rattle.vt_screen.specs.Screen.{ScreenValue}
+use Rattle.vt_screen.specs.Run as act
+use Rattle.vt_screen.specs.Run.{Hears, Performs, Scrolls, Takes, Told, state}
+use Rattle.vt_screen.specs.Steps.{Step, Print, CarriageReturn, LineFeed, ReverseIndex, MoveUp, MoveDown, MoveRight, MoveLeft, NextLine, PreviousLine, Tab, MoveTo, MoveToColumn, MoveToRow, SetRegion, UseOrigin, EraseBelow, EraseAbove, ErasePage, EraseScrollback, EraseRest, EraseStart, EraseRow, EraseChars, InsertChars, DeleteChars, InsertLines, DeleteLines, ScrollUp, ScrollDown, Render, HideCursor, UseApplicationCursor, UseBracketedPaste, SetMouseMode, ClearMouseMode, SetMouseEncoding, ClearMouseEncoding, SetCursorStyle, SaveCursor, RestoreCursor, EnterAlternate, EnterFresh, LeaveAlternate, LeaveRestoring, Reset, UseApplicationKeypad, Tell, reports, scrolled, stepped, steps_of}
+use Rattle.vt_screen.specs.Telling.{Heard, LeavesScreen, calls_of, calls_of_all, stepped_all, steps_of_all}
+use Rattle.vt_screen.proofs.Reporting.{told_rows}
+
+-- a screen was reached, and these calls were heard on the way
+pub record Hearing {S : Type 0} (does : CallValue → S → ScreenValue → S → ScreenValue → Type 0) (a : act.State S) (calls : List CallValue) (screen : ScreenValue) (b : act.State S) : Type 0 where
+  pub shown : b.screen ≡ screen
+  pub heard : FoldsTo (Heard does) a.callbacks calls b.callbacks
+
+-- ---- one step
+
+heard_nothing : {S : Type 0} (does : CallValue → S → ScreenValue → S → ScreenValue → Type 0) (a b : act.State S) (screen : ScreenValue) → b ≡ state a.callbacks screen → Hearing does a [] screen b
+heard_nothing {S} does a b screen e = record { shown = ap (λ (s : act.State S). s.screen) e; heard = sym (ap (λ (s : act.State S). s.callbacks) e) }
+
+heard_told : {S : Type 0} (does : CallValue → S → ScreenValue → S → ScreenValue → Type 0) (screen : ScreenValue) (calls : List CallValue) (old new : S) → FoldsTo (Told does) old calls new → FoldsTo (Heard does) old calls new
+heard_told does screen [] old new e = e
+heard_told does screen (call ∷ calls) old new t = (t.0, (screen, t.1 screen), heard_told does screen calls t.0 new t.2)
+
+heard_scroll : {S : Type 0} (does : CallValue → S → ScreenValue → S → ScreenValue → Type 0) (x : Step) (a b : act.State S) → Scrolls does a x b → Hearing does a (map (λ (row : RowValue). OnScroll row a.screen.is_alternate) (reports x a.screen)) (scrolled x a.screen) b
+heard_scroll does x a b t = record {
+  shown = t.screen;
+  heard = heard_told does a.screen (map (λ (row : RowValue). OnScroll row a.screen.is_alternate) (reports x a.screen)) a.callbacks b.callbacks
+      (told_rows does a.screen.is_alternate (reports x a.screen) a.callbacks b.callbacks t.heard);
+}
+
+heard_call : {S : Type 0} (does : CallValue → S → ScreenValue → S → ScreenValue → Type 0) → LeavesScreen does → (call : CallValue) (a b : act.State S) → does call a.callbacks a.screen b.callbacks b.screen → Hearing does a (call ∷ []) a.screen b
+heard_call does leaves call a b t =
+    let same = leaves call a.callbacks b.callbacks a.screen b.screen t in
+    record { shown = same; heard = (b.callbacks, (a.screen, subst (does call a.callbacks a.screen b.callbacks) same t), refl) }
+
+heard_step : {S : Type 0} (does : CallValue → S → ScreenValue → S → ScreenValue → Type 0) → LeavesScreen does → (x : Step) (a b : act.State S) → Takes does a x b → Hearing does a (calls_of x a.screen) (scrolled x a.screen) b
+heard_step does leaves (Tell call) a b t = heard_call does leaves call a b t
+heard_step does leaves (Print c) a b t = heard_scroll does (Print c) a b t
+heard_step does leaves LineFeed a b t = heard_scroll does LineFeed a b t
+heard_step does leaves (ScrollUp count) a b t = heard_scroll does (ScrollUp count) a b t
+heard_step does leaves EraseScrollback a b t = heard_scroll does EraseScrollback a b t
+heard_step does leaves CarriageReturn a b t = heard_nothing does a b (stepped CarriageReturn a.screen) t
+heard_step does leaves ReverseIndex a b t = heard_nothing does a b (stepped ReverseIndex a.screen) t
+heard_step does leaves (MoveUp count) a b t = heard_nothing does a b (stepped (MoveUp count) a.screen) t
+heard_step does leaves (MoveDown count) a b t = heard_nothing does a b (stepped (MoveDown count) a.screen) t
+heard_step does leaves (MoveRight count) a b t = heard_nothing does a b (stepped (MoveRight count) a.screen) t
+heard_step does leaves (MoveLeft count) a b t = heard_nothing does a b (stepped (MoveLeft count) a.screen) t
+heard_step does leaves (NextLine count) a b t = heard_nothing does a b (stepped (NextLine count) a.screen) t
+heard_step does leaves (PreviousLine count) a b t = heard_nothing does a b (stepped (PreviousLine count) a.screen) t
+heard_step does leaves Tab a b t = heard_nothing does a b (stepped Tab a.screen) t
+heard_step does leaves (MoveTo row col) a b t = heard_nothing does a b (stepped (MoveTo row col) a.screen) t
+heard_step does leaves (MoveToColumn col) a b t = heard_nothing does a b (stepped (MoveToColumn col) a.screen) t
+heard_step does leaves (MoveToRow row) a b t = heard_nothing does a b (stepped (MoveToRow row) a.screen) t
+heard_step does leaves (SetRegion top bottom) a b t = heard_nothing does a b (stepped (SetRegion top bottom) a.screen) t
+heard_step does leaves (UseOrigin on) a b t = heard_nothing does a b (stepped (UseOrigin on) a.screen) t
+heard_step does leaves SaveCursor a b t = heard_nothing does a b (stepped SaveCursor a.screen) t
+heard_step does leaves RestoreCursor a b t = heard_nothing does a b (stepped RestoreCursor a.screen) t
+heard_step does leaves EnterAlternate a b t = heard_nothing does a b (stepped EnterAlternate a.screen) t
+heard_step does leaves EnterFresh a b t = heard_nothing does a b (stepped EnterFresh a.screen) t
+heard_step does leaves LeaveAlternate a b t = heard_nothing does a b (stepped LeaveAlternate a.screen) t
+heard_step does leaves LeaveRestoring a b t = heard_nothing does a b (stepped LeaveRestoring a.screen) t
+heard_step does leaves Reset a b t = heard_nothing does a b (stepped Reset a.screen) t
+heard_step does leaves EraseBelow a b t = heard_nothing does a b (stepped EraseBelow a.screen) t
+heard_step does leaves EraseAbove a b t = heard_nothing does a b (stepped EraseAbove a.screen) t
+heard_step does leaves ErasePage a b t = heard_nothing does a b (stepped ErasePage a.screen) t
+heard_step does leaves EraseRest a b t = heard_nothing does a b (stepped EraseRest a.screen) t
+heard_step does leaves EraseStart a b t = heard_nothing does a b (stepped EraseStart a.screen) t
+heard_step does leaves EraseRow a b t = heard_nothing does a b (stepped EraseRow a.screen) t
+heard_step does leaves (EraseChars count) a b t = heard_nothing does a b (stepped (EraseChars count) a.screen) t
+heard_step does leaves (InsertChars count) a b t = heard_nothing does a b (stepped (InsertChars count) a.screen) t
+heard_step does leaves (DeleteChars count) a b t = heard_nothing does a b (stepped (DeleteChars count) a.screen) t
+heard_step does leaves (InsertLines count) a b t = heard_nothing does a b (stepped (InsertLines count) a.screen) t
+heard_step does leaves (DeleteLines count) a b t = heard_nothing does a b (stepped (DeleteLines count) a.screen) t
+heard_step does leaves (ScrollDown count) a b t = heard_nothing does a b (stepped (ScrollDown count) a.screen) t
+heard_step does leaves (Render setting) a b t = heard_nothing does a b (stepped (Render setting) a.screen) t
+heard_step does leaves (HideCursor hidden) a b t = heard_nothing does a b (stepped (HideCursor hidden) a.screen) t
+heard_step does leaves (UseApplicationKeypad on) a b t = heard_nothing does a b (stepped (UseApplicationKeypad on) a.screen) t
+heard_step does leaves (UseApplicationCursor on) a b t = heard_nothing does a b (stepped (UseApplicationCursor on) a.screen) t
+heard_step does leaves (UseBracketedPaste on) a b t = heard_nothing does a b (stepped (UseBracketedPaste on) a.screen) t
+heard_step does leaves (SetMouseMode mode) a b t = heard_nothing does a b (stepped (SetMouseMode mode) a.screen) t
+heard_step does leaves (ClearMouseMode mode) a b t = heard_nothing does a b (stepped (ClearMouseMode mode) a.screen) t
+heard_step does leaves (SetMouseEncoding form) a b t = heard_nothing does a b (stepped (SetMouseEncoding form) a.screen) t
+heard_step does leaves (ClearMouseEncoding form) a b t = heard_nothing does a b (stepped (ClearMouseEncoding form) a.screen) t
+heard_step does leaves (SetCursorStyle look) a b t = heard_nothing does a b (stepped (SetCursorStyle look) a.screen) t
+
+-- ---- steps and events
+
+heard_steps : {S : Type 0} (does : CallValue → S → ScreenValue → S → ScreenValue → Type 0) → LeavesScreen does → (steps : List Step) (a b : act.State S) → FoldsTo (Takes does) a steps b → Hearing does a (calls_of_all steps a.screen) (stepped_all steps a.screen) b
+heard_steps {S} does leaves [] a b e = record { shown = sym (ap (λ (s : act.State S). s.screen) e); heard = ap (λ (s : act.State S). s.callbacks) e }
+heard_steps does leaves (x ∷ steps) a b t =
+    let one = heard_step does leaves x a t.0 t.1 in
+    let rest = subst (λ (screen : ScreenValue). Hearing does t.0 (calls_of_all steps screen) (stepped_all steps screen) b) one.shown (heard_steps does leaves steps t.0 b t.2) in
+    record { shown = rest.shown; heard = folds_then (Heard does) (calls_of x a.screen) (calls_of_all steps (scrolled x a.screen)) a.callbacks t.0.callbacks b.callbacks one.heard rest.heard }
+
+-- the steps of all events are those that the model lists
+steps_listed : {S : Type 0} (does : CallValue → S → ScreenValue → S → ScreenValue → Type 0) → LeavesScreen does → (events : List Event) (a b : act.State S) → FoldsTo (Performs does) a events b → FoldsTo (Takes does) a (steps_of_all events a.screen) b
+steps_listed does leaves [] a b e = e
+steps_listed does leaves (event ∷ events) a b t =
+    let steps = steps_of event a.screen in
+    let there = (heard_steps does leaves steps a t.0 t.1).shown in
+    let rest = subst (λ (screen : ScreenValue). FoldsTo (Takes does) t.0 (steps_of_all events screen) b) there (steps_listed does leaves events t.0 b t.2) in
+    folds_then (Takes does) steps (steps_of_all events (stepped_all steps a.screen)) a t.0 b t.1 rest
+
+pub heard_events : {S : Type 0} (does : CallValue → S → ScreenValue → S → ScreenValue → Type 0) → LeavesScreen does → (events : List Event) (a b : act.State S) → FoldsTo (Performs does) a events b
+    → Hearing does a (calls_of_all (steps_of_all events a.screen) a.screen) (stepped_all (steps_of_all events a.screen) a.screen) b
+heard_events does leaves events a b t = heard_steps does leaves (steps_of_all events a.screen) a b (steps_listed does leaves events a b t)

@@ -1,0 +1,99 @@
+-- The rows of a screen, each as a text that shows it on another terminal, and what such a text makes of the terminals that read it.
+use Rattle.std.specs.Prelude.{◌≡◌, ◌≢◌, ℕ, ◌+◌, ◌-◌, ◌<◌, ◌≤◌, min, false, true, List, [], length, map, slice_index_or}
+use Rattle.std.specs.List.{range_with_len}
+use Rattle.vt_cells.specs.Attrs.{default_attrs}
+use Rattle.vt_cells.specs.Op.{bytes_of_all}
+use Rattle.vt_rows.specs.Cells.{ends_blank}
+use Rattle.vt_rows.specs.Row.{RowValue, blank_row}
+use Rattle.vt_grid.specs.Page.{row_at}
+use Rattle.vt_redraw.specs.Items.{CutsNone, is_linked, item_of_difference, item_of_redraw, with_range}
+use Rattle.vt_redraw.specs.Locality.{row_of_picture}
+use Rattle.vt_redraw.specs.Picture.{Picture}
+use Rattle.vt_screen.specs.Screen.{ScreenValue}
+use Rattle.vt_screen.specs.Shown.{IsReadBy, IsReader, KeepsRest, Makes, StaysPlain}
+
+-- ---- the texts
+
+-- the column behind `width` columns from `start` on, as far as there are so many
+abbrev pub range_end : (start width columns : ℕ) → ℕ
+range_end start width columns = min (start + width) columns
+
+-- row r of a picture in a range of columns, for a terminal whose row is blank
+abbrev pub formatted_text : (start stop : ℕ) → Picture → ℕ → List ℕ
+formatted_text start stop picture r = bytes_of_all (item_of_redraw r start stop (is_linked picture.width picture.rows r) (row_of_picture picture r)).ops
+
+-- the same, for a terminal whose row is that of another picture
+abbrev pub changed_text : (start stop : ℕ) → (picture prev : Picture) → ℕ → List ℕ
+changed_text start stop picture prev r = bytes_of_all (item_of_difference r start stop (row_of_picture picture r) (row_of_picture prev r)).ops
+
+-- the texts of the rows from row r on
+abbrev pub texts_from : (ℕ → List ℕ) → (r height : ℕ) → List (List ℕ)
+texts_from text r height = map text (range_with_len r (height - r))
+
+-- the text of row r
+abbrev pub text_at : List (List ℕ) → ℕ → List ℕ
+text_at texts r = slice_index_or texts r []
+
+-- ---- the terminals that read a row's text
+
+-- a plain terminal of a picture's size that has this row as its row r, and the cursor in a column of it, with default attributes
+pub record IsRowReader (picture : Picture) (r c : ℕ) (stood : RowValue) (reader : ScreenValue) : Type 0 where
+  pub is : IsReader picture reader
+  pub row : reader.page.row ≡ r
+  pub column : reader.page.column ≡ c
+  pub attrs : reader.attrs ≡ default_attrs
+  pub stands : row_at reader.page r ≡ stood
+
+-- one whose row r is blank
+abbrev pub IsBlankReader : Picture → (r c : ℕ) → ScreenValue → Type 0
+IsBlankReader picture r c reader = IsRowReader picture r c (blank_row default_attrs picture.width) reader
+
+-- one that waits to wrap behind a glyph at the end of row r, above a blank row
+pub record IsWrapReader (picture : Picture) (r : ℕ) (reader : ScreenValue) : Type 0 where
+  pub is : IsReader picture reader
+  pub row : reader.page.row ≡ r
+  pub column : reader.page.column ≡ picture.width
+  pub attrs : reader.attrs ≡ default_attrs
+  pub full : ends_blank (row_at reader.page r).cells ≡ false
+  pub below : row_at reader.page (r + 1) ≡ blank_row default_attrs picture.width
+
+-- ---- what the text makes of them
+
+-- row r has the cells of this row in the range; no other cell changes, and the flag of no other row
+pub record HasRange (start stop r : ℕ) (shows : RowValue) (reader after : ScreenValue) : Type 0 where
+  pub cells : (row_at after.page r).cells ≡ with_range start stop shows.cells (row_at reader.page r).cells
+  pub others : (k : ℕ) → k ≢ r → row_at after.page k ≡ row_at reader.page k
+  pub height : length after.page.rows ≡ length reader.page.rows
+
+-- row r does not go on below
+abbrev pub IsOff : ℕ → (reader after : ScreenValue) → Type 0
+IsOff r reader after = (row_at after.page r).wrapped ≡ false
+
+-- the row below row r has the cells of this row and no flag, and row r goes on in it; no other row changes
+pub record HasLinked (r : ℕ) (shows : RowValue) (reader after : ScreenValue) : Type 0 where
+  pub below : row_at after.page (r + 1) ≡ record { cells = shows.cells; wrapped = false }
+  pub above : row_at after.page r ≡ record (row_at reader.page r) { wrapped = true }
+  pub others : (k : ℕ) → k ≢ r → k ≢ r + 1 → row_at after.page k ≡ row_at reader.page k
+  pub height : length after.page.rows ≡ length reader.page.rows
+
+-- every such terminal reads the text to its end, calling nobody and taking no memory, and then is so; it is plain again, and as before in
+-- all that is no part of its page
+pub record Turns (Reader : ScreenValue → Type 0) (text : List ℕ) (Made : (reader after : ScreenValue) → Type 0) : Type 0 where
+  pub quiet : IsReadBy Reader text
+  pub made : Makes Reader text Made
+  pub plain : Makes Reader text StaysPlain
+  pub rest : Makes Reader text KeepsRest
+
+-- ---- of which rows this holds
+
+-- the range is the whole row
+abbrev pub IsWholeRow : (start width columns : ℕ) → Type 0
+IsWholeRow start width columns = (start ≡ 0) × (columns ≤ width)
+
+-- of each row of a picture of which the range cuts no wide glyph in two
+abbrev pub EachUncut : (start stop : ℕ) → Picture → (ℕ → Type 0) → Type 0
+EachUncut start stop picture P = (r : ℕ) → r < length picture.rows → CutsNone start stop (row_of_picture picture r).cells → P r
+
+-- of each row below one that goes on
+abbrev pub EachLinked : Picture → (ℕ → Type 0) → Type 0
+EachLinked picture P = (r : ℕ) → r + 1 < length picture.rows → (row_of_picture picture r).wrapped ≡ true → P r

@@ -1,0 +1,69 @@
+-- What streams out of the main page: the rows that leave it, the rows that are told, and the text of all of them.
+use Rattle.std.specs.Prelude.{◌≡◌, ◌≢◌, ℕ, ◌≤◌, true, false, List, [], ◌∷◌, ◌++◌, length, All, map, if◌then◌else◌}
+use Rattle.std.specs.List.{AllByRecursion}
+use Rattle.vt_rows.specs.Basic.{unwritten}
+use Rattle.vt_rows.specs.Row.{RowValue, trimmed_row}
+use Rattle.vt_grid.specs.Scrollback.{no_scrollback}
+use Rattle.vt_scan.specs.Automaton.{State, Event, EscDispatch}
+use Rattle.vt_scan.specs.Run.{run}
+use Rattle.vt_screen.specs.Calls.{CallValue, OnScroll}
+use Rattle.vt_screen.specs.Capture.{all_rows, basic_texts, written_after_all}
+use Rattle.vt_screen.specs.Screen.{ScreenValue}
+use Rattle.vt_screen.specs.Steps.{Step, outgoing, scrolled}
+use Rattle.vt_screen.specs.Telling.{steps_in}
+
+-- the same rows, but for default blanks at their ends: one flag, and cells that are equal without these
+abbrev pub AreAlike : List RowValue → List RowValue → Type 0
+AreAlike rows others = map trimmed_row rows ≡ map trimmed_row others
+
+-- ---- what is told
+
+-- the rows of the main page that are reported
+abbrev pub row_told : CallValue → List RowValue
+row_told (OnScroll row false) = row ∷ []
+row_told _ = []
+
+abbrev pub rows_told : List CallValue → List RowValue
+rows_told [] = []
+rows_told (call ∷ calls) = row_told call ++ rows_told calls
+
+-- ---- what leaves
+
+-- the rows that leave the main page at its top, by a scroll
+abbrev pub sent_off : Step → ScreenValue → List RowValue
+sent_off step screen = if screen.is_alternate then [] else outgoing step screen
+
+abbrev pub sent_off_all : List Step → ScreenValue → List RowValue
+sent_off_all [] screen = []
+sent_off_all (step ∷ steps) screen = sent_off step screen ++ sent_off_all steps (scrolled step screen)
+
+-- those of a run over bytes
+abbrev pub sent_off_in : State → ScreenValue → List ℕ → List RowValue
+sent_off_in scan screen bytes = sent_off_all (steps_in scan screen bytes) screen
+
+-- ---- premises
+
+-- the event of RIS
+abbrev pub ris : Event
+ris = EscDispatch [] 0x63
+
+-- no event of a run over bytes is RIS
+abbrev pub HasNoRis : State → List ℕ → Type 0
+HasNoRis scan bytes = AllByRecursion (λ event. event ≢ ris) (run scan bytes).events
+
+-- no row of scrollback whose text goes on below is shorter than the screen
+abbrev pub HasWideFlags : ScreenValue → Type 0
+HasWideFlags screen = All (λ row. row.wrapped ≡ true → screen.page.width ≤ length row.cells) screen.scrollback.rows
+
+-- ---- but for scrollback
+
+-- a screen without its scrollback and its capacity
+abbrev pub bare : ScreenValue → ScreenValue
+bare screen = record screen { scrollback = no_scrollback 0 }
+
+-- ---- captures
+
+-- the rows that were told one by one, and with the same state behind them a full capture of the screen
+abbrev pub streamed_text : List CallValue → ScreenValue → List ℕ
+streamed_text calls screen =
+    let told = rows_told calls in basic_texts unwritten told ++ basic_texts (written_after_all unwritten told) (all_rows screen)

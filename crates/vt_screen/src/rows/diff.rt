@@ -1,0 +1,80 @@
+//! Texts of the rows of a screen that show them where rows of another screen
+//! stand.
+
+ghost use Rattle.std.specs.Prelude.{◌≡◌, ◌≤◌, length};
+ghost use Rattle.vt_grid.specs.Page.{SameSize};
+ghost use Rattle.vt_screen.specs.RowsShown.{changed_text, texts_from};
+ghost use Rattle.vt_screen.specs.Shown.{shown};
+
+use crate::screen::Screen;
+use std::marker::Model;
+use vt_cells::Error;
+
+/// An iterator over texts that turn the rows of one screen into those of
+/// another; see [`Screen::rows_diff`].
+///
+/// An item is an error where memory for its text is refused; the next one is
+/// then the next row's. After the last row there is none, now and later.
+#[derive(Drop)]
+pub struct RowsDiff<'a> {
+    screen: &'a Screen,
+    prev: &'a Screen,
+    row: u16,
+    start: u16,
+    stop: u16,
+}
+
+/// It is the list of the texts that are still to come.
+impl<'a> Model for RowsDiff<'a> {
+    ghost use Rattle.std.specs.Prelude.{List, ℕ, length};
+    ghost use Rattle.vt_grid.specs.Page.{SameSize};
+    ghost use Rattle.vt_screen.specs.Keeping.{IsColumns};
+    ghost use Rattle.vt_screen.specs.RowsShown.{changed_text, texts_from};
+    ghost use Rattle.vt_screen.specs.Shown.{shown};
+
+    ghost Value = { List (List ℕ) };
+
+    ghost view = { λ r. texts_from (changed_text r.start r.stop (shown r.screen.now) (shown r.prev.now)) r.row (length r.screen.now.page.rows) };
+
+    ghost invariant = { λ r. IsColumns r.start r.stop r.screen.now × SameSize r.screen.now.page r.prev.now.page };
+}
+
+impl<'a> RowsDiff<'a> {
+    /// The rows from the top, in the columns from `start` up to `stop`.
+    pub(crate) fn new(screen: &'a Screen, prev: &'a Screen, start: u16, stop: u16) -> RowsDiff<'a>
+        requires order { start ≤ stop }
+        requires stop { stop ≤ screen.now.page.width }
+        requires size { SameSize screen.now.page prev.now.page }
+        ensures { result ≡ texts_from (changed_text start stop (shown screen.now) (shown prev.now)) 0 (length screen.now.page.rows) }
+    {
+        RowsDiff {
+            screen,
+            prev,
+            row: 0,
+            start,
+            stop,
+        }
+    }
+}
+
+impl<'a> Iterator for RowsDiff<'a> {
+    ghost use Rattle.std.specs.Iterator.{item_count};
+    ghost use Rattle.vt_screen.specs.RowItems.{GivesText};
+
+    type Item = Result<String, Error>;
+
+    ghost next_gives = { GivesText (λ texts. texts) };
+
+    ghost remaining = { item_count (λ texts. texts) };
+
+    #[tactic(auto, using(crate::proofs::RowTexts::texts_more, crate::proofs::RowTexts::texts_done))]
+    fn next(&mut self) -> Option<Result<String, Error>> {
+        let row = self.row;
+        let (rows, _) = self.screen.size();
+        if row >= rows.get() {
+            return None;
+        }
+        self.row = row + 1;
+        Some(self.screen.row_diff(self.prev, row, self.start, self.stop))
+    }
+}
