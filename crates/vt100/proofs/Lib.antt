@@ -7,3 +7,4 @@ pub mod Remaining
 pub mod Dispatching
 pub mod Parting
 pub mod Pieces
+pub mod Sizes

@@ -41,6 +41,10 @@ Takes does a step b = b ≡ state a.callbacks (stepped step a.screen)
 abbrev pub Performs : {S : Type 0} → (CallValue → S → ScreenValue → S → ScreenValue → Type 0) → State S → Event → State S → Type 0
 Performs does a event b = FoldsTo (Takes does) a (steps_of event a.screen) b
 
+-- no call changes the screen
+abbrev pub LeavesScreen : {S : Type 0} → (CallValue → S → ScreenValue → S → ScreenValue → Type 0) → Type 0
+LeavesScreen {S} does = (call : CallValue) (old : S) (before : ScreenValue) (new : S) (after : ScreenValue) → does call old before new after → after ≡ before
+
 -- ---- want of memory
 
 -- a step that takes memory is refused: it changes nothing and calls nobody

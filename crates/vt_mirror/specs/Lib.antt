@@ -1,0 +1,3 @@
+pub mod Viewers
+pub mod Mirror
+pub mod Calls
