@@ -3,7 +3,7 @@ use Rattle.std.proofs.Common.{◌≡◌, ◌≢◌, ℕ, Bool, true, false, [], 
 use Rattle.std.specs.Char.{encode_utf8, IsScalar}
 use Rattle.vt_cells.specs.Cell.{CellValue, blank, glyph, right_half, IsCell, text_of, marked, widened}
 use Rattle.vt_cells.specs.Glyph.{IsMark, columns_of, first_columns, has_room}
-use Rattle.vt_cells.specs.declared.attrs.Attrs.{Attrs}
+use Rattle.vt_cells.specs.Attrs.{Attrs}
 use Rattle.vt_cells.proofs.Glyphs.{IsGlyphText-first, IsGlyphText-marked, IsGlyphText-selector, IsGlyphText-space}
 
 -- what `Cell::glyph` makes is a cell

@@ -5,12 +5,13 @@ use Rattle.std.proofs.lemmas.Bool.Decides.{nat_tests}
 use Rattle.std.specs.List.{AllByRecursion}
 use Rattle.vt_cells.specs.Attrs.{default_attrs, same_attrs, same_bool, same_color, same_intensity}
 use Rattle.vt_cells.specs.Op.{FitsAttrs, FitsColor, background_numbers, change_numbers, change_text, csi, foreground_numbers, intensity_number, joined, part}
-use Rattle.vt_cells.specs.declared.attrs.Attrs.{Attrs}
+use Rattle.vt_cells.specs.Attrs.{Attrs}
 use Rattle.vt_cells.specs.declared.attrs.Intensity.{Intensity}
 use Rattle.vt_cells.specs.declared.attrs.Intensity.TheVariants.{Normal, Bold, Dim}
 use Rattle.vt_cells.specs.declared.color.Color.{Color}
 use Rattle.vt_cells.specs.declared.color.Color.TheVariants.{Default, Idx, Rgb}
-use Rattle.vt_cells.specs.contracts.attrs.AttrsPartialEq.TheImpl as attrs
+use Rattle.vt_cells.specs.CellEq.{attrs_eq}
+use Rattle.vt_cells.proofs.Same.{attrs_eq-same}
 use Rattle.vt_cells.specs.contracts.attrs.IntensityPartialEq.TheImpl as intensity
 use Rattle.std.specs.contracts.prelude.BoolPartialEq.TheImpl as bool
 use Rattle.vt_cells.specs.contracts.color.ColorPartialEq.TheImpl as color
@@ -33,16 +34,6 @@ same_intensity_is = search rules
 
 pub same_bool_is : (a b : Bool) → (bool.ghosts).eq a b ≡ same_bool a b
 same_bool_is = search rules
-
-pub same_attrs_is : (a b : Attrs) → (attrs.ghosts).eq a b ≡ same_attrs a b
-unfolding same_attrs
-same_attrs_is a b =
-    rw (
-      sym (same_color_is a.fgcolor b.fgcolor),
-      sym (same_color_is a.bgcolor b.bgcolor),
-      sym (same_intensity_is a.intensity b.intensity),
-    )
-    (search rules)
 
 -- where the colours are the same, a part adds nothing
 pub nothing_of_same : (a b : Color) (xs ns : List ℕ) → (color.ghosts).eq a b ≡ true → xs ≡ xs ++ part (same_color a b) ns
@@ -238,18 +229,18 @@ joined_is x [] = sym (append-nil (decimal x))
 joined_is x (y ∷ xs) = ap (λ rest. decimal x ++ 0x3B ∷ rest) (joined_is y xs)
 
 -- the three cases of a change's text, by the code's `==`
-pub change_text-same : (was new : Attrs) → (attrs.ghosts).eq was new ≡ true → change_text was new ≡ []
+pub change_text-same : (was new : Attrs) → attrs_eq was new ≡ true → change_text was new ≡ []
 unfolding change_text
-change_text-same was new e = rw (sym (same_attrs_is was new), e) refl
+change_text-same was new e = rw (sym (attrs_eq-same was new), e) refl
 
-pub change_text-default : (was new : Attrs) → (attrs.ghosts).eq was new ≡ false →
-    (attrs.ghosts).eq new default_attrs ≡ true → change_text was new ≡ csi [] 0x6D
+pub change_text-default : (was new : Attrs) → attrs_eq was new ≡ false →
+    attrs_eq new default_attrs ≡ true → change_text was new ≡ csi [] 0x6D
 unfolding change_text
 change_text-default was new e f =
-    rw (sym (same_attrs_is was new), e, sym (same_attrs_is new default_attrs), f) refl
+    rw (sym (attrs_eq-same was new), e, sym (attrs_eq-same new default_attrs), f) refl
 
-pub change_text-other : (was new : Attrs) → (attrs.ghosts).eq was new ≡ false →
-    (attrs.ghosts).eq new default_attrs ≡ false → change_text was new ≡ csi (joined (change_numbers was new)) 0x6D
+pub change_text-other : (was new : Attrs) → attrs_eq was new ≡ false →
+    attrs_eq new default_attrs ≡ false → change_text was new ≡ csi (joined (change_numbers was new)) 0x6D
 unfolding change_text
 change_text-other was new e f =
-    rw (sym (same_attrs_is was new), e, sym (same_attrs_is new default_attrs), f) refl
+    rw (sym (attrs_eq-same was new), e, sym (attrs_eq-same new default_attrs), f) refl

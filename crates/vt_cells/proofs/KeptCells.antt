@@ -6,7 +6,7 @@ use Rattle.std.proofs.lemmas.Bool.{lt-ltb}
 use Rattle.vt_cells.specs.Cell.{glyph, cell_of, is_blank, is_right_half}
 use Rattle.vt_cells.specs.CellKeeping.{IsKept}
 use Rattle.vt_cells.specs.Glyph.{IsGlyphText, columns_of, first_columns, mark_limit, has_room}
-use Rattle.vt_cells.specs.declared.attrs.Attrs.{Attrs}
+use Rattle.vt_cells.specs.Attrs.{Attrs}
 use Rattle.vt_cells.proofs.Glyphs.{IsGlyphText-first, IsGlyphText-utf8, IsGlyphText-length, IsGlyphText-push, encode_bounds}
 
 -- with a text the cell is a glyph
@@ -40,13 +40,14 @@ glyph_kept len text wide attrs kept shown =
     let low : 1 ≤ length text = grind (arith, nat_tests) in
     rw (cell_of-glyph text wide attrs low) at kept.sound
 
-pub IsKept-mark : (c len next : ℕ) (text longer : List ℕ) (wide right : Bool) (attrs : Attrs) → IsScalar c → columns_of c ≡ Some 0
+-- a glyph with a mark behind its text, as wide as it was
+pub IsKept-mark : (c len next : ℕ) (text longer : List ℕ) (wide right same : Bool) (attrs : Attrs) → IsScalar c → columns_of c ≡ Some 0
     → IsKept len text wide right attrs → is_blank (cell_of text wide right attrs) ≡ false → is_right_half (cell_of text wide right attrs) ≡ false
-    → len < mark_limit → next ≡ len + length (encode_utf8 c) → longer ≡ text ++ encode_utf8 c → IsKept next longer wide right attrs
-IsKept-mark c len next text longer wide true attrs scalar columns kept full shown room size e = cc
-IsKept-mark c len next text longer wide false attrs scalar columns kept full shown room size e =
+    → len < mark_limit → next ≡ len + length (encode_utf8 c) → longer ≡ text ++ encode_utf8 c → same ≡ wide → IsKept next longer same false attrs
+IsKept-mark c len next text longer wide true same attrs scalar columns kept full shown room size e is_same = cc
+IsKept-mark c len next text longer wide false same attrs scalar columns kept full shown room size e is_same =
     let has : has_room text ≡ true = rw kept.measured (lt-ltb len mark_limit room) in
     let sum = length-append text (encode_utf8 c) in
     let measured = kept.measured in
-    rw e (IsKept-glyph next (text ++ encode_utf8 c) wide attrs
+    rw (e, is_same) (IsKept-glyph next (text ++ encode_utf8 c) wide attrs
     (IsGlyphText-push text wide c (glyph_kept len text wide attrs kept full) (scalar, columns) has) (omega arith))

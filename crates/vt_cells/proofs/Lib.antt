@@ -5,6 +5,8 @@ pub mod Cells
 pub mod Encoding
 pub mod Glyphs
 pub mod KeptCells
+pub mod Packing
 pub mod Same
 pub mod SameCells
+pub mod Shapes
 pub mod Widths

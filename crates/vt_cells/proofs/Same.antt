@@ -6,7 +6,7 @@ use Rattle.vt_cells.specs.Attrs.{default_attrs, same_color, same_intensity, same
 use Rattle.vt_cells.specs.CellEq.{attrs_eq}
 use Rattle.vt_cells.specs.contracts.attrs.IntensityPartialEq.TheImpl as intensity
 use Rattle.vt_cells.specs.contracts.color.ColorPartialEq.TheImpl as colors
-use Rattle.vt_cells.specs.declared.attrs.Attrs.{Attrs}
+use Rattle.vt_cells.specs.Attrs.{Attrs}
 use Rattle.vt_cells.specs.declared.attrs.Intensity.{Intensity}
 use Rattle.vt_cells.specs.declared.attrs.Intensity.TheVariants.{Normal, Bold, Dim}
 use Rattle.vt_cells.specs.declared.color.Color.{Color}
@@ -59,23 +59,6 @@ pub attrs_eq-same : (a b : Attrs) → attrs_eq a b ≡ same_attrs a b
 unfolding same_attrs
 attrs_eq-same a b =
     six _ _ _ _ _ _ _ _ _ _ _ _ (color_eq-same a.fgcolor b.fgcolor) (color_eq-same a.bgcolor b.bgcolor) (intensity_eq-same a.intensity b.intensity)
-    (beq-same a.italic b.italic) (beq-same a.underline b.underline) (beq-same a.inverse b.inverse)
-
-from_left : (p q r s t u : Bool) → (((((p && q) && r) && s) && t) && u) ≡ (p && (q && (r && (s && (t && u)))))
-from_left true true true true true u = refl
-from_left true true true true false u = refl
-from_left true true true false t u = refl
-from_left true true false s t u = refl
-from_left true false r s t u = refl
-from_left false q r s t u = refl
-
--- the same, from the tests of the six components
-pub attrs_tested : (a b : Attrs) (f g i : Bool) → f ≡ same_color a.fgcolor b.fgcolor → g ≡ same_color a.bgcolor b.bgcolor → i ≡ intensity_eq a.intensity b.intensity
-    → (((((f && g) && i) && beq a.italic b.italic) && beq a.underline b.underline) && beq a.inverse b.inverse) ≡ same_attrs a b
-unfolding same_attrs
-attrs_tested a b f g i is_f is_g is_i =
-    from_left f g i (beq a.italic b.italic) (beq a.underline b.underline) (beq a.inverse b.inverse)
-    ∙ six _ _ _ _ _ _ _ _ _ _ _ _ is_f is_g (is_i ∙ intensity_eq-same a.intensity b.intensity)
     (beq-same a.italic b.italic) (beq-same a.underline b.underline) (beq-same a.inverse b.inverse)
 
 pub two_parts : (p q : Bool) → (p && q) ≡ true → (p ≡ true) × (q ≡ true)

@@ -7,7 +7,7 @@ use Rattle.std.proofs.lemmas.Slice.Eq.{bytes_eq-Decides}
 use Rattle.vt_cells.specs.Cell.{CellValue, blank, glyph, right_half, IsCell, same_cell, text_of, attrs_of, is_wide, is_right_half}
 use mathlib.Core.Bool.{beq}
 use Rattle.vt_cells.specs.CellEq.{cell_eq, attrs_eq}
-use Rattle.vt_cells.specs.declared.attrs.Attrs.{Attrs}
+use Rattle.vt_cells.specs.Attrs.{Attrs}
 use Rattle.vt_cells.proofs.Glyphs.{IsGlyphText-length}
 use Rattle.vt_cells.proofs.Same.{attrs_of-same, same_attrs-itself, bool_of-same, same_bool-itself, attrs_eq-same, two_parts, false_of}
 

@@ -1,10 +1,17 @@
 -- Attributes: six components, as ECMA-48's SGR sets them.
 use Rattle.std.specs.Prelude.{Bool, true, false, not, ◌&&◌, ◌==◌, if◌then◌else◌}
-use Rattle.vt_cells.specs.declared.attrs.Attrs.{Attrs}
 use Rattle.vt_cells.specs.declared.attrs.Intensity.{Intensity}
 use Rattle.vt_cells.specs.declared.attrs.Intensity.TheVariants.{Normal, Bold, Dim}
 use Rattle.vt_cells.specs.declared.color.Color.{Color}
 use Rattle.vt_cells.specs.declared.color.Color.TheVariants as color
+
+pub record Attrs : Type 0 where
+  pub fgcolor : Color
+  pub bgcolor : Color
+  pub intensity : Intensity
+  pub italic : Bool
+  pub underline : Bool
+  pub inverse : Bool
 
 -- what a fresh screen draws with
 abbrev pub default_attrs : Attrs

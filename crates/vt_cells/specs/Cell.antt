@@ -2,7 +2,7 @@
 use Rattle.std.specs.Prelude.{ℕ, ◌==◌, Bool, true, false, List, [], ◌∷◌, length, bytes_eq, ◌&&◌, if◌then◌else◌}
 use Rattle.vt_cells.specs.Attrs.{default_attrs, same_bool, same_attrs}
 use Rattle.vt_cells.specs.Glyph.{IsGlyphText, marked_text}
-use Rattle.vt_cells.specs.declared.attrs.Attrs.{Attrs}
+use Rattle.vt_cells.specs.Attrs.{Attrs}
 
 -- a blank in attributes; a glyph with its text in UTF-8, wide (two columns) or narrow, in attributes; a right half
 pub data CellValue : Type 0 where

@@ -1,13 +1,28 @@
 -- How a cell keeps its value in its fields; for its model, private contracts and proofs only.
-use Rattle.std.specs.Prelude.{◌≡◌, ℕ, ◌+◌, ◌<◌, ◌≤◌, Bool, true, false, List, [], ◌∷◌, length, IsUtf8}
-use Rattle.vt_cells.specs.Attrs.{default_attrs}
+use Rattle.std.specs.Prelude.{◌≡◌, ℕ, ◌+◌, ◌/◌, ◌%◌, ◌==◌, ◌&&◌, ◌<◌, ◌≤◌, Bool, true, false, List, [], ◌∷◌, length, if◌then◌else◌, IsUtf8}
+use Rattle.vt_cells.specs.Attrs.{Attrs, default_attrs, same_bool}
 use Rattle.vt_cells.specs.Cell.{CellValue, blank, glyph, right_half, cell_of, IsCell}
 use Rattle.vt_cells.specs.Glyph.{mark_limit}
-use Rattle.vt_cells.specs.declared.attrs.Attrs.{Attrs}
 
 -- the bytes of a cell's array: a text below the limit of marks, and one character of four bytes
 abbrev pub text_room : ℕ
 text_room = mark_limit + 4
+
+-- the length of a text in bytes, whether it is wide, and whether the cell is a right half
+pub record ShapeValue : Type 0 where
+  pub len : ℕ
+  pub wide : Bool
+  pub right_half : Bool
+
+unfoldable pub same_shape : ShapeValue → ShapeValue → Bool
+same_shape a b = (a.len == b.len) && (same_bool a.wide b.wide && same_bool a.right_half b.right_half)
+
+-- the shape of a byte, and back: five bits of length, and one for each flag
+abbrev pub shape_of : ℕ → ShapeValue
+shape_of bits = record { len = bits % 32; wide = bits / 32 % 2 == 1; right_half = bits / 64 == 1 }
+
+abbrev pub shape_bits : ShapeValue → ℕ
+shape_bits shape = shape.len + (if shape.wide then 32 else 0) + (if shape.right_half then 64 else 0)
 
 -- what is true of the fields of every cell
 pub record IsKept (len : ℕ) (text : List ℕ) (wide right : Bool) (attrs : Attrs) : Type 0 where

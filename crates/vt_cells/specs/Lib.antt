@@ -1,4 +1,5 @@
 pub mod Attrs
+pub mod AttrsKeeping
 pub mod Cell
 pub mod CellEq
 pub mod CellKeeping

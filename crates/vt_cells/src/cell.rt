@@ -8,6 +8,7 @@ ghost use Rattle.vt_cells.specs.Glyph.{columns_of, is_wide_text};
 
 use crate::attrs::Attrs;
 use crate::color::Color;
+use crate::shape::Shape;
 use std::marker::Model;
 use std::str;
 use unicode_width::UnicodeWidthStr;
@@ -26,9 +27,7 @@ const TEXT_ROOM: usize = 22;
 pub struct Cell {
     attrs: Attrs,
     contents: [u8; TEXT_ROOM],
-    len: u8,
-    wide: bool,
-    right_half: bool,
+    shape: Shape,
 }
 
 impl Model for Cell {
@@ -38,9 +37,9 @@ impl Model for Cell {
 
     ghost Value = { CellValue };
 
-    ghost view = { λ c. cell_of (take c.len c.contents) c.wide c.right_half c.attrs };
+    ghost view = { λ c. cell_of (take c.shape.len c.contents) c.shape.wide c.shape.right_half c.attrs };
 
-    ghost invariant = { λ c. IsKept c.len (take c.len c.contents) c.wide c.right_half c.attrs };
+    ghost invariant = { λ c. IsKept c.shape.len (take c.shape.len c.contents) c.shape.wide c.shape.right_half c.attrs };
 }
 
 impl Cell {
@@ -60,9 +59,7 @@ impl Cell {
         Cell {
             attrs,
             contents: [0; TEXT_ROOM],
-            len: 0,
-            wide: false,
-            right_half: false,
+            shape: Shape::text(0, false),
         }
     }
 
@@ -74,9 +71,7 @@ impl Cell {
         Cell {
             attrs: Attrs::new(),
             contents: [0; TEXT_ROOM],
-            len: 0,
-            wide: false,
-            right_half: true,
+            shape: Shape::right_half(),
         }
     }
 
@@ -94,9 +89,7 @@ impl Cell {
         Cell {
             attrs,
             contents,
-            len,
-            wide,
-            right_half: false,
+            shape: Shape::text(len, wide),
         }
     }
 
@@ -116,9 +109,7 @@ impl Cell {
         Cell {
             attrs: self.attrs,
             contents: self.contents,
-            len: self.len,
-            wide: self.wide,
-            right_half: self.right_half,
+            shape: self.shape,
         }
     }
 
@@ -128,9 +119,7 @@ impl Cell {
         ensures { self.new ≡ blank attrs }
     {
         self.attrs = attrs;
-        self.len = 0;
-        self.wide = false;
-        self.right_half = false;
+        self.shape = Shape::text(0, false);
     }
 
     /// Makes the cell a glyph of one character, as [`Cell::glyph`] makes one.
@@ -140,10 +129,9 @@ impl Cell {
         requires columns { columns_of c ≡ Some (if wide then 2 else 1) }
         ensures { self.new ≡ glyph (encode_utf8 c) wide attrs }
     {
-        self.len = push_char(&mut self.contents, 0, c);
+        let len = push_char(&mut self.contents, 0, c);
         self.attrs = attrs;
-        self.wide = wide;
-        self.right_half = false;
+        self.shape = Shape::text(len, wide);
     }
 
     /// Puts a mark, a character of width 0, on the cell.
@@ -176,8 +164,10 @@ impl Cell {
         requires mark { columns_of c ≡ Some 0 }
         ensures { self.new ≡ marked c self.old }
     {
-        if self.len < MARK_LIMIT {
-            self.len = push_char(&mut self.contents, self.len, c);
+        let len = self.shape.len();
+        if len < MARK_LIMIT {
+            let longer = push_char(&mut self.contents, len, c);
+            self.shape = Shape::text(longer, self.shape.wide());
         }
     }
 
@@ -189,8 +179,9 @@ impl Cell {
         requires { IsCell (widened wide self.old) }
         ensures { self.new ≡ widened wide self.old }
     {
-        if self.len > 0 {
-            self.wide = wide;
+        let len = self.shape.len();
+        if len > 0 {
+            self.shape = Shape::text(len, wide);
         }
     }
 
@@ -199,7 +190,7 @@ impl Cell {
     pub fn set_attrs(&mut self, attrs: Attrs)
         ensures { self.new ≡ redrawn attrs self.old }
     {
-        if !self.right_half {
+        if !self.shape.is_right_half() {
             self.attrs = attrs;
         }
     }
@@ -211,7 +202,7 @@ impl Cell {
         ensures value { result.now ≡ text_of self.now }
         ensures sound { IsCell self.now }
     {
-        let bytes = &self.contents[..usize::from(self.len)];
+        let bytes = &self.contents[..usize::from(self.shape.len())];
         unsafe { str::from_utf8_unchecked(bytes) }
     }
 
@@ -220,7 +211,7 @@ impl Cell {
     pub fn has_contents(&self) -> bool
         ensures { result ≡ is_glyph self.now }
     {
-        self.len > 0
+        self.shape.len() > 0
     }
 
     /// Whether the cell is a wide glyph, the left half of two columns.
@@ -228,7 +219,7 @@ impl Cell {
     pub fn is_wide(&self) -> bool
         ensures { result ≡ is_wide self.now }
     {
-        self.wide
+        self.shape.wide()
     }
 
     /// Whether the cell is the right half of a wide glyph.
@@ -236,7 +227,7 @@ impl Cell {
     pub fn is_wide_continuation(&self) -> bool
         ensures { result ≡ is_right_half self.now }
     {
-        self.right_half
+        self.shape.is_right_half()
     }
 
     /// Whether the cell is a blank.
@@ -244,7 +235,7 @@ impl Cell {
     pub fn is_blank(&self) -> bool
         ensures { result ≡ is_blank self.now }
     {
-        !self.right_half && self.len == 0
+        !self.shape.is_right_half() && self.shape.len() == 0
     }
 
     /// Whether `unicode_width` gives the whole text more than one column.
@@ -302,7 +293,7 @@ impl Cell {
         ensures value { result ≡ length (text_of self.now) }
         ensures sound { IsCell self.now }
     {
-        self.len
+        self.shape.len()
     }
 
     /// The attributes; default ones for a right half.
@@ -326,7 +317,7 @@ impl Cell {
     pub fn fgcolor(&self) -> Color
         ensures { result ≡ (attrs_of self.now).fgcolor }
     {
-        self.attrs.fgcolor
+        self.attrs.fgcolor()
     }
 
     /// The background colour.
@@ -334,7 +325,7 @@ impl Cell {
     pub fn bgcolor(&self) -> Color
         ensures { result ≡ (attrs_of self.now).bgcolor }
     {
-        self.attrs.bgcolor
+        self.attrs.bgcolor()
     }
 
     /// Whether the cell is drawn bold.
@@ -358,7 +349,7 @@ impl Cell {
     pub fn italic(&self) -> bool
         ensures { result ≡ (attrs_of self.now).italic }
     {
-        self.attrs.italic
+        self.attrs.italic()
     }
 
     /// Whether the cell is underlined.
@@ -366,7 +357,7 @@ impl Cell {
     pub fn underline(&self) -> bool
         ensures { result ≡ (attrs_of self.now).underline }
     {
-        self.attrs.underline
+        self.attrs.underline()
     }
 
     /// Whether foreground and background are exchanged.
@@ -374,7 +365,7 @@ impl Cell {
     pub fn inverse(&self) -> bool
         ensures { result ≡ (attrs_of self.now).inverse }
     {
-        self.attrs.inverse
+        self.attrs.inverse()
     }
 }
 

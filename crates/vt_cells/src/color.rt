@@ -1,8 +1,5 @@
 //! Colours of cells.
 
-ghost use Rattle.std.specs.Prelude.{◌≡◌};
-ghost use Rattle.vt_cells.specs.Attrs.{same_color};
-
 /// A foreground or background colour of a cell.
 #[derive(Clone, Copy, PartialEq, Eq, Debug, Default)]
 pub enum Color {
@@ -15,27 +12,4 @@ pub enum Color {
 
     /// A colour by its red, green and blue parts.
     Rgb(u8, u8, u8),
-}
-
-impl Color {
-    /// Whether both are the same colour. Two default ones are told apart from the others at once.
-    #[inline]
-    #[tactic(auto, unfolding(crate::specs::Attrs::same_color))]
-    pub fn is_same(&self, other: &Color) -> bool
-        ensures { result ≡ same_color self.now other.now }
-    {
-        match (*self, *other) {
-            (Color::Default, Color::Default) => true,
-            _ => self.equals(other),
-        }
-    }
-
-    /// The same test, for any colours.
-    #[inline(never)]
-    #[tactic(auto, using(crate::proofs::Same::same_color_tested))]
-    fn equals(&self, other: &Color) -> bool
-        ensures { result ≡ same_color self.now other.now }
-    {
-        *self == *other
-    }
 }

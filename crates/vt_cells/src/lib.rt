@@ -7,9 +7,12 @@ pub mod cell;
 pub mod color;
 pub mod error;
 pub mod modes;
+mod packed_color;
 pub mod piece;
 pub mod pos;
+mod shape;
 pub mod sink;
+mod style;
 pub mod term;
 pub mod width;
 

@@ -7,7 +7,7 @@ use Rattle.std.proofs.lemmas.Grind.{get_or-set_at}
 use Rattle.std.proofs.lemmas.List.{take-set-le, drop-set-lt, drop-drop, set-set, set-get_or, length-set}
 use Rattle.vt_cells.specs.Cell.{CellValue, blank, default_blank, is_wide, is_blank, is_right_half, text_of, marked}
 use Rattle.vt_cells.specs.Glyph.{is_selector, is_wide_text}
-use Rattle.vt_cells.specs.declared.attrs.Attrs.{Attrs}
+use Rattle.vt_cells.specs.Attrs.{Attrs}
 use Rattle.vt_rows.specs.Cells.{at, IsPaired, ends_blank, blanks, erased, marked_at, put_cells, column_of}
 use Rattle.vt_rows.specs.Row.{RowValue, with_cells}
 use Rattle.vt_rows.proofs.Columns.{put_columns, same_columns}

@@ -11,7 +11,7 @@ use Rattle.std.proofs.lemmas.List.Folds.{list_any-append}
 use Rattle.std.proofs.lemmas.List.Elements.{All-get_or}
 use Rattle.vt_cells.specs.Cell.{CellValue, blank, glyph, right_half, default_blank, is_wide, is_blank, is_right_half, text_of, marked, widened, redrawn, IsCell}
 use Rattle.vt_cells.specs.Glyph.{IsGlyphText, IsMark, is_selector, has_room, is_wide_text, columns_of}
-use Rattle.vt_cells.specs.declared.attrs.Attrs.{Attrs}
+use Rattle.vt_cells.specs.Attrs.{Attrs}
 use Rattle.vt_cells.proofs.Glyphs.{IsGlyphText-first, longer}
 use Rattle.vt_cells.proofs.Widths.{columns_of-le}
 use Rattle.vt_rows.specs.Cells.{at, IsPaired, marked_at, widened_at, narrowed_at, erased}

@@ -7,7 +7,7 @@ use Rattle.std.proofs.lemmas.List.{get_or_past, ext_get_or, length-append, lengt
 use Rattle.std.proofs.lemmas.List.FromFn.{fill_by_all}
 use Rattle.std.proofs.lemmas.List.Elements.{All-get_or}
 use Rattle.vt_cells.specs.Attrs.{default_attrs}
-use Rattle.vt_cells.specs.declared.attrs.Attrs.{Attrs}
+use Rattle.vt_cells.specs.Attrs.{Attrs}
 use Rattle.vt_rows.specs.Row.{RowValue, IsRow, blank_row}
 use Rattle.vt_rows.specs.Keeping.{turn_source}
 use Rattle.vt_grid.specs.Keeping.{cleared_row}

@@ -2,7 +2,7 @@
 use Rattle.std.proofs.Common.{◌≡◌, ℕ, ◌&&◌, not, Bool, true, false, subst, ◌+◌, ◌-◌, ◌<◌, ◌≤◌, List, length, take, replicate, refl, sym, ap, ◌==◌, ◌∙◌, arith}
 use Rattle.std.specs.Prelude.{if◌then◌else◌, Option, Some, None, IfSome}
 use Rattle.std.proofs.lemmas.List.{length-set, length-append, length-take, length-replicate}
-use Rattle.vt_cells.specs.declared.attrs.Attrs.{Attrs}
+use Rattle.vt_cells.specs.Attrs.{Attrs}
 use Rattle.vt_cells.specs.Cell.{CellValue}
 use Rattle.vt_cells.specs.Glyph.{IsGlyphText, IsMark, first_columns}
 use Rattle.vt_cells.specs.declared.pos.Pos.{Pos}

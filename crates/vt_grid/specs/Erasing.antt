@@ -1,6 +1,6 @@
 -- Erasing (ECMA-48's ED, EL and ECH): positions become blank in the current attributes.
 use Rattle.std.specs.Prelude.{ℕ, ◌+◌, ◌-◌, ◌==◌, ◌||◌, if◌then◌else◌, ◌++◌, length, take, drop, replicate, min}
-use Rattle.vt_cells.specs.declared.attrs.Attrs.{Attrs}
+use Rattle.vt_cells.specs.Attrs.{Attrs}
 use Rattle.vt_rows.specs.Cells.{erased}
 use Rattle.vt_rows.specs.Row.{blank_row, with_cells}
 use Rattle.vt_grid.specs.Page.{Page, cursor_row, with_row}

@@ -1,6 +1,6 @@
 -- What the fields of a grid are together; for its model and private contracts only.
 use Rattle.std.specs.Prelude.{◌≡◌, ℕ, ◌+◌, ◌-◌, ◌<◌, nat_le, nat_lt, Bool, true, false, List, [], length, slice_index_or, Some, zero, if◌then◌else◌}
-use Rattle.vt_cells.specs.declared.attrs.Attrs.{Attrs}
+use Rattle.vt_cells.specs.Attrs.{Attrs}
 use Rattle.vt_cells.specs.declared.pos.Pos.{Pos}
 use Rattle.vt_cells.specs.Cell.{CellValue, is_wide, is_blank, is_right_half, widened, IsCell}
 use Rattle.vt_rows.specs.Cells.{at, erased}

@@ -1,6 +1,6 @@
 -- The rows that leave a page at its top: only a region that begins there and scrolls up lets rows go.
 use Rattle.std.specs.Prelude.{ℕ, ◌+◌, ◌==◌, List, [], take, min, Option, Some, zero, if◌then◌else◌}
-use Rattle.vt_cells.specs.declared.attrs.Attrs.{Attrs}
+use Rattle.vt_cells.specs.Attrs.{Attrs}
 use Rattle.vt_cells.specs.Glyph.{columns_of}
 use Rattle.vt_rows.specs.Cells.{erased}
 use Rattle.vt_rows.specs.Row.{RowValue}

@@ -3,7 +3,7 @@ use Rattle.std.specs.Prelude.{ℕ, ◌+◌, ◌-◌, ◌==◌, ◌&&◌, nat_lt,
 use Rattle.std.specs.Char.{encode_utf8}
 use Rattle.vt_cells.specs.Cell.{CellValue, text_of, is_wide, is_blank, is_right_half}
 use Rattle.vt_cells.specs.Glyph.{columns_of, is_selector, is_wide_text, has_room}
-use Rattle.vt_cells.specs.declared.attrs.Attrs.{Attrs}
+use Rattle.vt_cells.specs.Attrs.{Attrs}
 use Rattle.vt_rows.specs.Cells.{at, ends_blank, erased, put_narrow, put_wide, marked_at, widened_at, narrowed_at}
 use Rattle.vt_rows.specs.Row.{with_cells}
 use Rattle.vt_grid.specs.Page.{Page, row_at, cursor_row, with_row}

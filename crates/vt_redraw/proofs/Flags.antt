@@ -1,7 +1,7 @@
 -- Whether a row goes on below, after a change of some of its columns.
 use Rattle.std.proofs.Common.{◌≡◌, ℕ, zero, suc, ◌-◌, ◌&&◌, ◌||◌, Bool, true, false, not, List, [], ◌∷◌, ◌++◌, length, drop, refl, sym, ap, ◌∙◌, append_assoc, append-nil, arith}
 use Rattle.vt_cells.specs.Cell.{CellValue, blank, glyph, right_half, is_blank}
-use Rattle.vt_cells.specs.declared.attrs.Attrs.{Attrs}
+use Rattle.vt_cells.specs.Attrs.{Attrs}
 use Rattle.vt_rows.specs.Cells.{at, ends_blank, blanks, opened}
 use Rattle.vt_redraw.specs.Script.{is_nil, is_torn}
 

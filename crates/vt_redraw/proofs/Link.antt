@@ -5,7 +5,7 @@ use Rattle.std.proofs.lemmas.List.{length-append, take-append-drop}
 use Rattle.vt_cells.specs.Cell.{CellValue, blank, glyph, right_half, default_blank, is_wide, text_of, attrs_of}
 use Rattle.vt_rows.specs.Cells.{at}
 use Rattle.vt_cells.specs.Op.{Print, EraseChars}
-use Rattle.vt_cells.specs.declared.attrs.Attrs.{Attrs}
+use Rattle.vt_cells.specs.Attrs.{Attrs}
 use Rattle.vt_rows.specs.Row.{RowValue}
 use Rattle.vt_grid.specs.Canvas.{Canvas}
 use Rattle.vt_redraw.specs.Script.{pen_at, going, changing, columns}

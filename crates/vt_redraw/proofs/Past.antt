@@ -8,7 +8,7 @@ use Rattle.std.proofs.lemmas.Grind.{get_or-set_at}
 use Rattle.std.proofs.lemmas.List.{get_or-set_other, length-set}
 use Rattle.vt_cells.specs.Cell.{CellValue, blank, glyph, right_half, default_blank, is_wide, is_right_half, text_of, marked, widened}
 use Rattle.vt_cells.specs.Glyph.{is_selector, is_wide_text, IsMark}
-use Rattle.vt_cells.specs.declared.attrs.Attrs.{Attrs}
+use Rattle.vt_cells.specs.Attrs.{Attrs}
 use Rattle.vt_rows.specs.Cells.{at, put_cells, column_of, marked_at, narrowed_at, widened_at}
 use Rattle.vt_rows.proofs.Columns.{put_columns, length-put_cells}
 use Rattle.vt_rows.proofs.Pairs.{is_right_half-marked, is_wide-marked}

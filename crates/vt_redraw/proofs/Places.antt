@@ -4,7 +4,7 @@ use Rattle.std.proofs.lemmas.List.{length-append, length-drop}
 use Rattle.std.specs.List.{AllByRecursion}
 use Rattle.vt_cells.specs.Cell.{CellValue, blank, glyph, right_half, default_blank, is_right_half}
 use Rattle.vt_cells.specs.Op.{Op}
-use Rattle.vt_cells.specs.declared.attrs.Attrs.{Attrs}
+use Rattle.vt_cells.specs.Attrs.{Attrs}
 use Rattle.vt_rows.specs.Cells.{at, blanks, opened}
 use Rattle.vt_rows.specs.Row.{RowValue}
 use Rattle.vt_grid.specs.Canvas.{Canvas}

@@ -6,7 +6,7 @@ use Rattle.std.proofs.lemmas.Bool.{lt-ltb, ne_eqb}
 use Rattle.vt_cells.specs.Cell.{CellValue, blank, glyph, right_half, widened}
 use Rattle.vt_cells.specs.Glyph.{columns_of, first_columns, is_selector, is_wide_text, has_room, IsMark}
 use Rattle.vt_cells.specs.Op.{Print}
-use Rattle.vt_cells.specs.declared.attrs.Attrs.{Attrs}
+use Rattle.vt_cells.specs.Attrs.{Attrs}
 use Rattle.vt_rows.specs.Cells.{opened, put_cells, widened_at}
 use Rattle.vt_rows.specs.Row.{RowValue}
 use Rattle.vt_grid.specs.Page.{Page}

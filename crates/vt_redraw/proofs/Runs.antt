@@ -5,7 +5,7 @@ use Rattle.std.proofs.lemmas.Bool.{cond_both}
 use Rattle.std.proofs.lemmas.List.Sums.{prefix_len-le-length}
 use Rattle.vt_cells.proofs.Same.{attrs_of-same}
 use Rattle.vt_cells.specs.Cell.{CellValue, blank, glyph, right_half}
-use Rattle.vt_cells.specs.declared.attrs.Attrs.{Attrs}
+use Rattle.vt_cells.specs.Attrs.{Attrs}
 use Rattle.vt_rows.specs.Cells.{blanks}
 use Rattle.vt_redraw.specs.Script.{is_blank_of, run}
 

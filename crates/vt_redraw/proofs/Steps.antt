@@ -4,7 +4,7 @@ use Rattle.std.proofs.lemmas.Bool.{cond_both, and_parts, eqb-true, ltb-true, ne_
 use Rattle.vt_cells.proofs.Same.{attrs_of-same, changed_attrs-new}
 use Rattle.vt_cells.specs.Attrs.{same_attrs}
 use Rattle.vt_cells.specs.Op.{Op, MoveTo, MoveRight, NextRow, ChangeAttrs}
-use Rattle.vt_cells.specs.declared.attrs.Attrs.{Attrs}
+use Rattle.vt_cells.specs.Attrs.{Attrs}
 use Rattle.vt_rows.specs.Row.{RowValue}
 use Rattle.vt_grid.specs.Moves.{line_feed, moved_right}
 use Rattle.vt_grid.specs.Canvas.{Canvas, with_page, and_then, drawn, drawn_all}

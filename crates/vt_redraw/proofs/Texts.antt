@@ -5,7 +5,7 @@ use Rattle.std.specs.Char.{encode_utf8}
 use Rattle.std.proofs.lemmas.List.{get_or_at, set_at}
 use Rattle.vt_cells.specs.Cell.{CellValue, glyph, right_half, default_blank, is_wide, is_right_half, text_of, marked}
 use Rattle.vt_cells.specs.Glyph.{columns_of, first_columns, is_selector, is_wide_text, has_room, IsMark}
-use Rattle.vt_cells.specs.declared.attrs.Attrs.{Attrs}
+use Rattle.vt_cells.specs.Attrs.{Attrs}
 use Rattle.vt_rows.specs.Cells.{at, marked_at}
 use Rattle.vt_rows.specs.Row.{RowValue}
 use Rattle.vt_grid.specs.Page.{Page, cursor_row}

@@ -7,7 +7,7 @@ use Rattle.std.proofs.lemmas.Bool.Decides.{nat_tests}
 use Rattle.vt_cells.specs.Cell.{CellValue, blank, glyph, right_half, is_wide, is_right_half, text_of}
 use Rattle.vt_cells.specs.Glyph.{columns_of, first_columns, is_selector, is_wide_text, has_room, IsMark}
 use Rattle.vt_cells.specs.Op.{Print}
-use Rattle.vt_cells.specs.declared.attrs.Attrs.{Attrs}
+use Rattle.vt_cells.specs.Attrs.{Attrs}
 use Rattle.vt_rows.specs.Cells.{at, opened}
 use Rattle.vt_rows.specs.Row.{RowValue}
 use Rattle.vt_grid.specs.Page.{Page, cursor_row}

@@ -12,7 +12,7 @@ use Rattle.vt_grid.specs.Scrollback.{Scrollback, IsScrollback, last_of, visible}
 use Rattle.vt_grid.specs.Canvas.{Canvas}
 use Rattle.vt_redraw.specs.Keeping.{IsSource, cut_row, viewed}
 use Rattle.vt_redraw.specs.Picture.{IsPicture, cut_rows, picture_over}
-use Rattle.vt_cells.specs.declared.attrs.Attrs.{Attrs}
+use Rattle.vt_cells.specs.Attrs.{Attrs}
 use Rattle.vt_redraw.specs.Script.{pen_at}
 use Rattle.vt_redraw.specs.Redraw.{blank_like}
 use Rattle.vt_redraw.specs.declared.pen.Pen.{Pen}

@@ -3,7 +3,7 @@ use Rattle.std.specs.Prelude.{ℕ, suc, zero, ◌+◌, ◌-◌, nat_lt, Bool, fa
 use Rattle.vt_cells.specs.Attrs.{default_attrs, same_bool}
 use Rattle.vt_cells.specs.Cell.{CellValue, attrs_of, text_of}
 use Rattle.vt_cells.specs.Op.{Op, Hide, ClearAttrs, MoveTo, EraseBelow, EraseChars, LineFeed, Backspace, SaveCursor, RestoreCursor, Print}
-use Rattle.vt_cells.specs.declared.attrs.Attrs.{Attrs}
+use Rattle.vt_cells.specs.Attrs.{Attrs}
 use Rattle.vt_rows.specs.Cells.{at, ends_blank}
 use Rattle.vt_rows.specs.Row.{RowValue, blank_row}
 use Rattle.vt_grid.specs.Page.{row_or}

@@ -4,7 +4,7 @@ use Rattle.vt_cells.specs.Cell.{CellValue, blank, glyph, right_half, is_glyph, i
 use Rattle.std.specs.List.{prefix_len}
 use Rattle.vt_cells.specs.Attrs.{same_attrs}
 use Rattle.vt_cells.specs.Op.{Op, Backspace, ChangeAttrs, EraseChars, EraseRest, Print, moving}
-use Rattle.vt_cells.specs.declared.attrs.Attrs.{Attrs}
+use Rattle.vt_cells.specs.Attrs.{Attrs}
 use Rattle.vt_rows.specs.Cells.{at}
 use Rattle.vt_redraw.specs.declared.pen.Pen.{Pen}
 

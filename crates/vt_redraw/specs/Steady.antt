@@ -5,7 +5,7 @@ use Rattle.std.specs.List.{list_any}
 use Rattle.vt_cells.specs.Attrs.{default_attrs}
 use Rattle.vt_cells.specs.Cell.{CellValue, blank, glyph, right_half}
 use Rattle.vt_cells.specs.Glyph.{is_selector}
-use Rattle.vt_cells.specs.declared.attrs.Attrs.{Attrs}
+use Rattle.vt_cells.specs.Attrs.{Attrs}
 use Rattle.vt_grid.specs.Page.{blank_page}
 use Rattle.vt_grid.specs.Printing.{glyph_put}
 use Rattle.vt_grid.specs.Canvas.{Canvas, with_page, drawn_text}

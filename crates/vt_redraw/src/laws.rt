@@ -5,7 +5,7 @@ ghost use Rattle.std.specs.Prelude.{◌≡◌, ◌+◌, ◌<◌, ◌≤◌, ◌�
 ghost use Rattle.std.specs.List.{AllByRecursion};
 ghost use Rattle.vt_cells.specs.Attrs.{default_attrs};
 ghost use Rattle.vt_cells.specs.Cell.{glyph};
-ghost use Rattle.vt_cells.specs.declared.attrs.Attrs.{Attrs};
+ghost use Rattle.vt_cells.specs.Attrs.{Attrs};
 ghost use Rattle.vt_cells.specs.Op.{FitsAttrs, bytes_of_all};
 ghost use Rattle.vt_rows.specs.Cells.{ends_blank};
 ghost use Rattle.vt_rows.specs.Row.{RowValue, blank_row};

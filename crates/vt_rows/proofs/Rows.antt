@@ -7,7 +7,7 @@ use Rattle.std.proofs.lemmas.List.{length-set, length-replicate}
 use Rattle.std.proofs.lemmas.List.Elements.{All-replicate}
 use Rattle.vt_cells.specs.Cell.{CellValue, blank, glyph, right_half, default_blank, is_blank, is_right_half, marked, widened, IsCell}
 use Rattle.vt_cells.specs.Glyph.{IsGlyphText}
-use Rattle.vt_cells.specs.declared.attrs.Attrs.{Attrs}
+use Rattle.vt_cells.specs.Attrs.{Attrs}
 use Rattle.vt_rows.specs.Cells.{at, IsPaired, ends_blank, blanks, put_cells, column_of, put_narrow, put_wide, erased, marked_at, widened_at, narrowed_at}
 use Rattle.vt_rows.specs.Row.{RowValue, IsRow, blank_row, with_cells}
 use Rattle.vt_rows.proofs.Columns.{put_columns, length-put_cells}

@@ -5,7 +5,7 @@ use Rattle.std.proofs.lemmas.List.Elements.{All-nil, All-cons, All-head, All-tai
 use Rattle.vt_cells.specs.Glyph.{IsGlyphText}
 use Rattle.vt_cells.proofs.Cells.{IsCell-space}
 use Rattle.vt_cells.specs.Cell.{CellValue, blank, glyph, right_half, default_blank, marked, widened, IsCell}
-use Rattle.vt_cells.specs.declared.attrs.Attrs.{Attrs}
+use Rattle.vt_cells.specs.Attrs.{Attrs}
 use Rattle.vt_rows.specs.Cells.{at, mended, shut, opened, put_cells, put_narrow, put_wide, erased, blanks, marked_at, widened_at, narrowed_at}
 
 IsCell-mended : (x : CellValue) → IsCell x → IsCell (mended x)

@@ -2,7 +2,7 @@
 use Rattle.std.specs.Prelude.{◌≡◌, ℕ, ◌&&◌, ◌==◌, not, Bool, true, false, List, [], ◌∷◌, length, All, if◌then◌else◌}
 use Rattle.std.specs.List.{list_all}
 use Rattle.vt_cells.specs.Cell.{CellValue, IsCell, is_default_blank}
-use Rattle.vt_cells.specs.declared.attrs.Attrs.{Attrs}
+use Rattle.vt_cells.specs.Attrs.{Attrs}
 use Rattle.vt_rows.specs.Cells.{IsPaired, blanks, ends_blank, inserted, deleted, resized}
 
 pub record RowValue : Type 0 where

@@ -8,7 +8,7 @@ use Rattle.vt_cells.specs.Attrs.{default_attrs}
 use Rattle.vt_cells.specs.Cell.{CellValue, is_default_blank}
 use Rattle.vt_cells.specs.Glyph.{columns_of}
 use Rattle.vt_cells.specs.Op.{FitsAttrs}
-use Rattle.vt_cells.specs.declared.attrs.Attrs.{Attrs}
+use Rattle.vt_cells.specs.Attrs.{Attrs}
 use Rattle.vt_rows.specs.Cells.{resized}
 use Rattle.vt_rows.specs.Row.{RowValue, blank_row, resized_row, trimmed, trimmed_row}
 use Rattle.vt_grid.specs.Page.{Page, row_or}

@@ -3,7 +3,7 @@ use Rattle.std.proofs.Common.{◌≢◌, ℕ, ◌<◌, ◌^◌, Option, None, fa
 use Rattle.std.specs.Char.{IsScalar}
 use Rattle.std.specs.Prelude.{IfSome}
 use Rattle.vt_cells.specs.Op.{FitsAttrs}
-use Rattle.vt_cells.specs.declared.attrs.Attrs.{Attrs}
+use Rattle.vt_cells.specs.Attrs.{Attrs}
 use Rattle.vt_grid.specs.Page.{Page, blank_page}
 use Rattle.vt_grid.specs.Moves.{carriage_return, moved_right, moved_to, line_feed, cursor_saved, cursor_restored}
 use Rattle.vt_grid.specs.Erasing.{erased_below, erased_rest, erased_chars}

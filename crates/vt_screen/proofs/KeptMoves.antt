@@ -1,7 +1,7 @@
 -- Moves, shifts and erasures leave a screen whole.
 use Rattle.std.proofs.Common.{ℕ, Bool, Option}
 use Rattle.vt_cells.specs.Op.{FitsAttrs}
-use Rattle.vt_cells.specs.declared.attrs.Attrs.{Attrs}
+use Rattle.vt_cells.specs.Attrs.{Attrs}
 use Rattle.vt_grid.specs.Page.{Page, scrolled_up}
 use Rattle.vt_grid.specs.Moves.{moved_left}
 use Rattle.vt_grid.specs.Regions.{moved_up, moved_down, next_line, previous_line, tabbed, moved_to_column, moved_to_row, region_set, origin_set}

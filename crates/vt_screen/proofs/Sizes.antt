@@ -3,7 +3,7 @@ use Rattle.std.proofs.Common.{ℕ, zero, suc, ◌+◌, ◌-◌, ◌==◌, ◌&&�
 use Rattle.std.specs.Prelude.{◌||◌, if◌then◌else◌, Option, Some, None}
 use Rattle.std.specs.Char.{encode_utf8}
 use Rattle.std.proofs.lemmas.List.{length-append, length-take, length-replicate, length-set}
-use Rattle.vt_cells.specs.declared.attrs.Attrs.{Attrs}
+use Rattle.vt_cells.specs.Attrs.{Attrs}
 use Rattle.vt_cells.specs.Cell.{CellValue, text_of, is_wide}
 use Rattle.vt_cells.specs.Glyph.{columns_of, is_selector, is_wide_text}
 use Rattle.vt_rows.specs.Cells.{at, ends_blank, erased, put_narrow, put_wide, marked_at, widened_at, narrowed_at}

@@ -3,7 +3,7 @@ use Rattle.std.proofs.Common.{◌≡◌, ℕ, zero, suc, ◌+◌, ◌-◌, min, 
 use Rattle.std.specs.Prelude.{if◌then◌else◌, length, encode_utf8}
 use Rattle.vt_cells.specs.Cell.{text_of, is_wide}
 use Rattle.vt_cells.specs.Glyph.{columns_of, is_selector, is_wide_text}
-use Rattle.vt_cells.specs.declared.attrs.Attrs.{Attrs}
+use Rattle.vt_cells.specs.Attrs.{Attrs}
 use Rattle.vt_rows.specs.Cells.{at, ends_blank, erased, widened_at}
 use Rattle.vt_grid.specs.Erasing.{erased_below, erased_chars, erased_columns, erased_rest}
 use Rattle.vt_grid.specs.Page.{Page, cursor_row, scrolled_up}

@@ -1,7 +1,7 @@
 -- Which positions reading touches: those that its steps print on, append to, erase, or change as halves.
 use Rattle.std.specs.Prelude.{◌≡◌, ℕ, ◌+◌, ◌-◌, ◌<◌, ◌≤◌, ◌==◌, ◌||◌, min, true, false, List, [], ◌∷◌, length, Some}
 use Rattle.vt_cells.specs.Glyph.{columns_of}
-use Rattle.vt_cells.specs.declared.attrs.Attrs.{Attrs}
+use Rattle.vt_cells.specs.Attrs.{Attrs}
 use Rattle.vt_grid.specs.Canvas.{goes_on}
 use Rattle.vt_grid.specs.Moves.{at_bottom}
 use Rattle.vt_grid.specs.Page.{Page}

@@ -40,12 +40,12 @@ impl Numbers {
             items: [0; MAX_NUMBERS],
             len: 0,
         };
-        numbers.push_foreground(was.fgcolor, new.fgcolor);
-        numbers.push_background(was.bgcolor, new.bgcolor);
-        numbers.push_intensity(was.intensity, new.intensity);
-        numbers.push_switch(was.italic, new.italic, 3, 23);
-        numbers.push_switch(was.underline, new.underline, 4, 24);
-        numbers.push_switch(was.inverse, new.inverse, 7, 27);
+        numbers.push_foreground(was.fgcolor(), new.fgcolor());
+        numbers.push_background(was.bgcolor(), new.bgcolor());
+        numbers.push_intensity(was.intensity(), new.intensity());
+        numbers.push_switch(was.italic(), new.italic(), 3, 23);
+        numbers.push_switch(was.underline(), new.underline(), 4, 24);
+        numbers.push_switch(was.inverse(), new.inverse(), 7, 27);
         numbers
     }
 

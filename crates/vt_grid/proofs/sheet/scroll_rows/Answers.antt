@@ -1,6 +1,6 @@
 use Rattle.std.proofs.Common.{◌≡◌, ◌∙◌, ℕ, ◌&&◌, ◌+◌, ◌-◌, nat_le, nat_lt, get_or, subst}
 use Rattle.std.specs.Prelude.{if◌then◌else◌}
-use Rattle.vt_cells.specs.declared.attrs.Attrs.{Attrs}
+use Rattle.vt_cells.specs.Attrs.{Attrs}
 use Rattle.vt_rows.specs.Row.{RowValue}
 use Rattle.vt_grid.specs.Keeping.{cleared_row}
 use Rattle.vt_grid.proofs.Scrolls.{scrolled_is}

@@ -2,7 +2,7 @@ use Rattle.std.proofs.Common.{◌≡◌, ◌∙◌, ℕ, ◌&&◌, ◌+◌, ◌<
 use Rattle.std.specs.Prelude.{if◌then◌else◌, length}
 use Rattle.std.proofs.lemmas.List.{get_or_default}
 use Rattle.vt_cells.specs.Attrs.{default_attrs}
-use Rattle.vt_cells.specs.declared.attrs.Attrs.{Attrs}
+use Rattle.vt_cells.specs.Attrs.{Attrs}
 use Rattle.vt_rows.specs.Row.{RowValue, blank_row}
 use Rattle.vt_grid.specs.Keeping.{cleared_row}
 use Rattle.vt_grid.specs.Shifts.{unflagged}

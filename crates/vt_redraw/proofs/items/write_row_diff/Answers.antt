@@ -2,7 +2,7 @@ use Rattle.std.proofs.Common.{◌≡◌, ◌++◌, ◌∙◌, ap, sym, subst, Li
 use Rattle.std.proofs.lemmas.Result.{on_ok_weaker}
 use Rattle.vt_cells.specs.Cell.{CellValue}
 use Rattle.vt_cells.specs.Op.{bytes_of_all}
-use Rattle.vt_cells.specs.declared.attrs.Attrs.{Attrs}
+use Rattle.vt_cells.specs.Attrs.{Attrs}
 use Rattle.vt_grid.specs.Page.{row_or}
 use Rattle.vt_rows.specs.Row.{RowValue}
 use Rattle.vt_redraw.specs.Items.{begun, begun_over, item_of_difference, range_written}

@@ -1,5 +1,5 @@
 use Rattle.std.proofs.Common.{rules, subst, ap, refl, sym, ◌∙◌}
-use Rattle.vt_cells.specs.declared.attrs.Attrs.{Attrs}
+use Rattle.vt_cells.specs.Attrs.{Attrs}
 use Rattle.vt_grid.specs.Scrollback.{visible}
 use Rattle.vt_redraw.specs.Picture.{picture_over}
 use Rattle.vt_screen.specs.Shown.{shown}

@@ -10,5 +10,17 @@ returns c =
       c.push_intensity.ensures.value,
       c.push_background.ensures.value,
       c.push_foreground.ensures.value,
+      c.fgcolor.ensures,
+      c.fgcolor-2.ensures,
+      c.bgcolor.ensures,
+      c.bgcolor-2.ensures,
+      c.intensity.ensures,
+      c.intensity-2.ensures,
+      c.italic.ensures,
+      c.italic-2.ensures,
+      c.underline.ensures,
+      c.underline-2.ensures,
+      c.inverse.ensures,
+      c.inverse-2.ensures,
     )
     (parts_of_change c.args.was c.args.new)

@@ -1,0 +1,43 @@
+-- What a cell is, in one byte.
+use Rattle.std.proofs.Common.{◌≡◌, ℕ, ◌+◌, ◌/◌, ◌%◌, ◌<◌, ◌≤◌, ◌&&◌, ◌==◌, Bool, true, false, refl, arith, ap, sym, ◌∙◌, eqb-true, if◌then◌else◌}
+use Rattle.std.proofs.lemmas.Bool.Decides.{nat_tests}
+use Rattle.vt_cells.specs.Attrs.{same_bool}
+use Rattle.vt_cells.specs.CellKeeping.{ShapeValue, same_shape, shape_bits, shape_of}
+use Rattle.vt_cells.proofs.Same.{bool_of-same, same_bool-itself, two_parts}
+use Rattle.vt_cells.proofs.Packing.{alike, itself}
+
+-- the length and the width of a text are those of its byte
+pub text_back : (len : ℕ) (wide : Bool) → len < 32
+    → shape_of (if wide then len + 32 else len) ≡ record { len = len; wide = wide; right_half = false }
+text_back len true room =
+    let low : (len + 32) % 32 ≡ len = omega arith in
+    let flag : (len + 32) / 32 ≡ 1 = omega arith in
+    let high : (len + 32) / 64 ≡ 0 = omega arith in
+    λ i. record { len = low i; wide = flag i % 2 == 1; right_half = high i == 1 }
+text_back len false room =
+    let low : len % 32 ≡ len = omega arith in
+    let flag : len / 32 ≡ 0 = omega arith in
+    let high : len / 64 ≡ 0 = omega arith in
+    λ i. record { len = low i; wide = flag i % 2 == 1; right_half = high i == 1 }
+
+shape_of-same : (a b : ShapeValue) → same_shape a b ≡ true → a ≡ b
+unfolding same_shape
+shape_of-same a b e =
+    let (len, flags) = two_parts _ _ e in
+    let (wide, right) = two_parts _ _ flags in
+    λ i. record {
+      len = eqb-true a.len b.len len i;
+      wide = bool_of-same a.wide b.wide wide i;
+      right_half = bool_of-same a.right_half b.right_half right i;
+    }
+
+same_shape-itself : (a : ShapeValue) → same_shape a a ≡ true
+unfolding same_shape
+same_shape-itself a = rw (itself a.len, same_bool-itself a.wide, same_bool-itself a.right_half) refl
+
+-- two bytes are compared, and the shapes are
+pub bits_same : (m n : ℕ) → shape_bits (shape_of m) ≡ m → shape_bits (shape_of n) ≡ n → (m == n) ≡ same_shape (shape_of m) (shape_of n)
+bits_same m n p q =
+    alike (m == n) (same_shape (shape_of m) (shape_of n))
+    (λ e. rw (eqb-true m n e) (same_shape-itself (shape_of n)))
+    (λ e. rw (sym p ∙ ap shape_bits (shape_of-same (shape_of m) (shape_of n) e) ∙ q) (itself n))
