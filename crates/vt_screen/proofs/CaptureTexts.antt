@@ -113,7 +113,6 @@ fresh_rows written (suc n) width =
     let none = trimmed_blanks width in
     rw none (ap (λ (rest : List ℕ). 0x0A ∷ rest) (fresh_rows written n width))
 
-
 pub fresh_capture : (rows cols capacity : ℕ) → basic_texts unwritten (visible_rows (fresh_screen (suc rows) cols capacity)) ≡ replicate rows 0x0A
 fresh_capture rows cols capacity =
     let none = trimmed_blanks cols in

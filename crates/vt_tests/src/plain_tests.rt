@@ -1,11 +1,9 @@
 use crate::seen::read_keeping;
 use crate::steps::Step::{self, Resize, ResizeParser, Text, View};
-use crate::steps::{Pieces, taken};
+use crate::steps::{Pieces, longest, taken};
 use std::alloc::Global;
-use std::process::Abort;
 use std::test::Fail;
-use vt_notes::Notes;
-use vt100::{Error, Parser, Screen};
+use vt100::{Error, Screen};
 
 // A size, a capacity of scrollback, what is done, and the text then.
 #[rattlefmt::skip]
@@ -47,10 +45,39 @@ const CONTENTS: [((u16, u16), usize, &[Step], &str); 24] = [
 #[test]
 fn contents(rt: HostRuntime) -> Result<(), Fail> {
     for (size, capacity, steps, wanted) in &CONTENTS {
-        let parser = taken(rt.alloc(), *size, *capacity, steps, Pieces::Single)?;
-        assert_eq!(rt; parser.screen().contents()?.as_str(), *wanted);
+        for most in 0..=longest(steps) {
+            expect_contents(
+                rt.alloc(),
+                *size,
+                *capacity,
+                steps,
+                Pieces::Two(most),
+                *wanted,
+            )?;
+        }
+        expect_contents(rt.alloc(), *size, *capacity, steps, Pieces::Single, *wanted)?;
     }
     Ok(())
+}
+
+fn expect_contents(
+    alloc: Global,
+    size: (u16, u16),
+    capacity: usize,
+    steps: &[Step],
+    pieces: Pieces,
+    wanted: &str,
+) -> Result<(), Fail> {
+    let parser = taken(alloc, size, capacity, steps, pieces)?;
+    expect_text(parser.screen().contents()?, wanted)
+}
+
+fn expect_text(text: String, wanted: &str) -> Result<(), Fail> {
+    if text.as_str() == wanted {
+        Ok(())
+    } else {
+        Err(Fail::new(format_args!("{text:?} and not {wanted:?}")))
+    }
 }
 
 // What is done, a range from one row and column to another, and its text.
@@ -69,11 +96,29 @@ const RANGES: [(&str, (u16, u16), (u16, u16), &str); 8] = [
 #[test]
 fn contents_between(rt: HostRuntime) -> Result<(), Fail> {
     for (text, start, end, wanted) in &RANGES {
-        let parser = read_keeping(rt.alloc(), (2, 4), 0, &[text.as_bytes()])?;
-        let between = range(parser.screen(), *start, *end)?;
-        assert_eq!(rt; between.as_str(), *wanted);
+        for most in 0..=text.len() {
+            expect_range(
+                rt.alloc(),
+                *text,
+                Pieces::Two(most),
+                (*start, *end),
+                *wanted,
+            )?;
+        }
+        expect_range(rt.alloc(), *text, Pieces::Single, (*start, *end), *wanted)?;
     }
     Ok(())
+}
+
+fn expect_range(
+    alloc: Global,
+    text: &'static str,
+    pieces: Pieces,
+    (start, end): ((u16, u16), (u16, u16)),
+    wanted: &str,
+) -> Result<(), Fail> {
+    let parser = taken(alloc, (2, 4), 0, &[Text(text)], pieces)?;
+    expect_text(range(parser.screen(), start, end)?, wanted)
 }
 
 // The text of a range of the screen; fails where it begins past the columns.
@@ -86,50 +131,63 @@ fn range(screen: &Screen, start: (u16, u16), end: (u16, u16)) -> Result<String, 
 }
 
 // Two rows of scrollback with more columns than the screen, of which the newer one is in view.
-fn longer(alloc: Global) -> Result<Parser<Notes>, Fail> {
-    let steps = [Text("abcdef\r\nghi\r\nj"), Resize(2, 3), View(1)];
-    taken(alloc, (2, 6), 10, &steps, Pieces::Single)
-}
+const LONGER: [Step; 3] = [Text("abcdef\r\nghi\r\nj"), Resize(2, 3), View(1)];
 
 #[test]
 fn longer_rows_of_scrollback(rt: HostRuntime) -> Result<(), Fail> {
-    let parser = longer(rt.alloc())?;
-    let screen = parser.screen();
-    assert_eq!(rt; range(screen, (0, 2), (1, 9))?.as_str(), "c\nghi");
-    assert_eq!(rt; range(screen, (0, 2), (0, 9))?.as_str(), "cdef");
-    expect_rows(&rt, screen, 0, 9, &["abcdef", "ghi"])
+    for most in 0..=longest(&LONGER) {
+        expect_longer(rt.alloc(), Pieces::Two(most))?;
+    }
+    expect_longer(rt.alloc(), Pieces::Single)
 }
 
-fn expect_rows<A: Abort>(
-    rt: &A,
-    screen: &Screen,
-    start: u16,
-    width: u16,
-    wanted: &[&str],
-) -> Result<(), Fail> {
+fn expect_longer(alloc: Global, pieces: Pieces) -> Result<(), Fail> {
+    let parser = taken(alloc, (2, 6), 10, &LONGER, pieces)?;
+    let screen = parser.screen();
+    expect_text(range(screen, (0, 2), (1, 9))?, "c\nghi")?;
+    expect_text(range(screen, (0, 2), (0, 9))?, "cdef")?;
+    expect_rows(screen, 0, 9, &["abcdef", "ghi"])
+}
+
+fn expect_rows(screen: &Screen, start: u16, width: u16, wanted: &[&str]) -> Result<(), Fail> {
     let mut count: usize = 0;
     for (item, text) in screen.rows(start, width).zip(wanted.iter()) {
-        assert_eq!(rt; item?.as_str(), *text);
+        expect_text(item?, *text)?;
         count = count.saturating_add(1);
     }
-    assert_eq!(rt; count, wanted.len());
-    Ok(())
+    if count == wanted.len() {
+        Ok(())
+    } else {
+        Err(Fail::new("fewer rows"))
+    }
 }
 
 #[test]
 fn rows(rt: HostRuntime) -> Result<(), Fail> {
-    let parser = read_keeping(rt.alloc(), (2, 4), 0, &[b"abcdx"])?;
-    let screen = parser.screen();
-    expect_rows(&rt, screen, 0, 4, &["abcd", "x"])?;
-    expect_rows(&rt, screen, 1, 2, &["bc", ""])?;
-    expect_rows(&rt, screen, 65535, 65535, &["", ""])?;
-    let mut joined = String::new(rt.alloc());
-    for item in screen.rows(1, 2) {
-        joined.push_str(item?.as_str())?;
+    for most in 0..=5 {
+        let parser = taken(rt.alloc(), (2, 4), 0, &[Text("abcdx")], Pieces::Two(most))?;
+        expect_all_rows(rt.alloc(), parser.screen())?;
     }
-    assert_eq!(rt; joined.as_str(), "bc");
-    let texts: Result<Vec<String>, Error> = screen.rows(1, 2).try_collect(rt.alloc());
-    assert_eq!(rt; texts?.len(), 2);
+    Ok(())
+}
+
+fn expect_all_rows(alloc: Global, screen: &Screen) -> Result<(), Fail> {
+    expect_rows(screen, 0, 4, &["abcd", "x"])?;
+    expect_rows(screen, 1, 2, &["bc", ""])?;
+    expect_rows(screen, 65535, 65535, &["", ""])?;
+    let texts: Result<Vec<String>, Error> = screen.rows(1, 2).try_collect(alloc);
+    expect_joined(texts?, "bc")
+}
+
+fn expect_joined(texts: Vec<String>, wanted: &str) -> Result<(), Fail> {
+    if texts.len() != 2 {
+        return Err(Fail::new("not two rows"));
+    }
+    for (text, word) in texts.iter().zip([wanted, ""]) {
+        if text.as_str() != word {
+            return Err(Fail::new(format_args!("{text:?} and not {word:?}")));
+        }
+    }
     Ok(())
 }
 
