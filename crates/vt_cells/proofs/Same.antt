@@ -2,11 +2,10 @@
 use Rattle.std.proofs.Common.{◌≡◌, ◌≢◌, ◌&&◌, Bool, true, false, if◌then◌else◌, refl, arith, ap, sym, ◌∙◌, eqb-true}
 use Rattle.std.proofs.lemmas.Bool.Decides.{nat_tests}
 use mathlib.Core.Bool.{beq}
-use Rattle.vt_cells.specs.Attrs.{default_attrs, same_color, same_intensity, same_bool, same_attrs, changed_attrs}
+use Rattle.vt_cells.specs.Attrs.{default_attrs, same_color, same_intensity, same_bool, same_attrs, changed_attrs, Attrs}
 use Rattle.vt_cells.specs.CellEq.{attrs_eq}
 use Rattle.vt_cells.specs.contracts.attrs.IntensityPartialEq.TheImpl as intensity
 use Rattle.vt_cells.specs.contracts.color.ColorPartialEq.TheImpl as colors
-use Rattle.vt_cells.specs.Attrs.{Attrs}
 use Rattle.vt_cells.specs.declared.attrs.Intensity.{Intensity}
 use Rattle.vt_cells.specs.declared.attrs.Intensity.TheVariants.{Normal, Bold, Dim}
 use Rattle.vt_cells.specs.declared.color.Color.{Color}

@@ -1,8 +1,7 @@
 -- Cells: a blank, a glyph, or the right half of the wide glyph before it.
 use Rattle.std.specs.Prelude.{ℕ, ◌==◌, Bool, true, false, List, [], ◌∷◌, length, bytes_eq, ◌&&◌, if◌then◌else◌}
-use Rattle.vt_cells.specs.Attrs.{default_attrs, same_bool, same_attrs}
+use Rattle.vt_cells.specs.Attrs.{default_attrs, same_bool, same_attrs, Attrs}
 use Rattle.vt_cells.specs.Glyph.{IsGlyphText, marked_text}
-use Rattle.vt_cells.specs.Attrs.{Attrs}
 
 -- a blank in attributes; a glyph with its text in UTF-8, wide (two columns) or narrow, in attributes; a right half
 pub data CellValue : Type 0 where

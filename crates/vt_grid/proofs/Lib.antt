@@ -1,3 +1,4 @@
+pub mod Flats
 pub mod Drawing
 pub mod Dispatch
 pub mod Carries
@@ -9,6 +10,7 @@ pub mod Prints
 pub mod Regions
 pub mod ScrollExamples
 pub mod Scrolls
+pub mod Turns
 pub mod Shifting
 pub mod ShiftExamples
 pub mod Blanking

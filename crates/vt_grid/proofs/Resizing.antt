@@ -1,12 +1,12 @@
 -- Another size of a page: what the fresh rows take over, and that what results is a page.
-use Rattle.std.proofs.Common.{◌≡◌, ℕ, ◌+◌, ◌-◌, ◌<◌, ◌≤◌, ◌^◌, nat_le, nat_lt, min, Bool, true, false, List, [], ◌∷◌, ◌++◌, length, take, drop, map, get_or, set, replicate, refl, inl, inr, sym, ap, subst, ◌∙◌, arith}
-use Rattle.std.specs.Prelude.{All, if◌then◌else◌}
+use Rattle.std.proofs.Common.{◌≡◌, ℕ, ◌+◌, ◌-◌, ◌<◌, ◌≤◌, ◌^◌, nat_le, nat_lt, min, Bool, true, false, List, [], ◌∷◌, ◌++◌, length, take, drop, map, get_or, replicate, refl, inl, inr, sym, ap, subst, ◌∙◌, arith}
+use Rattle.std.specs.Prelude.{All, ◌&&◌, if◌then◌else◌}
 use Rattle.std.proofs.lemmas.Bool.{cases_lt, cases_eq, cond_both}
 use Rattle.std.proofs.lemmas.Bool.Decides.{nat_tests}
 use Rattle.std.proofs.lemmas.Grind.{get_or-set_at}
-use Rattle.std.proofs.lemmas.List.{take_all, drop_all, append-nil, ext_get_or, get_or_default, get_or_past, get_or-map, get_or-drop, get_or-replicate, get_or_append_left, get_or-append_right, length-map, length-replicate, length-set, length-take}
+use Rattle.std.proofs.lemmas.List.{take_all, drop_all, append-nil, ext_get_or, get_or_past, get_or-map, get_or-drop, get_or-replicate, get_or_append_left, get_or-append_right, length-map, length-replicate, length-set, length-take}
 use Rattle.std.proofs.lemmas.List.FromFn.{length-map-range_with_len, get_or-map-range_with_len}
-use Rattle.std.proofs.lemmas.List.Elements.{All-append, All-from_get_or, All-get_or, All-map, All-set, All-take, All-weaker}
+use Rattle.std.proofs.lemmas.List.Elements.{All-append, All-from_get_or, All-get_or, All-map, All-replicate, All-same, All-set, All-take, All-weaker}
 use Rattle.vt_cells.specs.Attrs.{default_attrs}
 use Rattle.vt_cells.specs.Cell.{default_blank}
 use Rattle.vt_rows.specs.Cells.{blanks, resized}
@@ -137,21 +137,56 @@ whole n given items e l =
     ap (λ (rest : List RowValue). take n (given ++ rest)) none ∙ (ap (take n) (append-nil given) ∙ take_all n given (omega arith))
 
 -- the last of them goes on no more
-pub settled : (v w h down up n last : ℕ) (above rows fresh items filled : List RowValue) (row new : RowValue) → fresh ≡ replicate h (blank_row default_attrs w) → items ≡ fresh → n ≡ length items → 0 < h → last ≡ n - 1 → length filled ≡ length items →
-    (0 < up → down ≡ 0) → ((k : ℕ) (d : RowValue) → k < length items → get_or filled k d ≡ refilled down up above rows (get_or items k d) k d) →
-    row ≡ get_or (take n (filled ++ drop (length filled) items)) last row → new ≡ record row { wrapped = false } →
-    set (take n (filled ++ drop (length filled) items)) last new ≡ rows_resized w (window v h down up above rows)
-settled v w h down up n last above rows fresh items filled row new e f l pos end same either by_index was is =
+-- the last row of the fresh ones goes on no more
+pub settled : (v w width h down up last : ℕ) (above rows fresh filled : List RowValue) → fresh ≡ replicate h (blank_row default_attrs w) → width ≡ w → 0 < h → last ≡ length filled - 1 → length filled ≡ length fresh →
+    (0 < up → down ≡ 0) → ((k : ℕ) (d : RowValue) → k < length fresh → get_or filled k d ≡ refilled down up above rows (get_or fresh k d) k d) →
+    unflagged width last filled ≡ rows_resized w (window v h down up above rows)
+settled v w width h down up last above rows fresh filled e wide pos end same either by_index =
     let win = window v h down up above rows in
-    let all : take n (filled ++ drop (length filled) items) ≡ map (resized_row w) win = whole n filled items same l ∙ refilled_is v w h down up above rows items filled (f ∙ e) same either by_index in
-    let len : length (map (resized_row w) win) ≡ h = length-map win (resized_row w) ∙ length-window v h down up above rows in
-    let n_is : n ≡ h = l ∙ (ap length (f ∙ e) ∙ length-replicate h (blank_row default_attrs w)) in
-    let place : last ≡ length win - 1 = omega (arith, end, n_is, length-window v h down up above rows) in
-    let row_is : row ≡ get_or (map (resized_row w) win) last row = was ∙ ap (λ (xs : List RowValue). get_or xs last row) all in
-    let other : row ≡ row_or w (map (resized_row w) win) last = row_is ∙ get_or_default (map (resized_row w) win) last row (blank_row default_attrs w) (omega (arith, len, end, n_is)) in
-    ap (λ (xs : List RowValue). set xs last new) all
-    ∙ (ap (λ (x : RowValue). set (map (resized_row w) win) last x) (is ∙ ap (λ (x : RowValue). record x { wrapped = false }) other)
-    ∙ ap (λ (i : ℕ). unflagged w i (map (resized_row w) win)) place)
+    let all : filled ≡ map (resized_row w) win = refilled_is v w h down up above rows fresh filled e same either by_index in
+    let place : last ≡ length win - 1 = omega (arith, end, same, ap length e, length-replicate h (blank_row default_attrs w), length-window v h down up above rows) in
+    λ z. unflagged (wide z) (place z) (all z)
+
+-- what is filled from both sides
+pub refilled_by : (down up : ℕ) (above rows fresh half filled : List RowValue) → length half ≡ length fresh →
+    ((k : ℕ) (d : RowValue) → k < length fresh → get_or half k d ≡ (if nat_lt k up && nat_le up (length above + k) then resized_row (length (get_or fresh k d).cells) (get_or above (length above + k - up) d) else get_or fresh k d)) →
+    ((k : ℕ) (d : RowValue) → k < length half → get_or filled k d ≡ (if nat_le up k && nat_lt (down + (k - up)) (length rows) then resized_row (length (get_or half k d).cells) (get_or rows (down + (k - up)) d) else get_or half k d)) →
+    (k : ℕ) (d : RowValue) → k < length fresh → get_or filled k d ≡ refilled down up above rows (get_or fresh k d) k d
+refilled_by down up above rows fresh half filled e f g k d h =
+    let l : k < length half = omega (arith, e) in
+    let blank = get_or fresh k d in
+    let back = resized_row (length blank.cells) (get_or above (length above + k - up) d) in
+    let own = resized_row (length blank.cells) (get_or rows (down + (k - up)) d) in
+    elim (cases_lt k up) [
+      | inl lt ↦
+          let t : (nat_le up k && nat_lt (down + (k - up)) (length rows)) ≡ false = grind (arith, nat_tests) in
+          let u : nat_lt k up ≡ true = grind (arith, nat_tests) in
+          g k d l ∙ (passes (nat_le up k && nat_lt (down + (k - up)) (length rows)) (resized_row (length (get_or half k d).cells) (get_or rows (down + (k - up)) d)) (get_or half k d) t
+          ∙ (f k d h ∙ (ap (λ (b : Bool). if b && nat_le up (length above + k) then back else blank) u
+          ∙ sym (picks (nat_lt k up) (if nat_le up (length above + k) then back else blank) (if nat_lt (down + (k - up)) (length rows) then own else blank) u))))
+      | inr ge ↦
+          let t : nat_le up k ≡ true = grind (arith, nat_tests) in
+          let u : nat_lt k up ≡ false = grind (arith, nat_tests) in
+          let still : get_or half k d ≡ blank = f k d h ∙ ap (λ (b : Bool). if b && nat_le up (length above + k) then back else blank) u in
+          g k d l ∙ ((λ z. if t z && nat_lt (down + (k - up)) (length rows) then resized_row (length (still z).cells) (get_or rows (down + (k - up)) d) else still z)
+          ∙ sym (passes (nat_lt k up) (if nat_le up (length above + k) then back else blank) (if nat_lt (down + (k - up)) (length rows) then own else blank) u))
+    ]
+
+pub all_blank : (h w : ℕ) (rows : List RowValue) → rows ≡ replicate h (blank_row default_attrs w) → All (λ row. row ≡ blank_row default_attrs (length row.cells)) rows
+all_blank h w rows e =
+    All-same (λ row. row ≡ blank_row default_attrs (length row.cells)) rows (replicate h (blank_row default_attrs w)) e
+    (All-replicate (λ row. row ≡ blank_row default_attrs (length row.cells)) h (blank_row default_attrs w) (ap (blank_row default_attrs) (sym (length-replicate w default_blank))))
+
+-- the rows below those that came back are blank still
+pub still_fresh : (up : ℕ) (above fresh half : List RowValue) → length half ≡ length fresh → All (λ row. row ≡ blank_row default_attrs (length row.cells)) fresh →
+    ((k : ℕ) (d : RowValue) → k < length fresh → get_or half k d ≡ (if nat_lt k up && nat_le up (length above + k) then resized_row (length (get_or fresh k d).cells) (get_or above (length above + k - up) d) else get_or fresh k d)) →
+    (k : ℕ) (d : RowValue) → up ≤ k → k < length half → get_or half k d ≡ blank_row default_attrs (length (get_or half k d).cells)
+still_fresh up above fresh half e all f k d below h =
+    let l : k < length fresh = omega (arith, e) in
+    let u : nat_lt k up ≡ false = grind (arith, nat_tests) in
+    let still : get_or half k d ≡ get_or fresh k d =
+    f k d l ∙ ap (λ (b : Bool). if b && nat_le up (length above + k) then resized_row (length (get_or fresh k d).cells) (get_or above (length above + k - up) d) else get_or fresh k d) u in
+    subst (λ (row : RowValue). row ≡ blank_row default_attrs (length row.cells)) (sym still) (All-get_or (λ row. row ≡ blank_row default_attrs (length row.cells)) fresh k d l all)
 
 -- ---- a page
 

@@ -1,19 +1,15 @@
 -- Rows turned and cleared are rows moved up or down.
 use Rattle.std.proofs.Common.{◌≡◌, ℕ, ◌+◌, ◌-◌, ◌<◌, ◌≤◌, ◌&&◌, nat_lt, nat_le, min, Bool, true, false, List, ◌++◌, length, take, drop, replicate, get_or, refl, inl, inr, sym, ap, ◌∙◌, arith}
-use Rattle.std.specs.Prelude.{if◌then◌else◌, All}
+use Rattle.std.specs.Prelude.{if◌then◌else◌}
 use Rattle.std.proofs.lemmas.Bool.{cases_lt}
 use Rattle.std.proofs.lemmas.Bool.Decides.{nat_tests}
 use Rattle.std.proofs.lemmas.List.{get_or_past, ext_get_or, length-append, length-take, length-drop, length-replicate, get_or-take, get_or-drop, get_or_append_left, get_or-append_right, get_or-replicate}
 use Rattle.std.proofs.lemmas.List.FromFn.{fill_by_all}
-use Rattle.std.proofs.lemmas.List.Elements.{All-get_or}
-use Rattle.vt_cells.specs.Attrs.{default_attrs}
-use Rattle.vt_cells.specs.Attrs.{Attrs}
-use Rattle.vt_rows.specs.Row.{RowValue, IsRow, blank_row}
+use Rattle.vt_cells.specs.Attrs.{default_attrs, Attrs}
+use Rattle.vt_rows.specs.Row.{RowValue, blank_row}
 use Rattle.vt_rows.specs.Keeping.{turn_source}
-use Rattle.vt_grid.specs.Keeping.{cleared_row}
 use Rattle.vt_grid.specs.Page.{row_or, moved_rows, up_source, rows_up}
 use Rattle.vt_grid.specs.Shifts.{down_source}
-use Rattle.vt_grid.proofs.Pages.{row_or-moved_rows, length-moved_rows}
 
 source_inside : (from to n k len : ℕ) → from + n ≤ to → to ≤ len → k < len → turn_source from to n k < len
 source_inside from to n k len h t l = grind (arith, nat_tests)
@@ -28,31 +24,27 @@ source_past len top bottom count n k e o i t = grind (arith, nat_tests)
 
 -- rows from top to bottom turned to the left by m and cleared from `from` up to `to` come from where `source` says, past the end where they are cleared
 turned_is : (w top bottom m from to : ℕ) (source : ℕ → ℕ) (rows turned cleared : List RowValue) → top + m ≤ bottom + 1 → bottom < length rows → length cleared ≡ length rows →
-    ((k : ℕ) (d : RowValue) → get_or turned k d ≡ get_or rows (turn_source top (bottom + 1) m k) d) →
-    ((k : ℕ) (d : RowValue) → get_or cleared k d ≡ (if nat_le from k && nat_lt k to then cleared_row default_attrs (get_or turned k d) else get_or turned k d)) →
+    ((k : ℕ) (d : RowValue) → k < length rows → get_or turned k d ≡ get_or rows (turn_source top (bottom + 1) m k) d) →
+    ((k : ℕ) (d : RowValue) → k < length rows → get_or cleared k d ≡ (if nat_le from k && nat_lt k to then blank_row default_attrs w else get_or turned k d)) →
     ((k : ℕ) → k < length rows → (nat_le from k && nat_lt k to) ≡ true → source k ≡ length rows) →
     ((k : ℕ) → k < length rows → (nat_le from k && nat_lt k to) ≡ false → turn_source top (bottom + 1) m k ≡ source k) →
-    All (IsRow w) rows → cleared ≡ moved_rows w source rows
+    cleared ≡ moved_rows w source rows
 unfolding moved_rows
-turned_is w top bottom m from to source rows turned cleared o i lc ft fc past agree sound =
+turned_is w top bottom m from to source rows turned cleared o i lc ft fc past agree =
     fill_by_all (λ k. row_or w rows (source k)) cleared (length rows) (blank_row default_attrs w) lc (λ k h.
-    fc k (blank_row default_attrs w) ∙ by_test k h (nat_le from k && nat_lt k to) refl) where
+    fc k (blank_row default_attrs w) h ∙ by_test k h (nat_le from k && nat_lt k to) refl) where
       by_test : (k : ℕ) → k < length rows → (b : Bool) → (nat_le from k && nat_lt k to) ≡ b →
-          (if b then cleared_row default_attrs (get_or turned k (blank_row default_attrs w)) else get_or turned k (blank_row default_attrs w)) ≡ row_or w rows (source k)
-      by_test k h true t =
-          let s = turn_source top (bottom + 1) m k in
-          let row : IsRow w (get_or rows s (blank_row default_attrs w)) = All-get_or (IsRow w) rows s (blank_row default_attrs w) (source_inside top (bottom + 1) m k (length rows) o (omega arith) h) sound in
-          ap (cleared_row default_attrs) (ft k (blank_row default_attrs w)) ∙ (ap (λ (n : ℕ). blank_row default_attrs n) row.columns
-          ∙ sym (ap (λ (r : ℕ). row_or w rows r) (past k h t) ∙ get_or_past rows (length rows) (blank_row default_attrs w) (omega arith)))
-      by_test k h false f = ft k (blank_row default_attrs w) ∙ ap (λ (r : ℕ). row_or w rows r) (agree k h f)
+          (if b then blank_row default_attrs w else get_or turned k (blank_row default_attrs w)) ≡ row_or w rows (source k)
+      by_test k h true t = sym (ap (λ (r : ℕ). row_or w rows r) (past k h t) ∙ get_or_past rows (length rows) (blank_row default_attrs w) (omega arith))
+      by_test k h false f = ft k (blank_row default_attrs w) h ∙ ap (λ (r : ℕ). row_or w rows r) (agree k h f)
 
 pub scrolled_is : (w top bottom count n : ℕ) (rows turned cleared : List RowValue) → n ≡ min count (bottom + 1 - top) → top ≤ bottom → bottom < length rows → length cleared ≡ length rows →
-    ((k : ℕ) (d : RowValue) → get_or turned k d ≡ get_or rows (turn_source top (bottom + 1) n k) d) →
-    ((k : ℕ) (d : RowValue) → get_or cleared k d ≡ (if nat_le (bottom + 1 - n) k && nat_lt k (bottom + 1) then cleared_row default_attrs (get_or turned k d) else get_or turned k d)) →
-    All (IsRow w) rows → cleared ≡ rows_up w top bottom count rows
-scrolled_is w top bottom count n rows turned cleared e o i lc ft fc sound =
+    ((k : ℕ) (d : RowValue) → k < length rows → get_or turned k d ≡ get_or rows (turn_source top (bottom + 1) n k) d) →
+    ((k : ℕ) (d : RowValue) → k < length rows → get_or cleared k d ≡ (if nat_le (bottom + 1 - n) k && nat_lt k (bottom + 1) then blank_row default_attrs w else get_or turned k d)) →
+    cleared ≡ rows_up w top bottom count rows
+scrolled_is w top bottom count n rows turned cleared e o i lc ft fc =
     turned_is w top bottom n (bottom + 1 - n) (bottom + 1) (up_source (length rows) top bottom count) rows turned cleared (omega arith) i lc ft fc
-    (λ k h t. source_past (length rows) top bottom count n k e o i t) (λ k h f. sources_agree (length rows) top bottom count n k e o i h f) sound
+    (λ k h t. source_past (length rows) top bottom count n k e o i t) (λ k h f. sources_agree (length rows) top bottom count n k e o i h f)
 
 -- ---- down
 
@@ -65,19 +57,19 @@ down_past : (len top bottom count n k : ℕ) → n ≡ min count (bottom + 1 - t
 down_past len top bottom count n k e o i t = grind (arith, nat_tests)
 
 pub scrolled_down_is : (w top bottom count n : ℕ) (rows turned cleared : List RowValue) → n ≡ min count (bottom + 1 - top) → top ≤ bottom → bottom < length rows → length cleared ≡ length rows →
-    ((k : ℕ) (d : RowValue) → get_or turned k d ≡ get_or rows (turn_source top (bottom + 1) (bottom + 1 - top - n) k) d) →
-    ((k : ℕ) (d : RowValue) → get_or cleared k d ≡ (if nat_le top k && nat_lt k (top + n) then cleared_row default_attrs (get_or turned k d) else get_or turned k d)) →
-    All (IsRow w) rows → cleared ≡ moved_rows w (down_source (length rows) top bottom count) rows
-scrolled_down_is w top bottom count n rows turned cleared e o i lc ft fc sound =
+    ((k : ℕ) (d : RowValue) → k < length rows → get_or turned k d ≡ get_or rows (turn_source top (bottom + 1) (bottom + 1 - top - n) k) d) →
+    ((k : ℕ) (d : RowValue) → k < length rows → get_or cleared k d ≡ (if nat_le top k && nat_lt k (top + n) then blank_row default_attrs w else get_or turned k d)) →
+    cleared ≡ moved_rows w (down_source (length rows) top bottom count) rows
+scrolled_down_is w top bottom count n rows turned cleared e o i lc ft fc =
     turned_is w top bottom (bottom + 1 - top - n) top (top + n) (down_source (length rows) top bottom count) rows turned cleared (omega arith) i lc ft fc
-    (λ k h t. down_past (length rows) top bottom count n k e o i t) (λ k h f. down_agree (length rows) top bottom count n k e o i h f) sound
+    (λ k h t. down_past (length rows) top bottom count n k e o i t) (λ k h f. down_agree (length rows) top bottom count n k e o i h f)
 
 -- ---- erasing
 
-cleared_at : (w from k : ℕ) (attrs : Attrs) (rows : List RowValue) → k < length rows → from ≤ length rows → All (IsRow w) rows →
-    (if nat_le from k && nat_lt k (length rows) then cleared_row attrs (get_or rows k (blank_row default_attrs w)) else get_or rows k (blank_row default_attrs w))
+cleared_at : (w from k : ℕ) (attrs : Attrs) (rows : List RowValue) → k < length rows → from ≤ length rows →
+    (if nat_le from k && nat_lt k (length rows) then blank_row attrs w else get_or rows k (blank_row default_attrs w))
     ≡ get_or (take from rows ++ replicate (length rows - from) (blank_row attrs w)) k (blank_row default_attrs w)
-cleared_at w from k attrs rows i h sound =
+cleared_at w from k attrs rows i h =
     let d = blank_row default_attrs w in
     let below = replicate (length rows - from) (blank_row attrs w) in
     elim (cases_lt k from) [
@@ -86,32 +78,29 @@ cleared_at w from k attrs rows i h sound =
           rw (t, get_or_append_left (take from rows) below d k (omega (arith, length-take from rows)), get_or-take from rows k d lt) refl
       | inr ge ↦
           let t : (nat_le from k && nat_lt k (length rows)) ≡ true = grind (arith, nat_tests) in
-          let row : IsRow w (get_or rows k d) = All-get_or (IsRow w) rows k d i sound in
-          rw (t, get_or-append_right (take from rows) below from k d (omega (arith, length-take from rows)) ge, get_or-replicate (length rows - from) (k - from) (blank_row attrs w) d (omega arith))
-          (ap (blank_row attrs) row.columns)
+          rw (t, get_or-append_right (take from rows) below from k d (omega (arith, length-take from rows)) ge, get_or-replicate (length rows - from) (k - from) (blank_row attrs w) d (omega arith)) refl
     ]
 
 pub cleared_is : (w from : ℕ) (attrs : Attrs) (rows cleared : List RowValue) → from ≤ length rows → length cleared ≡ length rows →
-    ((k : ℕ) (d : RowValue) → get_or cleared k d ≡ (if nat_le from k && nat_lt k (length rows) then cleared_row attrs (get_or rows k d) else get_or rows k d)) →
-    All (IsRow w) rows → cleared ≡ take from rows ++ replicate (length rows - from) (blank_row attrs w)
-cleared_is w from attrs rows cleared h l f sound =
+    ((k : ℕ) (d : RowValue) → k < length rows → get_or cleared k d ≡ (if nat_le from k && nat_lt k (length rows) then blank_row attrs w else get_or rows k d)) →
+    cleared ≡ take from rows ++ replicate (length rows - from) (blank_row attrs w)
+cleared_is w from attrs rows cleared h l f =
     let d = blank_row default_attrs w in
     let below = replicate (length rows - from) (blank_row attrs w) in
     let n : length cleared ≡ length (take from rows ++ below) = omega (arith, length-append (take from rows) below, length-take from rows, length-replicate (length rows - from) (blank_row attrs w)) in
-    ext_get_or d cleared (take from rows ++ below) n (λ k i. f k d ∙ cleared_at w from k attrs rows (omega arith) h sound)
+    ext_get_or d cleared (take from rows ++ below) n (λ k i. let j : k < length rows = omega (arith, l) in f k d j ∙ cleared_at w from k attrs rows j h)
 
-before_at : (w to k : ℕ) (attrs : Attrs) (rows : List RowValue) → k < length rows → to ≤ length rows → All (IsRow w) rows →
-    (if nat_le 0 k && nat_lt k to then cleared_row attrs (get_or rows k (blank_row default_attrs w)) else get_or rows k (blank_row default_attrs w))
+before_at : (w to k : ℕ) (attrs : Attrs) (rows : List RowValue) → k < length rows → to ≤ length rows →
+    (if nat_le 0 k && nat_lt k to then blank_row attrs w else get_or rows k (blank_row default_attrs w))
     ≡ get_or (replicate to (blank_row attrs w) ++ drop to rows) k (blank_row default_attrs w)
-before_at w to k attrs rows i h sound =
+before_at w to k attrs rows i h =
     let d = blank_row default_attrs w in
     let above = replicate to (blank_row attrs w) in
     let l = length-replicate to (blank_row attrs w) in
     elim (cases_lt k to) [
       | inl lt ↦
           let t : (nat_le 0 k && nat_lt k to) ≡ true = grind (arith, nat_tests) in
-          let row : IsRow w (get_or rows k d) = All-get_or (IsRow w) rows k d i sound in
-          rw (t, get_or_append_left above (drop to rows) d k (omega arith), get_or-replicate to k (blank_row attrs w) d lt) (ap (blank_row attrs) row.columns)
+          rw (t, get_or_append_left above (drop to rows) d k (omega arith), get_or-replicate to k (blank_row attrs w) d lt) refl
       | inr ge ↦
           let t : (nat_le 0 k && nat_lt k to) ≡ false = grind (arith, nat_tests) in
           let j : to + (k - to) ≡ k = omega arith in
@@ -119,35 +108,10 @@ before_at w to k attrs rows i h sound =
     ]
 
 pub cleared_before_is : (w to : ℕ) (attrs : Attrs) (rows cleared : List RowValue) → to ≤ length rows → length cleared ≡ length rows →
-    ((k : ℕ) (d : RowValue) → get_or cleared k d ≡ (if nat_le 0 k && nat_lt k to then cleared_row attrs (get_or rows k d) else get_or rows k d)) →
-    All (IsRow w) rows → cleared ≡ replicate to (blank_row attrs w) ++ drop to rows
-cleared_before_is w to attrs rows cleared h l f sound =
+    ((k : ℕ) (d : RowValue) → k < length rows → get_or cleared k d ≡ (if nat_le 0 k && nat_lt k to then blank_row attrs w else get_or rows k d)) →
+    cleared ≡ replicate to (blank_row attrs w) ++ drop to rows
+cleared_before_is w to attrs rows cleared h l f =
     let d = blank_row default_attrs w in
     let above = replicate to (blank_row attrs w) in
     let n : length cleared ≡ length (above ++ drop to rows) = omega (arith, length-append above (drop to rows), length-replicate to (blank_row attrs w), length-drop to rows) in
-    ext_get_or d cleared (above ++ drop to rows) n (λ k i. f k d ∙ before_at w to k attrs rows (omega arith) h sound)
-
--- ---- rows that leave at the top, whose places others took
-
-kept_source : (len bottom count n k : ℕ) → n ≡ min count (bottom + 1) → bottom < len → k < len → (up_source len 0 bottom n k ≡ up_source len 0 bottom count k) × n ≤ up_source len 0 bottom count k
-kept_source len bottom count n k e o i = (grind (arith, nat_tests), grind (arith, nat_tests))
-
-kept_row : (w n s : ℕ) (sent rows : List RowValue) → length sent ≡ n → n ≤ s → row_or w (sent ++ drop n rows) s ≡ row_or w rows s
-kept_row w n s sent rows e h =
-    let d = blank_row default_attrs w in
-    let i : n + (s - n) ≡ s = omega arith in
-    get_or-append_right sent (drop n rows) n s d e h ∙ (get_or-drop n rows (s - n) d ∙ ap (λ (k : ℕ). get_or rows k d) i)
-
-pub sent_up : (w bottom count n : ℕ) (sent rows : List RowValue) → n ≡ min count (bottom + 1) → bottom < length rows → length sent ≡ length (take n rows) →
-    rows_up w 0 bottom n (sent ++ drop n rows) ≡ rows_up w 0 bottom count rows
-unfolding moved_rows
-sent_up w bottom count n sent rows e o l =
-    let t : length (take n rows) ≡ n = omega (arith, length-take n rows) in
-    let all : length (sent ++ drop n rows) ≡ length rows = omega (arith, length-append sent (drop n rows), length-drop n rows) in
-    let source = up_source (length (sent ++ drop n rows)) 0 bottom n in
-    fill_by_all (λ k. row_or w rows (up_source (length rows) 0 bottom count k)) (rows_up w 0 bottom n (sent ++ drop n rows)) (length rows) (blank_row default_attrs w) (length-moved_rows w source (sent ++ drop n rows) ∙ all) (λ k h.
-    let k_in : k < length (sent ++ drop n rows) = omega (arith, all) in
-    let same = kept_source (length rows) bottom count n k e o h in
-    row_or-moved_rows w source (sent ++ drop n rows) k k_in
-    ∙ (ap (λ (len : ℕ). row_or w (sent ++ drop n rows) (up_source len 0 bottom n k)) all
-    ∙ (ap (λ (r : ℕ). row_or w (sent ++ drop n rows) r) same.0 ∙ kept_row w n (up_source (length rows) 0 bottom count k) sent rows (l ∙ t) same.1)))
+    ext_get_or d cleared (above ++ drop to rows) n (λ k i. let j : k < length rows = omega (arith, l) in f k d j ∙ before_at w to k attrs rows j h)

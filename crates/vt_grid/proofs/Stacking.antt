@@ -1,8 +1,8 @@
 -- Rows put below those that are kept: all at once is one after the other.
-use Rattle.std.proofs.Common.{◌≡◌, ℕ, suc, ◌+◌, ◌-◌, ◌≤◌, ◌==◌, min, List, [], ◌∷◌, ◌++◌, length, take, drop, map, sym, ap, subst, ◌∙◌, append_assoc, arith}
+use Rattle.std.proofs.Common.{◌≡◌, ℕ, suc, ◌+◌, ◌-◌, ◌≤◌, ◌==◌, min, List, [], ◌∷◌, ◌++◌, ◌<◌, get_or, length, take, drop, map, sym, ap, subst, ◌∙◌, append_assoc, arith}
 use Rattle.std.proofs.Math.Seq.{take-add}
-use Rattle.std.proofs.lemmas.List.{drop-append-le, take-append-le, drop-drop, length-append, length-drop, length-map}
-use Rattle.std.proofs.lemmas.List.Elements.{All-append, All-cons, All-drop, All-map, All-nil, All-weaker}
+use Rattle.std.proofs.lemmas.List.{take_more, drop_more, map_push, get_or-take, length-take, drop-append-le, take-append-le, drop-drop, length-append, length-drop, length-map}
+use Rattle.std.proofs.lemmas.List.Elements.{All-append, All-cons, All-drop, All-map, All-nil, All-take, All-weaker}
 use Rattle.std.specs.Prelude.{All, if◌then◌else◌}
 use Rattle.std.specs.List.{FoldsTo}
 use Rattle.vt_rows.specs.Row.{RowValue, IsRow, trimmed_row}
@@ -58,11 +58,27 @@ All-stacked w gone rows g r =
     let t : All (λ row. IsRow (length (trimmed_row row).cells) (trimmed_row row)) gone = All-weaker (IsRow w) (λ row. IsRow (length (trimmed_row row).cells) (trimmed_row row)) (IsRow-trimmed_row w) gone g in
     All-append (λ row. IsRow (length row.cells) row) rows (map trimmed_row gone) r (All-map (λ row. IsRow (length row.cells) row) trimmed_row gone t)
 
-pub All-pushed : (c : ℕ) (kept next : List RowValue) (row : RowValue) → next ≡ last_of c (kept ++ trimmed_row row ∷ []) → IsRow (length row.cells) row → All (λ row. IsRow (length row.cells) row) kept → All (λ row. IsRow (length row.cells) row) next
+pub All-pushed : (c : ℕ) (kept next : List RowValue) (row : RowValue) → next ≡ last_of c (kept ++ row ∷ []) → IsRow (length row.cells) row → All (λ row. IsRow (length row.cells) row) kept → All (λ row. IsRow (length row.cells) row) next
 All-pushed c kept next row e r k =
     let P : RowValue → Type 0 = λ row. IsRow (length row.cells) row in
-    let one : All P (trimmed_row row ∷ []) = All-cons P (trimmed_row row) [] (IsRow-trimmed_row (length row.cells) row r) (All-nil P) in
-    subst (All P) (sym e) (All-drop P (length (kept ++ trimmed_row row ∷ []) - c) (kept ++ trimmed_row row ∷ []) (All-append P kept (trimmed_row row ∷ []) k one))
+    let one : All P (row ∷ []) = All-cons P row [] r (All-nil P) in
+    subst (All P) (sym e) (All-drop P (length (kept ++ row ∷ []) - c) (kept ++ row ∷ []) (All-append P kept (row ∷ []) k one))
+
+-- rows without the default blanks at their ends are sound, each in its own width
+pub All-copied : (w n : ℕ) (rows copies : List RowValue) → All (IsRow w) rows → copies ≡ map trimmed_row (take n rows) → All (λ row. IsRow (length row.cells) row) copies
+All-copied w n rows copies all e =
+    let gone = take n rows in
+    let t : All (λ row. IsRow (length (trimmed_row row).cells) (trimmed_row row)) gone = All-weaker (IsRow w) (λ row. IsRow (length (trimmed_row row).cells) (trimmed_row row)) (IsRow-trimmed_row w) gone (All-take (IsRow w) n rows all) in
+    subst (All (λ row. IsRow (length row.cells) row)) (sym e) (All-map (λ row. IsRow (length row.cells) row) trimmed_row gone t)
+
+-- one more of the first n rows
+pub first_more : (n k : ℕ) (rows : List RowValue) (d : RowValue) → k < n → n ≤ length rows → map trimmed_row (drop k (take n rows)) ≡ trimmed_row (get_or rows k d) ∷ map trimmed_row (drop (k + 1) (take n rows))
+first_more n k rows d h l =
+    ap (map trimmed_row) (drop_more (take n rows) k d (omega (arith, length-take n rows)))
+    ∙ ap (λ (row : RowValue). trimmed_row row ∷ map trimmed_row (drop (k + 1) (take n rows))) (get_or-take n rows k d h)
+
+pub copied_more : (k : ℕ) (rows : List RowValue) (d : RowValue) → k < length rows → map trimmed_row (take (k + 1) rows) ≡ map trimmed_row (take k rows) ++ trimmed_row (get_or rows k d) ∷ []
+copied_more k rows d h = ap (map trimmed_row) (take_more rows k d h) ∙ map_push trimmed_row (take k rows) (get_or rows k d)
 
 pub IsScrollback-kept_after : (w : ℕ) (gone : List RowValue) (above : Scrollback) → All (IsRow w) gone → IsScrollback above → IsScrollback (kept_after gone above)
 unfolding kept_after

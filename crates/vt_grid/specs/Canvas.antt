@@ -1,11 +1,10 @@
 -- What a redraw works on: the active page with the current attributes and whether the cursor is hidden, and what its operations draw.
 use Rattle.std.specs.Prelude.{ℕ, ◌==◌, ◌&&◌, nat_lt, not, Bool, false, List, [], ◌∷◌, Option, Some, None, chars, zero, suc, if◌then◌else◌}
-use Rattle.vt_cells.specs.Attrs.{default_attrs, changed_attrs}
+use Rattle.vt_cells.specs.Attrs.{default_attrs, changed_attrs, Attrs}
 use Rattle.vt_cells.specs.Glyph.{columns_of, is_selector, is_wide_text}
 use Rattle.vt_cells.specs.Cell.{text_of, is_wide, marked}
 use Rattle.vt_rows.specs.Cells.{at}
 use Rattle.vt_cells.specs.Op.{Op, Hide, ClearAttrs, MoveTo, MoveRight, NextRow, LineFeed, Backspace, EraseBelow, EraseRest, EraseChars, SaveCursor, RestoreCursor, ChangeAttrs, Print}
-use Rattle.vt_cells.specs.Attrs.{Attrs}
 use Rattle.vt_grid.specs.Page.{Page, cursor_row}
 use Rattle.vt_grid.specs.Moves.{carriage_return, moved_left, moved_right, moved_to, line_feed, feeds_out, cursor_saved, cursor_restored}
 use Rattle.vt_grid.specs.Erasing.{erased_below, erased_rest, erased_chars}

@@ -11,3 +11,4 @@ pub mod Printing
 pub mod Canvas
 pub mod Keeping
 pub mod Sheet
+pub mod Flat

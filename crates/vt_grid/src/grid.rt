@@ -15,7 +15,6 @@ use crate::size::Size;
 use std::alloc::Global;
 use std::marker::Model;
 use vt_cells::{Attrs, Cell, Error, Pos};
-use vt_rows::Row;
 
 /// A page: rows of cells, a cursor, a saved cursor, a scroll region and
 /// origin mode (VT510 manual: DECSC, DECSTBM, DECOM).
@@ -121,10 +120,11 @@ impl Grid {
 
     /// The rows, from the top.
     #[inline]
-    pub fn rows(&self) -> &[Row]
-        ensures { result.now ≡ self.now.rows }
+    pub fn rows(&self) -> &Sheet
+        ensures rows { result.now.rows ≡ self.now.rows }
+        ensures width { result.now.width ≡ self.now.width }
     {
-        self.sheet.rows()
+        &self.sheet
     }
 
     /// The cell at a position, if it is on the page.
@@ -133,7 +133,11 @@ impl Grid {
         ensures inside { IsSome result ↔ ((pos.row < length self.now.rows) × (pos.col < self.now.width)) }
         ensures value { IfSome result (λ cell. cell.now ≡ cell_at self.now pos.row pos.col) }
     {
-        self.sheet.row(pos.row)?.get(usize::from(pos.col))
+        if pos.row < self.size.rows && pos.col < self.size.cols {
+            Some(self.sheet.cell(pos.row, pos.col))
+        } else {
+            None
+        }
     }
 
     /// Whether the text of a row goes on in the row below; false past the last row.
@@ -141,9 +145,10 @@ impl Grid {
     pub fn row_wrapped(&self, row: u16) -> bool
         ensures { result ≡ (row_at self.now row).wrapped }
     {
-        match self.sheet.row(row) {
-            Some(found) => found.wrapped(),
-            None => false,
+        if row < self.size.rows {
+            self.sheet.wrapped(row)
+        } else {
+            false
         }
     }
 }

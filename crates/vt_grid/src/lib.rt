@@ -1,12 +1,15 @@
 //! A page of rows with its cursor, the scrollback above it, and the redraw of a page.
 #![tactic(auto)]
 
+pub mod flat;
 pub mod grid;
 mod row_lists;
 pub mod scrollback;
-mod sheet;
+pub mod sheet;
 pub mod size;
 
+pub use flat::Flat;
 pub use grid::Grid;
 pub use scrollback::Scrollback;
+pub use sheet::Sheet;
 pub use size::Size;

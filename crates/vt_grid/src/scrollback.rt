@@ -1,7 +1,7 @@
 //! The rows that left a page at its top, as far as they are kept (xterm's
 //! saved lines).
 
-ghost use Rattle.std.specs.Prelude.{◌≡◌, ◌+◌, ◌-◌, ◌^◌, ◌==◌, ◌<◌, ◌≤◌, ◌↔◌, ◌++◌, ◌∷◌, [], ℕ, List, All, IfErr, IfOk, IfSome, IsErr, IsSome, OnErr, OnOk, if◌then◌else◌, length, map, min, nat_le, nat_lt, slice_index_or, take};
+ghost use Rattle.std.specs.Prelude.{◌≡◌, ◌+◌, ◌-◌, ◌^◌, ◌==◌, ◌<◌, ◌≤◌, ◌↔◌, ◌&&◌, ◌++◌, ◌∷◌, [], ℕ, List, All, IfErr, IfOk, IfSome, IsErr, IsSome, OnErr, OnOk, if◌then◌else◌, length, map, min, nat_le, nat_lt, slice_index_or, take};
 ghost use Rattle.std.specs.List.{FoldsTo};
 ghost use Rattle.std.specs.VecDeque.{deque_capacity, deque_len};
 ghost use Rattle.vt_cells.specs.Attrs.{default_attrs};
@@ -10,14 +10,16 @@ ghost use Rattle.vt_grid.specs.Resize.{out_of_view, taken_back};
 ghost use Rattle.vt_grid.specs.Scrollback.{IsScrollback, Sends, TakesMemory, ViewTakesMemory, before_last, cleared, grown_row, kept_after, last_of, narrow_rows, no_scrollback, viewed, visible};
 ghost use Rattle.vt_grid.specs.Spare.{AreSpare, grown_from, in_view, window_from};
 
-use crate::row_lists::blank_rows;
+use crate::row_lists::{blank_rows, trimmed_rows};
+use crate::sheet::Sheet;
 use crate::size::Size;
 use std::alloc::Global;
 use std::collections::VecDeque;
 use std::marker::Model;
 use std::mem;
 use vt_cells::Error;
-use vt_rows::{Leaving, Row};
+use vt_rows::capture::trimmed;
+use vt_rows::{Leaving, Row, RowContents};
 
 /// The rows that left a page at its top, at most as many as its capacity, and
 /// by how many rows a screen is scrolled back (the offset).
@@ -105,9 +107,9 @@ impl Scrollback {
         self.offset
     }
 
-    /// Takes over the rows that leave a page of this size at its top, older
-    /// first, without the default blanks at their ends; in their places rows
-    /// of the page's width stand.
+    /// Takes over copies of the first rows of a page, which leave it at its
+    /// top, older first, without the default blanks at their ends. The size is
+    /// the page's.
     ///
     /// The rows that are too many are reported, older first. An offset other
     /// than 0 grows by the rows that left, at most to all that are kept: the
@@ -118,26 +120,27 @@ impl Scrollback {
     /// was reported. No row, or a capacity of 0, takes no memory.
     pub fn push<L: Leaving>(
         &mut self,
-        rows: &mut [Row],
+        page: &Sheet,
+        count: usize,
         size: Size,
         leaving: &mut L,
     ) -> Result<(), Error>
-        requires sound { All (IsRow size.cols) rows.old }
-        ensures sent { OnOk result (Sends L.leaves size.rows size.cols rows.old self.old leaving.old self.new leaving.new) }
-        ensures len { OnOk result (length rows.new ≡ length rows.old) }
-        ensures rows { OnOk result (All (IsRow size.cols) rows.new) }
-        ensures err { OnErr result ((self.new ≡ self.old) × ((rows.new ≡ rows.old) × (leaving.new ≡ leaving.old))) }
-        ensures grows { IsErr result → TakesMemory rows.old self.old }
+        requires inside { count ≤ length page.now.rows }
+        requires width { size.cols ≡ page.now.width }
+        requires sound { All (IsRow page.now.width) page.now.rows }
+        ensures sent { OnOk result (Sends L.leaves size.rows size.cols (take count page.now.rows) self.old leaving.old self.new leaving.new) }
+        ensures err { OnErr result ((self.new ≡ self.old) × (leaving.new ≡ leaving.old)) }
+        ensures grows { IsErr result → TakesMemory (take count page.now.rows) self.old }
         ensures memory { IfErr result (λ error. error ≡ Error.OutOfMemory) }
     {
-        if rows.is_empty() {
+        if count == 0 {
             return Ok(());
         }
         if self.capacity == 0 {
-            self.pass(rows, leaving);
+            self.pass(page, count, leaving);
             return Ok(());
         }
-        self.keep(rows, size, leaving)
+        self.keep(page, count, size, leaving)
     }
 
     /// Takes over rows as `push` does, with an offset of 0 before.
@@ -146,73 +149,77 @@ impl Scrollback {
     /// was reported.
     pub fn push_out_of_view<L: Leaving>(
         &mut self,
-        rows: &mut [Row],
+        page: &Sheet,
+        count: usize,
         size: Size,
         leaving: &mut L,
     ) -> Result<(), Error>
-        requires sound { All (IsRow size.cols) rows.old }
-        ensures sent { OnOk result (Sends L.leaves size.rows size.cols rows.old (out_of_view self.old) leaving.old self.new leaving.new) }
-        ensures len { OnOk result (length rows.new ≡ length rows.old) }
-        ensures rows { OnOk result (All (IsRow size.cols) rows.new) }
-        ensures err { OnErr result ((self.new ≡ self.old) × ((rows.new ≡ rows.old) × (leaving.new ≡ leaving.old))) }
-        ensures grows { IsErr result → TakesMemory rows.old self.old }
+        requires inside { count ≤ length page.now.rows }
+        requires width { size.cols ≡ page.now.width }
+        requires sound { All (IsRow page.now.width) page.now.rows }
+        ensures sent { OnOk result (Sends L.leaves size.rows size.cols (take count page.now.rows) (out_of_view self.old) leaving.old self.new leaving.new) }
+        ensures err { OnErr result ((self.new ≡ self.old) × (leaving.new ≡ leaving.old)) }
+        ensures grows { IsErr result → TakesMemory (take count page.now.rows) self.old }
         ensures memory { IfErr result (λ error. error ≡ Error.OutOfMemory) }
     {
         let offset = self.offset;
         self.offset = 0;
-        if let Err(error) = self.push(rows, size, leaving) {
+        if let Err(error) = self.push(page, count, size, leaving) {
             self.offset = offset;
             return Err(error);
         }
         Ok(())
     }
 
-    /// Gives the newest rows back: each blank row takes over the cells of one,
-    /// the last of them those of the newest. Where there are too few rows, the
-    /// first of the blank ones stay as they are.
+    /// Gives the newest `up` rows back to the first rows of a blank page, the
+    /// last of these the newest. Where there are too few rows, the first of
+    /// the page stay as they are.
     ///
     /// All of them count as given back, also those that were not kept. The
     /// offset must be 0.
-    pub fn give_back(&mut self, fresh: &mut [Row])
+    pub fn give_back(&mut self, page: &mut Sheet, up: usize)
         requires hidden { self.old.offset ≡ 0 }
-        requires blank { All (λ row. row ≡ blank_row default_attrs (length row.cells)) fresh.old }
-        ensures above { self.new ≡ taken_back (length fresh.old) self.old }
-        ensures len { length fresh.new ≡ length fresh.old }
-        ensures by_index { (k : ℕ) (d : RowValue) → k < length fresh.old → slice_index_or fresh.new k d ≡ (if nat_le (length fresh.old) (length self.old.rows + k) then resized_row (length (slice_index_or fresh.old k d).cells) (slice_index_or self.old.rows (length self.old.rows + k - length fresh.old) d) else slice_index_or fresh.old k d) }
+        requires inside { up ≤ length page.old.rows }
+        requires blank { All (λ row. row ≡ blank_row default_attrs (length row.cells)) page.old.rows }
+        ensures above { self.new ≡ taken_back up self.old }
+        ensures len { length page.new.rows ≡ length page.old.rows }
+        ensures width { page.new.width ≡ page.old.width }
+        ensures by_index { (k : ℕ) (d : RowValue) → k < length page.old.rows → slice_index_or page.new.rows k d ≡ (if nat_lt k up && nat_le up (length self.old.rows + k) then resized_row (length (slice_index_or page.old.rows k d).cells) (slice_index_or self.old.rows (length self.old.rows + k - up) d) else slice_index_or page.old.rows k d) }
     {
-        self.theoretical = self.theoretical.saturating_sub(fresh.len());
-        give_rows(&mut self.rows, fresh);
+        self.theoretical = self.theoretical.saturating_sub(up);
+        give_rows(&mut self.rows, page, up);
     }
 
     /// Reports rows that leave, where no row is kept; see `push`.
-    fn pass<L: Leaving>(&mut self, rows: &[Row], leaving: &mut L)
+    fn pass<L: Leaving>(&mut self, page: &Sheet, count: usize, leaving: &mut L)
         requires none { self.old.capacity ≡ 0 }
-        requires some { 0 < length rows.now }
-        requires sound { All (λ row. IsRow (length row.cells) row) rows.now }
-        ensures { (height width : ℕ) → Sends L.leaves height width rows.now self.old leaving.old self.new leaving.new }
+        requires some { 0 < count }
+        requires inside { count ≤ length page.now.rows }
+        requires sound { All (IsRow page.now.width) page.now.rows }
+        ensures { (height width : ℕ) → Sends L.leaves height width (take count page.now.rows) self.old leaving.old self.new leaving.new }
     {
-        report_trimmed(rows, leaving);
-        self.theoretical = self.theoretical.saturating_add(rows.len());
+        report_trimmed(page, count, leaving);
+        self.theoretical = self.theoretical.saturating_add(count);
     }
 
     /// Takes over rows that leave, where some are kept; see `push`.
     fn keep<L: Leaving>(
         &mut self,
-        rows: &mut [Row],
+        page: &Sheet,
+        count: usize,
         size: Size,
         leaving: &mut L,
     ) -> Result<(), Error>
-        requires sound { All (IsRow size.cols) rows.old }
-        requires some { 0 < length rows.old }
+        requires inside { count ≤ length page.now.rows }
+        requires width { size.cols ≡ page.now.width }
+        requires sound { All (IsRow page.now.width) page.now.rows }
+        requires some { 0 < count }
         requires kept { 0 < self.old.capacity }
-        ensures sent { OnOk result (Sends L.leaves size.rows size.cols rows.old self.old leaving.old self.new leaving.new) }
-        ensures len { OnOk result (length rows.new ≡ length rows.old) }
-        ensures rows { OnOk result (All (IsRow size.cols) rows.new) }
-        ensures err { OnErr result ((self.new ≡ self.old) × ((rows.new ≡ rows.old) × (leaving.new ≡ leaving.old))) }
+        ensures sent { OnOk result (Sends L.leaves size.rows size.cols (take count page.now.rows) self.old leaving.old self.new leaving.new) }
+        ensures err { OnErr result ((self.new ≡ self.old) × (leaving.new ≡ leaving.old)) }
         ensures memory { IfErr result (λ error. error ≡ Error.OutOfMemory) }
     {
-        let count = rows.len();
-        let blanks = blank_rows(self.alloc, usize::from(size.cols), count)?;
+        let copies = trimmed_rows(self.alloc, page, count)?;
         let spare = blank_rows(
             self.alloc,
             usize::from(size.cols),
@@ -220,7 +227,7 @@ impl Scrollback {
         )?;
         self.rows
             .reserve(count.min(self.capacity - self.rows.len()))?;
-        take_over(rows, blanks, &mut self.rows, self.capacity, leaving);
+        push_rows(copies, &mut self.rows, self.capacity, leaving);
         self.theoretical = self.theoretical.saturating_add(count);
         self.offset = followed(self.offset, count, self.rows.len());
         grow_in_view(&mut self.rows, self.offset, size, spare);
@@ -280,41 +287,42 @@ impl Scrollback {
     }
 
     /// The row that is shown at a place, if there is one: above are the newest
-    /// rows, as many as the offset, and below them `rows`, those of the page.
-    pub fn visible_row<'a>(&'a self, rows: &'a [Row], row: u16) -> Option<&'a Row>
-        ensures inside { IsSome result ↔ (row < length rows.now) }
-        ensures value { (d : RowValue) → IfSome result (λ found. found.now ≡ slice_index_or (visible self.now rows.now) row d) }
+    /// rows, as many as the offset, and below them those of the page.
+    pub fn visible_row<'a>(&'a self, page: &'a Sheet, row: u16) -> Option<RowContents<'a>>
+        requires { All (IsRow page.now.width) page.now.rows }
+        ensures inside { IsSome result ↔ (row < length page.now.rows) }
+        ensures value { (d : RowValue) → IfSome result (λ found. found ≡ slice_index_or (visible self.now page.now.rows) row d) }
     {
         let row = usize::from(row);
-        if row >= rows.len() {
+        if row >= page.len() {
             return None;
         }
         if row < self.offset {
-            return self.rows.get(self.rows.len() - self.offset + row);
+            return Some(self.rows[self.rows.len() - self.offset + row].contents());
         }
-        rows.get(row - self.offset)
+        Some(page.row(row - self.offset))
     }
 
-    /// How many rows there are with `rows`, those of the page, below.
-    pub fn stacked_len(&self, rows: &[Row]) -> usize
-        requires { length rows.now < 2 ^ 16 }
-        ensures { result ≡ length self.now.rows + length rows.now }
+    /// How many rows there are with those of the page below.
+    pub fn stacked_len(&self, page: &Sheet) -> usize
+        requires { length page.now.rows < 2 ^ 16 }
+        ensures { result ≡ length self.now.rows + length page.now.rows }
     {
-        self.rows.len() + rows.len()
+        self.rows.len() + page.len()
     }
 
-    /// The row at a place, counted from the oldest one, with `rows`, those of
-    /// the page, below.
-    pub fn stacked_row<'a>(&'a self, rows: &'a [Row], index: usize) -> &'a Row
-        requires { index < length self.now.rows + length rows.now }
-        ensures value { (d : RowValue) → result.now ≡ slice_index_or (self.now.rows ++ rows.now) index d }
-        ensures sound { (width : ℕ) → All (IsRow width) rows.now → IsRow (length result.now.cells) result.now }
+    /// The row at a place, counted from the oldest one, with those of the page
+    /// below.
+    pub fn stacked_row<'a>(&'a self, page: &'a Sheet, index: usize) -> RowContents<'a>
+        requires inside { index < length self.now.rows + length page.now.rows }
+        requires sound { All (IsRow page.now.width) page.now.rows }
+        ensures { (d : RowValue) → result ≡ slice_index_or (self.now.rows ++ page.now.rows) index d }
     {
         let kept = self.rows.len();
         if index < kept {
-            &self.rows[index]
+            self.rows[index].contents()
         } else {
-            &rows[index - kept]
+            page.row(index - kept)
         }
     }
 }
@@ -343,37 +351,16 @@ fn report_all<L: Leaving>(rows: &mut VecDeque<Row>, leaving: &mut L)
     }
 }
 
-/// Reports rows without the default blanks at their ends.
-fn report_trimmed<L: Leaving>(rows: &[Row], leaving: &mut L)
-    requires { All (λ row. IsRow (length row.cells) row) rows.now }
-    ensures { FoldsTo L.leaves leaving.old (map trimmed_row rows.now) leaving.new }
+/// Reports the first rows of a page without the default blanks at their ends.
+fn report_trimmed<L: Leaving>(page: &Sheet, count: usize, leaving: &mut L)
+    requires inside { count ≤ length page.now.rows }
+    requires sound { All (IsRow page.now.width) page.now.rows }
+    ensures { FoldsTo L.leaves leaving.old (map trimmed_row (take count page.now.rows)) leaving.new }
 {
-    for row in rows {
-        leaving.leave(row.trimmed_contents());
+    for k in 0..count {
+        let row = page.row(k);
+        leaving.leave(trimmed(&row));
     }
-}
-
-/// Puts rows below those that are kept, and blank ones in their places; see
-/// `push_row`.
-fn take_over<L: Leaving>(
-    rows: &mut [Row],
-    mut blanks: Vec<Row>,
-    kept: &mut VecDeque<Row>,
-    capacity: usize,
-    leaving: &mut L,
-)
-    requires some { 0 < capacity }
-    requires inside { length kept.old.items ≤ capacity }
-    requires room { length kept.old.items + min (length rows.old) (capacity - length kept.old.items) ≤ deque_capacity kept.old }
-    requires as_many { length blanks.items ≡ length rows.old }
-    requires sound { All (λ row. IsRow (length row.cells) row) rows.old }
-    requires sound_kept { All (λ row. IsRow (length row.cells) row) kept.old.items }
-    ensures rows { rows.new ≡ blanks.items }
-    ensures kept { kept.new.items ≡ last_of capacity (kept.old.items ++ map trimmed_row rows.old) }
-    ensures reported { FoldsTo L.leaves leaving.old (before_last capacity (kept.old.items ++ map trimmed_row rows.old)) leaving.new }
-{
-    rows.swap_with_slice(&mut blanks);
-    push_rows(blanks, kept, capacity, leaving);
 }
 
 /// Puts rows below those that are kept, one after the other; see `push_row`.
@@ -383,26 +370,25 @@ fn push_rows<L: Leaving>(gone: Vec<Row>, kept: &mut VecDeque<Row>, capacity: usi
     requires room { length kept.old.items + min (length gone.items) (capacity - length kept.old.items) ≤ deque_capacity kept.old }
     requires sound { All (λ row. IsRow (length row.cells) row) gone.items }
     requires sound_kept { All (λ row. IsRow (length row.cells) row) kept.old.items }
-    ensures rows { kept.new.items ≡ last_of capacity (kept.old.items ++ map trimmed_row gone.items) }
-    ensures reported { FoldsTo L.leaves leaving.old (before_last capacity (kept.old.items ++ map trimmed_row gone.items)) leaving.new }
+    ensures rows { kept.new.items ≡ last_of capacity (kept.old.items ++ gone.items) }
+    ensures reported { FoldsTo L.leaves leaving.old (before_last capacity (kept.old.items ++ gone.items)) leaving.new }
 {
     for row in gone {
         push_row(row, kept, capacity, leaving);
     }
 }
 
-/// Puts a row below those that are kept, without the default blanks at its
-/// end. Where they are as many as can be, the oldest is reported.
-fn push_row<L: Leaving>(mut row: Row, kept: &mut VecDeque<Row>, capacity: usize, leaving: &mut L)
+/// Puts a row below those that are kept. Where they are as many as can be, the
+/// oldest is reported.
+fn push_row<L: Leaving>(row: Row, kept: &mut VecDeque<Row>, capacity: usize, leaving: &mut L)
     requires some { 0 < capacity }
     requires inside { length kept.old.items ≤ capacity }
     requires room { length kept.old.items < capacity → deque_len kept.old < deque_capacity kept.old }
     requires sound { All (λ row. IsRow (length row.cells) row) kept.old.items }
-    ensures rows { kept.new.items ≡ last_of capacity (kept.old.items ++ trimmed_row row ∷ []) }
-    ensures reported { FoldsTo L.leaves leaving.old (before_last capacity (kept.old.items ++ trimmed_row row ∷ [])) leaving.new }
+    ensures rows { kept.new.items ≡ last_of capacity (kept.old.items ++ row ∷ []) }
+    ensures reported { FoldsTo L.leaves leaving.old (before_last capacity (kept.old.items ++ row ∷ [])) leaving.new }
     ensures capacity { deque_capacity kept.new ≡ deque_capacity kept.old }
 {
-    row.trim();
     if kept.len() < capacity {
         kept.push_back_reserved(row);
         return;
@@ -414,20 +400,22 @@ fn push_row<L: Leaving>(mut row: Row, kept: &mut VecDeque<Row>, capacity: usize,
 }
 
 /// Moves the newest rows into blank ones; see `Scrollback::give_back`.
-fn give_rows(kept: &mut VecDeque<Row>, fresh: &mut [Row])
-    requires blank { All (λ row. row ≡ blank_row default_attrs (length row.cells)) fresh.old }
+fn give_rows(kept: &mut VecDeque<Row>, page: &mut Sheet, up: usize)
+    requires inside { up ≤ length page.old.rows }
+    requires blank { All (λ row. row ≡ blank_row default_attrs (length row.cells)) page.old.rows }
     requires sound { All (λ row. IsRow (length row.cells) row) kept.old.items }
-    ensures kept { kept.new.items ≡ take (length kept.old.items - length fresh.old) kept.old.items }
-    ensures len { length fresh.new ≡ length fresh.old }
-    ensures by_index { (k : ℕ) (d : RowValue) → k < length fresh.old → slice_index_or fresh.new k d ≡ (if nat_le (length fresh.old) (length kept.old.items + k) then resized_row (length (slice_index_or fresh.old k d).cells) (slice_index_or kept.old.items (length kept.old.items + k - length fresh.old) d) else slice_index_or fresh.old k d) }
+    ensures kept { kept.new.items ≡ take (length kept.old.items - up) kept.old.items }
+    ensures len { length page.new.rows ≡ length page.old.rows }
+    ensures width { page.new.width ≡ page.old.width }
+    ensures by_index { (k : ℕ) (d : RowValue) → k < length page.old.rows → slice_index_or page.new.rows k d ≡ (if nat_lt k up && nat_le up (length kept.old.items + k) then resized_row (length (slice_index_or page.old.rows k d).cells) (slice_index_or kept.old.items (length kept.old.items + k - up) d) else slice_index_or page.old.rows k d) }
 {
-    let mut k = fresh.len();
+    let mut k = up;
     while k > 0 {
         let Some(row) = kept.pop_back() else {
             return;
         };
         k -= 1;
-        fresh[k].refit(row);
+        page.fit_row(k, row.cells(), row.wrapped());
     }
 }
 

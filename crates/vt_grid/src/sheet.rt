@@ -5,7 +5,6 @@ ghost use Rattle.vt_cells.specs.Cell.{IsCell, attrs_of, is_blank, is_right_half,
 ghost use Rattle.vt_cells.specs.Glyph.{columns_of};
 ghost use Rattle.vt_rows.specs.Cells.{IsPaired, at, ends_blank, erased, marked_at, narrowed_at, put_narrow, put_wide, widened_at};
 ghost use Rattle.vt_rows.specs.Row.{RowValue, IsRow, blank_row, deleted_row, inserted_row};
-ghost use Rattle.vt_grid.specs.Keeping.{cleared_row};
 ghost use Rattle.vt_grid.specs.Page.{rows_up};
 ghost use Rattle.vt_grid.specs.Shifts.{rows_down};
 ghost use Rattle.vt_grid.specs.Scrollback.{Sends, TakesMemory};
@@ -13,28 +12,30 @@ ghost use Rattle.vt_grid.specs.Sheet.{blank_sheet, sheet_flagged, sheet_row, wit
 
 mod resizing;
 
-use crate::row_lists::{blank_rows, copied_rows};
+use crate::flat::Flat;
 use crate::scrollback::Scrollback;
 use crate::size::Size;
 use std::alloc::Global;
 use std::marker::Model;
 use vt_cells::{Attrs, Cell, Error};
-use vt_rows::shifts::turn;
-use vt_rows::{Leaving, Row, cells};
+use vt_rows::capture::lent;
+use vt_rows::{Leaving, RowContents, cells, shifts};
 
 /// Rows of one width, changed one at a time or put in another order.
 #[derive(Debug, Drop)]
 pub struct Sheet {
-    rows: Vec<Row>,
-    width: u16,
+    flat: Flat,
 }
 
 impl Model for Sheet {
+    ghost use Rattle.vt_grid.specs.Flat.{IsFlat, rows_of};
     ghost use Rattle.vt_grid.specs.Sheet.{SheetValue};
 
     ghost Value = { SheetValue };
 
-    ghost view = { λ s. record { rows = s.rows.items; width = s.width } };
+    ghost view = { λ s. record { rows = rows_of s.flat; width = s.flat.width } };
+
+    ghost invariant = { λ s. IsFlat s.flat };
 }
 
 impl Sheet {
@@ -45,10 +46,8 @@ impl Sheet {
         ensures ok { IfOk result (λ sheet. sheet ≡ blank_sheet size.rows size.cols) }
         ensures memory { IfErr result (λ error. error ≡ Error.OutOfMemory) }
     {
-        Ok(Sheet {
-            rows: blank_rows(alloc, usize::from(size.cols), usize::from(size.rows))?,
-            width: size.cols,
-        })
+        let flat = Flat::new(alloc, size)?;
+        Ok(Sheet { flat })
     }
 
     /// A copy of the sheet.
@@ -58,10 +57,8 @@ impl Sheet {
         ensures ok { IfOk result (λ sheet. sheet ≡ self.now) }
         ensures memory { IfErr result (λ error. error ≡ Error.OutOfMemory) }
     {
-        Ok(Sheet {
-            rows: copied_rows(alloc, &self.rows)?,
-            width: self.width,
-        })
+        let flat = self.flat.try_clone(alloc)?;
+        Ok(Sheet { flat })
     }
 
     /// How many rows and columns the sheet has.
@@ -72,31 +69,37 @@ impl Sheet {
         ensures cols { result.cols ≡ self.now.width }
     {
         Size {
-            rows: self.rows.len() as u16,
-            cols: self.width,
+            rows: self.flat.lines.len() as u16,
+            cols: self.flat.width,
         }
     }
 
-    /// The rows, from the top.
+    /// How many rows the sheet has.
     #[inline]
-    pub fn rows(&self) -> &[Row]
-        ensures { result.now ≡ self.now.rows }
+    pub fn len(&self) -> usize
+        ensures { result ≡ length self.now.rows }
     {
-        &self.rows
+        self.flat.lines.len()
     }
 
-    /// The row at a place, if the sheet has it.
+    /// A row, to be read where it lies.
     #[inline]
-    pub fn row(&self, row: u16) -> Option<&Row>
-        ensures inside { IsSome result ↔ (row < length self.now.rows) }
-        ensures value { IfSome result (λ found. found.now ≡ sheet_row self.now row) }
+    pub fn row(&self, row: usize) -> RowContents<'_>
+        requires inside { row < length self.now.rows }
+        requires sound { All (IsRow self.now.width) self.now.rows }
+        ensures { result ≡ sheet_row self.now row }
     {
-        let row = usize::from(row);
-        if row < self.rows.len() {
-            Some(&self.rows[row])
-        } else {
-            None
-        }
+        let (start, end) = self.flat.part(row);
+        lent(&self.flat.cells[start..end], self.flat.wrapped(row))
+    }
+
+    /// Whether the text of a row goes on in the row below.
+    #[inline]
+    pub fn wrapped(&self, row: u16) -> bool
+        requires { row < length self.now.rows }
+        ensures { result ≡ (sheet_row self.now row).wrapped }
+    {
+        self.flat.wrapped(usize::from(row))
     }
 
     /// The cell at a column of a row.
@@ -106,7 +109,8 @@ impl Sheet {
         requires column { col < length (sheet_row self.now row).cells }
         ensures { result.now ≡ at (sheet_row self.now row).cells col }
     {
-        &self.rows[usize::from(row)].cells()[usize::from(col)]
+        let (start, end) = self.flat.part(usize::from(row));
+        &self.flat.cells[start..end][usize::from(col)]
     }
 
     /// Whether the last column of a row is blank.
@@ -115,16 +119,18 @@ impl Sheet {
         requires { row < length self.now.rows }
         ensures { result ≡ ends_blank (sheet_row self.now row).cells }
     {
-        cells::ends_blank(self.rows[usize::from(row)].cells())
+        let (start, end) = self.flat.part(usize::from(row));
+        cells::ends_blank(&self.flat.cells[start..end])
     }
 
     /// Says whether a row goes on in the row below.
     #[inline]
-    pub fn wrap(&mut self, row: u16, wrapped: bool)
+    #[tactic(auto, using(crate::proofs::Flats::rows_counted))]
+    pub fn wrap(&mut self, row: usize, wrapped: bool)
         requires { row < length self.old.rows }
         ensures { self.new ≡ with_sheet_row row (record (sheet_row self.old row) { wrapped = wrapped }) self.old }
     {
-        self.rows[usize::from(row)].wrap(wrapped);
+        self.flat.wrap(row, wrapped);
     }
 
     /// Says whether the row that a wrap left, if there is one, goes on below.
@@ -133,7 +139,7 @@ impl Sheet {
         ensures { self.new ≡ sheet_flagged left goes_on self.old }
     {
         if let Some(row) = left {
-            self.wrap(row, goes_on);
+            self.wrap(usize::from(row), goes_on);
         }
     }
 
@@ -147,7 +153,13 @@ impl Sheet {
         requires columns { columns_of c ≡ Some 1 }
         ensures { self.new ≡ with_row_cells row (put_narrow col (encode_utf8 c) attrs (sheet_row self.old row).cells) self.old }
     {
-        self.rows[usize::from(row)].put_narrow(usize::from(col), c, attrs);
+        let row = usize::from(row);
+        let goes_on = self.flat.wrapped(row);
+        let (start, end) = self.flat.part(row);
+        let cells = &mut self.flat.cells[start..end];
+        cells::put_narrow(cells, usize::from(col), c, attrs);
+        let goes_on = cells::flag_left(cells, goes_on);
+        self.flat.wrap(row, goes_on);
     }
 
     /// Puts a wide glyph at a column of a row and the next; see `Row::put_wide`.
@@ -159,7 +171,13 @@ impl Sheet {
         requires columns { columns_of c ≡ Some 2 }
         ensures { self.new ≡ with_row_cells row (put_wide col (encode_utf8 c) attrs (sheet_row self.old row).cells) self.old }
     {
-        self.rows[usize::from(row)].put_wide(usize::from(col), c, attrs);
+        let row = usize::from(row);
+        let goes_on = self.flat.wrapped(row);
+        let (start, end) = self.flat.part(row);
+        let cells = &mut self.flat.cells[start..end];
+        cells::put_wide(cells, usize::from(col), c, attrs);
+        let goes_on = cells::flag_left(cells, goes_on);
+        self.flat.wrap(row, goes_on);
     }
 
     /// Puts a mark on the cell at a column of a row; see `Row::append`.
@@ -170,7 +188,13 @@ impl Sheet {
         requires mark { columns_of mark ≡ Some 0 }
         ensures { self.new ≡ with_row_cells row (marked_at col mark (sheet_row self.old row).cells) self.old }
     {
-        self.rows[usize::from(row)].append(usize::from(col), mark);
+        let row = usize::from(row);
+        let goes_on = self.flat.wrapped(row);
+        let (start, end) = self.flat.part(row);
+        let cells = &mut self.flat.cells[start..end];
+        cells::append(cells, usize::from(col), mark);
+        let goes_on = cells::flag_left(cells, goes_on);
+        self.flat.wrap(row, goes_on);
     }
 
     /// Makes the glyph at a column of a row wide; see `Row::widen`.
@@ -183,7 +207,13 @@ impl Sheet {
         requires fits { IsCell (widened true (at (sheet_row self.old row).cells col)) }
         ensures { self.new ≡ with_row_cells row (widened_at col attrs (sheet_row self.old row).cells) self.old }
     {
-        self.rows[usize::from(row)].widen(usize::from(col), attrs);
+        let row = usize::from(row);
+        let goes_on = self.flat.wrapped(row);
+        let (start, end) = self.flat.part(row);
+        let cells = &mut self.flat.cells[start..end];
+        cells::widen(cells, usize::from(col), attrs);
+        let goes_on = cells::flag_left(cells, goes_on);
+        self.flat.wrap(row, goes_on);
     }
 
     /// Makes the glyph at a column of a row narrow; see `Row::narrow`.
@@ -195,7 +225,13 @@ impl Sheet {
         requires fits { IsCell (widened false (at (sheet_row self.old row).cells col)) }
         ensures { self.new ≡ with_row_cells row (narrowed_at col attrs (sheet_row self.old row).cells) self.old }
     {
-        self.rows[usize::from(row)].narrow(usize::from(col), attrs);
+        let row = usize::from(row);
+        let goes_on = self.flat.wrapped(row);
+        let (start, end) = self.flat.part(row);
+        let cells = &mut self.flat.cells[start..end];
+        cells::narrow(cells, usize::from(col), attrs);
+        let goes_on = cells::flag_left(cells, goes_on);
+        self.flat.wrap(row, goes_on);
     }
 
     /// Takes the cell at a column of a row out; see `Row::lift`.
@@ -206,7 +242,14 @@ impl Sheet {
         ensures lifted { result ≡ at (sheet_row self.old row).cells col }
         ensures value { self.new ≡ with_row_cells row (erased col 1 attrs (sheet_row self.old row).cells) self.old }
     {
-        self.rows[usize::from(row)].lift(usize::from(col), attrs)
+        let row = usize::from(row);
+        let goes_on = self.flat.wrapped(row);
+        let (start, end) = self.flat.part(row);
+        let cells = &mut self.flat.cells[start..end];
+        let cell = cells::lift(cells, usize::from(col), attrs);
+        let goes_on = cells::flag_left(cells, goes_on);
+        self.flat.wrap(row, goes_on);
+        cell
     }
 
     /// Puts a cell that was taken out back at a column of a row, and the row's
@@ -216,7 +259,11 @@ impl Sheet {
         requires column { col < length (sheet_row self.old row).cells }
         ensures { self.new ≡ with_sheet_row row (record { cells = slice_set (sheet_row self.old row).cells col cell; wrapped = goes_on }) self.old }
     {
-        self.rows[usize::from(row)].put_back(usize::from(col), cell, goes_on);
+        let row = usize::from(row);
+        let (start, end) = self.flat.part(row);
+        let cells = &mut self.flat.cells[start..end];
+        cells[usize::from(col)] = cell;
+        self.flat.wrap(row, goes_on);
     }
 
     /// Puts a wide cell at a column of a row and the next; see `Row::put_wide_cell`.
@@ -227,18 +274,30 @@ impl Sheet {
         requires wide { is_wide cell ≡ true }
         ensures { self.new ≡ with_row_cells row (put_wide col (text_of cell) (attrs_of cell) (sheet_row self.old row).cells) self.old }
     {
-        self.rows[usize::from(row)].put_wide_cell(usize::from(col), cell);
+        let row = usize::from(row);
+        let goes_on = self.flat.wrapped(row);
+        let (start, end) = self.flat.part(row);
+        let cells = &mut self.flat.cells[start..end];
+        cells::put_wide_cell(cells, usize::from(col), cell);
+        let goes_on = cells::flag_left(cells, goes_on);
+        self.flat.wrap(row, goes_on);
     }
 
-    /// Makes the columns of a row from `start` up to `end` blank; see `Row::erase`.
-    pub fn erase(&mut self, row: u16, start: u16, end: u16, attrs: Attrs)
+    /// Makes the columns of a row from `from` up to `to` blank; see `Row::erase`.
+    pub fn erase(&mut self, row: u16, from: u16, to: u16, attrs: Attrs)
         requires inside { row < length self.old.rows }
         requires paired { IsPaired (sheet_row self.old row).cells }
-        requires some { start < end }
-        requires columns { end ≤ length (sheet_row self.old row).cells }
-        ensures { self.new ≡ with_row_cells row (erased start (end - start) attrs (sheet_row self.old row).cells) self.old }
+        requires some { from < to }
+        requires columns { to ≤ length (sheet_row self.old row).cells }
+        ensures { self.new ≡ with_row_cells row (erased from (to - from) attrs (sheet_row self.old row).cells) self.old }
     {
-        self.rows[usize::from(row)].erase(usize::from(start), usize::from(end), attrs);
+        let row = usize::from(row);
+        let goes_on = self.flat.wrapped(row);
+        let (start, end) = self.flat.part(row);
+        let cells = &mut self.flat.cells[start..end];
+        cells::erase(cells, usize::from(from), usize::from(to), attrs);
+        let goes_on = cells::flag_left(cells, goes_on);
+        self.flat.wrap(row, goes_on);
     }
 
     /// Inserts default blanks at a column of a row; see `Row::insert`.
@@ -248,7 +307,11 @@ impl Sheet {
         requires column { col ≤ length (sheet_row self.old row).cells }
         ensures { self.new ≡ with_sheet_row row (inserted_row col count (sheet_row self.old row)) self.old }
     {
-        self.rows[usize::from(row)].insert(usize::from(col), usize::from(count));
+        let row = usize::from(row);
+        let (start, end) = self.flat.part(row);
+        let cells = &mut self.flat.cells[start..end];
+        shifts::insert(cells, usize::from(col), usize::from(count));
+        self.flat.wrap(row, false);
     }
 
     /// Deletes columns of a row; see `Row::delete`.
@@ -258,16 +321,19 @@ impl Sheet {
         requires column { col ≤ length (sheet_row self.old row).cells }
         ensures { self.new ≡ with_sheet_row row (deleted_row col count (sheet_row self.old row)) self.old }
     {
-        self.rows[usize::from(row)].delete(usize::from(col), usize::from(count));
+        let row = usize::from(row);
+        let (start, end) = self.flat.part(row);
+        let cells = &mut self.flat.cells[start..end];
+        shifts::delete(cells, usize::from(col), usize::from(count));
+        self.flat.wrap(row, false);
     }
 
     /// Makes a row blank.
-    pub fn clear_row(&mut self, row: u16, attrs: Attrs)
+    pub fn clear_row(&mut self, row: usize, attrs: Attrs)
         requires inside { row < length self.old.rows }
-        requires columns { length (sheet_row self.old row).cells ≡ self.old.width }
         ensures { self.new ≡ with_sheet_row row (blank_row attrs self.old.width) self.old }
     {
-        self.rows[usize::from(row)].clear(attrs);
+        self.flat.blank(row, attrs);
     }
 
     /// Makes all rows blank.
@@ -275,7 +341,8 @@ impl Sheet {
         requires sound { All (IsRow self.old.width) self.old.rows }
         ensures { self.new ≡ record self.old { rows = replicate (length self.old.rows) (blank_row attrs self.old.width) } }
     {
-        clear_from(&mut self.rows, 0, attrs);
+        let end = self.len();
+        self.clear_rows(0, end, attrs);
     }
 
     /// Makes the rows above a row blank.
@@ -284,7 +351,7 @@ impl Sheet {
         requires sound { All (IsRow self.old.width) self.old.rows }
         ensures { self.new ≡ record self.old { rows = replicate row (blank_row attrs self.old.width) ++ drop row self.old.rows } }
     {
-        clear_before(&mut self.rows, usize::from(row), attrs);
+        self.clear_rows(0, usize::from(row), attrs);
     }
 
     /// Makes the rows below a row blank.
@@ -293,7 +360,8 @@ impl Sheet {
         requires sound { All (IsRow self.old.width) self.old.rows }
         ensures { self.new ≡ record self.old { rows = take (row + 1) self.old.rows ++ replicate (length self.old.rows - (row + 1)) (blank_row attrs self.old.width) } }
     {
-        clear_from(&mut self.rows, usize::from(row) + 1, attrs);
+        let end = self.len();
+        self.clear_rows(usize::from(row) + 1, end, attrs);
     }
 
     /// Moves the rows from `top` to `bottom` up by `count`; blank rows come in
@@ -306,12 +374,11 @@ impl Sheet {
         requires sound { All (IsRow self.old.width) self.old.rows }
         ensures { self.new ≡ record self.old { rows = rows_up self.old.width top bottom count self.old.rows } }
     {
-        scroll_rows(
-            &mut self.rows,
-            usize::from(top),
-            usize::from(bottom),
-            usize::from(count),
-        );
+        let top = usize::from(top);
+        let end = usize::from(bottom) + 1;
+        let count = usize::from(count).min(end - top);
+        self.flat.rotate(top, end, count);
+        self.clear_rows(end - count, end, Attrs::new());
     }
 
     /// Moves the rows from `top` to `bottom` down by `count`; blank rows come
@@ -325,12 +392,12 @@ impl Sheet {
         requires sound { All (IsRow self.old.width) self.old.rows }
         ensures { self.new ≡ record self.old { rows = rows_down self.old.width top bottom count self.old.rows } }
     {
-        scroll_rows_down(
-            &mut self.rows,
-            usize::from(top),
-            usize::from(bottom),
-            usize::from(count),
-        );
+        let top = usize::from(top);
+        let end = usize::from(bottom) + 1;
+        let count = usize::from(count).min(end - top);
+        self.flat.rotate(top, end, end - top - count);
+        self.clear_rows(top, top + count, Attrs::new());
+        self.wrap(usize::from(bottom), false);
     }
 
     /// Moves the rows from the first to `bottom` up by `count`, as `scroll_up`
@@ -356,92 +423,22 @@ impl Sheet {
         ensures grows { IsErr result → TakesMemory (take (min count (bottom + 1)) self.old.rows) above.old }
         ensures memory { IfErr result (λ error. error ≡ Error.OutOfMemory) }
     {
-        send_rows(
-            &mut self.rows,
-            usize::from(bottom),
-            usize::from(count),
-            size,
-            above,
-            leaving,
-        )?;
+        let gone = usize::from(count).min(usize::from(bottom) + 1);
+        above.push(self, gone, size, leaving)?;
+        self.scroll_up(0, bottom, count);
         Ok(())
     }
-}
 
-/// Moves rows up by `count` and hands those that leave to scrollback; see
-/// `Sheet::send_up`.
-fn send_rows<L: Leaving>(
-    rows: &mut [Row],
-    bottom: usize,
-    count: usize,
-    size: Size,
-    above: &mut Scrollback,
-    leaving: &mut L,
-) -> Result<(), Error>
-    requires inside { bottom < length rows.old }
-    requires sound { All (IsRow size.cols) rows.old }
-    ensures rows { OnOk result (rows.new ≡ rows_up size.cols 0 bottom count rows.old) }
-    ensures sent { OnOk result (Sends L.leaves size.rows size.cols (take (min count (bottom + 1)) rows.old) above.old leaving.old above.new leaving.new) }
-    ensures err { OnErr result ((rows.new ≡ rows.old) × ((above.new ≡ above.old) × (leaving.new ≡ leaving.old))) }
-    ensures grows { IsErr result → TakesMemory (take (min count (bottom + 1)) rows.old) above.old }
-    ensures memory { IfErr result (λ error. error ≡ Error.OutOfMemory) }
-{
-    let count = count.min(bottom + 1);
-    above.push(&mut rows[..count], size, leaving)?;
-    scroll_rows(rows, 0, bottom, count);
-    Ok(())
-}
-
-/// Moves rows up by `count`; see `Sheet::scroll_up`.
-fn scroll_rows(rows: &mut [Row], top: usize, bottom: usize, count: usize)
-    requires in_order { top ≤ bottom }
-    requires inside { bottom < length rows.old }
-    ensures { (width : ℕ) → All (IsRow width) rows.old → rows.new ≡ rows_up width top bottom count rows.old }
-{
-    let end = bottom + 1;
-    let count = count.min(end - top);
-    turn(rows, top, end, count);
-    clear_rows(rows, end - count, end, Attrs::new());
-}
-
-/// Moves rows down by `count`; see `Sheet::scroll_down`.
-fn scroll_rows_down(rows: &mut [Row], top: usize, bottom: usize, count: usize)
-    requires in_order { top ≤ bottom }
-    requires inside { bottom < length rows.old }
-    ensures { (width : ℕ) → All (IsRow width) rows.old → rows.new ≡ rows_down width top bottom count rows.old }
-{
-    let end = bottom + 1;
-    let count = count.min(end - top);
-    turn(rows, top, end, end - top - count);
-    clear_rows(rows, top, top + count, Attrs::new());
-    rows[bottom].wrap(false);
-}
-
-/// Makes the rows before `to` blank; see `Sheet::clear_above`.
-fn clear_before(rows: &mut [Row], to: usize, attrs: Attrs)
-    requires { to ≤ length rows.old }
-    ensures { (width : ℕ) → All (IsRow width) rows.old → rows.new ≡ replicate to (blank_row attrs width) ++ drop to rows.old }
-{
-    clear_rows(rows, 0, to, attrs);
-}
-
-/// Makes the rows from `from` on blank; see `Sheet::clear_below`.
-fn clear_from(rows: &mut [Row], from: usize, attrs: Attrs)
-    requires { from ≤ length rows.old }
-    ensures { (width : ℕ) → All (IsRow width) rows.old → rows.new ≡ take from rows.old ++ replicate (length rows.old - from) (blank_row attrs width) }
-{
-    let end = rows.len();
-    clear_rows(rows, from, end, attrs);
-}
-
-/// Makes the rows from `from` up to `to` blank, each in its width.
-fn clear_rows(rows: &mut [Row], from: usize, to: usize, attrs: Attrs)
-    requires in_order { from ≤ to }
-    requires inside { to ≤ length rows.old }
-    ensures len { length rows.new ≡ length rows.old }
-    ensures by_index { (k : ℕ) (d : RowValue) → slice_index_or rows.new k d ≡ (if nat_le from k && nat_lt k to then cleared_row attrs (slice_index_or rows.old k d) else slice_index_or rows.old k d) }
-{
-    for k in from..to {
-        rows[k].clear(attrs);
+    /// Makes the rows from `from` up to `to` blank.
+    fn clear_rows(&mut self, from: usize, to: usize, attrs: Attrs)
+        requires in_order { from ≤ to }
+        requires inside { to ≤ length self.old.rows }
+        ensures len { length self.new.rows ≡ length self.old.rows }
+        ensures width { self.new.width ≡ self.old.width }
+        ensures by_index { (k : ℕ) (d : RowValue) → k < length self.old.rows → slice_index_or self.new.rows k d ≡ (if nat_le from k && nat_lt k to then blank_row attrs self.old.width else slice_index_or self.old.rows k d) }
+    {
+        for row in from..to {
+            self.clear_row(row, attrs);
+        }
     }
 }

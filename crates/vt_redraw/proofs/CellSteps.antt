@@ -5,10 +5,9 @@ use Rattle.std.proofs.lemmas.List.Concat.{flat_map-append}
 use Rattle.std.proofs.lemmas.List.{drop_more, drop_all, drop-drop, length-drop}
 use Rattle.std.proofs.Math.Numerals.{one-add}
 use Rattle.vt_cells.proofs.Same.{same_attrs-itself}
-use Rattle.vt_cells.specs.Attrs.{default_attrs, same_attrs}
+use Rattle.vt_cells.specs.Attrs.{default_attrs, same_attrs, Attrs}
 use Rattle.vt_cells.specs.Cell.{CellValue, blank, glyph, right_half, default_blank, is_blank, is_right_half, is_wide, attrs_of, text_of, same_cell}
 use Rattle.vt_cells.specs.Op.{Op, Print, bytes_of, bytes_of_all}
-use Rattle.vt_cells.specs.Attrs.{Attrs}
 use Rattle.vt_rows.specs.Cells.{at, IsPaired}
 use Rattle.vt_redraw.specs.Items.{begun, begun_over}
 use Rattle.vt_cells.proofs.SameCells.{same_cell-itself}

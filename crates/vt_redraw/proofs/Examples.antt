@@ -1,9 +1,8 @@
 -- Redraws and differences of small pictures, as lists of operations.
 use Rattle.std.proofs.Common.{◌≡◌, ℕ, true, false, List, [], ◌∷◌, refl}
-use Rattle.vt_cells.specs.Attrs.{default_attrs, same_attrs, same_color}
+use Rattle.vt_cells.specs.Attrs.{default_attrs, same_attrs, same_color, Attrs}
 use Rattle.vt_cells.specs.Cell.{CellValue, blank, glyph, right_half, default_blank, same_cell}
 use Rattle.vt_cells.specs.Op.{Op, Hide, ClearAttrs, MoveTo, MoveRight, NextRow, LineFeed, Backspace, EraseBelow, EraseRest, EraseChars, SaveCursor, RestoreCursor, ChangeAttrs, Print}
-use Rattle.vt_cells.specs.Attrs.{Attrs}
 use Rattle.vt_cells.specs.declared.attrs.Intensity.TheVariants.{Bold}
 use Rattle.vt_cells.specs.declared.color.Color.TheVariants.{Idx}
 use Rattle.vt_rows.specs.Row.{RowValue}

@@ -4,11 +4,10 @@ use Rattle.std.specs.Prelude.{All, if◌then◌else◌}
 use Rattle.std.specs.List.{AllByRecursion}
 use Rattle.std.proofs.lemmas.Bool.{cond_both, ltb-true}
 use Rattle.std.proofs.lemmas.List.Elements.{recursion_from_All}
-use Rattle.vt_cells.specs.Attrs.{default_attrs, same_attrs, same_bool}
+use Rattle.vt_cells.specs.Attrs.{default_attrs, same_attrs, same_bool, Attrs}
 use Rattle.vt_cells.specs.Cell.{CellValue, blank, glyph, right_half, IsCell, attrs_of, text_of, is_right_half, same_cell}
 use Rattle.vt_cells.proofs.Glyphs.{IsGlyphText-space}
 use Rattle.vt_cells.specs.Op.{Op, Hide, MoveTo, MoveRight, NextRow, LineFeed, Backspace, EraseChars, SaveCursor, RestoreCursor, ChangeAttrs, Print, FitsAttrs}
-use Rattle.vt_cells.specs.Attrs.{Attrs}
 use Rattle.vt_rows.specs.Cells.{at, ends_blank}
 use Rattle.vt_rows.specs.Row.{RowValue, IsRow}
 use Rattle.vt_grid.specs.Page.{row_or}

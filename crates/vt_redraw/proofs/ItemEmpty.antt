@@ -4,10 +4,9 @@ use Rattle.std.specs.Prelude.{All, if◌then◌else◌}
 use Rattle.std.specs.List.{AllByRecursion}
 use Rattle.std.proofs.lemmas.Bool.Decides.{nat_tests}
 use Rattle.std.proofs.lemmas.List.Elements.{recursion_from_All}
-use Rattle.vt_cells.specs.Attrs.{default_attrs}
+use Rattle.vt_cells.specs.Attrs.{default_attrs, Attrs}
 use Rattle.vt_cells.specs.Cell.{CellValue, blank, glyph, right_half, IsCell, attrs_of, text_of, same_cell}
 use Rattle.vt_cells.specs.Op.{Op, EraseChars, Print, bytes_of, bytes_of_all}
-use Rattle.vt_cells.specs.Attrs.{Attrs}
 use Rattle.vt_cells.proofs.Glyphs.{IsGlyphText-length}
 use Rattle.vt_cells.proofs.SameCells.{cell_of-same}
 use Rattle.vt_cells.proofs.Texts.{bytes_of_all-append}

@@ -14,8 +14,7 @@ use Rattle.vt_redraw.specs.Picture.{Picture, IsPicture}
 use Rattle.vt_redraw.proofs.Halves.{Paired, paired_of}
 use Rattle.vt_cells.specs.Glyph.{columns_of, is_selector, is_wide_text, has_room, Joins, IsMark, IsGlyphText}
 use Rattle.vt_cells.proofs.Glyphs.{IsGlyphText-chars, selector_columns, encode_bounds}
-use Rattle.vt_cells.specs.Attrs.{Attrs}
-use Rattle.vt_cells.specs.Attrs.{default_attrs}
+use Rattle.vt_cells.specs.Attrs.{Attrs, default_attrs}
 use Rattle.vt_rows.specs.Cells.{blanks}
 use Rattle.vt_grid.specs.Page.{Page}
 use Rattle.vt_grid.specs.Canvas.{Canvas, with_page, and_then, drawn_text, drawn_all}

@@ -8,8 +8,7 @@ use Rattle.vt_cells.specs.Cell.{blank, glyph, default_blank, is_wide}
 use Rattle.vt_cells.specs.Glyph.{columns_of, first_columns, is_selector, is_wide_text, has_room, IsMark, Joins, IsGlyphText}
 use Rattle.vt_cells.proofs.Glyphs.{IsGlyphText-chars}
 use Rattle.vt_cells.proofs.Widths.{columns_of-le}
-use Rattle.vt_cells.specs.Attrs.{Attrs}
-use Rattle.vt_cells.specs.Attrs.{default_attrs}
+use Rattle.vt_cells.specs.Attrs.{Attrs, default_attrs}
 use Rattle.vt_rows.specs.Cells.{at, blanks, opened, narrowed_at}
 use Rattle.vt_rows.proofs.Columns.{length-opened}
 use Rattle.std.proofs.lemmas.List.{length-drop, length-replicate}

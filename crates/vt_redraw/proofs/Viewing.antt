@@ -4,7 +4,7 @@ use Rattle.std.specs.Prelude.{All, replicate}
 use Rattle.std.proofs.lemmas.Bool.Decides.{nat_tests}
 use Rattle.std.proofs.lemmas.List.{length-replicate, get_or-replicate, length-take-le, length-append}
 use Rattle.std.proofs.lemmas.List.Elements.{All-take, All-drop, All-append, All-get_or, All-weaker}
-use Rattle.vt_cells.specs.Attrs.{default_attrs}
+use Rattle.vt_cells.specs.Attrs.{default_attrs, Attrs}
 use Rattle.vt_rows.specs.Row.{RowValue, IsRow, blank_row}
 use Rattle.vt_rows.proofs.Rows.{IsRow-blank_row}
 use Rattle.vt_grid.specs.Page.{Page, IsPage, row_or}
@@ -12,7 +12,6 @@ use Rattle.vt_grid.specs.Scrollback.{Scrollback, IsScrollback, last_of, visible}
 use Rattle.vt_grid.specs.Canvas.{Canvas}
 use Rattle.vt_redraw.specs.Keeping.{IsSource, cut_row, viewed}
 use Rattle.vt_redraw.specs.Picture.{IsPicture, cut_rows, picture_over}
-use Rattle.vt_cells.specs.Attrs.{Attrs}
 use Rattle.vt_redraw.specs.Script.{pen_at}
 use Rattle.vt_redraw.specs.Redraw.{blank_like}
 use Rattle.vt_redraw.specs.declared.pen.Pen.{Pen}

@@ -3,11 +3,10 @@ use Rattle.std.proofs.Common.{◌≡◌, ℕ, sym, ap, arith, eqb-true, true, fa
 use Rattle.std.proofs.lemmas.Bool.Decides.{nat_tests}
 use Rattle.std.proofs.lemmas.Bool.{cond_both}
 use Rattle.vt_cells.proofs.Same.{attrs_eq-same, two_parts}
-use Rattle.vt_cells.specs.Attrs.{same_attrs}
+use Rattle.vt_cells.specs.Attrs.{same_attrs, Attrs}
 use Rattle.vt_cells.specs.Cell.{CellValue, blank, glyph, right_half, is_blank, attrs_of}
 use Rattle.vt_cells.specs.CellEq.{attrs_eq}
 use Rattle.vt_cells.specs.Op.{Op, ChangeAttrs, bytes_of_all, change_text, moving}
-use Rattle.vt_cells.specs.Attrs.{Attrs}
 use Rattle.vt_redraw.specs.Script.{changing, going, is_at, is_blank_of}
 use Rattle.vt_redraw.specs.declared.pen.Pen.{Pen}
 

@@ -1,9 +1,8 @@
 -- The difference of two pictures, and the redraw of one, as lists of operations.
 use Rattle.std.specs.Prelude.{ℕ, suc, zero, ◌+◌, ◌-◌, nat_lt, Bool, false, List, [], ◌∷◌, ◌++◌, length, replicate, Option, Some, None, if◌then◌else◌}
-use Rattle.vt_cells.specs.Attrs.{default_attrs, same_bool}
+use Rattle.vt_cells.specs.Attrs.{default_attrs, same_bool, Attrs}
 use Rattle.vt_cells.specs.Cell.{CellValue, attrs_of, text_of}
 use Rattle.vt_cells.specs.Op.{Op, Hide, ClearAttrs, MoveTo, EraseBelow, EraseChars, LineFeed, Backspace, SaveCursor, RestoreCursor, Print}
-use Rattle.vt_cells.specs.Attrs.{Attrs}
 use Rattle.vt_rows.specs.Cells.{at, ends_blank}
 use Rattle.vt_rows.specs.Row.{RowValue, blank_row}
 use Rattle.vt_grid.specs.Page.{row_or}

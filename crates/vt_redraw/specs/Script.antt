@@ -2,9 +2,8 @@
 use Rattle.std.specs.Prelude.{ℕ, suc, zero, ◌+◌, ◌-◌, ◌==◌, ◌&&◌, ◌||◌, not, Bool, true, false, List, [], ◌∷◌, ◌++◌, length, drop, if◌then◌else◌}
 use Rattle.vt_cells.specs.Cell.{CellValue, blank, glyph, right_half, is_glyph, is_right_half, same_cell, text_of, attrs_of}
 use Rattle.std.specs.List.{prefix_len}
-use Rattle.vt_cells.specs.Attrs.{same_attrs}
+use Rattle.vt_cells.specs.Attrs.{same_attrs, Attrs}
 use Rattle.vt_cells.specs.Op.{Op, Backspace, ChangeAttrs, EraseChars, EraseRest, Print, moving}
-use Rattle.vt_cells.specs.Attrs.{Attrs}
 use Rattle.vt_rows.specs.Cells.{at}
 use Rattle.vt_redraw.specs.declared.pen.Pen.{Pen}
 

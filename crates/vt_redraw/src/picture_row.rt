@@ -10,7 +10,8 @@ ghost use Rattle.vt_redraw.specs.Script.{is_blank_of, is_torn, last_column, run}
 
 use std::marker::Model;
 use vt_cells::{Attrs, Cell};
-use vt_rows::Row;
+use vt_rows::RowContents;
+use vt_rows::capture::cells_of;
 
 /// A row of a picture: the cells of a row of a page or of scrollback, as far as
 /// the picture has columns for them, and blanks of one kind behind them.
@@ -52,12 +53,12 @@ impl<'a> PictureRow<'a> {
     /// A row cut or grown to this many columns. It goes on below as it did,
     /// unless its last column then is blank, or it is the last of the picture.
     #[tactic(auto, using(crate::proofs::Filling::resized_columns))]
-    pub fn cut(row: &'a Row, cols: u16, is_last: bool) -> PictureRow<'a>
+    pub fn cut(row: &RowContents<'a>, cols: u16, is_last: bool) -> PictureRow<'a>
         requires some { 0 < cols }
         requires paired { IsPaired row.now.cells }
         ensures { result ≡ cut_row is_last cols row.now }
     {
-        let mut cut = PictureRow::unwrapped(row.cells(), cols);
+        let mut cut = PictureRow::unwrapped(cells_of(row), cols);
         let goes_on = cut.keeps_flag(row.wrapped(), is_last);
         cut.wrapped = goes_on;
         cut

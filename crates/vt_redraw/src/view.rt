@@ -11,8 +11,7 @@ use crate::pen::Pen;
 use crate::picture_row::PictureRow;
 use std::marker::Model;
 use vt_cells::Attrs;
-use vt_grid::{Grid, Scrollback};
-use vt_rows::Row;
+use vt_grid::{Grid, Scrollback, Sheet};
 
 /// The picture of a screen: the rows that are in view, each cut to the
 /// screen's columns, the cursor, the attributes and whether the cursor is
@@ -20,7 +19,7 @@ use vt_rows::Row;
 #[derive(Drop)]
 pub struct View<'a> {
     above: &'a Scrollback,
-    rows: &'a [Row],
+    rows: &'a Sheet,
     cols: u16,
     pen: Pen,
     hidden: bool,
@@ -28,14 +27,15 @@ pub struct View<'a> {
 }
 
 impl<'a> Model for View<'a> {
+    ghost use Rattle.std.specs.Prelude.{◌≡◌};
     ghost use Rattle.vt_redraw.specs.Keeping.{IsSource, viewed};
     ghost use Rattle.vt_redraw.specs.Picture.{Picture};
 
     ghost Value = { Picture };
 
-    ghost view = { λ v. viewed v.is_blank v.above.now v.rows.now v.cols v.pen v.hidden };
+    ghost view = { λ v. viewed v.is_blank v.above.now v.rows.now.rows v.cols v.pen v.hidden };
 
-    ghost invariant = { λ v. IsSource v.above.now v.rows.now v.cols v.pen };
+    ghost invariant = { λ v. IsSource v.above.now v.rows.now.rows v.cols v.pen × (v.rows.now.width ≡ v.cols) };
 }
 
 impl<'a> View<'a> {
@@ -124,7 +124,7 @@ impl<'a> View<'a> {
         }
         let is_last = usize::from(row) + 1 == self.rows.len();
         match self.above.visible_row(self.rows, row) {
-            Some(found) => PictureRow::cut(found, self.cols, is_last),
+            Some(found) => PictureRow::cut(&found, self.cols, is_last),
             None => PictureRow::blank(self.cols),
         }
     }

@@ -3,9 +3,8 @@ use Rattle.std.proofs.Common.{◌≡◌, Bool, true, false, List, [], refl, sym,
 use Rattle.std.specs.Prelude.{if◌then◌else◌}
 use Rattle.std.proofs.lemmas.Bool.{cond_both}
 use Rattle.vt_cells.specs.Cell.{CellValue, attrs_of, is_default_blank, is_right_half}
-use Rattle.vt_cells.specs.Attrs.{same_attrs}
+use Rattle.vt_cells.specs.Attrs.{same_attrs, Attrs}
 use Rattle.vt_cells.specs.Op.{change_text}
-use Rattle.vt_cells.specs.Attrs.{Attrs}
 use Rattle.vt_cells.proofs.Same.{attrs_of-same, same_attrs-itself}
 use Rattle.vt_rows.specs.Basic.{attrs_after, is_bare}
 

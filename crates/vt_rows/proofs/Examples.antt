@@ -1,8 +1,7 @@
 -- Rows before and after, each checked by computing.
 use Rattle.std.proofs.Common.{◌≡◌, ℕ, true, false, List, [], ◌∷◌, refl}
-use Rattle.vt_cells.specs.Attrs.{default_attrs, same_attrs, same_color}
+use Rattle.vt_cells.specs.Attrs.{default_attrs, same_attrs, same_color, Attrs}
 use Rattle.vt_cells.specs.Cell.{CellValue, blank, glyph, right_half, default_blank}
-use Rattle.vt_cells.specs.Attrs.{Attrs}
 use Rattle.vt_cells.specs.declared.color.Color.TheVariants.{Idx}
 use Rattle.vt_rows.specs.Cells.{put_cells, put_narrow, put_wide, erased, widened_at, narrowed_at, moved, inserted, deleted, resized}
 use Rattle.vt_rows.specs.Plain.{plain_text}

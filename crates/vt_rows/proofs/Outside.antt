@@ -160,10 +160,8 @@ covers_begin : (capture : List ℕ) (at : ℕ) (piece text : List ℕ) (later : 
 covers_begin capture at piece text later lacks apart covers k lt = by (place k (length piece)) where
   esc : IsInSome (at + (length piece + 0)) (piece_at at piece ++ later) → in_stretch false (piece ++ 0x1B ∷ text) (length piece + 0) ≡ false
   esc h = absurd (none_before capture (at + length piece + 1) (at + (length piece + 0)) later apart (omega arith) ((not_in_one at 0 piece later).0 h))
-
   here : in_stretch false (piece ++ 0x1B ∷ text) (length piece + 0) ≡ true
   here = behind_free piece (0x1B ∷ text) 0 lacks
-
   behind : (j : ℕ) → k ≡ length piece + suc j → IsInSome (at + k) (piece_at at piece ++ later) ↔ (in_stretch false (piece ++ 0x1B ∷ text) k ≡ false)
   behind j e =
       let same : at + (length piece + suc j) ≡ at + length piece + 1 + j = omega arith in
@@ -172,7 +170,6 @@ covers_begin capture at piece text later lacks apart covers k lt = by (place k (
       let parts = not_in_one at (suc j) piece later in
       let ih = covers j inside in
       rw e (λ h. flag ∙ ih.0 (rw same at (parts.0 h)), λ f. parts.1 (rw same (ih.1 (sym flag ∙ f))))
-
   by : Place k (length piece) → IsInSome (at + k) (piece_at at piece ++ later) ↔ (in_stretch false (piece ++ 0x1B ∷ text) k ≡ false)
   by (inl low) = (λ h. free piece k lacks low (0x1B ∷ text), λ e. in_one at k piece later low)
   by (inr (inl e)) = rw e (esc, λ f. absurd (true≢false (sym here ∙ f)))
@@ -197,8 +194,7 @@ good_end capture at piece e lacks =
       apart = subst (AreApart capture at) only (one_piece capture at piece [] e [] tt);
       covers = λ k lt. (
         (λ h. rw (append-nil piece) at (free piece k lacks lt [])),
-        λ f. subst (IsInSome (at + k)) only (in_one at k piece [] lt),
-      );
+        λ f. subst (IsInSome (at + k)) only (in_one at k piece [] lt));
     })
 
 begin_differs : (b : ℕ) → begins_stretch b ≡ false → b ≢ 0x1B
@@ -280,10 +276,10 @@ pieces_are capture =
     record {
       apart = good.apart;
       plain = λ k lt.
-          let zero_on : 0 + k ≡ k = omega arith in
-          let here = rw zero_on at (good.covers k lt) in
-          let places = in_places capture k lt in
-          (λ h. places.0 (here.0 h), λ none. here.1 (places.1 none));
+        let zero_on : 0 + k ≡ k = omega arith in
+        let here = rw zero_on at (good.covers k lt) in
+        let places = in_places capture k lt in
+        (λ h. places.0 (here.0 h), λ none. here.1 (places.1 none));
     }
 
 -- joined they are the text without its stretches

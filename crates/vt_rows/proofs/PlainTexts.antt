@@ -3,8 +3,7 @@ use Rattle.std.proofs.Common.{◌≡◌, ℕ, ◌+◌, ◌-◌, ◌≤◌, Bool,
 use Rattle.std.specs.Prelude.{if◌then◌else◌}
 use Rattle.std.specs.List.{flat_map, list_any}
 use Rattle.std.proofs.lemmas.List.{append_assoc, take_rest, replicate_more, replicate-append-replicate}
-use Rattle.vt_cells.specs.Attrs.{default_attrs}
-use Rattle.vt_cells.specs.Attrs.{Attrs}
+use Rattle.vt_cells.specs.Attrs.{default_attrs, Attrs}
 use Rattle.vt_cells.specs.Cell.{CellValue, blank, glyph, right_half, default_blank, is_glyph, is_right_half}
 use Rattle.vt_rows.specs.Basic.{shown_text}
 use Rattle.vt_rows.specs.Cells.{opened}

@@ -1,9 +1,8 @@
 -- The text of a row with SGR alone: what is left of a row that is captured (ECMA-48's SGR).
 use Rattle.std.specs.Prelude.{ℕ, not, Bool, false, List, [], ◌∷◌, ◌++◌, if◌then◌else◌}
-use Rattle.vt_cells.specs.Attrs.{default_attrs}
+use Rattle.vt_cells.specs.Attrs.{default_attrs, Attrs}
 use Rattle.vt_cells.specs.Cell.{CellValue, blank, glyph, right_half, is_default_blank, is_right_half, attrs_of}
 use Rattle.vt_cells.specs.Op.{change_text}
-use Rattle.vt_cells.specs.Attrs.{Attrs}
 use Rattle.vt_rows.specs.Row.{RowValue, trimmed}
 
 -- what was written before: the attributes of the last text, and whether a line end is due before the next row

@@ -1,6 +1,7 @@
 //! Rows that are lent to be read, and their texts.
 
-ghost use Rattle.std.specs.Prelude.{◌≡◌, [], ◌∷◌, ◌++◌, if◌then◌else◌, false, length, true, IfOk, OnErr, OnOk};
+ghost use Rattle.std.specs.Prelude.{◌≡◌, ◌<◌, ◌↔◌, [], ◌∷◌, ◌++◌, if◌then◌else◌, false, length, true, IfOk, IfSome, IsSome, OnErr, OnOk};
+ghost use Rattle.vt_rows.specs.Cells.{at};
 ghost use Rattle.vt_cells.specs.Cell.{attrs_of};
 ghost use Rattle.vt_cells.specs.Op.{change_text};
 ghost use Rattle.vt_cells.specs.PieceKeeping.{gathered};
@@ -217,6 +218,47 @@ fn shown_text(cell: &Cell) -> &str
     }
 }
 
+/// Cells and a flag as a row to be read.
+#[inline]
+pub fn lent<'a>(cells: &'a [Cell], wrapped: bool) -> RowContents<'a>
+    requires { IsRow (length cells.now) (record { cells = cells.now; wrapped = wrapped }) }
+    ensures { result ≡ record { cells = cells.now; wrapped = wrapped } }
+{
+    RowContents { cells, wrapped }
+}
+
+/// The cells of a row, for as long as they are lent.
+#[inline]
+pub fn cells_of<'a>(row: &RowContents<'a>) -> &'a [Cell]
+    ensures { result.now ≡ row.now.cells }
+{
+    row.cells
+}
+
+/// The cell at a column of a row, if the row has it, for as long as the row is
+/// lent.
+#[inline]
+pub fn cell_of<'a>(row: &RowContents<'a>, column: usize) -> Option<&'a Cell>
+    ensures inside { IsSome result ↔ (column < length row.now.cells) }
+    ensures value { IfSome result (λ cell. cell.now ≡ at row.now.cells column) }
+{
+    if column < row.cells.len() {
+        Some(&row.cells[column])
+    } else {
+        None
+    }
+}
+
+/// A row without the default blanks at its end.
+pub fn trimmed<'a>(row: &RowContents<'a>) -> RowContents<'a>
+    ensures { result ≡ trimmed_row row.now }
+{
+    RowContents {
+        cells: &row.cells[..cuts::trimmed_len(row.cells)],
+        wrapped: row.wrapped,
+    }
+}
+
 impl Row {
     /// The row as it stands.
     #[inline]
@@ -224,10 +266,7 @@ impl Row {
         requires { IsRow (length self.now.cells) self.now }
         ensures { result ≡ self.now }
     {
-        RowContents {
-            cells: self.cells(),
-            wrapped: self.wrapped(),
-        }
+        lent(self.cells(), self.wrapped())
     }
 
     /// The row without the default blanks at its end.
@@ -235,11 +274,7 @@ impl Row {
         requires { IsRow (length self.now.cells) self.now }
         ensures { result ≡ trimmed_row self.now }
     {
-        let cells = self.cells();
-        RowContents {
-            cells: &cells[..cuts::trimmed_len(cells)],
-            wrapped: self.wrapped(),
-        }
+        trimmed(&self.contents())
     }
 }
 

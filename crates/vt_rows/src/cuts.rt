@@ -7,7 +7,6 @@ ghost use Rattle.vt_rows.specs.Cells.{IsPaired, blanks, resized};
 ghost use Rattle.vt_rows.specs.Keeping.{end_blanked};
 ghost use Rattle.vt_rows.specs.Row.{trimmed};
 
-use std::mem;
 use vt_cells::{Attrs, Cell};
 
 /// How many columns are left without the default blanks at the end.
@@ -22,19 +21,19 @@ pub fn trimmed_len(cells: &[Cell]) -> usize
     len
 }
 
-/// Moves the cells of one row into another, a blank one of any width, as far
+/// Copies the cells of one row into another, a blank one of any width, as far
 /// as they fit.
 ///
 /// A left half in the last column that is left becomes blank, in its own
 /// attributes.
-pub fn refit(cells: &mut [Cell], from: &mut [Cell])
+pub fn refit(cells: &mut [Cell], from: &[Cell])
     requires blank { cells.old ≡ blanks default_attrs (length cells.old) }
-    requires paired { IsPaired from.old }
-    ensures { cells.new ≡ resized (length cells.old) from.old }
+    requires paired { IsPaired from.now }
+    ensures { cells.new ≡ resized (length cells.old) from.now }
 {
     let count = cells.len().min(from.len());
     for k in 0..count {
-        mem::swap(&mut cells[k], &mut from[k]);
+        cells[k] = from[k].copied();
     }
     blank_end(cells);
 }

@@ -57,6 +57,18 @@ impl Row {
         })
     }
 
+    /// A row of cells and a flag, without the default blanks at its end.
+    ///
+    /// Fails where its memory is refused.
+    pub fn trimmed_copy(alloc: Global, cells: &[Cell], wrapped: bool) -> Result<Row, Error>
+        ensures ok { IfOk result (λ row. row ≡ trimmed_row (record { cells = cells.now; wrapped = wrapped })) }
+        ensures memory { IfErr result (λ error. error ≡ Error.OutOfMemory) }
+    {
+        let kept = &cells[..cuts::trimmed_len(cells)];
+        let cells = kept.to_vec(alloc)?;
+        Ok(Row { cells, wrapped })
+    }
+
     /// How many columns the row has.
     #[inline]
     pub fn cols(&self) -> usize
@@ -263,18 +275,18 @@ impl Row {
     ///
     /// A left half that comes to stand in the last column becomes blank, in
     /// its own attributes. The flag stays where the widths are equal.
-    pub fn refit(&mut self, mut from: Row)
+    pub fn refit(&mut self, from: Row)
         requires blank { self.old ≡ blank_row default_attrs (length self.old.cells) }
         requires paired { IsPaired from.cells }
         ensures { self.new ≡ resized_row (length self.old.cells) from }
     {
         self.wrapped = flag_kept(from.wrapped, from.cells.len() == self.cells.len());
-        cuts::refit(&mut self.cells, &mut from.cells);
+        cuts::refit(&mut self.cells, &from.cells);
     }
 }
 
 /// The flag of a row that got another width, or the same.
-fn flag_kept(wrapped: bool, same: bool) -> bool
+pub fn flag_kept(wrapped: bool, same: bool) -> bool
     ensures { result ≡ (wrapped && same) }
 {
     wrapped && same

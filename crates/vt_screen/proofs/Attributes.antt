@@ -1,9 +1,8 @@
 -- The text that sets attributes.
 use Rattle.std.proofs.Common.{◌≡◌, ℕ, List, [], ◌++◌, Some, ap, ◌∙◌, append-nil}
-use Rattle.vt_cells.specs.Attrs.{default_attrs}
+use Rattle.vt_cells.specs.Attrs.{default_attrs, Attrs}
 use Rattle.vt_cells.specs.Op.{FitsAttrs, change_text, csi}
 use Rattle.vt_cells.proofs.Same.{changed_attrs-new}
-use Rattle.vt_cells.specs.Attrs.{Attrs}
 use Rattle.vt_scan.specs.Automaton.{start}
 use Rattle.vt_screen.specs.Reading.{read, terminal}
 use Rattle.vt_screen.specs.Screen.{ScreenValue}

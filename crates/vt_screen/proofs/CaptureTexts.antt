@@ -2,10 +2,9 @@
 use Rattle.std.proofs.Common.{◌≡◌, ◌⊎◌, inl, inr, ℕ, zero, suc, Bool, true, false, List, [], ◌∷◌, ◌++◌, length, replicate, refl, sym, ap, ap₂, subst, ◌∙◌, append_assoc, append-nil, arith, if◌then◌else◌}
 use Rattle.std.specs.List.{All, AllByRecursion, flat_map}
 use Rattle.std.proofs.lemmas.List.Elements.{recursion_from_All}
-use Rattle.vt_cells.specs.Attrs.{default_attrs, same_attrs, same_color}
+use Rattle.vt_cells.specs.Attrs.{default_attrs, same_attrs, same_color, Attrs}
 use Rattle.vt_cells.specs.Cell.{CellValue, IsCell, blank, glyph, right_half, is_default_blank}
 use Rattle.vt_cells.specs.Op.{csi, joined, change_text, change_numbers}
-use Rattle.vt_cells.specs.Attrs.{Attrs}
 use Rattle.std.specs.Char.{encode_utf8}
 use Rattle.std.specs.List.{list_all}
 use Rattle.vt_rows.specs.Basic.{Written, unwritten, shown_text, attrs_after, cells_text, basic_text, written_after}

@@ -5,11 +5,10 @@ use Rattle.std.specs.Char.{encode_utf8}
 use Rattle.std.proofs.lemmas.Bool.{cases_lt}
 use Rattle.std.proofs.lemmas.List.{get_or_past}
 use Rattle.std.proofs.lemmas.List.Elements.{All-nil, All-cons, All-head, All-tail, All-append, All-take, All-drop, All-replicate, All-set, All-get_or, All-from_get_or}
-use Rattle.vt_cells.specs.Attrs.{default_attrs}
+use Rattle.vt_cells.specs.Attrs.{default_attrs, Attrs}
 use Rattle.vt_cells.specs.Cell.{CellValue, blank, glyph, right_half, default_blank, text_of, is_wide, marked, widened}
 use Rattle.vt_cells.specs.Glyph.{columns_of, is_selector, is_wide_text}
 use Rattle.vt_cells.specs.Op.{FitsAttrs}
-use Rattle.vt_cells.specs.Attrs.{Attrs}
 use Rattle.vt_rows.specs.Cells.{at, mended, shut, opened, put_cells, blanks, put_narrow, put_wide, erased, marked_at, widened_at, narrowed_at, ends_blank}
 use Rattle.vt_rows.specs.Row.{RowValue, blank_row, with_cells}
 use Rattle.vt_grid.specs.Page.{Page, row_or, row_at, cursor_row, with_row, moved_rows, up_source, scrolled_up, blank_page}

@@ -3,9 +3,8 @@ use Rattle.std.proofs.Common.{ℕ, ◌+◌, ◌-◌, ◌<◌, ◌==◌, ◌&&◌
 use Rattle.std.specs.Prelude.{if◌then◌else◌, All, replicate}
 use Rattle.std.proofs.lemmas.List.Elements.{All-append, All-drop, All-replicate, All-set, All-from_get_or}
 use Rattle.vt_cells.specs.Cell.{CellValue, blank, default_blank, is_wide, is_right_half, attrs_of}
-use Rattle.vt_cells.specs.Attrs.{default_attrs}
+use Rattle.vt_cells.specs.Attrs.{default_attrs, Attrs}
 use Rattle.vt_cells.specs.Op.{FitsAttrs}
-use Rattle.vt_cells.specs.Attrs.{Attrs}
 use Rattle.vt_rows.specs.Cells.{at, moved, moved_at, insert_column, insert_source, delete_source, inserted, deleted}
 use Rattle.vt_rows.specs.Row.{RowValue, blank_row, inserted_row, deleted_row}
 use Rattle.vt_rows.proofs.Moves.{length-moved, at-moved}

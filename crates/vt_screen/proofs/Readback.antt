@@ -9,10 +9,9 @@ use Rattle.std.proofs.lemmas.Bool.Decides.{nat_tests}
 use Rattle.std.proofs.lemmas.List.Elements.{All-from_recursion}
 use Rattle.std.proofs.lemmas.Str.{chars-encodes}
 use Rattle.unicode_width.specs.Width.{char_width}
-use Rattle.vt_cells.specs.Attrs.{default_attrs, same_attrs, changed_attrs}
+use Rattle.vt_cells.specs.Attrs.{default_attrs, same_attrs, changed_attrs, Attrs}
 use Rattle.vt_cells.specs.Glyph.{columns_of}
 use Rattle.vt_cells.specs.Op.{Op, Hide, ClearAttrs, MoveTo, MoveRight, NextRow, LineFeed, Backspace, EraseBelow, EraseRest, EraseChars, SaveCursor, RestoreCursor, ChangeAttrs, Print, csi, counted, place, joined, change_numbers, change_text, FitsAttrs, bytes_of, bytes_of_all}
-use Rattle.vt_cells.specs.Attrs.{Attrs}
 use Rattle.vt_grid.specs.Canvas.{Canvas, and_then, drawn, drawn_all, drawn_text, pushes, fed, with_page as with_drawn}
 use Rattle.vt_redraw.specs.Fits.{Fits, IsPrintable}
 use Rattle.vt_grid.specs.Moves.{carriage_return, line_feed, feeds_out}

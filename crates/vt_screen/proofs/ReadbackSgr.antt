@@ -6,8 +6,7 @@ use Rattle.std.proofs.lemmas.List.{map-append, append_assoc, append-nil, length-
 use Rattle.std.specs.List.{AllByRecursion}
 use Rattle.std.specs.Prelude.{◌&&◌, length}
 use Rattle.vt_cells.specs.Op.{FitsColor, FitsAttrs, foreground_numbers, background_numbers, intensity_number, part, change_numbers}
-use Rattle.vt_cells.specs.Attrs.{default_attrs, same_attrs, same_color, same_intensity, same_bool, changed_attrs}
-use Rattle.vt_cells.specs.Attrs.{Attrs}
+use Rattle.vt_cells.specs.Attrs.{default_attrs, same_attrs, same_color, same_intensity, same_bool, changed_attrs, Attrs}
 use Rattle.vt_cells.specs.declared.attrs.Intensity.{Intensity}
 use Rattle.vt_cells.specs.declared.attrs.Intensity.TheVariants.{Normal, Bold, Dim}
 use Rattle.vt_cells.specs.declared.color.Color.{Color}

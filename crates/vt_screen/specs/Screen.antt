@@ -1,10 +1,9 @@
 -- A screen: the active page and the other one, scrollback, attributes and modes.
 use Rattle.std.specs.Prelude.{◌≡◌, ◌≢◌, ℕ, Bool, true, false, List, length, All, Option, None, IfSome, IsSome, if◌then◌else◌}
 use Rattle.std.specs.Char.{IsScalar}
-use Rattle.vt_cells.specs.Attrs.{default_attrs}
+use Rattle.vt_cells.specs.Attrs.{default_attrs, Attrs}
 use Rattle.vt_cells.specs.Cell.{CellValue, attrs_of}
 use Rattle.vt_cells.specs.Op.{FitsAttrs}
-use Rattle.vt_cells.specs.Attrs.{Attrs}
 use Rattle.vt_cells.specs.declared.modes.MouseProtocolMode.TheVariants as mouse
 use Rattle.vt_cells.specs.declared.modes.MouseProtocolEncoding.TheVariants as encoding
 use Rattle.vt_cells.specs.declared.modes.CursorStyle.TheVariants as style

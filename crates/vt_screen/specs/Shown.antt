@@ -1,8 +1,7 @@
 -- What a screen shows, and what a text makes of the terminals that read it.
 use Rattle.std.specs.Prelude.{◌≡◌, ℕ, List, [], ◌∷◌, Option, Some}
-use Rattle.vt_cells.specs.Attrs.{default_attrs}
+use Rattle.vt_cells.specs.Attrs.{default_attrs, Attrs}
 use Rattle.vt_cells.specs.Op.{ClearAttrs, ChangeAttrs, bytes_of_all}
-use Rattle.vt_cells.specs.Attrs.{Attrs}
 use Rattle.vt_grid.specs.Page.{IsPlainPage}
 use Rattle.vt_redraw.specs.Picture.{Picture, SamePictureSize, Saved, picture_over, with_picture, with_saved}
 use Rattle.vt_scan.specs.Automaton.{start}

@@ -23,7 +23,8 @@ use std::marker::Model;
 use std::num::NonZeroU16;
 use vt_cells::{Attrs, Cell, Color, CursorStyle, Error, MouseProtocolEncoding, MouseProtocolMode};
 use vt_grid::{Grid, Scrollback, Size};
-use vt_rows::Row;
+use vt_rows::RowContents;
+use vt_rows::capture::cell_of;
 
 /// A terminal's screen: two pages of cells, each with its cursor, of which one
 /// is active; scrollback above the main one; the attributes that new text is
@@ -148,7 +149,7 @@ impl Screen {
         ensures inside { IsSome result ↔ ((row < length self.now.page.rows) × (col < length (visible_row self.now row).cells)) }
         ensures value { IfSome result (λ cell. cell.now ≡ at (visible_row self.now row).cells col) }
     {
-        self.visible_row(row)?.get(usize::from(col))
+        cell_of(&self.visible_row(row)?, usize::from(col))
     }
 
     /// Whether the text of a row of what is shown goes on in the row below it;
@@ -164,9 +165,9 @@ impl Screen {
 
     /// A row of what is shown: scrollback that is in view, and the page below.
     #[inline]
-    fn visible_row(&self, row: u16) -> Option<&Row>
+    fn visible_row(&self, row: u16) -> Option<RowContents<'_>>
         ensures inside { IsSome result ↔ (row < length self.now.page.rows) }
-        ensures value { IfSome result (λ found. found.now ≡ visible_row self.now row) }
+        ensures value { IfSome result (λ found. found ≡ visible_row self.now row) }
         ensures past { result ≡ None → (visible_row self.now row).wrapped ≡ false }
     {
         self.scrollback.visible_row(self.grid.rows(), row)

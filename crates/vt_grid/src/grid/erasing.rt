@@ -45,7 +45,7 @@ impl Grid {
     pub fn erase_row(&mut self, attrs: Attrs)
         ensures { self.new ≡ erased_row attrs self.old }
     {
-        self.sheet.clear_row(self.pos.row, attrs);
+        self.sheet.clear_row(usize::from(self.pos.row), attrs);
     }
 
     /// Makes the page blank from the cursor on (ED 0); at a pending wrap the

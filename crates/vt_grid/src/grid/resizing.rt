@@ -80,7 +80,7 @@ impl Grid {
             size.rows.saturating_sub(self.size.rows),
             above.theoretical_len(),
         );
-        self.sheet.send_off(down, self.size, above, leaving)?;
+        above.push_out_of_view(&self.sheet, usize::from(down), self.size, leaving)?;
         self.sheet.refit(fresh, down, up, above);
         self.pos = resized(self.pos, down, up, size);
         self.saved_pos = resized(self.saved_pos, down, up, size);

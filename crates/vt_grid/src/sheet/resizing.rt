@@ -1,48 +1,20 @@
 //! Another size of a sheet: fresh rows take over the old ones.
 
-ghost use Rattle.std.specs.Prelude.{◌≡◌, ◌+◌, ◌<◌, ◌≤◌, ℕ, All, IfErr, IsErr, OnErr, OnOk, drop, if◌then◌else◌, length, nat_lt, slice_index_or, take};
+ghost use Rattle.std.specs.Prelude.{◌≡◌, ◌+◌, ◌-◌, ◌<◌, ◌≤◌, ◌&&◌, ℕ, All, if◌then◌else◌, length, nat_le, nat_lt, slice_index_or};
 ghost use Rattle.vt_cells.specs.Attrs.{default_attrs};
 ghost use Rattle.vt_rows.specs.Row.{RowValue, IsRow, blank_row, resized_row};
 ghost use Rattle.vt_grid.specs.Keeping.{refilled};
-ghost use Rattle.vt_grid.specs.Resize.{out_of_view, rows_resized, taken_back, window};
-ghost use Rattle.vt_grid.specs.Scrollback.{Sends, TakesMemory};
-ghost use Rattle.vt_grid.specs.Sheet.{blank_sheet};
+ghost use Rattle.vt_rows.specs.Cells.{IsPaired};
+ghost use Rattle.vt_grid.specs.Resize.{rows_resized, taken_back, window};
+ghost use Rattle.vt_grid.specs.Sheet.{blank_sheet, sheet_row, with_sheet_row};
 
 use super::Sheet;
 use crate::scrollback::Scrollback;
-use crate::size::Size;
-use vt_cells::Error;
-use vt_rows::{Leaving, Row};
+use vt_cells::Cell;
+use vt_rows::cuts;
+use vt_rows::row::flag_kept;
 
 impl Sheet {
-    /// Hands the first rows to scrollback, of which no row is in view then;
-    /// rows of the sheet's width stand in their places. The size is the
-    /// sheet's own.
-    ///
-    /// Fails where memory for scrollback is refused, and then nothing has
-    /// changed and nothing was reported.
-    pub fn send_off<L: Leaving>(
-        &mut self,
-        count: u16,
-        size: Size,
-        above: &mut Scrollback,
-        leaving: &mut L,
-    ) -> Result<(), Error>
-        requires inside { count ≤ length self.old.rows }
-        requires width { size.cols ≡ self.old.width }
-        requires sound { All (IsRow self.old.width) self.old.rows }
-        ensures sent { OnOk result (Sends L.leaves size.rows size.cols (take count self.old.rows) (out_of_view above.old) leaving.old above.new leaving.new) }
-        ensures width { OnOk result (self.new.width ≡ self.old.width) }
-        ensures len { OnOk result (length self.new.rows ≡ length self.old.rows) }
-        ensures others { OnOk result (drop count self.new.rows ≡ drop count self.old.rows) }
-        ensures rows { OnOk result (All (IsRow self.old.width) self.new.rows) }
-        ensures err { OnErr result ((self.new ≡ self.old) × ((above.new ≡ above.old) × (leaving.new ≡ leaving.old))) }
-        ensures grows { IsErr result → TakesMemory (take count self.old.rows) above.old }
-        ensures memory { IfErr result (λ error. error ≡ Error.OutOfMemory) }
-    {
-        send_first(&mut self.rows, usize::from(count), size, above, leaving)
-    }
-
     /// Gives the sheet the size of `fresh`, a sheet of default blanks: the
     /// newest `up` rows of scrollback stand at its top, and the sheet's own
     /// rows, but for the first `down`, below them. The last row goes on no
@@ -57,69 +29,58 @@ impl Sheet {
         ensures width { self.new.width ≡ fresh.width }
         ensures above { above.new ≡ taken_back up above.old }
     {
-        fill(
-            &mut fresh.rows,
-            &mut self.rows,
-            usize::from(down),
-            usize::from(up),
-            above,
-        );
-        let last = fresh.rows.len() - 1;
-        fresh.rows[last].wrap(false);
-        self.rows = fresh.rows;
-        self.width = fresh.width;
+        fill(&mut fresh, self, usize::from(down), usize::from(up), above);
+        let last = fresh.len() - 1;
+        fresh.wrap(last, false);
+        self.flat = fresh.flat;
+    }
+
+    /// Gives a blank row cells and a flag, as far as they fit; see `cuts::refit`.
+    /// The flag stays where they are as many as the row's columns.
+    pub fn fit_row(&mut self, row: usize, from: &[Cell], wrapped: bool)
+        requires inside { row < length self.old.rows }
+        requires blank { sheet_row self.old row ≡ blank_row default_attrs (length (sheet_row self.old row).cells) }
+        requires paired { IsPaired from.now }
+        ensures { self.new ≡ with_sheet_row row (resized_row (length (sheet_row self.old row).cells) (record { cells = from.now; wrapped = wrapped })) self.old }
+    {
+        let (start, end) = self.flat.part(row);
+        let cells = &mut self.flat.cells[start..end];
+        cuts::refit(cells, from);
+        self.flat
+            .wrap(row, flag_kept(wrapped, from.len() == end - start));
+    }
+
+    /// Copies the rows of another sheet from `down` on into blank rows from
+    /// `up` on, as far as there is room.
+    fn take_rows(&mut self, rows: &Sheet, down: usize, up: usize)
+        requires blank { (k : ℕ) (d : RowValue) → up ≤ k → k < length self.old.rows → slice_index_or self.old.rows k d ≡ blank_row default_attrs (length (slice_index_or self.old.rows k d).cells) }
+        requires inside { up ≤ length self.old.rows }
+        requires sound { All (IsRow rows.now.width) rows.now.rows }
+        ensures len { length self.new.rows ≡ length self.old.rows }
+        ensures width { self.new.width ≡ self.old.width }
+        ensures by_index { (k : ℕ) (d : RowValue) → k < length self.old.rows → slice_index_or self.new.rows k d ≡ (if nat_le up k && nat_lt (down + (k - up)) (length rows.now.rows) then resized_row (length (slice_index_or self.old.rows k d).cells) (slice_index_or rows.now.rows (down + (k - up)) d) else slice_index_or self.old.rows k d) }
+    {
+        let mut k = (self.len() - up).min(rows.len().saturating_sub(down));
+        while k > 0 {
+            k -= 1;
+            let row = rows.row(down + k);
+            self.fit_row(up + k, row.cells(), row.wrapped());
+        }
     }
 }
 
-/// Hands the first rows to scrollback; see `Sheet::send_off`.
-fn send_first<L: Leaving>(
-    rows: &mut [Row],
-    count: usize,
-    size: Size,
-    above: &mut Scrollback,
-    leaving: &mut L,
-) -> Result<(), Error>
-    requires inside { count ≤ length rows.old }
-    requires sound { All (IsRow size.cols) rows.old }
-    ensures sent { OnOk result (Sends L.leaves size.rows size.cols (take count rows.old) (out_of_view above.old) leaving.old above.new leaving.new) }
-    ensures len { OnOk result (length rows.new ≡ length rows.old) }
-    ensures others { OnOk result (drop count rows.new ≡ drop count rows.old) }
-    ensures rows { OnOk result (All (IsRow size.cols) rows.new) }
-    ensures err { OnErr result ((rows.new ≡ rows.old) × ((above.new ≡ above.old) × (leaving.new ≡ leaving.old))) }
-    ensures grows { IsErr result → TakesMemory (take count rows.old) above.old }
-    ensures memory { IfErr result (λ error. error ≡ Error.OutOfMemory) }
-{
-    above.push_out_of_view(&mut rows[..count], size, leaving)
-}
-
-/// Fills blank rows with the newest `up` rows of scrollback and, below them,
-/// with the rows of a page, but for the first `down`.
-fn fill(fresh: &mut [Row], rows: &mut Vec<Row>, down: usize, up: usize, above: &mut Scrollback)
-    requires blank { All (λ row. row ≡ blank_row default_attrs (length row.cells)) fresh.old }
-    requires inside { up ≤ length fresh.old }
+/// Fills a sheet of blank rows with the newest `up` rows of scrollback and,
+/// below them, with the rows of another one, but for the first `down`.
+fn fill(fresh: &mut Sheet, rows: &Sheet, down: usize, up: usize, above: &mut Scrollback)
+    requires blank { fresh.old ≡ blank_sheet (length fresh.old.rows) fresh.old.width }
+    requires inside { up ≤ length fresh.old.rows }
     requires hidden { above.old.offset ≡ 0 }
-    requires sound { All (λ row. IsRow (length row.cells) row) rows.old.items }
-    ensures len { length fresh.new ≡ length fresh.old }
+    requires sound { All (IsRow rows.now.width) rows.now.rows }
+    ensures len { length fresh.new.rows ≡ length fresh.old.rows }
+    ensures width { fresh.new.width ≡ fresh.old.width }
     ensures above { above.new ≡ taken_back up above.old }
-    ensures by_index { (k : ℕ) (d : RowValue) → k < length fresh.old → slice_index_or fresh.new k d ≡ refilled down up above.old.rows rows.old.items (slice_index_or fresh.old k d) k d }
+    ensures by_index { (k : ℕ) (d : RowValue) → k < length fresh.old.rows → slice_index_or fresh.new.rows k d ≡ refilled down up above.old.rows rows.now.rows (slice_index_or fresh.old.rows k d) k d }
 {
-    above.give_back(&mut fresh[..up]);
-    move_rows(&mut fresh[up..], rows, down);
-}
-
-/// Moves rows into blank ones, but for the first `down`, as far as there is
-/// room.
-fn move_rows(fresh: &mut [Row], rows: &mut Vec<Row>, down: usize)
-    requires blank { All (λ row. row ≡ blank_row default_attrs (length row.cells)) fresh.old }
-    requires sound { All (λ row. IsRow (length row.cells) row) rows.old.items }
-    ensures len { length fresh.new ≡ length fresh.old }
-    ensures by_index { (k : ℕ) (d : RowValue) → k < length fresh.old → slice_index_or fresh.new k d ≡ (if nat_lt (down + k) (length rows.old.items) then resized_row (length (slice_index_or fresh.old k d).cells) (slice_index_or rows.old.items (down + k) d) else slice_index_or fresh.old k d) }
-{
-    rows.truncate(down.saturating_add(fresh.len()));
-    while rows.len() > down {
-        let Some(row) = rows.pop() else {
-            return;
-        };
-        fresh[rows.len() - down].refit(row);
-    }
+    above.give_back(fresh, up);
+    fresh.take_rows(rows, down, up);
 }

@@ -10,7 +10,7 @@ ghost use Rattle.vt_screen.specs.Screen.{visible_rows};
 
 use super::Screen;
 use vt_cells::{Error, Sink};
-use vt_rows::{BasicFormattedCaptureRange, BasicFormattedCaptureState, Row};
+use vt_rows::{BasicFormattedCaptureRange, BasicFormattedCaptureState};
 
 impl Screen {
     /// The basic text of the rows that are shown, as they stand: their text
@@ -99,7 +99,7 @@ impl Screen {
     {
         for index in start..end {
             let row = self.scrollback.stacked_row(self.grid.rows(), index);
-            row.contents().write_formatted_basic(sink, state)?;
+            row.write_formatted_basic(sink, state)?;
         }
         Ok(())
     }

@@ -10,7 +10,7 @@ use crate::rows::Rows;
 use crate::screen::Screen;
 use std::alloc::Global;
 use vt_cells::{Error, Pos, Sink};
-use vt_rows::{Row, plain};
+use vt_rows::{RowContents, plain};
 
 impl Screen {
     /// The text of the rows that are shown, without attributes.
@@ -103,7 +103,7 @@ impl Screen {
         ensures memory { IfSome result (λ item. IfErr item (λ error. error ≡ Error.OutOfMemory)) }
     {
         let found = self.visible_row(row)?;
-        Some(text_of(self.alloc, found, start, stop))
+        Some(text_of(self.alloc, &found, start, stop))
     }
 
     /// Writes all rows, each with its line end.
@@ -117,7 +117,7 @@ impl Screen {
             let Some(found) = self.visible_row(row) else {
                 return Ok(());
             };
-            write_line(sink, found, usize::from(size.cols), goes_on)?;
+            write_line(sink, &found, usize::from(size.cols), goes_on)?;
             goes_on = found.wrapped();
         }
         Ok(())
@@ -156,7 +156,7 @@ impl Screen {
         let first = column_if(row == start.row, start.col, 0);
         let past = column_if(row == end.row, end.col, cols);
         plain::write_contents(sink, found.cells(), usize::from(first), usize::from(past))?;
-        write_end_unless(sink, row == end.row, found)
+        write_end_unless(sink, row == end.row, &found)
     }
 }
 
@@ -175,7 +175,7 @@ fn past_row(row: u16, rows: u16) -> u16
 }
 
 /// The text of a row, in the columns from `start` up to `stop`.
-fn text_of(alloc: Global, row: &Row, start: usize, stop: usize) -> Result<String, Error>
+fn text_of(alloc: Global, row: &RowContents<'_>, start: usize, stop: usize) -> Result<String, Error>
     ensures text { IfOk result (λ text. string_bytes text ≡ plain_text start stop row.now.cells) }
     ensures memory { IfErr result (λ error. error ≡ Error.OutOfMemory) }
 {
@@ -187,7 +187,12 @@ fn text_of(alloc: Global, row: &Row, start: usize, stop: usize) -> Result<String
 }
 
 /// Writes a row over the columns of the screen, with its line end.
-fn write_line<S: Sink>(sink: &mut S, row: &Row, cols: usize, goes_on: bool) -> Result<(), S::Error>
+fn write_line<S: Sink>(
+    sink: &mut S,
+    row: &RowContents<'_>,
+    cols: usize,
+    goes_on: bool,
+) -> Result<(), S::Error>
     ensures { OnOk result (S.text sink.new ≡ S.text sink.old ++ (gap_line cols goes_on row.now ++ (plain_text 0 cols row.now.cells ++ line_end row.now))) }
 {
     write_gap_line(sink, row, cols, goes_on)?;
@@ -199,7 +204,7 @@ fn write_line<S: Sink>(sink: &mut S, row: &Row, cols: usize, goes_on: bool) -> R
 /// goes on in it.
 fn write_gap_line<S: Sink>(
     sink: &mut S,
-    row: &Row,
+    row: &RowContents<'_>,
     cols: usize,
     goes_on: bool,
 ) -> Result<(), S::Error>
@@ -213,7 +218,7 @@ fn write_gap_line<S: Sink>(
 }
 
 /// Writes a line end, unless the row's text goes on in the row below.
-fn write_line_end<S: Sink>(sink: &mut S, row: &Row) -> Result<(), S::Error>
+fn write_line_end<S: Sink>(sink: &mut S, row: &RowContents<'_>) -> Result<(), S::Error>
     ensures { OnOk result (S.text sink.new ≡ S.text sink.old ++ line_end row.now) }
 {
     if row.wrapped() {
@@ -224,7 +229,11 @@ fn write_line_end<S: Sink>(sink: &mut S, row: &Row) -> Result<(), S::Error>
 }
 
 /// Writes a row's line end, unless it is the last row.
-fn write_end_unless<S: Sink>(sink: &mut S, is_last: bool, row: &Row) -> Result<(), S::Error>
+fn write_end_unless<S: Sink>(
+    sink: &mut S,
+    is_last: bool,
+    row: &RowContents<'_>,
+) -> Result<(), S::Error>
     ensures { OnOk result (S.text sink.new ≡ S.text sink.old ++ (if is_last then [] else line_end row.now)) }
 {
     if is_last {

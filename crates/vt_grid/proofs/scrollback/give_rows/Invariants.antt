@@ -4,11 +4,12 @@ use Rattle.vt_grid.proofs.scrollback.give_rows.Given as goal
 
 abbrev pub invariant-loop-k : goal.invariant-loop-k
 invariant-loop-k l = record {
-  moved : MovedInto (λ j. length l.fn.kept.items + j - length l.fn.fresh) l.k (length l.fn.fresh) l.fn.kept.items l.fn.fresh l.fresh;
-  long : length l.fresh ≡ length l.fn.fresh;
-  left : l.kept.items ≡ take (length l.fn.kept.items + l.k - length l.fn.fresh) l.fn.kept.items;
-  few : l.k ≤ length l.fn.fresh;
-  some : length l.fn.fresh ≤ length l.fn.kept.items + l.k;
+  moved : MovedInto (λ j. length l.fn.kept.items + j - l.up) l.k (l.up) l.fn.kept.items l.fn.page.rows l.page.rows;
+  long : length l.page.rows ≡ length l.fn.page.rows;
+  left : l.kept.items ≡ take (length l.fn.kept.items + l.k - l.up) l.fn.kept.items;
+  width : l.page.width ≡ l.fn.page.width;
+  few : l.k ≤ l.up;
+  some : l.up ≤ length l.fn.kept.items + l.k;
 }
 
 abbrev pub decreases-loop-k : goal.decreases-loop-k

@@ -1,7 +1,6 @@
 use Rattle.std.proofs.Common.{ap, ◌∙◌}
 use Rattle.std.proofs.lemmas.Result.{on_ok_weaker}
-use Rattle.vt_cells.specs.Attrs.{default_attrs}
-use Rattle.vt_cells.specs.Attrs.{Attrs}
+use Rattle.vt_cells.specs.Attrs.{default_attrs, Attrs}
 use Rattle.vt_rows.specs.Cells.{blanks}
 use Rattle.vt_rows.specs.Row.{RowValue}
 use Rattle.vt_redraw.specs.Script.{pen_at}

@@ -7,5 +7,4 @@ abbrev pub invariant-loop-k : goal.invariant-loop-k
 invariant-loop-k l = record {
   taken : (j : ℕ) → j < l.k → at l.cells j ≡ at l.fn.from j;
   blank : (j : ℕ) → l.k ≤ j → at l.cells j ≡ default_blank;
-  left : (j : ℕ) → l.k ≤ j → at l.from j ≡ at l.fn.from j;
 }

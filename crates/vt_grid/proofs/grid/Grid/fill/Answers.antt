@@ -1,8 +1,8 @@
-use Rattle.std.proofs.Common.{◌≡◌, ◌<◌, ◌^◌, ◌∙◌, length, sym, ap, subst, arith}
+use Rattle.std.proofs.Common.{◌≡◌, ◌<◌, ◌^◌, ◌∙◌, ℕ, length, take, refl, sym, ap, subst, arith}
 use Rattle.vt_grid.specs.Keeping.{IsSized, page_of}
 use Rattle.vt_grid.specs.Page.{Page}
-use Rattle.vt_grid.specs.Resize.{leaving, returning, page_resized, scrollback_resized}
-use Rattle.vt_grid.specs.Scrollback.{Scrollback}
+use Rattle.vt_grid.specs.Resize.{out_of_view, leaving, returning, page_resized, scrollback_resized}
+use Rattle.vt_grid.specs.Scrollback.{Scrollback, pushed}
 use Rattle.vt_grid.specs.Sheet.{SheetValue}
 use Rattle.vt_grid.proofs.Resizing.{offset-pushed, page_by_steps, above_by_steps, page_page_resized, sized_resized}
 use Rattle.vt_grid.proofs.grid.Grid.fill.Goals as goal
@@ -10,10 +10,10 @@ use Rattle.vt_grid.proofs.grid.Grid.fill.Goals as goal
 pub refit-requires-clause-hidden : goal.refit-requires-clause-hidden
 refit-requires-clause-hidden g c =
     let s = c.self.inside in
-    ap (λ (above : Scrollback). above.offset) c.in_ok-send_off.ensures.sent.0 ∙ offset-pushed s.size.rows s.size.cols _ c.args.above.now
+    ap (λ (above : Scrollback). above.offset) c.in_ok-push_out_of_view.ensures.sent.0 ∙ offset-pushed s.size.rows s.size.cols _ c.args.above.now
 
-pub invariant_of-self-2 : goal.invariant_of-self-2
-invariant_of-self-2 g c =
+pub invariant_of-self : goal.invariant_of-self
+invariant_of-self g c =
     let s = c.self.inside in
     let i = c.self.invariant in
     let h = length c.args.fresh.rows in
@@ -23,8 +23,9 @@ invariant_of-self-2 g c =
     let rows : c.size-size.result.rows ≡ h = c.size-size.ensures.rows in
     let down : c.saturating_sub-down.result ≡ leaving h page = c.saturating_sub-down.ensures ∙ omega (arith, c.saturating_sub.ensures, rows, i.height) in
     let up : c.at_most-up.result ≡ returning h above page = c.at_most-up.ensures ∙ omega (arith, c.saturating_sub-2.ensures, rows, i.height, c.theoretical_len.ensures.value) in
-    let steps = page_by_steps h w s.size.rows s.size.cols c.saturating_sub-down.result c.at_most-up.result above c.send_off.new.above page c.send_off.new.self c.refit.new.self c.resized-self-inside.result c.resized-self-inside-2.result
-    c.size-size.result.rows c.size-size.result.cols rows c.size-size.ensures.cols down up c.in_ok-send_off.ensures.sent.0 c.in_ok-send_off.ensures.width c.in_ok-send_off.ensures.others c.refit.ensures.rows c.refit.ensures.width
+    let sent = c.in_ok-push_out_of_view.ensures.sent.0 ∙ ap (λ (n : ℕ). pushed s.size.rows s.size.cols (take n page.rows) (out_of_view above)) c.from.ensures in
+    let steps = page_by_steps h w s.size.rows s.size.cols c.saturating_sub-down.result c.at_most-up.result above c.push_out_of_view.new.self page s.sheet c.refit.new.self c.resized-self-inside.result c.resized-self-inside-2.result
+    c.size-size.result.rows c.size-size.result.cols rows c.size-size.ensures.cols down up sent refl refl c.refit.ensures.rows c.refit.ensures.width
     c.resized-self-inside.ensures.row c.resized-self-inside.ensures.col c.resized-self-inside-2.ensures.row c.resized-self-inside-2.ensures.col in
     let width : w < 2 ^ 16 = omega (arith, ap (λ (sheet : SheetValue). sheet.width) c.fresh.view_is) in
     subst (IsSized c.size-size.result.rows c.size-size.result.cols) (sym steps)
@@ -42,8 +43,9 @@ returns-clause-page g c =
     let rows : c.size-size.result.rows ≡ h = c.size-size.ensures.rows in
     let down : c.saturating_sub-down.result ≡ leaving h page = c.saturating_sub-down.ensures ∙ omega (arith, c.saturating_sub.ensures, rows, i.height) in
     let up : c.at_most-up.result ≡ returning h above page = c.at_most-up.ensures ∙ omega (arith, c.saturating_sub-2.ensures, rows, i.height, c.theoretical_len.ensures.value) in
-    let steps = page_by_steps h w s.size.rows s.size.cols c.saturating_sub-down.result c.at_most-up.result above c.send_off.new.above page c.send_off.new.self c.refit.new.self c.resized-self-inside.result c.resized-self-inside-2.result
-    c.size-size.result.rows c.size-size.result.cols rows c.size-size.ensures.cols down up c.in_ok-send_off.ensures.sent.0 c.in_ok-send_off.ensures.width c.in_ok-send_off.ensures.others c.refit.ensures.rows c.refit.ensures.width
+    let sent = c.in_ok-push_out_of_view.ensures.sent.0 ∙ ap (λ (n : ℕ). pushed s.size.rows s.size.cols (take n page.rows) (out_of_view above)) c.from.ensures in
+    let steps = page_by_steps h w s.size.rows s.size.cols c.saturating_sub-down.result c.at_most-up.result above c.push_out_of_view.new.self page s.sheet c.refit.new.self c.resized-self-inside.result c.resized-self-inside-2.result
+    c.size-size.result.rows c.size-size.result.cols rows c.size-size.ensures.cols down up sent refl refl c.refit.ensures.rows c.refit.ensures.width
     c.resized-self-inside.ensures.row c.resized-self-inside.ensures.col c.resized-self-inside-2.ensures.row c.resized-self-inside-2.ensures.col in
     steps ∙ ap (page_resized h w above) c.self.view_is
 
@@ -56,5 +58,6 @@ returns-clause-above g c =
     let rows : c.size-size.result.rows ≡ h = c.size-size.ensures.rows in
     let down : c.saturating_sub-down.result ≡ leaving h page = c.saturating_sub-down.ensures ∙ omega (arith, c.saturating_sub.ensures, rows, i.height) in
     let up : c.at_most-up.result ≡ returning h c.args.above.now page = c.at_most-up.ensures ∙ omega (arith, c.saturating_sub-2.ensures, rows, i.height, c.theoretical_len.ensures.value) in
-    above_by_steps h s.size.rows s.size.cols c.saturating_sub-down.result c.at_most-up.result c.args.above.now c.send_off.new.above c.refit.new.above page i.height i.width down up c.in_ok-send_off.ensures.sent.0 c.refit.ensures.above
+    let sent = c.in_ok-push_out_of_view.ensures.sent.0 ∙ ap (λ (n : ℕ). pushed s.size.rows s.size.cols (take n page.rows) (out_of_view c.args.above.now)) c.from.ensures in
+    above_by_steps h s.size.rows s.size.cols c.saturating_sub-down.result c.at_most-up.result c.args.above.now c.push_out_of_view.new.self c.refit.new.above page i.height i.width down up sent c.refit.ensures.above
     ∙ ap (λ (p : Page). scrollback_resized h p c.args.above.now) c.self.view_is

@@ -1,0 +1,9 @@
+use Rattle.std.proofs.Common.{length, ap, sym, ◌∙◌}
+use Rattle.vt_grid.specs.Sheet.{SheetValue}
+use Rattle.vt_grid.proofs.Flats.{rows_counted}
+use Rattle.vt_grid.proofs.sheet.Sheet.len.Goals as goal
+
+pub returns : goal.returns
+returns c =
+    let flat = c.self.inside.flat in
+    c.len.ensures ∙ (flat.lines.ok.0 ∙ (sym (rows_counted flat.width flat.cells.items flat.lines.items) ∙ ap (λ (s : SheetValue). length s.rows) c.self.view_is))
