@@ -1,14 +1,16 @@
 -- What `==` on cells says.
-use Rattle.std.proofs.Common.{◌≡◌, ◌≢◌, ℕ, ◌&&◌, IsTrue, Bool, true, false, List, length, refl, arith, ap, sym, ◌∙◌}
+use Rattle.std.proofs.Common.{◌≡◌, ◌≢◌, ℕ, ◌&&◌, IsTrue, Bool, true, false, List, length, take, refl, arith, ap, sym, ◌∙◌}
 use Rattle.std.proofs.Math.Bool.{and-false}
 use Rattle.std.specs.Str.{bytes_eq}
 use Rattle.std.proofs.lemmas.Cmp.{nat_list_eq_equiv}
 use Rattle.std.proofs.lemmas.Slice.Eq.{bytes_eq-Decides}
-use Rattle.vt_cells.specs.Cell.{CellValue, blank, glyph, right_half, IsCell, same_cell, text_of, attrs_of, is_wide, is_right_half}
+use Rattle.vt_cells.specs.Cell.{CellValue, blank, glyph, right_half, cell_of, IsCell, same_cell, text_of, attrs_of, is_wide, is_right_half}
+use Rattle.vt_cells.specs.CellKeeping.{ShapeValue, same_shape}
 use mathlib.Core.Bool.{beq}
 use Rattle.vt_cells.specs.CellEq.{cell_eq, attrs_eq}
-use Rattle.vt_cells.specs.Attrs.{Attrs}
+use Rattle.vt_cells.specs.Attrs.{Attrs, same_attrs}
 use Rattle.vt_cells.proofs.Glyphs.{IsGlyphText-length}
+use Rattle.vt_cells.proofs.Shapes.{shape_of-same}
 use Rattle.vt_cells.proofs.Same.{attrs_of-same, same_attrs-itself, bool_of-same, same_bool-itself, attrs_eq-same, two_parts, false_of}
 
 text_of-same : (s t : List ℕ) → bytes_eq s t ≡ true → s ≡ t
@@ -137,3 +139,13 @@ cell_same x y r tested holds = cell_of-same x y (sym tested ∙ holds)
 
 pub same_cell_of : (x y : CellValue) (r : Bool) → r ≡ same_cell x y → x ≡ y → IsTrue r
 same_cell_of x y r tested same = tested ∙ rw same (same_cell-itself y)
+
+-- cells whose fields are the same are equal
+pub kept_alike : (a b : Attrs) (s t : ShapeValue) (xs ys : List ℕ) (p q r : Bool) → p ≡ same_attrs a b → q ≡ same_shape s t → r ≡ bytes_eq xs ys → ((p && q) && r) ≡ true
+    → cell_of (take s.len xs) s.wide s.right_half a ≡ cell_of (take t.len ys) t.wide t.right_half b
+kept_alike a b s t xs ys p q r is_p is_q is_r e =
+    let (attrs, shape, text) = alike_parts p q r e in
+    let attrs_same : a ≡ b = attrs_of-same a b (sym is_p ∙ attrs) in
+    let shape_same : s ≡ t = shape_of-same s t (sym is_q ∙ shape) in
+    let text_same : xs ≡ ys = text_of-same xs ys (sym is_r ∙ text) in
+    rw (attrs_same, shape_same, text_same) refl

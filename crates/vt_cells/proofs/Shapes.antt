@@ -20,7 +20,7 @@ text_back len false room =
     let high : len / 64 ≡ 0 = omega arith in
     λ i. record { len = low i; wide = flag i % 2 == 1; right_half = high i == 1 }
 
-shape_of-same : (a b : ShapeValue) → same_shape a b ≡ true → a ≡ b
+pub shape_of-same : (a b : ShapeValue) → same_shape a b ≡ true → a ≡ b
 unfolding same_shape
 shape_of-same a b e =
     let (len, flags) = two_parts _ _ e in

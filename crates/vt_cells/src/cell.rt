@@ -1,6 +1,6 @@
 //! One cell of a screen.
 
-ghost use Rattle.std.specs.Prelude.{◌≡◌, ◌≢◌, ◌<◌, ◌≤◌, ◌++◌, ◌+◌, ◌%◌, ◌↔◌, [], ◌∷◌, length, take, false, Some, if◌then◌else◌, IsTrue, encode_utf8, bytes_eq};
+ghost use Rattle.std.specs.Prelude.{◌≡◌, ◌≢◌, ◌<◌, ◌≤◌, ◌++◌, ◌+◌, ◌%◌, ◌↔◌, [], ◌∷◌, length, take, false, true, Some, if◌then◌else◌, IsTrue, encode_utf8, bytes_eq};
 ghost use Rattle.vt_cells.specs.Attrs.{default_attrs, is_bold, is_dim, same_attrs};
 ghost use Rattle.vt_cells.specs.Cell.{blank, glyph, right_half, cell_of, is_wide, is_blank, is_glyph, is_right_half, text_of, attrs_of, same_cell, marked, widened, redrawn, IsCell};
 ghost use Rattle.vt_cells.specs.CellKeeping.{spaced};
@@ -246,9 +246,32 @@ impl Cell {
         self.contents().width() > 1
     }
 
-    /// Whether both are the same cell.
+    /// Whether both are the same cell. Cells that are kept alike, as those of a
+    /// copy are, are known as the same at once.
     #[inline]
+    #[tactic(auto, using(crate::proofs::SameCells::same_cell_of))]
     fn is_same(&self, other: &Cell) -> bool
+        ensures { result ≡ same_cell self.now other.now }
+    {
+        if self.is_kept_alike(other) {
+            return true;
+        }
+        self.has_parts_of(other)
+    }
+
+    /// Whether both are the same byte for byte, also behind their texts.
+    #[inline]
+    fn is_kept_alike(&self, other: &Cell) -> bool
+        ensures { result ≡ true → self.now ≡ other.now }
+    {
+        self.attrs.is_same(&other.attrs)
+            & self.shape.is_same(&other.shape)
+            & (self.contents == other.contents)
+    }
+
+    /// Whether both are the same cell, part by part.
+    #[inline]
+    fn has_parts_of(&self, other: &Cell) -> bool
         ensures { result ≡ same_cell self.now other.now }
     {
         if self.text_len() != other.text_len() {

@@ -253,14 +253,14 @@ impl Screen {
     pub fn fgcolor(&self) -> Color
         ensures { result ≡ self.now.attrs.fgcolor }
     {
-        self.attrs.fgcolor
+        self.attrs.fgcolor()
     }
 
     /// The background colour that is drawn with.
     pub fn bgcolor(&self) -> Color
         ensures { result ≡ self.now.attrs.bgcolor }
     {
-        self.attrs.bgcolor
+        self.attrs.bgcolor()
     }
 
     /// Whether new text is bold.
@@ -281,21 +281,21 @@ impl Screen {
     pub fn italic(&self) -> bool
         ensures { result ≡ self.now.attrs.italic }
     {
-        self.attrs.italic
+        self.attrs.italic()
     }
 
     /// Whether new text is underlined.
     pub fn underline(&self) -> bool
         ensures { result ≡ self.now.attrs.underline }
     {
-        self.attrs.underline
+        self.attrs.underline()
     }
 
     /// Whether new text has foreground and background exchanged.
     pub fn inverse(&self) -> bool
         ensures { result ≡ self.now.attrs.inverse }
     {
-        self.attrs.inverse
+        self.attrs.inverse()
     }
 }
 

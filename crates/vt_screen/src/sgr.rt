@@ -95,15 +95,17 @@ impl Setting {
     pub fn applied_to(self, attrs: Attrs) -> Attrs
         ensures { result ≡ rendered self attrs }
     {
+        let mut attrs = attrs;
         match self {
-            Setting::Reset => Attrs::new(),
-            Setting::Foreground(fgcolor) => Attrs { fgcolor, ..attrs },
-            Setting::Background(bgcolor) => Attrs { bgcolor, ..attrs },
-            Setting::Strength(intensity) => Attrs { intensity, ..attrs },
-            Setting::Italic(italic) => Attrs { italic, ..attrs },
-            Setting::Underline(underline) => Attrs { underline, ..attrs },
-            Setting::Inverse(inverse) => Attrs { inverse, ..attrs },
+            Setting::Reset => attrs = Attrs::new(),
+            Setting::Foreground(color) => attrs.set_fgcolor(color),
+            Setting::Background(color) => attrs.set_bgcolor(color),
+            Setting::Strength(intensity) => attrs.set_intensity(intensity),
+            Setting::Italic(italic) => attrs.set_italic(italic),
+            Setting::Underline(underline) => attrs.set_underline(underline),
+            Setting::Inverse(inverse) => attrs.set_inverse(inverse),
         }
+        attrs
     }
 }
 

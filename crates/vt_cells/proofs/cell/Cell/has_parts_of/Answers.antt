@@ -2,7 +2,7 @@ use Rattle.std.proofs.Common.{sym, ◌∙◌, length}
 use Rattle.vt_cells.specs.Cell.{text_of}
 use Rattle.vt_cells.proofs.Same.{attrs_eq-same}
 use Rattle.vt_cells.proofs.SameCells.{alike_given, same_cell-by, same_cell-alike, same_cell-unlike}
-use Rattle.vt_cells.proofs.cell.Cell.is_same.Goals as goal
+use Rattle.vt_cells.proofs.cell.Cell.has_parts_of.Goals as goal
 
 pub returns-then-alike : goal.returns-then-alike
 returns-then-alike c =
