@@ -4,6 +4,7 @@ use Rattle.std.proofs.lemmas.Bool.{cond_both}
 use Rattle.std.proofs.lemmas.Bool.Decides.{nat_tests}
 use Rattle.std.specs.List.{AllByRecursion}
 use Rattle.vt_cells.specs.Attrs.{default_attrs, same_attrs, same_bool, same_color, same_intensity, Attrs}
+use Rattle.vt_cells.specs.ChangeKeeping.{separated}
 use Rattle.vt_cells.specs.Op.{FitsAttrs, FitsColor, background_numbers, change_numbers, change_text, csi, foreground_numbers, intensity_number, joined, part}
 use Rattle.vt_cells.specs.declared.attrs.Intensity.{Intensity}
 use Rattle.vt_cells.specs.declared.attrs.Intensity.TheVariants.{Normal, Bold, Dim}
@@ -34,44 +35,24 @@ same_intensity_is = search rules
 pub same_bool_is : (a b : Bool) → (bool.ghosts).eq a b ≡ same_bool a b
 same_bool_is = search rules
 
--- where the colours are the same, a part adds nothing
-pub nothing_of_same : (a b : Color) (xs ns : List ℕ) → (color.ghosts).eq a b ≡ true → xs ≡ xs ++ part (same_color a b) ns
-nothing_of_same a b xs ns e = rw (sym (same_color_is a b), e) (search rules)
-
--- six lists, added one after the other or nested to the right
-right_nested : (a b c d e f : List ℕ) →
-    ((((([] ++ a) ++ b) ++ c) ++ d) ++ e) ++ f ≡ a ++ (b ++ (c ++ (d ++ (e ++ f))))
-right_nested a b c d e f =
-    append_assoc (((a ++ b) ++ c) ++ d) e f ∙ append_assoc ((a ++ b) ++ c) d (e ++ f)
-    ∙ append_assoc (a ++ b) c (d ++ (e ++ f)) ∙ append_assoc a b (c ++ (d ++ (e ++ f)))
-
 -- the six parts of a change
-abbrev foreground_part : Attrs → Attrs → List ℕ
+abbrev pub foreground_part : Attrs → Attrs → List ℕ
 foreground_part was new = part (same_color was.fgcolor new.fgcolor) (foreground_numbers new.fgcolor)
 
-abbrev background_part : Attrs → Attrs → List ℕ
+abbrev pub background_part : Attrs → Attrs → List ℕ
 background_part was new = part (same_color was.bgcolor new.bgcolor) (background_numbers new.bgcolor)
 
-abbrev intensity_part : Attrs → Attrs → List ℕ
+abbrev pub intensity_part : Attrs → Attrs → List ℕ
 intensity_part was new = part (same_intensity was.intensity new.intensity) (intensity_number new.intensity ∷ [])
 
-abbrev italic_part : Attrs → Attrs → List ℕ
+abbrev pub italic_part : Attrs → Attrs → List ℕ
 italic_part was new = part (same_bool was.italic new.italic) ((if new.italic then 3 else 23) ∷ [])
 
-abbrev underline_part : Attrs → Attrs → List ℕ
+abbrev pub underline_part : Attrs → Attrs → List ℕ
 underline_part was new = part (same_bool was.underline new.underline) ((if new.underline then 4 else 24) ∷ [])
 
-abbrev inverse_part : Attrs → Attrs → List ℕ
+abbrev pub inverse_part : Attrs → Attrs → List ℕ
 inverse_part was new = part (same_bool was.inverse new.inverse) ((if new.inverse then 7 else 27) ∷ [])
-
--- the parts, added one after the other
-pub parts_of_change : (was new : Attrs) →
-    ((((([] ++ foreground_part was new) ++ background_part was new) ++ intensity_part was new)
-    ++ italic_part was new) ++ underline_part was new) ++ inverse_part was new ≡ change_numbers was new
-unfolding change_numbers
-parts_of_change was new =
-    right_nested (foreground_part was new) (background_part was new) (intensity_part was new)
-    (italic_part was new) (underline_part was new) (inverse_part was new)
 
 -- how many numbers a colour has
 abbrev IsShort : List ℕ → Type 0
@@ -92,38 +73,6 @@ background-length (Idx i) =
     cond_both (nat_lt i 8) _ _ IsShort (λ _. (omega arith, omega arith))
     (λ _. cond_both (nat_lt i 16) _ _ IsShort (λ _. (omega arith, omega arith)) (λ _. (omega arith, omega arith)))
 background-length (Rgb r g b) = (omega arith, omega arith)
-
-part-length : (same : Bool) (ns : List ℕ) → length (part same ns) ≤ length ns
-part-length true ns = omega arith
-part-length false ns = omega arith
-
-six-length : (a b c d e f : List ℕ) → length a ≤ 5 → length b ≤ 5 → length c ≤ 1 → length d ≤ 1 → length e ≤ 1 →
-    length f ≤ 1 → length (a ++ (b ++ (c ++ (d ++ (e ++ f))))) ≤ 14
-six-length a b c d e f p q r s t u =
-    omega (
-      arith,
-      length-append a (b ++ (c ++ (d ++ (e ++ f)))),
-      length-append b (c ++ (d ++ (e ++ f))),
-      length-append c (d ++ (e ++ f)),
-      length-append d (e ++ f),
-      length-append e f,
-    )
-
--- a change has at most 14 numbers
-pub length-change_numbers : (was new : Attrs) → length (change_numbers was new) ≤ 14
-unfolding change_numbers
-length-change_numbers was new =
-    let f = foreground-length new.fgcolor in
-    let b = background-length new.bgcolor in
-    let f' = part-length (same_color was.fgcolor new.fgcolor) (foreground_numbers new.fgcolor) in
-    let b' = part-length (same_color was.bgcolor new.bgcolor) (background_numbers new.bgcolor) in
-    six-length (foreground_part was new) (background_part was new) (intensity_part was new)
-    (italic_part was new) (underline_part was new) (inverse_part was new)
-    (omega (arith, f.1, f')) (omega (arith, b.1, b'))
-    (part-length (same_intensity was.intensity new.intensity) (intensity_number new.intensity ∷ []))
-    (part-length (same_bool was.italic new.italic) ((if new.italic then 3 else 23) ∷ []))
-    (part-length (same_bool was.underline new.underline) ((if new.underline then 4 else 24) ∷ []))
-    (part-length (same_bool was.inverse new.inverse) ((if new.inverse then 7 else 27) ∷ []))
 
 -- each of the numbers is a byte
 abbrev pub AllBytes : List ℕ → Type 0
@@ -217,10 +166,6 @@ change_numbers-none was new none =
       part-none (same_bool was.inverse new.inverse) _ (omega arith) u.1,
     )
     refl
-
--- a number with its separator
-abbrev pub separated : ℕ → List ℕ
-separated n = 0x3B ∷ decimal n
 
 -- numbers joined: the first, and then each other one with its separator
 pub joined_is : (x : ℕ) (xs : List ℕ) → joined (x ∷ xs) ≡ decimal x ++ flat_map separated xs

@@ -1,5 +1,6 @@
 pub mod Pieces
 pub mod Changes
+pub mod ChangeTexts
 pub mod Texts
 pub mod Cells
 pub mod Encoding

@@ -3,6 +3,7 @@ pub mod AttrsKeeping
 pub mod Cell
 pub mod CellEq
 pub mod CellKeeping
+pub mod ChangeKeeping
 pub mod ErrorText
 pub mod Glyph
 pub mod InputModes

@@ -9,7 +9,7 @@ use crate::attrs::Attrs;
 use crate::piece::Piece;
 use crate::sink::Sink;
 use crate::term::BufWrite;
-use crate::term::sgr::Numbers;
+use crate::term::sgr::ChangeText;
 
 /// Sets the default attributes, whatever they were.
 #[derive(Clone, Copy, Debug)]
@@ -52,29 +52,24 @@ impl ChangeAttrs {
         }
     }
 
-    /// Appends the change as the numbers of what differs, none where nothing does.
-    #[inline(never)]
-    #[tactic(auto, using(crate::proofs::Pieces::nothing_gathered))]
-    fn write_numbers<S: Sink>(&self, sink: &mut S) -> Result<(), S::Error>
-        ensures { OnOk result (S.text sink.new
-            ≡ S.text sink.old ++ csi (joined (change_numbers self.now.was self.now.new)) 0x6D) }
-    {
-        let mut piece = Piece::new();
-        self.add_numbers(sink, &mut piece)?;
-        piece.flush(sink)?;
-        Ok(())
-    }
-
-    /// Adds the same text.
+    /// Adds the change as the numbers of what differs, none where nothing does.
     #[inline(never)]
     fn add_numbers<S: Sink>(&self, sink: &mut S, piece: &mut Piece) -> Result<(), S::Error>
         ensures { OnOk result (gathered (S.text sink.new) piece.new
             ≡ gathered (S.text sink.old) piece.old ++ csi (joined (change_numbers self.now.was self.now.new)) 0x6D) }
     {
-        piece.add(sink, "\x1b[")?;
-        Numbers::of_change(self.was, self.new).add_joined(sink, piece)?;
-        piece.add(sink, "m")?;
-        Ok(())
+        let text = ChangeText::of(&self.was, &self.new);
+        piece.add(sink, text.as_str())
+    }
+
+    /// Appends the same text.
+    #[inline(never)]
+    fn write_numbers<S: Sink>(&self, sink: &mut S) -> Result<(), S::Error>
+        ensures { OnOk result (S.text sink.new
+            ≡ S.text sink.old ++ csi (joined (change_numbers self.now.was self.now.new)) 0x6D) }
+    {
+        let text = ChangeText::of(&self.was, &self.new);
+        sink.write_str(text.as_str())
     }
 }
 

@@ -1,153 +1,211 @@
-//! The numbers of SGR, the sequence that changes attributes.
+//! The text of SGR, the sequence that changes attributes.
 
-ghost use Rattle.std.specs.Prelude.{◌≡◌, ◌+◌, ◌≤◌, ℕ, List, [], ◌∷◌, ◌++◌, decimal, length, take, if◌then◌else◌, OnOk};
+ghost use Rattle.std.specs.Prelude.{◌≡◌, ◌+◌, ◌≤◌, ◌<◌, ℕ, List, [], ◌∷◌, ◌++◌, decimal, flat_map, length, if◌then◌else◌};
 ghost use Rattle.vt_cells.specs.Attrs.{same_bool, same_color, same_intensity};
-ghost use Rattle.vt_cells.specs.Op.{background_numbers, change_numbers, foreground_numbers, intensity_number, joined, part};
-ghost use Rattle.vt_cells.specs.PieceKeeping.{gathered};
+ghost use Rattle.vt_cells.specs.ChangeKeeping.{separated, separated_all, without_separator};
+ghost use Rattle.vt_cells.specs.Op.{background_numbers, change_numbers, csi, foreground_numbers, intensity_number, joined, part};
 
 use crate::attrs::{Attrs, Intensity};
 use crate::color::Color;
-use crate::piece::Piece;
-use crate::sink::Sink;
-use itoa::Buffer;
+use itoa::write_digits;
 use std::marker::Model;
+use std::str;
 
-/// As many numbers as one change can have: five for each colour, and four single ones.
-const MAX_NUMBERS: usize = 14;
+/// More bytes than the longest change has: 14 numbers of three digits, 13 of `;`,
+/// and three bytes around them.
+const ROOM: usize = 64;
 
-/// The numbers of one sequence, in its order.
+/// The text of a change of attributes, written from its last byte to its first,
+/// since the digits of a number come so.
 #[derive(Drop)]
-pub struct Numbers {
-    items: [u8; MAX_NUMBERS],
-    len: usize,
+pub struct ChangeText {
+    bytes: [u8; ROOM],
+    start: usize,
 }
 
-impl Model for Numbers {
+impl Model for ChangeText {
+    ghost use Rattle.std.specs.Prelude.{ℕ, List, drop};
+    ghost use Rattle.vt_cells.specs.ChangeKeeping.{IsEnd};
+
     ghost Value = { List ℕ };
 
-    ghost view = { λ it. take it.len it.items };
+    ghost view = { λ it. drop it.start it.bytes };
 
-    ghost invariant = { λ it. it.len ≤ 14 };
+    ghost invariant = { λ it. IsEnd it.start (drop it.start it.bytes) };
 }
 
-impl Numbers {
-    /// The numbers of what differs between two sets of attributes: the foreground, the background,
-    /// the intensity, italic, underline and inverse.
-    pub fn of_change(was: Attrs, new: Attrs) -> Self
-        ensures { result ≡ change_numbers was new }
+impl ChangeText {
+    /// The sequence with the numbers of what differs between two sets of
+    /// attributes: the foreground, the background, the intensity, italic,
+    /// underline and inverse. It has no number where nothing does.
+    pub fn of(was: &Attrs, new: &Attrs) -> Self
+        ensures { result ≡ csi (joined (change_numbers was.now new.now)) 0x6D }
     {
-        let mut numbers = Numbers {
-            items: [0; MAX_NUMBERS],
-            len: 0,
+        let mut text = ChangeText::end();
+        text.put_switch(was.inverse(), new.inverse(), 7, 27);
+        text.put_switch(was.underline(), new.underline(), 4, 24);
+        text.put_switch(was.italic(), new.italic(), 3, 23);
+        text.put_intensity(was.intensity(), new.intensity());
+        text.put_background(was.bgcolor(), new.bgcolor());
+        text.put_foreground(was.fgcolor(), new.fgcolor());
+        text.begin();
+        text
+    }
+
+    /// The text.
+    #[inline]
+    pub fn as_str(&self) -> &str
+        ensures { result.now ≡ self.now }
+    {
+        unsafe { str::from_utf8_unchecked(&self.bytes[self.start..]) }
+    }
+
+    /// The last byte of the sequence.
+    #[inline]
+    fn end() -> Self
+        ensures { result ≡ 0x6D ∷ [] }
+    {
+        let mut text = ChangeText {
+            bytes: [0; ROOM],
+            start: ROOM,
         };
-        numbers.push_foreground(was.fgcolor(), new.fgcolor());
-        numbers.push_background(was.bgcolor(), new.bgcolor());
-        numbers.push_intensity(was.intensity(), new.intensity());
-        numbers.push_switch(was.italic(), new.italic(), 3, 23);
-        numbers.push_switch(was.underline(), new.underline(), 4, 24);
-        numbers.push_switch(was.inverse(), new.inverse(), 7, 27);
-        numbers
+        text.put(b'm');
+        text
     }
 
-    /// Adds the numbers, joined by `;`.
-    pub fn add_joined<S: Sink>(&self, sink: &mut S, piece: &mut Piece) -> Result<(), S::Error>
-        ensures { OnOk result (gathered (S.text sink.new) piece.new ≡ gathered (S.text sink.old) piece.old ++ joined self.now) }
+    /// Puts the introducer before the numbers, in the place of the `;` that
+    /// stands before the first one.
+    #[inline]
+    fn begin(&mut self)
+        requires { length self.old + 2 ≤ 64 }
+        ensures { self.new ≡ 0x1B ∷ 0x5B ∷ without_separator self.old }
     {
-        let Some((first, rest)) = self.items[..self.len].split_first() else {
-            return Ok(());
-        };
-        add_number(sink, piece, *first)?;
-        for number in rest {
-            piece.add(sink, ";")?;
-            add_number(sink, piece, *number)?;
-        }
-        Ok(())
+        self.drop_separator();
+        self.put(b'[');
+        self.put(0x1B);
     }
 
-    #[tactic(auto, using(crate::proofs::Changes::nothing_of_same, crate::proofs::Changes::same_color_is), unfolding(crate::specs::Op::foreground_numbers))]
-    fn push_foreground(&mut self, was: Color, new: Color)
-        requires { length self.old + 5 ≤ 14 }
-        ensures value { self.new ≡ self.old ++ part (same_color was new) (foreground_numbers new) }
-        ensures room { length self.new ≤ length self.old + 5 }
+    /// Takes the first byte away, if it is not the last one as well.
+    #[inline]
+    fn drop_separator(&mut self)
+        ensures value { self.new ≡ without_separator self.old }
+        ensures room { length self.new ≤ length self.old }
     {
-        if was == new {
-            return;
-        }
-        match new {
-            Color::Default => self.push(39),
-            Color::Idx(i) if i < 8 => self.push(30 + i),
-            Color::Idx(i) if i < 16 => self.push(82 + i),
-            Color::Idx(i) => self.push_all(&[38, 5, i]),
-            Color::Rgb(r, g, b) => self.push_all(&[38, 2, r, g, b]),
-        }
-    }
-
-    #[tactic(auto, using(crate::proofs::Changes::nothing_of_same, crate::proofs::Changes::same_color_is), unfolding(crate::specs::Op::background_numbers))]
-    fn push_background(&mut self, was: Color, new: Color)
-        requires { length self.old + 5 ≤ 14 }
-        ensures value { self.new ≡ self.old ++ part (same_color was new) (background_numbers new) }
-        ensures room { length self.new ≤ length self.old + 5 }
-    {
-        if was == new {
-            return;
-        }
-        match new {
-            Color::Default => self.push(49),
-            Color::Idx(i) if i < 8 => self.push(40 + i),
-            Color::Idx(i) if i < 16 => self.push(92 + i),
-            Color::Idx(i) => self.push_all(&[48, 5, i]),
-            Color::Rgb(r, g, b) => self.push_all(&[48, 2, r, g, b]),
-        }
-    }
-
-    fn push_intensity(&mut self, was: Intensity, new: Intensity)
-        requires { length self.old + 1 ≤ 14 }
-        ensures value { self.new ≡ self.old ++ part (same_intensity was new) (intensity_number new ∷ []) }
-        ensures room { length self.new ≤ length self.old + 1 }
-    {
-        if was == new {
-            return;
-        }
-        match new {
-            Intensity::Normal => self.push(22),
-            Intensity::Bold => self.push(1),
-            Intensity::Dim => self.push(2),
-        }
-    }
-
-    fn push_switch(&mut self, was: bool, new: bool, on: u8, off: u8)
-        requires { length self.old + 1 ≤ 14 }
-        ensures value { self.new ≡ self.old ++ part (same_bool was new) ((if new then on else off) ∷ []) }
-        ensures room { length self.new ≤ length self.old + 1 }
-    {
-        if was != new {
-            self.push(if new { on } else { off });
+        if self.start + 1 < ROOM {
+            self.start += 1;
         }
     }
 
     #[inline]
-    fn push(&mut self, number: u8)
-        requires { length self.old + 1 ≤ 14 }
-        ensures { self.new ≡ self.old ++ number ∷ [] }
+    #[tactic(auto, using(crate::proofs::ChangeTexts::nothing_put, crate::proofs::ChangeTexts::one_put, crate::proofs::ChangeTexts::some_put, crate::proofs::Changes::same_color_is), unfolding(crate::specs::Op::foreground_numbers))]
+    fn put_foreground(&mut self, was: Color, new: Color)
+        requires { length self.old + 20 ≤ 64 }
+        ensures value { self.new ≡ separated_all (part (same_color was new) (foreground_numbers new)) ++ self.old }
+        ensures room { length self.new ≤ length self.old + 20 }
     {
-        self.items[self.len] = number;
-        self.len += 1;
+        if was == new {
+            return;
+        }
+        match new {
+            Color::Default => self.put_number(39),
+            Color::Idx(i) if i < 8 => self.put_number(30 + i),
+            Color::Idx(i) if i < 16 => self.put_number(82 + i),
+            Color::Idx(i) => self.put_indexed(38, i),
+            Color::Rgb(r, g, b) => self.put_parts(38, r, g, b),
+        }
     }
 
-    fn push_all(&mut self, numbers: &[u8])
-        requires { length self.old + length numbers.now ≤ 14 }
-        ensures { self.new ≡ self.old ++ numbers.now }
+    #[inline]
+    #[tactic(auto, using(crate::proofs::ChangeTexts::nothing_put, crate::proofs::ChangeTexts::one_put, crate::proofs::ChangeTexts::some_put, crate::proofs::Changes::same_color_is), unfolding(crate::specs::Op::background_numbers))]
+    fn put_background(&mut self, was: Color, new: Color)
+        requires { length self.old + 20 ≤ 64 }
+        ensures value { self.new ≡ separated_all (part (same_color was new) (background_numbers new)) ++ self.old }
+        ensures room { length self.new ≤ length self.old + 20 }
     {
-        let end = self.len + numbers.len();
-        self.items[self.len..end].copy_from_slice(numbers);
-        self.len = end;
+        if was == new {
+            return;
+        }
+        match new {
+            Color::Default => self.put_number(49),
+            Color::Idx(i) if i < 8 => self.put_number(40 + i),
+            Color::Idx(i) if i < 16 => self.put_number(92 + i),
+            Color::Idx(i) => self.put_indexed(48, i),
+            Color::Rgb(r, g, b) => self.put_parts(48, r, g, b),
+        }
     }
-}
 
-/// Adds a number in decimal.
-fn add_number<S: Sink>(sink: &mut S, piece: &mut Piece, number: u8) -> Result<(), S::Error>
-    ensures { OnOk result (gathered (S.text sink.new) piece.new ≡ gathered (S.text sink.old) piece.old ++ decimal number) }
-{
-    let mut buffer = Buffer::new();
-    piece.add(sink, buffer.format(number))
+    #[inline]
+    fn put_intensity(&mut self, was: Intensity, new: Intensity)
+        requires { length self.old + 4 ≤ 64 }
+        ensures value { self.new ≡ separated_all (part (same_intensity was new) (intensity_number new ∷ [])) ++ self.old }
+        ensures room { length self.new ≤ length self.old + 4 }
+    {
+        if was == new {
+            return;
+        }
+        match new {
+            Intensity::Normal => self.put_number(22),
+            Intensity::Bold => self.put_number(1),
+            Intensity::Dim => self.put_number(2),
+        }
+    }
+
+    #[inline]
+    fn put_switch(&mut self, was: bool, new: bool, on: u8, off: u8)
+        requires { length self.old + 4 ≤ 64 }
+        ensures value { self.new ≡ separated_all (part (same_bool was new) ((if new then on else off) ∷ [])) ++ self.old }
+        ensures room { length self.new ≤ length self.old + 4 }
+    {
+        if was != new {
+            self.put_number(if new { on } else { off });
+        }
+    }
+
+    /// A colour of the palette: the layer, 5 and its index.
+    #[inline(never)]
+    fn put_indexed(&mut self, layer: u8, index: u8)
+        requires { length self.old + 12 ≤ 64 }
+        ensures value { self.new ≡ separated_all (layer ∷ 5 ∷ index ∷ []) ++ self.old }
+        ensures room { length self.new ≤ length self.old + 12 }
+    {
+        self.put_number(index);
+        self.put_number(5);
+        self.put_number(layer);
+    }
+
+    /// A colour by its parts: the layer, 2, and the three parts.
+    #[inline(never)]
+    fn put_parts(&mut self, layer: u8, red: u8, green: u8, blue: u8)
+        requires { length self.old + 20 ≤ 64 }
+        ensures value { self.new ≡ separated_all (layer ∷ 2 ∷ red ∷ green ∷ blue ∷ []) ++ self.old }
+        ensures room { length self.new ≤ length self.old + 20 }
+    {
+        self.put_number(blue);
+        self.put_number(green);
+        self.put_number(red);
+        self.put_number(2);
+        self.put_number(layer);
+    }
+
+    /// Puts a number and the `;` before it.
+    #[inline]
+    fn put_number(&mut self, number: u8)
+        requires { length self.old + 4 ≤ 64 }
+        ensures value { self.new ≡ separated number ++ self.old }
+        ensures room { length self.new ≤ length self.old + 4 }
+    {
+        self.start = write_digits(u64::from(number), &mut self.bytes, self.start);
+        self.put(b';');
+    }
+
+    /// Puts a byte before the text.
+    #[inline]
+    fn put(&mut self, byte: u8)
+        requires room { length self.old + 1 ≤ 64 }
+        requires ascii { byte < 128 }
+        ensures { self.new ≡ byte ∷ self.old }
+    {
+        self.start -= 1;
+        self.bytes[self.start] = byte;
+    }
 }

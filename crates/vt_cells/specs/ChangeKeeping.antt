@@ -1,0 +1,20 @@
+-- The text of a change of attributes while it is written; for private contracts and proofs only.
+use Rattle.std.specs.Prelude.{◌≡◌, ℕ, ◌+◌, ◌≤◌, List, [], ◌∷◌, decimal, flat_map, length, IsAscii}
+
+-- the end of a text, which begins at a place of the array
+pub record IsEnd (start : ℕ) (text : List ℕ) : Type 0 where
+  pub measured : start + length text ≡ 64
+  pub ascii : IsAscii text
+
+-- a number behind its separator
+abbrev pub separated : ℕ → List ℕ
+separated n = 0x3B ∷ decimal n
+
+abbrev pub separated_all : List ℕ → List ℕ
+separated_all ns = flat_map separated ns
+
+-- a text without its first byte, if another one follows
+abbrev pub without_separator : List ℕ → List ℕ
+without_separator [] = []
+without_separator (x ∷ []) = x ∷ []
+without_separator (x ∷ y ∷ rest) = y ∷ rest
