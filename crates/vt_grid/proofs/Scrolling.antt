@@ -3,7 +3,7 @@ use Rattle.std.proofs.Common.{◌≡◌, ℕ, ◌+◌, ◌-◌, ◌<◌, ◌≤�
 use Rattle.std.specs.Prelude.{All, if◌then◌else◌}
 use Rattle.std.specs.List.{FoldsTo}
 use Rattle.std.proofs.lemmas.Bool.{cond_both}
-use Rattle.std.proofs.lemmas.List.{take_all, drop_all, length-append, length-drop, length-take, length-map, length-replicate, nil_from_length}
+use Rattle.std.proofs.lemmas.List.{append-nil, drop-append-le, take-append-le, take_all, drop_all, length-append, length-drop, length-take, length-map, length-replicate, nil_from_length}
 use Rattle.std.proofs.lemmas.List.Elements.{All-append, All-drop, All-take, All-map, All-replicate, All-same, All-weaker}
 use Rattle.vt_cells.specs.Attrs.{default_attrs}
 use Rattle.vt_rows.specs.Row.{RowValue, IsRow, blank_row, resized_row, trimmed_row}
@@ -11,7 +11,7 @@ use Rattle.vt_rows.proofs.Moves.{IsRow-resized_row}
 use Rattle.vt_rows.proofs.Rows.{IsRow-blank_row}
 use Rattle.vt_grid.specs.Scrollback.{Scrollback, IsScrollback, last_of, before_last, stacked, greatest, kept_after, grown_row, grown_in_view, pushed, reported, viewed, narrow_rows}
 use Rattle.vt_grid.specs.Spare.{AreSpare, window_from, grown_from, in_view}
-use Rattle.vt_grid.proofs.Stacking.{All-stacked, IsScrollback-kept_after}
+use Rattle.vt_grid.proofs.Stacking.{All-stacked, IsScrollback-kept_after, length-stacked}
 
 -- ---- rows in view grow
 
@@ -122,6 +122,31 @@ spare_made w width h n gone above kept theoretical offset spare e m s c =
       blank = All-same (λ row. row ≡ blank_row default_attrs w) spare (replicate n (blank_row default_attrs w)) all (All-replicate (λ row. row ≡ blank_row default_attrs w) n (blank_row default_attrs w) refl);
       enough = omega (arith, m, ap (λ (a : Scrollback). narrow_rows w (in_view h a)) e, ap length all, length-replicate n (blank_row default_attrs w));
     }
+
+-- ---- one row drives out the oldest, and none is in view
+
+nothing_grows : (first h w : ℕ) (rows : List RowValue) → length rows ≤ first → rows ≡ grown_from first h w rows
+nothing_grows first h w rows f =
+    let none : map (grown_row w) (window_from first h rows) ++ drop (first + h) rows ≡ [] =
+    nil_from_length (map (grown_row w) (window_from first h rows) ++ drop (first + h) rows)
+    (omega (arith, length-append (map (grown_row w) (window_from first h rows)) (drop (first + h) rows), length-map (window_from first h rows) (grown_row w), length-take h (drop first rows), length-drop first rows, length-drop (first + h) rows)) in
+    sym (ap (λ (xs : List RowValue). take first rows ++ xs) none ∙ (append-nil (take first rows) ∙ take_all first rows f))
+
+pub turned_is : (h w : ℕ) (gone : List RowValue) (above : Scrollback) (rows : List RowValue) (theoretical : ℕ) → length above.rows ≡ above.capacity → 0 < above.capacity → above.offset ≡ 0 → length gone ≡ 1 →
+    rows ≡ drop 1 above.rows ++ map trimmed_row gone → theoretical ≡ min (above.theoretical + length gone) greatest →
+    record { rows = rows; capacity = above.capacity; theoretical = theoretical; offset = above.offset } ≡ pushed h w gone above
+turned_is h w gone above rows theoretical f c o n e t =
+    let one : 1 ≡ length (stacked gone above) - above.capacity = omega (arith, length-stacked gone above) in
+    let stacks : rows ≡ last_of above.capacity (stacked gone above) =
+    e ∙ (sym (drop-append-le 1 above.rows (map trimmed_row gone) (omega arith)) ∙ ap (λ (m : ℕ). drop m (stacked gone above)) one) in
+    let offset : above.offset ≡ (if above.offset == 0 then 0 else min (above.offset + length gone) (length rows)) = grind (arith, o) in
+    pushed_is h w gone above rows rows theoretical above.offset (omega arith) (kept_is gone above rows theoretical above.offset stacks t offset)
+    (nothing_grows (length rows - above.offset) h w rows (omega arith))
+
+pub turned_reports : (gone : List RowValue) (above : Scrollback) → length above.rows ≡ above.capacity → 0 < above.capacity → length gone ≡ 1 → reported gone above ≡ take 1 above.rows
+turned_reports gone above f c n =
+    let one : length (stacked gone above) - above.capacity ≡ 1 = omega (arith, length-stacked gone above) in
+    reported_some gone above (omega arith) ∙ (ap (λ (m : ℕ). take m (stacked gone above)) one ∙ take-append-le 1 above.rows (map trimmed_row gone) (omega arith))
 
 -- ---- nothing is kept
 

@@ -1,13 +1,16 @@
-//! Rows made anew, all of whose memory is taken at once.
+//! Lists of rows: made anew, all of whose memory is taken at once, and turned
+//! over.
 
-ghost use Rattle.std.specs.Prelude.{◌≡◌, ◌<◌, ◌≤◌, All, IfErr, IfOk, IsErr, length, map, replicate, take};
+ghost use Rattle.std.specs.Prelude.{◌≡◌, ◌<◌, ◌≤◌, ◌++◌, All, IfErr, IfOk, IsErr, OnErr, OnOk, drop, length, map, replicate, take};
+ghost use Rattle.std.specs.List.{FoldsTo};
 ghost use Rattle.vt_cells.specs.Attrs.{default_attrs};
 ghost use Rattle.vt_rows.specs.Row.{IsRow, blank_row, trimmed_row};
 
 use crate::sheet::Sheet;
 use std::alloc::Global;
+use std::collections::VecDeque;
 use vt_cells::Error;
-use vt_rows::Row;
+use vt_rows::{Leaving, Row};
 
 /// Rows of default blanks.
 pub fn blank_rows(alloc: Global, columns: usize, count: usize) -> Result<Vec<Row>, Error>
@@ -36,4 +39,42 @@ pub fn trimmed_rows(alloc: Global, page: &Sheet, count: usize) -> Result<Vec<Row
         copies.push_reserved(Row::trimmed_copy(alloc, row.cells(), row.wrapped())?);
     }
     Ok(copies)
+}
+
+/// Copies of rows.
+pub fn copied_rows(rows: &VecDeque<Row>, alloc: Global) -> Result<VecDeque<Row>, Error>
+    ensures ok { IfOk result (λ copies. copies.items ≡ rows.now.items) }
+    ensures memory { IfErr result (λ error. error ≡ Error.OutOfMemory) }
+{
+    let mut copies = VecDeque::new(alloc);
+    copies.reserve(rows.len())?;
+    for k in 0..rows.len() {
+        copies.push_back_reserved(rows[k].try_clone(alloc)?);
+    }
+    Ok(copies)
+}
+
+/// Hands the oldest of rows on, and puts a copy of the first row of a page below
+/// the others, without the default blanks at its end, in the memory of that one.
+///
+/// Fails where it wants more memory and that is refused; then nothing has
+/// changed and nothing was handed on.
+pub fn turn_over<L: Leaving>(
+    rows: &mut VecDeque<Row>,
+    page: &Sheet,
+    leaving: &mut L,
+) -> Result<(), Error>
+    requires some { 0 < length rows.old.items }
+    requires inside { 0 < length page.now.rows }
+    requires sound { All (IsRow page.now.width) page.now.rows }
+    requires sound_rows { All (λ row. IsRow (length row.cells) row) rows.old.items }
+    ensures rows { OnOk result (rows.new.items ≡ drop 1 rows.old.items ++ map trimmed_row (take 1 page.now.rows)) }
+    ensures left { OnOk result (FoldsTo L.leaves leaving.old (take 1 rows.old.items) leaving.new) }
+    ensures err { OnErr result ((rows.new.items ≡ rows.old.items) × (leaving.new ≡ leaving.old)) }
+    ensures memory { IfErr result (λ error. error ≡ Error.OutOfMemory) }
+{
+    let row = page.row(0);
+    rows[0].leave_for(row.cells(), row.wrapped(), leaving)?;
+    rows.rotate_left(1);
+    Ok(())
 }

@@ -10,7 +10,7 @@ ghost use Rattle.vt_grid.specs.Resize.{out_of_view, taken_back};
 ghost use Rattle.vt_grid.specs.Scrollback.{IsScrollback, Sends, TakesMemory, ViewTakesMemory, before_last, cleared, grown_row, kept_after, last_of, narrow_rows, no_scrollback, viewed, visible};
 ghost use Rattle.vt_grid.specs.Spare.{AreSpare, grown_from, in_view, window_from};
 
-use crate::row_lists::{blank_rows, trimmed_rows};
+use crate::row_lists::{blank_rows, copied_rows, trimmed_rows, turn_over};
 use crate::sheet::Sheet;
 use crate::size::Size;
 use std::alloc::Global;
@@ -140,6 +140,9 @@ impl Scrollback {
             self.pass(page, count, leaving);
             return Ok(());
         }
+        if count == 1 && self.offset == 0 && self.rows.len() == self.capacity {
+            return self.turn_over(page, leaving);
+        }
         self.keep(page, count, size, leaving)
     }
 
@@ -200,6 +203,23 @@ impl Scrollback {
     {
         report_trimmed(page, count, leaving);
         self.theoretical = self.theoretical.saturating_add(count);
+    }
+
+    /// Takes over the first row of a page in the memory of the oldest one, which
+    /// is reported, where none is in view and no more can be kept; see `push`.
+    fn turn_over<L: Leaving>(&mut self, page: &Sheet, leaving: &mut L) -> Result<(), Error>
+        requires full { length self.old.rows ≡ self.old.capacity }
+        requires some { 0 < self.old.capacity }
+        requires hidden { self.old.offset ≡ 0 }
+        requires inside { 0 < length page.now.rows }
+        requires sound { All (IsRow page.now.width) page.now.rows }
+        ensures sent { OnOk result ((height width : ℕ) → Sends L.leaves height width (take 1 page.now.rows) self.old leaving.old self.new leaving.new) }
+        ensures err { OnErr result ((self.new ≡ self.old) × (leaving.new ≡ leaving.old)) }
+        ensures memory { IfErr result (λ error. error ≡ Error.OutOfMemory) }
+    {
+        turn_over(&mut self.rows, page, leaving)?;
+        self.theoretical = self.theoretical.saturating_add(1);
+        Ok(())
     }
 
     /// Takes over rows that leave, where some are kept; see `push`.
@@ -325,19 +345,6 @@ impl Scrollback {
             page.row(index - kept)
         }
     }
-}
-
-/// Copies of rows.
-fn copied_rows(rows: &VecDeque<Row>, alloc: Global) -> Result<VecDeque<Row>, Error>
-    ensures ok { IfOk result (λ copies. copies.items ≡ rows.now.items) }
-    ensures memory { IfErr result (λ error. error ≡ Error.OutOfMemory) }
-{
-    let mut copies = VecDeque::new(alloc);
-    copies.reserve(rows.len())?;
-    for k in 0..rows.len() {
-        copies.push_back_reserved(rows[k].try_clone(alloc)?);
-    }
-    Ok(copies)
 }
 
 /// Gives up and reports all rows, older first.
