@@ -1,5 +1,5 @@
 -- Steps of the writer of one row.
-use Rattle.std.proofs.Common.{◌≡◌, ℕ, ◌+◌, ◌-◌, ◌<◌, ◌≤◌, ◌&&◌, not, Bool, true, false, List, [], ◌++◌, length, take, drop, sym, ap, ◌∙◌, arith, append_assoc, append-nil, ⊎_elim}
+use Rattle.std.proofs.Common.{◌≡◌, ℕ, zero, suc, ◌+◌, ◌-◌, ◌<◌, ◌≤◌, ◌&&◌, not, Bool, true, false, List, [], ◌++◌, length, take, drop, refl, sym, ap, ◌∙◌, arith, append_assoc, append-nil, ⊎_elim}
 use Rattle.std.specs.Prelude.{if◌then◌else◌}
 use Rattle.std.proofs.lemmas.Bool.{cases_lt, cond-true, cond-false}
 use Rattle.std.proofs.lemmas.List.{drop-take, get_or-take, get_or_past, length-take}
@@ -9,7 +9,8 @@ use Rattle.vt_cells.specs.Cell.{CellValue, default_blank, is_wide, is_right_half
 use Rattle.vt_cells.specs.Op.{Op, bytes_of, bytes_of_all}
 use Rattle.vt_rows.specs.Cells.{IsPaired, at, blanks}
 use Rattle.vt_rows.specs.Row.{RowValue}
-use Rattle.vt_redraw.specs.Items.{begun, begun_over, in_range, is_whole, item_of_difference, item_of_redraw, linked_item, marked_on, range_written}
+use Rattle.vt_grid.specs.Page.{row_or}
+use Rattle.vt_redraw.specs.Items.{begun, begun_over, in_range, is_linked, is_whole, item_of_difference, item_of_redraw, linked_item, marked_on, range_written}
 use Rattle.vt_redraw.specs.Keeping.{IsRange, Links, cells_from, mark_of}
 use Rattle.vt_redraw.specs.Script.{Written, after, broken, cells_written, first_written, going_behind, pen_at}
 use Rattle.vt_redraw.specs.declared.links.Link.{Link}
@@ -123,3 +124,8 @@ pub part_redraw : (r start stop : ℕ) (linked : Bool) (x : RowValue) (t0 t1 : L
     t1 ≡ t0 ++ bytes_of_all (range_written r start stop false x.cells (blanks default_attrs (length x.cells))).ops → t1 ≡ t0 ++ bytes_of_all (item_of_redraw r start stop linked x).ops
 part_redraw r start stop linked x t0 t1 part t =
     t ∙ ap (λ (z : Written). t0 ++ bytes_of_all z.ops) (sym (cond-false (is_whole start stop (length x.cells) && linked) (linked_item r x.cells) (range_written r start stop false x.cells (blanks default_attrs (length x.cells))) part))
+
+-- whether the row above a row goes on below
+pub linked_below : (width : ℕ) (rows : List RowValue) (row : ℕ) → 0 < row → is_linked width rows row ≡ (row_or width rows (row - 1)).wrapped
+linked_below width rows zero h = absurd (omega (arith, h))
+linked_below width rows (suc r) h = refl

@@ -2,10 +2,9 @@
 use Rattle.std.proofs.Common.{◌≡◌, ℕ, sym, ap, arith, eqb-true, true, false, List, [], ◌∷◌, refl, append-nil}
 use Rattle.std.proofs.lemmas.Bool.Decides.{nat_tests}
 use Rattle.std.proofs.lemmas.Bool.{cond_both}
-use Rattle.vt_cells.proofs.Same.{attrs_eq-same, two_parts}
+use Rattle.vt_cells.proofs.Same.{two_parts}
 use Rattle.vt_cells.specs.Attrs.{same_attrs, Attrs}
 use Rattle.vt_cells.specs.Cell.{CellValue, blank, glyph, right_half, is_blank, attrs_of}
-use Rattle.vt_cells.specs.CellEq.{attrs_eq}
 use Rattle.vt_cells.specs.Op.{Op, ChangeAttrs, bytes_of_all, change_text, moving}
 use Rattle.vt_redraw.specs.Script.{changing, going, is_at, is_blank_of}
 use Rattle.vt_redraw.specs.declared.pen.Pen.{Pen}
@@ -41,10 +40,10 @@ going_none pen row col t =
 
 -- ---- the test for a blank in given attributes
 
-pub is_blank_of-blank : (attrs made : Attrs) (x : CellValue) → is_blank x ≡ true → made ≡ attrs_of x → attrs_eq attrs made ≡ is_blank_of attrs x
-is_blank_of-blank attrs made (blank b) h e = rw e (attrs_eq-same attrs b)
-is_blank_of-blank attrs made (glyph text wide b) h e = cc
-is_blank_of-blank attrs made right_half h e = cc
+pub is_blank_of-blank : (attrs : Attrs) (x : CellValue) → is_blank x ≡ true → same_attrs attrs (attrs_of x) ≡ is_blank_of attrs x
+is_blank_of-blank attrs (blank b) h = refl
+is_blank_of-blank attrs (glyph text wide b) h = cc
+is_blank_of-blank attrs right_half h = cc
 
 pub is_blank_of-other : (attrs : Attrs) (x : CellValue) → is_blank x ≡ false → is_blank_of attrs x ≡ false
 is_blank_of-other attrs (blank b) h = cc

@@ -218,5 +218,5 @@ fn end_cell(cells: &[Cell], cols: u16) -> Cell
 pub fn is_blank_of(cell: &Cell, attrs: Attrs) -> bool
     ensures { result ≡ is_blank_of attrs cell.now }
 {
-    cell.is_blank() && attrs == cell.attrs()
+    cell.is_blank() && cell.has_attrs(&attrs)
 }

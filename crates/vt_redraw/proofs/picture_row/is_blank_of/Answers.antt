@@ -4,4 +4,4 @@ use Rattle.vt_redraw.proofs.picture_row.is_blank_of.Goals as goal
 
 pub returns-then-is_blank : goal.returns-then-is_blank
 returns-then-is_blank c =
-    c.eq.ensures ∙ is_blank_of-blank c.args.attrs c.attrs.result c.args.cell.now (sym c.is_blank.ensures ∙ c.if-is_blank.true) c.attrs.ensures
+    c.has_attrs.ensures ∙ is_blank_of-blank c.args.attrs c.args.cell.now (sym c.is_blank.ensures ∙ c.if-is_blank.true)
