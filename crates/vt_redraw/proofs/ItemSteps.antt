@@ -128,4 +128,6 @@ part_redraw r start stop linked x t0 t1 part t =
 -- whether the row above a row goes on below
 pub linked_below : (width : ℕ) (rows : List RowValue) (row : ℕ) → 0 < row → is_linked width rows row ≡ (row_or width rows (row - 1)).wrapped
 linked_below width rows zero h = absurd (omega (arith, h))
-linked_below width rows (suc r) h = refl
+linked_below width rows (suc r) h =
+    let same : r ≡ suc r - 1 = omega arith in
+    ap (λ n. (row_or width rows n).wrapped) same
