@@ -11,6 +11,7 @@ use crate::size::Size;
 use std::alloc::Global;
 use vt_cells::{Attrs, Cell, Error};
 use vt_rows::cells;
+use vt_rows::copies::copied;
 use vt_rows::shifts::turn;
 
 /// Where the cells of a row are, and whether its text goes on in the row below.
@@ -59,7 +60,7 @@ impl Flat {
         ensures width { IfOk result (λ flat. flat.width ≡ self.now.width) }
         ensures memory { IfErr result (λ error. error ≡ Error.OutOfMemory) }
     {
-        let cells = self.cells.to_vec(alloc)?;
+        let cells = copied(alloc, &self.cells)?;
         let lines = self.lines.to_vec(alloc)?;
         Ok(Flat {
             cells,

@@ -22,6 +22,9 @@ use vt_rows::capture::lent;
 use vt_rows::{Leaving, RowContents, cells, shifts};
 
 /// Rows of one width, changed one at a time or put in another order.
+///
+/// A row goes on no more where an edit leaves its last column blank, or where
+/// columns were inserted or deleted.
 #[derive(Debug, Drop)]
 pub struct Sheet {
     flat: Flat,
@@ -143,7 +146,7 @@ impl Sheet {
         }
     }
 
-    /// Puts a narrow glyph at a column of a row; see `Row::put_narrow`.
+    /// Puts a narrow glyph at a column of a row; see `cells::put_narrow`.
     #[inline(always)]
     pub fn put_narrow(&mut self, row: u16, col: u16, c: char, attrs: Attrs)
         requires inside { row < length self.old.rows }
@@ -162,7 +165,7 @@ impl Sheet {
         self.flat.wrap(row, goes_on);
     }
 
-    /// Puts a wide glyph at a column of a row and the next; see `Row::put_wide`.
+    /// Puts a wide glyph at a column of a row and the next; see `cells::put_wide`.
     pub fn put_wide(&mut self, row: u16, col: u16, c: char, attrs: Attrs)
         requires inside { row < length self.old.rows }
         requires paired { IsPaired (sheet_row self.old row).cells }
@@ -180,7 +183,7 @@ impl Sheet {
         self.flat.wrap(row, goes_on);
     }
 
-    /// Puts a mark on the cell at a column of a row; see `Row::append`.
+    /// Puts a mark on the cell at a column of a row; see `cells::append`.
     pub fn append(&mut self, row: u16, col: u16, mark: char)
         requires inside { row < length self.old.rows }
         requires column { col < length (sheet_row self.old row).cells }
@@ -197,7 +200,7 @@ impl Sheet {
         self.flat.wrap(row, goes_on);
     }
 
-    /// Makes the glyph at a column of a row wide; see `Row::widen`.
+    /// Makes the glyph at a column of a row wide; see `cells::widen`.
     pub fn widen(&mut self, row: u16, col: u16, attrs: Attrs)
         requires inside { row < length self.old.rows }
         requires paired { IsPaired (sheet_row self.old row).cells }
@@ -216,7 +219,7 @@ impl Sheet {
         self.flat.wrap(row, goes_on);
     }
 
-    /// Makes the glyph at a column of a row narrow; see `Row::narrow`.
+    /// Makes the glyph at a column of a row narrow; see `cells::narrow`.
     pub fn narrow(&mut self, row: u16, col: u16, attrs: Attrs)
         requires inside { row < length self.old.rows }
         requires paired { IsPaired (sheet_row self.old row).cells }
@@ -234,7 +237,7 @@ impl Sheet {
         self.flat.wrap(row, goes_on);
     }
 
-    /// Takes the cell at a column of a row out; see `Row::lift`.
+    /// Takes the cell at a column of a row out; see `cells::lift`.
     pub fn lift(&mut self, row: u16, col: u16, attrs: Attrs) -> Cell
         requires inside { row < length self.old.rows }
         requires paired { IsPaired (sheet_row self.old row).cells }
@@ -253,7 +256,7 @@ impl Sheet {
     }
 
     /// Puts a cell that was taken out back at a column of a row, and the row's
-    /// flag; see `Row::put_back`.
+    /// flag; the cells beside it stay.
     pub fn put_back(&mut self, row: u16, col: u16, cell: Cell, goes_on: bool)
         requires inside { row < length self.old.rows }
         requires column { col < length (sheet_row self.old row).cells }
@@ -266,7 +269,7 @@ impl Sheet {
         self.flat.wrap(row, goes_on);
     }
 
-    /// Puts a wide cell at a column of a row and the next; see `Row::put_wide_cell`.
+    /// Puts a wide cell at a column of a row and the next; see `cells::put_wide_cell`.
     pub fn put_wide_cell(&mut self, row: u16, col: u16, cell: Cell)
         requires inside { row < length self.old.rows }
         requires paired { IsPaired (sheet_row self.old row).cells }
@@ -283,7 +286,7 @@ impl Sheet {
         self.flat.wrap(row, goes_on);
     }
 
-    /// Makes the columns of a row from `from` up to `to` blank; see `Row::erase`.
+    /// Makes the columns of a row from `from` up to `to` blank; see `cells::erase`.
     pub fn erase(&mut self, row: u16, from: u16, to: u16, attrs: Attrs)
         requires inside { row < length self.old.rows }
         requires paired { IsPaired (sheet_row self.old row).cells }
@@ -300,7 +303,7 @@ impl Sheet {
         self.flat.wrap(row, goes_on);
     }
 
-    /// Inserts default blanks at a column of a row; see `Row::insert`.
+    /// Inserts default blanks at a column of a row; see `shifts::insert`.
     pub fn insert(&mut self, row: u16, col: u16, count: u16)
         requires inside { row < length self.old.rows }
         requires paired { IsPaired (sheet_row self.old row).cells }
@@ -314,7 +317,7 @@ impl Sheet {
         self.flat.wrap(row, false);
     }
 
-    /// Deletes columns of a row; see `Row::delete`.
+    /// Deletes columns of a row; see `shifts::delete`.
     pub fn delete(&mut self, row: u16, col: u16, count: u16)
         requires inside { row < length self.old.rows }
         requires paired { IsPaired (sheet_row self.old row).cells }

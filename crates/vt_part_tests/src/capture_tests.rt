@@ -1,12 +1,15 @@
-ghost use Rattle.std.specs.Prelude.{◌≡◌, false, IfOk, length};
-ghost use Rattle.vt_rows.specs.Row.{IsRow};
+ghost use Rattle.std.specs.Prelude.{◌≡◌, All, IfOk, false};
+ghost use Rattle.vt_cells.specs.Cell.{IsCell};
+ghost use Rattle.vt_rows.specs.Cells.{IsPaired};
 
 use crate::attributes::PLAIN;
 use std::alloc::Global;
 use std::process::Abort;
 use std::test::Fail;
-use vt_cells::{Attrs, Color, Error, Sink, columns};
-use vt_rows::{BasicFormattedCaptureState, Row, RowContents};
+use vt_cells::{Attrs, Cell, Color, Error, Sink, columns};
+use vt_rows::capture::{lent, trimmed};
+use vt_rows::copies::copied;
+use vt_rows::{BasicFormattedCaptureState, Row, RowContents, cells};
 
 const RED: Attrs = Attrs {
     fgcolor: Color::Idx(1),
@@ -19,39 +22,47 @@ const ON_BLUE: Attrs = Attrs {
 };
 
 // Puts a character at a column, or a blank for one that takes no column.
-fn put(row: &mut Row, column: usize, c: char, attrs: Attrs)
-    requires { IsRow (length row.old.cells) row.old }
-    ensures { IsRow (length row.old.cells) row.new }
+fn put(cells: &mut [Cell], column: usize, c: char, attrs: Attrs)
+    requires { IsPaired cells.old }
+    ensures paired { IsPaired cells.new }
+    ensures sound { All IsCell cells.old → All IsCell cells.new }
 {
-    let left = row.cols().saturating_sub(column);
+    let left = cells.len().saturating_sub(column);
     match columns(c) {
-        Some(1) if left > 0 && c != char::REPLACEMENT_CHARACTER => row.put_narrow(column, c, attrs),
-        Some(2) if left > 1 && c != char::REPLACEMENT_CHARACTER => row.put_wide(column, c, attrs),
-        _ if left > 0 => row.erase(column, column + 1, attrs),
+        Some(1) if left > 0 && c != char::REPLACEMENT_CHARACTER => {
+            cells::put_narrow(cells, column, c, attrs);
+        }
+        Some(2) if left > 1 && c != char::REPLACEMENT_CHARACTER => {
+            cells::put_wide(cells, column, c, attrs);
+        }
+        _ if left > 0 => cells::erase(cells, column, column + 1, attrs),
         _ => {}
     }
 }
 
-// A row with characters at some of its columns.
-fn row_of(alloc: Global, columns: usize, puts: &[(usize, char, Attrs)]) -> Result<Row, Error>
-    ensures { IfOk result (λ row. IsRow (length row.cells) row) }
+// The cells of a row with characters at some of its columns.
+fn cells_of(
+    alloc: Global,
+    columns: usize,
+    puts: &[(usize, char, Attrs)],
+) -> Result<Vec<Cell>, Error>
+    ensures paired { IfOk result (λ cells. IsPaired cells.items) }
+    ensures sound { IfOk result (λ cells. All IsCell cells.items) }
 {
-    let mut row = Row::new(alloc, columns)?;
+    let blank = Row::new(alloc, columns)?;
+    let mut cells = copied(alloc, blank.cells())?;
     for (column, c, attrs) in puts {
-        put(&mut row, *column, *c, *attrs);
+        put(&mut cells, *column, *c, *attrs);
     }
-    Ok(row)
+    Ok(cells)
 }
 
-// Lets a row go on, if a glyph is in its last column.
-fn wrap(row: &mut Row)
-    requires { IsRow (length row.old.cells) row.old }
-    ensures { IsRow (length row.old.cells) row.new }
+// The row of these cells. Where it shall go on it does if a glyph is in its last column.
+fn row_of(cells: &[Cell], goes_on: bool) -> RowContents<'_>
+    requires paired { IsPaired cells.now }
+    requires sound { All IsCell cells.now }
 {
-    let len = row.cols();
-    if len > 0 && !row.cells()[len - 1].is_blank() {
-        row.wrap(true);
-    }
+    lent(cells, cells::flag_left(cells, goes_on))
 }
 
 // The basic text of rows one after the other.
@@ -76,10 +87,11 @@ fn begins_torn(row: &RowContents<'_>) -> bool
 
 #[test]
 fn lends_sound_rows(rt: HostRuntime) -> Result<(), Fail> {
-    let mut row = row_of(rt.alloc(), 3, &[(0, '中', RED), (2, '中', RED)])?;
-    assert!(rt; !begins_torn(&row.contents()));
-    put(&mut row, 1, 'a', RED);
-    assert!(rt; !begins_torn(&row.trimmed_contents()));
+    let cells = cells_of(rt.alloc(), 3, &[(0, '中', RED), (2, '中', RED)])?;
+    assert!(rt; !begins_torn(&row_of(&cells, false)));
+    let puts = [(0, '中', RED), (2, '中', RED), (1, 'a', RED)];
+    let cells = cells_of(rt.alloc(), 3, &puts)?;
+    assert!(rt; !begins_torn(&trimmed(&row_of(&cells, false))));
     Ok(())
 }
 
@@ -97,31 +109,33 @@ const WRITTEN: [(usize, &[(usize, char, Attrs)], &str); 7] = [
 #[test]
 fn writes_cells_in_their_attributes(rt: HostRuntime) -> Result<(), Fail> {
     for (columns, puts, want) in &WRITTEN {
-        let row = row_of(rt.alloc(), *columns, puts)?;
-        assert_eq!(rt; text_of(rt.alloc(), &[row.contents()])?.as_str(), *want);
+        let cells = cells_of(rt.alloc(), *columns, puts)?;
+        assert_eq!(rt;
+            text_of(rt.alloc(), &[row_of(&cells, false)])?.as_str(),
+            *want
+        );
     }
     Ok(())
 }
 
 #[test]
 fn ends_a_row_before_the_next(rt: HostRuntime) -> Result<(), Fail> {
-    let mut first = row_of(rt.alloc(), 2, &[(0, 'a', RED), (1, 'b', RED)])?;
-    let second = row_of(rt.alloc(), 2, &[(0, 'c', RED), (1, 'd', PLAIN)])?;
-    let ended = text_of(rt.alloc(), &[first.contents(), second.contents()])?;
+    let first = cells_of(rt.alloc(), 2, &[(0, 'a', RED), (1, 'b', RED)])?;
+    let second = cells_of(rt.alloc(), 2, &[(0, 'c', RED), (1, 'd', PLAIN)])?;
+    let ended = text_of(rt.alloc(), &[row_of(&first, false), row_of(&second, false)])?;
     assert_eq!(rt; ended.as_str(), "\x1b[31mab\nc\x1b[md");
-    wrap(&mut first);
-    let joined = text_of(rt.alloc(), &[first.contents(), second.contents()])?;
+    let joined = text_of(rt.alloc(), &[row_of(&first, true), row_of(&second, false)])?;
     assert_eq!(rt; joined.as_str(), "\x1b[31mabc\x1b[md");
     Ok(())
 }
 
 #[test]
 fn writes_blank_rows_as_line_ends(rt: HostRuntime) -> Result<(), Fail> {
-    let row = row_of(rt.alloc(), 4, &[])?;
+    let cells = cells_of(rt.alloc(), 4, &[])?;
     let mut text = String::new(rt.alloc());
     let mut state = BasicFormattedCaptureState::default();
     for _row in 0..3 {
-        row.contents().write_formatted_basic(&mut text, &mut state)?;
+        row_of(&cells, false).write_formatted_basic(&mut text, &mut state)?;
     }
     assert_eq!(rt; text.as_str(), "\n\n");
     Ok(())
@@ -185,17 +199,17 @@ fn is_taken(
 
 #[test]
 fn stays_where_a_row_is_refused(rt: HostRuntime) -> Result<(), Fail> {
-    let before = row_of(rt.alloc(), 1, &[(0, 'a', RED)])?;
-    let row = row_of(rt.alloc(), 2, &[(0, 'b', PLAIN), (1, 'c', RED)])?;
-    let written = state_after(rt.alloc(), &before.contents())?;
+    let before = cells_of(rt.alloc(), 1, &[(0, 'a', RED)])?;
+    let cells = cells_of(rt.alloc(), 2, &[(0, 'b', PLAIN), (1, 'c', RED)])?;
+    let written = state_after(rt.alloc(), &row_of(&before, false))?;
+    let row = row_of(&cells, false);
     for (pieces, taken) in [(0, false), (1, false), (100, true)] {
         let mut state = written.clone()?;
-        let found = is_taken(&rt, rt.alloc(), &row.contents(), &mut state, pieces);
+        let found = is_taken(&rt, rt.alloc(), &row, &mut state, pieces);
         assert_eq!(rt; found, taken);
         if !taken {
             let mut again = String::new(rt.alloc());
-            row.contents()
-                .write_formatted_basic(&mut again, &mut state)?;
+            row.write_formatted_basic(&mut again, &mut state)?;
             assert_eq!(rt; again.as_str(), WHOLE);
         }
     }

@@ -1,5 +1,5 @@
 -- The attributes of cells in basic texts.
-use Rattle.std.proofs.Common.{◌≡◌, Bool, true, false, List, [], refl, sym, ap, ◌∙◌}
+use Rattle.std.proofs.Common.{◌≡◌, Bool, true, false, [], refl, sym, ap, ◌∙◌}
 use Rattle.std.specs.Prelude.{if◌then◌else◌}
 use Rattle.std.proofs.lemmas.Bool.{cond_both}
 use Rattle.vt_cells.specs.Cell.{CellValue, attrs_of, is_default_blank, is_right_half}

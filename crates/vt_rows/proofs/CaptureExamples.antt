@@ -1,5 +1,5 @@
 -- Captures, their pieces and their rows, each found by computing.
-use Rattle.std.proofs.Common.{◌≡◌, ℕ, List, [], ◌∷◌, IsUtf8, IsAscii, chars, refl, sym, ap, subst, ◌∙◌}
+use Rattle.std.proofs.Common.{◌≡◌, ℕ, List, [], ◌∷◌, IsUtf8, chars, refl, ap, subst, ◌∙◌}
 use Rattle.unicode_width.proofs.Computing.{unicode_width}
 use Rattle.std.proofs.lemmas.Str.{chars-encodes}
 use Rattle.std.specs.Char.{encode_utf8}

@@ -1,15 +1,15 @@
 -- The rows of a capture, by their places.
-use Rattle.std.proofs.Common.{◌≡◌, ◌⊎◌, inl, inr, ℕ, zero, suc, ◌+◌, ◌<◌, ◌≤◌, Bool, true, false, not, true≢false, ◌&&◌, ◌==◌, List, [], ◌∷◌, ◌++◌, IsUtf8, length, take, drop, map, get_or, chars, encode_utf8_all, refl, sym, ap, ap₂, subst, ◌∙◌, append_assoc, append-nil, arith, if◌then◌else◌}
+use Rattle.std.proofs.Common.{◌≡◌, ◌⊎◌, inl, inr, ℕ, zero, suc, ◌+◌, ◌≤◌, Bool, true, false, not, ◌&&◌, ◌==◌, List, [], ◌∷◌, ◌++◌, IsUtf8, length, take, drop, map, get_or, chars, encode_utf8_all, refl, sym, ap, ap₂, subst, ◌∙◌, append_assoc, append-nil, arith, if◌then◌else◌}
 use Rattle.std.specs.Char.{encode_utf8}
 use Rattle.std.specs.Str.{all_scalars}
-use Rattle.std.proofs.lemmas.Bool.{and_parts, eqb-true}
-use Rattle.std.proofs.lemmas.List.{length-append, length-drop, length-take, drop-drop, get_or-drop, take_all, take-append-le, get_or_append_left, take-append-drop}
+use Rattle.std.proofs.lemmas.Bool.{and_parts}
+use Rattle.std.proofs.lemmas.List.{length-append, length-drop, length-take, get_or-drop, take-append-le, get_or_append_left, take-append-drop}
 use Rattle.std.proofs.lemmas.Str.{chars-encodes, encodes-append, encodes-chars, chars-append, chars-nil, chars_past_char, IsUtf8-past_char, IsUtf8-drop, IsCharBoundary-from_take}
-use Rattle.std.proofs.Math.Seq.{take-append_seam, drop-append_seam, get_or-append_seam}
-use Rattle.vt_rows.specs.CaptureRows.{ends_row, is_beyond, overflows, IsUncut, IsRowOf, IsBehindEnd, IsBehindFull, AreRowsFrom, AreRowsOf}
-use Rattle.vt_rows.specs.Keeping.{rows_behind, rows_of}
+use Rattle.std.proofs.Math.Seq.{take-append_seam, get_or-append_seam}
+use Rattle.vt_rows.specs.CaptureRows.{ends_row, overflows, IsUncut, IsRowOf, IsBehindEnd, IsBehindFull, AreRowsFrom, AreRowsOf}
+use Rattle.vt_rows.specs.Keeping.{rows_behind}
 use Rattle.vt_rows.specs.Pieces.{Piece, end_of, texts_of}
-use Rattle.vt_rows.specs.Stretches.{is_within, columns_added, columns_in}
+use Rattle.vt_rows.specs.Stretches.{is_within, columns_in}
 use Rattle.vt_rows.proofs.CaptureRows.{beyond_outside, line_end}
 use Rattle.vt_rows.proofs.Outside.{Place, StandsAt, place, stands_later}
 
@@ -170,21 +170,21 @@ cut_at width capture at row (c ∷ text) stands inside own others uncut =
     let some : length (encode_utf8_all (c ∷ text)) ≡ length (encode_utf8 c) + length (encode_utf8_all text) = length-append (encode_utf8 c) (encode_utf8_all text) in
     test (ends_row row c)
     (λ ends.
-      let lf : c ≡ 0x0A = line_end row c ends in
-      let one : length (encode_utf8 c) ≡ 1 = ap length (line_end_text c lf) in
-      let later = cut_at width capture (at + length (encode_utf8_all row) + 1) [] text (behind_end width capture at row text c stands lf) (omega (arith, size, some, one)) refl each.1 (λ k lt. absurd (omega (arith, lt))) in
-      rw ends (cut_behind width capture at row (encode_utf8_all (c ∷ text)) stands inside own uncut _ [] _ later
-        (λ next e more begins. inl (record { place = e; ends = rw (chars-encodes row own, byte_at width capture at row text c stands lf) ends }))))
+    let lf : c ≡ 0x0A = line_end row c ends in
+    let one : length (encode_utf8 c) ≡ 1 = ap length (line_end_text c lf) in
+    let later = cut_at width capture (at + length (encode_utf8_all row) + 1) [] text (behind_end width capture at row text c stands lf) (omega (arith, size, some, one)) refl each.1 (λ k lt. absurd (omega (arith, lt))) in
+    rw ends (cut_behind width capture at row (encode_utf8_all (c ∷ text)) stands inside own uncut _ [] _ later
+    (λ next e more begins. inl (record { place = e; ends = rw (chars-encodes row own, byte_at width capture at row text c stands lf) ends }))))
     (λ goes. test (overflows width row c)
-      (λ full.
-        let other : ends_row [] c ≡ false = sym (full_goes width row c full) ∙ goes in
-        let left = stands_later capture at (encode_utf8_all row) (encode_utf8_all (c ∷ text)) (at + length (encode_utf8_all row)) stands refl in
-        let later = cut_at width capture (at + length (encode_utf8_all row)) (c ∷ []) text (longer_stands width capture (at + length (encode_utf8_all row)) [] text c left) (omega (arith, size)) single each.1 (uncut_one width c other) in
-        rw (goes, full) (cut_behind width capture at row (encode_utf8_all (c ∷ text)) stands inside own uncut _ (c ∷ []) _ later
-          (λ next e more begins. inr (record { place = e; first = c; rest = more; begins = begins; overflows = rw (chars-encodes row own) full }))))
-      (λ fits.
-        let longer = cut_at width capture at (row ++ c ∷ []) text (longer_stands width capture at row text c stands) inside (scalars_more row (c ∷ []) own single) each.1 (uncut_more width row c uncut goes fits) in
-        rw (goes, fits) (longer_more width capture at row c _ longer)))
+    (λ full.
+    let other : ends_row [] c ≡ false = sym (full_goes width row c full) ∙ goes in
+    let left = stands_later capture at (encode_utf8_all row) (encode_utf8_all (c ∷ text)) (at + length (encode_utf8_all row)) stands refl in
+    let later = cut_at width capture (at + length (encode_utf8_all row)) (c ∷ []) text (longer_stands width capture (at + length (encode_utf8_all row)) [] text c left) (omega (arith, size)) single each.1 (uncut_one width c other) in
+    rw (goes, full) (cut_behind width capture at row (encode_utf8_all (c ∷ text)) stands inside own uncut _ (c ∷ []) _ later
+    (λ next e more begins. inr (record { place = e; first = c; rest = more; begins = begins; overflows = rw (chars-encodes row own) full }))))
+    (λ fits.
+    let longer = cut_at width capture at (row ++ c ∷ []) text (longer_stands width capture at row text c stands) inside (scalars_more row (c ∷ []) own single) each.1 (uncut_more width row c uncut goes fits) in
+    rw (goes, fits) (longer_more width capture at row c _ longer)))
 
 pub rows_are : (width : ℕ) (capture : List ℕ) → IsUtf8 capture → AreRowsOf width capture (slices_behind width 0 [] (chars capture))
 rows_are width capture utf8 =
@@ -263,10 +263,12 @@ module _ (width : ℕ) (capture : List ℕ) (at : ℕ) (row : Piece) (text : Lis
   row_behind_end next rows cut others = by behind refl where
     lf : get_or capture (end_of row) 0 ≡ 0x0A
     lf = line_end own (get_or capture (end_of row) 0) cut.ends
+
     first : (bytes : List ℕ) → behind ≡ bytes → get_or bytes 0 0 ≡ 0x0A
     first bytes e =
         let here : end_of row + 0 ≡ end_of row = omega arith in
         ap (λ (l : List ℕ). get_or l 0 0) (sym (behind_stands ∙ e)) ∙ get_or-drop (end_of row) capture 0 0 ∙ ap (λ n. get_or capture n 0) here ∙ lf
+
     by : (bytes : List ℕ) → behind ≡ bytes → row ∷ next ∷ rows ≡ slices_behind width at [] (chars text)
     by [] e = absurd (omega (arith, first [] e))
     by (b ∷ rest) e =

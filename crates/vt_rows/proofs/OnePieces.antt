@@ -1,7 +1,7 @@
 -- A capture has one list of pieces.
-use Rattle.std.proofs.Common.{◌≡◌, ◌≢◌, ◌↔◌, ◌⊎◌, inl, inr, ℕ, ◌+◌, ◌<◌, ◌≤◌, List, [], ◌∷◌, length, take, drop, refl, sym, ap, ap₂, ◌∙◌, arith}
-use Rattle.std.proofs.lemmas.List.{length-take-le, length-drop, length-take}
-use Rattle.vt_rows.specs.Pieces.{Piece, end_of, IsIn, IsInSome, IsPieceOf, AreApart, ArePiecesOf}
+use Rattle.std.proofs.Common.{◌≡◌, ◌≢◌, ◌↔◌, inl, inr, ℕ, ◌+◌, ◌<◌, ◌≤◌, List, [], ◌∷◌, length, take, drop, refl, sym, ap, ap₂, ◌∙◌, arith}
+use Rattle.std.proofs.lemmas.List.{length-drop, length-take}
+use Rattle.vt_rows.specs.Pieces.{Piece, end_of, IsInSome, IsPieceOf, AreApart, ArePiecesOf}
 
 has_text : (text : List ℕ) → text ≢ [] → 0 < length text
 has_text [] some = absurd (some refl)

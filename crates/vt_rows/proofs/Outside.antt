@@ -1,12 +1,12 @@
 -- The pieces of a text, by the places of its bytes.
-use Rattle.std.proofs.Common.{◌≡◌, ◌≢◌, ◌↔◌, ◌⊎◌, inl, inr, ℕ, zero, suc, ◌+◌, ◌-◌, ◌<◌, ◌≤◌, Bool, true, false, ◌||◌, not, List, [], ◌∷◌, ◌++◌, length, take, drop, get_or, refl, sym, true≢false, ap, subst, ◌∙◌, append_assoc, append-nil, arith, if◌then◌else◌}
+use Rattle.std.proofs.Common.{◌≡◌, ◌≢◌, ◌↔◌, ◌⊎◌, inl, inr, ℕ, zero, suc, ◌+◌, ◌-◌, ◌<◌, ◌≤◌, Bool, true, false, ◌||◌, List, [], ◌∷◌, ◌++◌, length, take, drop, get_or, refl, sym, true≢false, ap, subst, ◌∙◌, append_assoc, append-nil, arith}
 use Rattle.std.specs.List.{concat, fold}
 use Rattle.std.proofs.lemmas.Bool.{eqb-true, ne_eqb}
 use Rattle.std.proofs.lemmas.Bool.Decides.{nat_tests}
-use Rattle.std.proofs.lemmas.List.{length-append, length-drop, drop-drop}
+use Rattle.std.proofs.lemmas.List.{length-append, drop-drop}
 use Rattle.std.proofs.Math.Seq.{take-append_seam, drop-append_seam}
 use Rattle.vt_rows.specs.Keeping.{piece_at, pieces_behind, pieces_within, pieces_from}
-use Rattle.vt_rows.specs.Pieces.{Piece, end_of, IsIn, IsInSome, IsPieceOf, AreApart, ArePiecesOf, texts_of, plain_from, plain_text}
+use Rattle.vt_rows.specs.Pieces.{Piece, end_of, IsInSome, AreApart, ArePiecesOf, texts_of, plain_from, plain_text}
 use Rattle.vt_rows.specs.Stretches.{IsInStretch, begins_stretch, ends_stretch, is_within, is_within_after}
 
 -- byte k stands in a stretch, for a text that begins within one or not
@@ -160,8 +160,10 @@ covers_begin : (capture : List ℕ) (at : ℕ) (piece text : List ℕ) (later : 
 covers_begin capture at piece text later lacks apart covers k lt = by (place k (length piece)) where
   esc : IsInSome (at + (length piece + 0)) (piece_at at piece ++ later) → in_stretch false (piece ++ 0x1B ∷ text) (length piece + 0) ≡ false
   esc h = absurd (none_before capture (at + length piece + 1) (at + (length piece + 0)) later apart (omega arith) ((not_in_one at 0 piece later).0 h))
+
   here : in_stretch false (piece ++ 0x1B ∷ text) (length piece + 0) ≡ true
   here = behind_free piece (0x1B ∷ text) 0 lacks
+
   behind : (j : ℕ) → k ≡ length piece + suc j → IsInSome (at + k) (piece_at at piece ++ later) ↔ (in_stretch false (piece ++ 0x1B ∷ text) k ≡ false)
   behind j e =
       let same : at + (length piece + suc j) ≡ at + length piece + 1 + j = omega arith in
@@ -170,6 +172,7 @@ covers_begin capture at piece text later lacks apart covers k lt = by (place k (
       let parts = not_in_one at (suc j) piece later in
       let ih = covers j inside in
       rw e (λ h. flag ∙ ih.0 (rw same at (parts.0 h)), λ f. parts.1 (rw same (ih.1 (sym flag ∙ f))))
+
   by : Place k (length piece) → IsInSome (at + k) (piece_at at piece ++ later) ↔ (in_stretch false (piece ++ 0x1B ∷ text) k ≡ false)
   by (inl low) = (λ h. free piece k lacks low (0x1B ∷ text), λ e. in_one at k piece later low)
   by (inr (inl e)) = rw e (esc, λ f. absurd (true≢false (sym here ∙ f)))
@@ -194,7 +197,8 @@ good_end capture at piece e lacks =
       apart = subst (AreApart capture at) only (one_piece capture at piece [] e [] tt);
       covers = λ k lt. (
         (λ h. rw (append-nil piece) at (free piece k lacks lt [])),
-        λ f. subst (IsInSome (at + k)) only (in_one at k piece [] lt));
+        λ f. subst (IsInSome (at + k)) only (in_one at k piece [] lt),
+      );
     })
 
 begin_differs : (b : ℕ) → begins_stretch b ≡ false → b ≢ 0x1B
@@ -276,10 +280,10 @@ pieces_are capture =
     record {
       apart = good.apart;
       plain = λ k lt.
-        let zero_on : 0 + k ≡ k = omega arith in
-        let here = rw zero_on at (good.covers k lt) in
-        let places = in_places capture k lt in
-        (λ h. places.0 (here.0 h), λ none. here.1 (places.1 none));
+          let zero_on : 0 + k ≡ k = omega arith in
+          let here = rw zero_on at (good.covers k lt) in
+          let places = in_places capture k lt in
+          (λ h. places.0 (here.0 h), λ none. here.1 (places.1 none));
     }
 
 -- joined they are the text without its stretches

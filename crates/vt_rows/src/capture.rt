@@ -268,14 +268,6 @@ impl Row {
     {
         lent(self.cells(), self.wrapped())
     }
-
-    /// The row without the default blanks at its end.
-    pub fn trimmed_contents(&self) -> RowContents<'_>
-        requires { IsRow (length self.now.cells) self.now }
-        ensures { result ≡ trimmed_row self.now }
-    {
-        trimmed(&self.contents())
-    }
 }
 
 /// Where rows go that leave a page at its top and aren't kept.

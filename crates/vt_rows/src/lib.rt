@@ -3,6 +3,7 @@
 
 pub mod capture;
 pub mod cells;
+pub mod copies;
 pub mod cuts;
 pub mod laws;
 pub mod plain;

@@ -6,6 +6,7 @@ ghost use Rattle.vt_rows.specs.Cells.{IsPaired, blanks};
 ghost use Rattle.vt_rows.specs.Row.{IsRow, blank_row, resized_row, trimmed_row};
 
 use crate::capture::Leaving;
+use crate::copies::{copied, push_copies};
 use crate::cuts;
 use std::alloc::Global;
 use std::marker::Model;
@@ -49,7 +50,7 @@ impl Row {
         ensures ok { IfOk result (λ row. row ≡ self.now) }
         ensures memory { IfErr result (λ error. error ≡ Error.OutOfMemory) }
     {
-        let cells = self.cells.to_vec(alloc)?;
+        let cells = copied(alloc, &self.cells)?;
         Ok(Row {
             cells,
             wrapped: self.wrapped,
@@ -64,7 +65,7 @@ impl Row {
         ensures memory { IfErr result (λ error. error ≡ Error.OutOfMemory) }
     {
         let kept = &cells[..cuts::trimmed_len(cells)];
-        let cells = kept.to_vec(alloc)?;
+        let cells = copied(alloc, kept)?;
         Ok(Row { cells, wrapped })
     }
 
@@ -148,15 +149,5 @@ fn push_blanks(cells: &mut Vec<Cell>, count: usize)
 {
     for _column in 0..count {
         cells.push_reserved(Cell::new());
-    }
-}
-
-/// Appends copies of cells, for which there is room.
-fn push_copies(cells: &mut Vec<Cell>, from: &[Cell])
-    requires { vec_len cells.old + length from.now ≤ vec_capacity cells.old }
-    ensures { cells.new.items ≡ cells.old.items ++ from.now }
-{
-    for k in 0..from.len() {
-        cells.push_reserved(from[k].copied());
     }
 }

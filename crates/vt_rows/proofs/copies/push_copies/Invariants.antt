@@ -1,6 +1,6 @@
 use Rattle.std.proofs.Common.{◌≡◌, ◌+◌, ◌≤◌, ◌++◌, take, length, vec_len}
 use Rattle.std.specs.Prelude.{vec_capacity}
-use Rattle.vt_rows.proofs.row.push_copies.Given as goal
+use Rattle.vt_rows.proofs.copies.push_copies.Given as goal
 
 abbrev pub invariant-loop-k : goal.invariant-loop-k
 invariant-loop-k l = record {

@@ -1,0 +1,28 @@
+//! Copies of cells.
+
+ghost use Rattle.std.specs.Prelude.{◌≡◌, ◌≤◌, ◌+◌, ◌++◌, IfErr, IfOk, length, vec_capacity, vec_len};
+
+use std::alloc::Global;
+use vt_cells::{Cell, Error};
+
+/// A copy of cells.
+///
+/// Fails where its memory is refused.
+pub fn copied(alloc: Global, cells: &[Cell]) -> Result<Vec<Cell>, Error>
+    ensures ok { IfOk result (λ copies. copies.items ≡ cells.now) }
+    ensures memory { IfErr result (λ error. error ≡ Error.OutOfMemory) }
+{
+    let mut copies = Vec::with_capacity(alloc, cells.len())?;
+    push_copies(&mut copies, cells);
+    Ok(copies)
+}
+
+/// Appends copies of cells, for which there is room.
+pub fn push_copies(cells: &mut Vec<Cell>, from: &[Cell])
+    requires { vec_len cells.old + length from.now ≤ vec_capacity cells.old }
+    ensures { cells.new.items ≡ cells.old.items ++ from.now }
+{
+    for k in 0..from.len() {
+        cells.push_reserved(from[k].copied());
+    }
+}
