@@ -14,6 +14,9 @@ pub mod StateRead
 pub mod Colored
 pub mod ColoredMoves
 pub mod Sizes
+pub mod Inside
+pub mod Sized
+pub mod SizedRuns
 pub mod ColoredScrollback
 mod Asides
 mod Exchanging
