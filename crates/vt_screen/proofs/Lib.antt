@@ -18,7 +18,7 @@ pub mod Inside
 pub mod Sized
 pub mod SizedRuns
 pub mod ColoredScrollback
-mod Asides
+pub mod Asides
 mod Exchanging
 mod Resized
 mod Reporting

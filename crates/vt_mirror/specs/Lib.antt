@@ -1,0 +1,4 @@
+pub mod Viewers
+pub mod Mirror
+pub mod Calls
+pub mod Watching
