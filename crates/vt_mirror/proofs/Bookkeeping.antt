@@ -43,11 +43,11 @@ pub put_viewers : (old new : ViewersValue) (v : ℕ) (is : Bool) (note : Option 
     → (is ≡ true → v + 1 ≤ next_number new.last) → next_number old.last ≤ next_number new.last → (is ≡ false → note ≡ None) → AreViewers new
 put_viewers old new v is note p a given more none = record {
   numbers = λ q h. by_number v q
-    (λ e. subst (λ (k : ℕ). k + 1 ≤ next_number new.last) (sym e) (given (sym p.here ∙ ap (is_viewer new) (sym e) ∙ h)))
-    (λ n. omega (arith, more, a.numbers q (sym (p.others q n) ∙ h)));
+      (λ e. subst (λ (k : ℕ). k + 1 ≤ next_number new.last) (sym e) (given (sym p.here ∙ ap (is_viewer new) (sym e) ∙ h)))
+      (λ n. omega (arith, more, a.numbers q (sym (p.others q n) ∙ h)));
   notes = λ q s h. by_number v q
-    (λ e. ap (is_viewer new) e ∙ (p.here ∙ yes is none (sym p.note_here ∙ (ap (note_of new) (sym e) ∙ h))))
-    (λ n. p.others q n ∙ a.notes q s (sym (p.other_notes q n) ∙ h));
+      (λ e. ap (is_viewer new) e ∙ (p.here ∙ yes is none (sym p.note_here ∙ (ap (note_of new) (sym e) ∙ h))))
+      (λ n. p.others q n ∙ a.notes q s (sym (p.other_notes q n) ∙ h));
 } where
   yes : (b : Bool) → (b ≡ false → note ≡ None) → {s : ScreenValue} → note ≡ Some s → b ≡ true
   yes true f e = refl
@@ -65,6 +65,7 @@ new_number : (old : ViewersValue) (v : ℕ) → AreViewers old → v ≡ next_nu
 new_number old v a e = by_test (is_viewer old v) refl where
   too_many : v + 1 ≤ next_number old.last → ⊥
   too_many h = omega (arith, e, h)
+
   by_test : (b : Bool) → is_viewer old v ≡ b → is_viewer old v ≡ false
   by_test true h = absurd (too_many (a.numbers v h))
   by_test false h = h

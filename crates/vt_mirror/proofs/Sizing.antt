@@ -39,6 +39,7 @@ by_size P rows cols screen same other = by_test (has_size rows cols screen) refl
     other = option_map (page_resized rows cols (above_aside screen)) screen.other;
     scrollback = scrollback_resized rows (main_page screen) screen.scrollback;
   }
+
   by_test : (b : Bool) → has_size rows cols screen ≡ b → P (if b then screen else fresh)
   by_test true e = same (grind (arith, nat_tests, e)) (grind (arith, nat_tests, e))
   by_test false e = other fresh refl (above_resized screen.is_alternate (scrollback_resized rows (main_page screen) screen.scrollback) (none_in_view rows (main_page screen) screen.scrollback))

@@ -32,6 +32,7 @@ noted_resize : (old new : MirrorValue) (rows cols : ℕ) (answer : Result (Unit 
 noted_resize old new rows cols answer r m = by_test (has_size rows cols old.parser.screen) refl answer r where
   all : new ≡ old → IsMirror new
   all e = subst IsMirror (sym e) m
+
   by_test : (b : Bool) → has_size rows cols old.parser.screen ≡ b → (answer : Result (Unit {0}) Error) → Resizes old rows cols answer new → IsMirror new
   by_test true e answer r = all (r.same e).1
   by_test false e (Ok u) r = noted_none new (ap (λ (m : MirrorValue). m.viewers.notes) (r.other e))
@@ -160,7 +161,7 @@ holds_left {S} number old new mirror before l h = record {
   plain = subst IsPlainParser (sym l.viewer) h.plain;
   noted = λ screen e. l.seen ∙ h.noted screen (before screen e);
   shows = subst (λ (p : Parsing S). IfSome new.seen (λ screen. shown p.screen ≡ shown screen)) (sym l.viewer)
-  (subst (λ (o : Option ScreenValue). IfSome o (λ screen. shown old.viewer.screen ≡ shown screen)) (sym l.seen) h.shows);
+      (subst (λ (o : Option ScreenValue). IfSome o (λ screen. shown old.viewer.screen ≡ shown screen)) (sym l.seen) h.shows);
 }
 
 holds_own : {S : Type 0} (number : ℕ) (update : Update) (old new : Watching S) → IsMirror new.mirror → Tells old.mirror number update new.mirror → Sees update old new → Holds number old → Holds number new

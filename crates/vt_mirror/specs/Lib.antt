@@ -2,3 +2,5 @@ pub mod Viewers
 pub mod Mirror
 pub mod Calls
 pub mod Watching
+pub mod Arguments
+pub mod Endings

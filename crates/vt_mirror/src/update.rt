@@ -3,18 +3,20 @@
 /// What a viewer is to read next.
 #[derive(PartialEq, Eq, Debug, Drop)]
 pub enum Update {
-    /// A text for a viewer that has read all its updates before.
+    /// A text for a viewer that has read all its updates before, as
+    /// `Screen::contents_diff` gives it; empty where nothing changed.
     Diff(String),
 
-    /// A text for any plain terminal of this size.
+    /// A text for any plain terminal of this size, as
+    /// `Screen::contents_formatted` gives it.
     Full {
-        /// The mirror's rows.
+        /// How many rows the mirror has.
         rows: u16,
 
-        /// The mirror's columns.
+        /// How many columns the mirror has.
         cols: u16,
 
-        /// The text.
+        /// The text of the redraw.
         text: String,
     },
 }

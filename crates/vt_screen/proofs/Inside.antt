@@ -111,6 +111,7 @@ unfolding region_set
 inside_region_set top bottom page i = by_order (nat_lt top low) refl where
   low : ℕ
   low = min bottom (last_row page)
+
   by_order : (b : Bool) → nat_lt top low ≡ b → IsInside (if b then record page { top = top; bottom = low; row = top; column = 0 } else record page { top = 0; bottom = last_row page; row = 0; column = 0 })
   by_order true e = record { row = grind (arith, nat_tests, i.row); saved_row = i.saved_row; bottom = omega (arith, i.row) }
   by_order false e = record { row = omega (arith, i.row); saved_row = i.saved_row; bottom = omega (arith, i.row) }
@@ -129,9 +130,9 @@ unfolding line_feed
 inside_line_feed page i = inside_if (at_bottom page) (scrolled_up 1 page) (if nat_lt (page.row + 1) (length page.rows) then record page { row = page.row + 1 } else page)
     (inside_rows (scrolled_up 1 page) page (same_scrolled_up 1 page) (record { row = refl; saved_row = refl; bottom = refl }) i)
     (by_room (nat_lt (page.row + 1) (length page.rows)) refl) where
-  by_room : (b : Bool) → nat_lt (page.row + 1) (length page.rows) ≡ b → IsInside (if b then record page { row = page.row + 1 } else page)
-  by_room true e = record { row = grind (arith, nat_tests); saved_row = i.saved_row; bottom = i.bottom }
-  by_room false e = i
+      by_room : (b : Bool) → nat_lt (page.row + 1) (length page.rows) ≡ b → IsInside (if b then record page { row = page.row + 1 } else page)
+      by_room true e = record { row = grind (arith, nat_tests); saved_row = i.saved_row; bottom = i.bottom }
+      by_room false e = i
 
 -- ---- rows and columns that move
 
@@ -250,9 +251,9 @@ unfolding line_feed
 stays_line_feed page =
     stays_if (at_bottom page) (scrolled_up 1 page) (if nat_lt (page.row + 1) (length page.rows) then record page { row = page.row + 1 } else page) page
     (stays_put (scrolled_up 1 page) page (record { row = refl; saved_row = refl; bottom = refl })) (by_room (nat_lt (page.row + 1) (length page.rows)) refl) where
-  by_room : (b : Bool) → nat_lt (page.row + 1) (length page.rows) ≡ b → Stays (if b then record page { row = page.row + 1 } else page) page
-  by_room true e = record { saved_row = refl; bottom = refl; row = λ i. grind (arith, nat_tests) }
-  by_room false e = stays page
+      by_room : (b : Bool) → nat_lt (page.row + 1) (length page.rows) ≡ b → Stays (if b then record page { row = page.row + 1 } else page) page
+      by_room true e = record { saved_row = refl; bottom = refl; row = λ i. grind (arith, nat_tests) }
+      by_room false e = stays page
 
 stays_wrapped : (page : Page) → Stays (wrapped_page page) page
 unfolding wrapped_page

@@ -154,6 +154,7 @@ sized_screen screen is = record {
 } where
   of_page : (page : Page) → IsPage page → page.width ≡ screen.page.width → length page.rows ≡ length screen.page.rows → IsSizedPage (length screen.page.rows) screen.page.width page
   of_page page p w h = record { inside = record { row = p.cursor_row; saved_row = p.saved_row; bottom = p.region_end }; width_is = w; height_is = h }
+
   by_other : (o : Option Page) → IfSome o (λ page. IsPage page × SameSize page screen.page) → IfSome o (IsSizedPage (length screen.page.rows) screen.page.width)
   by_other (Some page) p = of_page page p.0 p.1.width p.1.height
   by_other None p = tt
