@@ -8,3 +8,4 @@ pub mod Dispatching
 pub mod Parting
 pub mod Pieces
 pub mod Streams
+pub mod Sizes

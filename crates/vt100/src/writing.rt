@@ -32,7 +32,7 @@ impl Write for Parser<()> {
         match self.process(buf) {
             Ok(()) => Ok(buf.len()),
             Err(Error::OutOfMemory) => Err(io::Error::from(io::ErrorKind::OutOfMemory)),
-            Err(Error::Failed) => Err(io::Error::from(io::ErrorKind::Other)),
+            Err(Error::Failed | Error::NoNumber) => Err(io::Error::from(io::ErrorKind::Other)),
         }
     }
 

@@ -1,8 +1,9 @@
 -- What `{}` prints of an error.
 use Rattle.std.specs.Prelude.{ℕ, List, codes}
 use Rattle.vt_cells.specs.declared.error.Error.{Error}
-use Rattle.vt_cells.specs.declared.error.Error.TheVariants.{OutOfMemory, Failed}
+use Rattle.vt_cells.specs.declared.error.Error.TheVariants.{OutOfMemory, Failed, NoNumber}
 
 abbrev pub error_text : Error → List ℕ
 error_text OutOfMemory = codes "out of memory"
 error_text Failed = codes "parser failed"
+error_text NoNumber = codes "no viewer number left"

@@ -11,6 +11,9 @@ pub enum Error {
 
     /// The parser ran out of memory before, and reads nothing any more.
     Failed,
+
+    /// A mirror has given the greatest viewer number, `u64::MAX`, and has none left.
+    NoNumber,
 }
 
 /// A refused growth, for `?`.
@@ -25,7 +28,7 @@ impl From<AllocError> for Error {
     }
 }
 
-/// `out of memory` or `parser failed`.
+/// `out of memory`, `parser failed` or `no viewer number left`.
 impl fmt::Display for Error {
     ghost use Rattle.std.specs.Prelude.{Some};
     ghost use Rattle.vt_cells.specs.ErrorText.{error_text};
@@ -36,6 +39,7 @@ impl fmt::Display for Error {
         match self {
             Error::OutOfMemory => f.write_str("out of memory"),
             Error::Failed => f.write_str("parser failed"),
+            Error::NoNumber => f.write_str("no viewer number left"),
         }
     }
 }

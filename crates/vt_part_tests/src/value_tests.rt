@@ -43,6 +43,7 @@ fn displays_errors(rt: HostRuntime) -> Result<(), Fail> {
     for (error, words) in [
         (Error::OutOfMemory, "out of memory"),
         (Error::Failed, "parser failed"),
+        (Error::NoNumber, "no viewer number left"),
         (Error::from(AllocError), "out of memory"),
     ] {
         assert_eq!(rt; error.to_string(rt.alloc())?.as_str(), words);

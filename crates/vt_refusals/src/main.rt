@@ -5,6 +5,7 @@
 //! `tests/refusals` looks at this.
 #![tactic(auto)]
 
+mod mirrors;
 mod pair;
 mod scenes;
 mod shown;
@@ -40,7 +41,8 @@ fn main(rt: HostRuntime) -> io::Result<()> {
     users::run_show(&rt)?;
     run_pair(&rt, "texts of two screens", &TEXTS)?;
     run_pair(&rt, "states, plain texts and captures", &MORE_TEXTS)?;
-    run_pair(&rt, "texts of the rows of two screens", &ROWS)
+    run_pair(&rt, "texts of the rows of two screens", &ROWS)?;
+    mirrors::run(&rt)
 }
 
 /// Makes a growth for each byte of standard input, and gives it back; false if one is refused.

@@ -275,6 +275,7 @@ impl fmt::Display for Answer {
             Answer::Rows(items) => write!(f, "{items}"),
             Answer::Refused(Error::OutOfMemory) => write!(f, "refused"),
             Answer::Refused(Error::Failed) => write!(f, "failed"),
+            Answer::Refused(Error::NoNumber) => write!(f, "no number"),
             Answer::TwoSizes => write!(f, "two sizes"),
             Answer::NoText => write!(f, "no text"),
         }

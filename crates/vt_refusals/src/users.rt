@@ -62,6 +62,7 @@ fn process_each<R: AllocGlobal + Print>(rt: &R, parser: &mut Parser<Notes>) -> i
             Ok(()) => "ok",
             Err(Error::OutOfMemory) => "refused",
             Err(Error::Failed) => "failed",
+            Err(Error::NoNumber) => "no number",
         };
         let notes = parser.callbacks();
         let (count, complete) = (notes.calls().len(), notes.is_complete());

@@ -14,8 +14,11 @@ pub mod StateRead
 pub mod Colored
 pub mod ColoredMoves
 pub mod Sizes
+pub mod Inside
+pub mod Sized
+pub mod SizedRuns
 pub mod ColoredScrollback
-mod Asides
+pub mod Asides
 mod Exchanging
 mod Resized
 mod Reporting

@@ -38,7 +38,7 @@ same_if false x y page p q = q
 same_with_row : (r : ℕ) (row : RowValue) (page : Page) → SameSize (with_row r row page) page
 same_with_row r row page = record { width = refl; height = length-set page.rows r row }
 
-same_cursor_cells : (cells : List CellValue) (page : Page) → SameSize (with_cursor_cells cells page) page
+pub same_cursor_cells : (cells : List CellValue) (page : Page) → SameSize (with_cursor_cells cells page) page
 same_cursor_cells cells page = same_with_row page.row (with_cells (cursor_row page) cells) page
 
 -- ---- moves
@@ -196,7 +196,7 @@ same_glyph_put : (text : List ℕ) (wide : Bool) (attrs : Attrs) (page : Page) �
 same_glyph_put text false attrs page = record { width = refl; height = length-set page.rows page.row (with_cells (cursor_row page) (put_narrow page.column text attrs (cursor_row page).cells)) }
 same_glyph_put text true attrs page = record { width = refl; height = length-set page.rows page.row (with_cells (cursor_row page) (put_wide page.column text attrs (cursor_row page).cells)) }
 
-same_mark_put : (k mark : ℕ) (page : Page) → SameSize (mark_put k mark page) page
+pub same_mark_put : (k mark : ℕ) (page : Page) → SameSize (mark_put k mark page) page
 same_mark_put k mark page = same_cursor_cells (marked_at k mark (cursor_row page).cells) page
 
 same_carried : (text : List ℕ) (k : ℕ) (attrs : Attrs) (page : Page) → SameSize (carried text k attrs page) page

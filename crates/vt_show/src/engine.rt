@@ -82,8 +82,8 @@ fn text(screen: &Screen, mode: Mode) -> Result<String, Fault>
     text.map_err(|_| Fault::Memory)
 }
 
-/// Writes the text, and flushes it.
-fn write_text<W: Write>(writer: &mut W, text: &str) -> Result<(), Fault>
+/// Writes the text, and flushes it; any error of that is `Write`.
+pub fn write_text<W: Write>(writer: &mut W, text: &str) -> Result<(), Fault>
     ensures text { OnOk result (Appends (W.contents writer.old) (W.contents writer.new) text.now) }
     ensures write { IsErr result → result ≡ Err Fault.Write }
 {

@@ -1,5 +1,6 @@
 //! The engine of the program `vtshow`: what a terminal shows after reading an
-//! input, as a text.
+//! input, as a text. What the engine of `vtmirror` does in the same way is
+//! public, too.
 #![tactic(auto)]
 
 mod engine;
@@ -9,7 +10,7 @@ mod mode;
 mod tests;
 mod words;
 
-pub use engine::run;
+pub use engine::{run, write_text};
 pub use faults::{Fault, ending};
 pub use mode::Mode;
-pub use words::arguments;
+pub use words::{arguments, given_words, size};

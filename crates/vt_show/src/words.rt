@@ -1,12 +1,36 @@
-//! What the words after the program's name ask for.
+//! The words after a program's name, and what they ask for.
 
 ghost use Rattle.std.specs.Int.NonZero.{non_zero_u16_get};
-ghost use Rattle.std.specs.Prelude.{◌≡◌, ◌==◌, ℕ, map, slice_index, IfNone, IfSome};
+ghost use Rattle.std.specs.Prelude.{◌≡◌, ◌==◌, ℕ, map, slice_index, IfErr, IfNone, IfSome};
 ghost use Rattle.vt_show.specs.Arguments.{Asks, IsSize, name_of};
+ghost use Rattle.vt_show.specs.declared.faults.Fault.{Fault};
 ghost use Rattle.vt_show.specs.declared.mode.Mode.{Mode};
 
+use crate::faults::Fault;
 use crate::mode::Mode;
+use std::env::Env;
 use std::num::NonZeroU16;
+use std::{env, io};
+
+/// Copies the words after the program's name; the program `vtmirror` takes them
+/// so, too. A word that is not UTF-8 is a wrong argument, which `None` says;
+/// the only fault is `Memory`.
+pub fn given_words<R: Env + AllocGlobal>(rt: &R) -> Result<Vec<String>, Option<Fault>>
+    ensures { IfErr result (λ error. IfSome error (λ fault. fault ≡ Fault.Memory)) }
+{
+    let mut words = Vec::new(rt.alloc());
+    let all = match env::args(rt) {
+        Ok(all) => all,
+        Err(error) if error.kind() == io::ErrorKind::OutOfMemory => return Err(Some(Fault::Memory)),
+        Err(_) => return Err(None),
+    };
+    for word in all.skip(1) {
+        if words.push(word).is_err() {
+            return Err(Some(Fault::Memory));
+        }
+    }
+    Ok(words)
+}
 
 /// Rows, columns and mode, from exactly three words; `None` for other words.
 ///
@@ -31,8 +55,14 @@ pub fn arguments(words: &[&str]) -> Option<(NonZeroU16, NonZeroU16, Mode)>
     Some((rows, cols, mode))
 }
 
-/// A number of rows or columns.
-fn size(word: &str) -> Option<NonZeroU16>
+/// A number of rows or columns: decimal digits with a value from 1 to 65535,
+/// leading zeros allowed; `None` for any other word.
+///
+/// ```text
+/// assert_eq!(size("080"), NonZeroU16::new(80));
+/// assert_eq!(size("+80"), None);
+/// ```
+pub fn size(word: &str) -> Option<NonZeroU16>
     ensures some { IfSome result (λ n. IsSize word.now (non_zero_u16_get n)) }
     ensures none { IfNone result ((n : ℕ) → IsSize word.now n → ⊥) }
 {

@@ -1,0 +1,187 @@
+//! Viewers of a mirror that join, leave and fall behind at random.
+
+use crate::pace::Pace;
+use crate::picture::differing;
+use crate::visits::Visits;
+use anyhow::{Context, Result};
+use std::alloc::Global;
+use std::num::NonZeroU16;
+use vt_mirror::{Mirror, Update};
+use vt100::{Parser, Screen};
+
+/// How many viewers there are at most.
+const SEATS: u32 = 20;
+
+/// How many seats are visited after each piece that is read.
+const VISITS: u32 = 4;
+
+/// One viewer in so many that are visited leaves.
+const LEAVING: u32 = 8;
+
+/// At one piece in so many the mirror gets another size.
+const RESIZED: u32 = 16;
+
+/// The most rows and columns of such a size.
+const MOST_ROWS: u32 = 40;
+const MOST_COLS: u32 = 100;
+
+/// The size of a viewer's terminal at first, how many rows it keeps, and what it has read.
+const SIZE: (u16, u16) = (3, 7);
+const KEPT: usize = 5;
+const BEFORE: &[u8] = b"\x1b[7mbefore \xe4\xb8\xad\x1b[30b\x1b[32;1m\x1b[?25l";
+
+/// A viewer: its number, and its terminal.
+#[derive(Drop)]
+struct Viewer {
+    number: u64,
+    terminal: Parser,
+}
+
+/// A mirror, a terminal that reads and is resized as it is, and the viewers.
+#[derive(Drop)]
+struct Hall {
+    mirror: Mirror,
+    leader: Parser,
+    viewers: Vec<Viewer>,
+}
+
+/// Has a mirror read these bytes, and its viewers follow it.
+pub fn follow(
+    alloc: Global,
+    (rows, cols): (NonZeroU16, NonZeroU16),
+    pace: Pace,
+    bytes: &[u8],
+) -> Result<Visits> {
+    let mut hall = Hall {
+        mirror: Mirror::new(alloc, rows, cols, 0)?,
+        leader: Parser::new(alloc, rows, cols, 0)?,
+        viewers: Vec::new(alloc),
+    };
+    follow_all(alloc, &mut hall, pace, bytes)
+}
+
+// Reads piece by piece, with visits between them, and updates all viewers at the end.
+fn follow_all(alloc: Global, hall: &mut Hall, mut pace: Pace, bytes: &[u8]) -> Result<Visits> {
+    let mut visits = Visits::default();
+    let mut rest = bytes;
+    for _ in 0..bytes.len() {
+        if rest.is_empty() || visits.differs {
+            break;
+        }
+        let (piece, later) = rest.split_at(pace.next_length().min(rest.len()));
+        rest = later;
+        hall.read(piece)?;
+        if pace.next_below(RESIZED) == 0 {
+            hall.resize(size(&mut pace)?)?;
+        }
+        hall.visit_some(alloc, &mut pace, &mut visits)?;
+    }
+    hall.update_all(&mut visits)?;
+    Ok(visits)
+}
+
+fn size(pace: &mut Pace) -> Result<(NonZeroU16, NonZeroU16)> {
+    let rows = 1 + pace.next_below(MOST_ROWS);
+    let cols = 1 + pace.next_below(MOST_COLS);
+    size_of(u16::try_from(rows)?, u16::try_from(cols)?)
+}
+
+fn size_of(rows: u16, cols: u16) -> Result<(NonZeroU16, NonZeroU16)> {
+    let rows = NonZeroU16::new(rows).context("a size without rows")?;
+    let cols = NonZeroU16::new(cols).context("a size without columns")?;
+    Ok((rows, cols))
+}
+
+// A terminal that is plain, and shows something else than the mirror.
+fn terminal(alloc: Global) -> Result<Parser> {
+    let (rows, cols) = size_of(SIZE.0, SIZE.1)?;
+    let mut terminal = Parser::new(alloc, rows, cols, KEPT)?;
+    terminal.process(BEFORE)?;
+    Ok(terminal)
+}
+
+impl Hall {
+    fn read(&mut self, piece: &[u8]) -> Result<()> {
+        self.mirror.process(piece)?;
+        self.leader.process(piece)?;
+        Ok(())
+    }
+
+    fn resize(&mut self, (rows, cols): (NonZeroU16, NonZeroU16)) -> Result<()> {
+        self.mirror.set_size(rows, cols)?;
+        self.leader.set_size(rows, cols)?;
+        Ok(())
+    }
+
+    fn visit_some(&mut self, alloc: Global, pace: &mut Pace, visits: &mut Visits) -> Result<()> {
+        for _ in 0..VISITS {
+            let seat = pace.next_below(SEATS) as usize;
+            if seat >= self.viewers.len() {
+                self.join(alloc)?;
+                visits.count_join();
+            } else if pace.next_below(LEAVING) == 0 {
+                self.leave(seat, visits);
+            } else {
+                self.update(seat, visits)?;
+            }
+        }
+        Ok(())
+    }
+
+    fn join(&mut self, alloc: Global) -> Result<()> {
+        let number = self.mirror.join()?;
+        let terminal = terminal(alloc)?;
+        self.viewers.push(Viewer { number, terminal })?;
+        Ok(())
+    }
+
+    // The viewer at a seat leaves, and is none any more.
+    fn leave(&mut self, seat: usize, visits: &mut Visits) {
+        if seat >= self.viewers.len() {
+            return;
+        }
+        let number = self.viewers.swap_remove(seat).number;
+        let was = self.mirror.leave(number);
+        visits.count_leave();
+        if !was || self.mirror.leave(number) {
+            visits.differs = true;
+        }
+    }
+
+    // The viewer at a seat reads its update, and shows what the leader shows.
+    fn update(&mut self, seat: usize, visits: &mut Visits) -> Result<()> {
+        let Some(viewer) = self.viewers.get_mut(seat) else {
+            return Ok(());
+        };
+        let update = self.mirror.update(viewer.number)?;
+        visits.count_update(update.as_ref());
+        read_update(&mut viewer.terminal, update)?;
+        if !are_same(self.leader.screen(), viewer.terminal.screen()) {
+            visits.differs = true;
+        }
+        Ok(())
+    }
+
+    fn update_all(&mut self, visits: &mut Visits) -> Result<()> {
+        for seat in 0..self.viewers.len() {
+            self.update(seat, visits)?;
+        }
+        Ok(())
+    }
+}
+
+fn read_update(terminal: &mut Parser, update: Option<Update>) -> Result<()> {
+    match update {
+        Some(Update::Diff(text)) => Ok(terminal.process(text.as_bytes())?),
+        Some(Update::Full { rows, cols, text }) => {
+            let (rows, cols) = size_of(rows, cols)?;
+            terminal.set_size(rows, cols)?;
+            Ok(terminal.process(text.as_bytes())?)
+        }
+        None => None.context("a viewer that is none"),
+    }
+}
+
+fn are_same(one: &Screen, other: &Screen) -> bool {
+    one.size() == other.size() && differing(one, other).is_none()
+}

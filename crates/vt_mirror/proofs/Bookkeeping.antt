@@ -1,0 +1,119 @@
+-- Viewers that come, go and are told.
+use Rattle.std.proofs.Common.{◌≡◌, ◌≢◌, ℕ, ◌+◌, ◌≤◌, ◌==◌, Bool, true, false, List, [], Option, Some, None, refl, sym, ap, subst, ◌∙◌, arith}
+use Rattle.std.proofs.lemmas.Bool.{false≢true}
+use Rattle.std.proofs.lemmas.Bool.Decides.{nat_tests}
+use Rattle.std.specs.BTreeMap as map
+use Rattle.std.specs.BTreeMap.{BTreeMap, is_at}
+use Rattle.std.specs.BTreeSet as set
+use Rattle.std.specs.BTreeSet.{BTreeSet}
+use Rattle.std.specs.Cmp.{unsigned_tied}
+use Rattle.std.specs.Ordering.{nat_cmp}
+use Rattle.std.specs.Prelude.{Result, Ok, Err, OnErr, OnOk, is_err}
+use Rattle.vt_screen.specs.Screen.{ScreenValue}
+use Rattle.vt_mirror.specs.Viewers.{AreViewers, Puts, ViewersValue, is_viewer, next_number, note_of}
+
+same_number : (v q : ℕ) → (v == q) ≡ true → v ≡ q
+same_number v q e = grind (arith, nat_tests)
+
+other_number : (v q : ℕ) → q ≢ v → (v == q) ≡ false
+other_number v q n = by_test (v == q) refl where
+  by_test : (b : Bool) → (v == q) ≡ b → (v == q) ≡ false
+  by_test true e = absurd (n (sym (same_number v q e)))
+  by_test false e = e
+
+-- the test of a key, as a map makes it
+at_other : (v q : ℕ) → q ≢ v → is_at (nat_cmp v) q ≡ false
+at_other v q n = unsigned_tied v q ∙ other_number v q n
+
+own_number : (v : ℕ) → (v == v) ≡ true
+own_number v = grind (arith, nat_tests)
+
+-- one number or another
+pub by_number : {P : Type 0} (v q : ℕ) → (q ≡ v → P) → (q ≢ v → P) → P
+by_number {P} v q same other = by_test (v == q) refl where
+  by_test : (b : Bool) → (v == q) ≡ b → P
+  by_test true e = same (sym (same_number v q e))
+  by_test false e = other (λ (h : q ≡ v). false≢true (sym e ∙ (ap (λ (k : ℕ). v == k) h ∙ own_number v)))
+
+pub none_some : {A : Type 0} (x : A) → None ≡ Some x → ⊥
+none_some x e = cc
+
+-- viewers after one of them, or what is noted for it, changed
+pub put_viewers : (old new : ViewersValue) (v : ℕ) (is : Bool) (note : Option ScreenValue) → Puts old v is note new → AreViewers old
+    → (is ≡ true → v + 1 ≤ next_number new.last) → next_number old.last ≤ next_number new.last → (is ≡ false → note ≡ None) → AreViewers new
+put_viewers old new v is note p a given more none = record {
+  numbers = λ q h. by_number v q
+      (λ e. subst (λ (k : ℕ). k + 1 ≤ next_number new.last) (sym e) (given (sym p.here ∙ ap (is_viewer new) (sym e) ∙ h)))
+      (λ n. omega (arith, more, a.numbers q (sym (p.others q n) ∙ h)));
+  notes = λ q s h. by_number v q
+      (λ e. ap (is_viewer new) e ∙ (p.here ∙ yes is none (sym p.note_here ∙ (ap (note_of new) (sym e) ∙ h))))
+      (λ n. p.others q n ∙ a.notes q s (sym (p.other_notes q n) ∙ h));
+} where
+  yes : (b : Bool) → (b ≡ false → note ≡ None) → {s : ScreenValue} → note ≡ Some s → b ≡ true
+  yes true f e = refl
+  yes false f {s} e = absurd (none_some s (sym (f refl) ∙ e))
+
+-- what nobody views has no note
+no_note : (old : ViewersValue) (v : ℕ) → AreViewers old → is_viewer old v ≡ false → note_of old v ≡ None
+no_note old v a nobody = by_note (note_of old v) refl where
+  by_note : (o : Option ScreenValue) → note_of old v ≡ o → note_of old v ≡ None
+  by_note (Some s) e = absurd (false≢true (sym nobody ∙ a.notes v s e))
+  by_note None e = e
+
+-- a number that wasn't given is nobody's
+new_number : (old : ViewersValue) (v : ℕ) → AreViewers old → v ≡ next_number old.last → is_viewer old v ≡ false
+new_number old v a e = by_test (is_viewer old v) refl where
+  too_many : v + 1 ≤ next_number old.last → ⊥
+  too_many h = omega (arith, e, h)
+
+  by_test : (b : Bool) → is_viewer old v ≡ b → is_viewer old v ≡ false
+  by_test true h = absurd (too_many (a.numbers v h))
+  by_test false h = h
+
+pub joined : (old : ViewersValue) (v : ℕ) (was is : BTreeSet ℕ) → old.numbers ≡ was.keys → set.Updates nat_cmp was is v true → AreViewers old → v ≡ next_number old.last → Puts old v true None (record old { last = Some v; numbers = is.keys })
+joined old v was is e u a n = record {
+  here = u.1;
+  note_here = no_note old v a (new_number old v a n);
+  others = λ q h. u.2 q (at_other v q h) ∙ ap (λ (keys : List ℕ). is_viewer (record old { numbers = keys }) q) (sym e);
+  other_notes = λ q h. refl;
+}
+
+pub joined_viewers : (old : ViewersValue) (v : ℕ) (was is : BTreeSet ℕ) → old.numbers ≡ was.keys → set.Updates nat_cmp was is v true → AreViewers old → v ≡ next_number old.last → AreViewers (record old { last = Some v; numbers = is.keys })
+joined_viewers old v was is e u a n =
+    put_viewers old (record old { last = Some v; numbers = is.keys }) v true None (joined old v was is e u a n) a (λ _. omega arith) (omega (arith, n)) (λ _. refl)
+
+pub left : (old : ViewersValue) (v : ℕ) (was is : BTreeSet ℕ) (had has : BTreeMap ℕ ScreenValue) → old.numbers ≡ was.keys → old.notes ≡ had.entries → set.UpdatesBy nat_cmp (nat_cmp v) was is false → map.UpdatesBy nat_cmp (nat_cmp v) had has None
+    → Puts old v false None (record old { numbers = is.keys; notes = has.entries })
+left old v was is had has e f u w = record {
+  here = u.1;
+  note_here = w.1;
+  others = λ q h. u.2 q (at_other v q h) ∙ ap (λ (keys : List ℕ). is_viewer (record old { numbers = keys }) q) (sym e);
+  other_notes = λ q h. w.2 q (at_other v q h) ∙ ap (λ (entries : List (ℕ × ScreenValue)). note_of (record old { notes = entries }) q) (sym f);
+}
+
+pub left_viewers : (old : ViewersValue) (v : ℕ) (was is : BTreeSet ℕ) (had has : BTreeMap ℕ ScreenValue) → old.numbers ≡ was.keys → old.notes ≡ had.entries → set.UpdatesBy nat_cmp (nat_cmp v) was is false → map.UpdatesBy nat_cmp (nat_cmp v) had has None
+    → AreViewers old → AreViewers (record old { numbers = is.keys; notes = has.entries })
+left_viewers old v was is had has e f u w a =
+    let new : ViewersValue = record old { numbers = is.keys; notes = has.entries } in
+    put_viewers old new v false None (left old v was is had has e f u w) a (λ h. absurd (false≢true h)) (omega arith) (λ _. refl)
+
+pub told : (old : ViewersValue) (v : ℕ) (screen : ScreenValue) (had has : BTreeMap ℕ ScreenValue) → old.notes ≡ had.entries → map.Updates nat_cmp had has v (Some screen) → is_viewer old v ≡ true → Puts old v true (Some screen) (record old { notes = has.entries })
+told old v screen had has f w is = record {
+  here = is;
+  note_here = w.1;
+  others = λ q h. refl;
+  other_notes = λ q h. w.2 q (at_other v q h) ∙ ap (λ (entries : List (ℕ × ScreenValue)). note_of (record old { notes = entries }) q) (sym f);
+}
+
+pub told_viewers : (old : ViewersValue) (v : ℕ) (screen : ScreenValue) (had has : BTreeMap ℕ ScreenValue) → old.notes ≡ had.entries → map.Updates nat_cmp had has v (Some screen) → is_viewer old v ≡ true → AreViewers old → AreViewers (record old { notes = has.entries })
+told_viewers old v screen had has f w is a =
+    put_viewers old (record old { notes = has.entries }) v true (Some screen) (told old v screen had has f w is) a (λ _. a.numbers v is) (omega arith) (λ h. absurd (false≢true (sym h)))
+
+-- as it was, where memory is refused
+pub if_refused : {A E : Type 0} (r : Result A E) (P : Type 0) → is_err r ≡ true → OnErr r P → P
+if_refused (Ok x) P e h = absurd (false≢true e)
+if_refused (Err e) P o h = h
+
+pub if_taken : {A E : Type 0} (r : Result A E) (P : Type 0) → is_err r ≡ false → OnOk r P → P
+if_taken (Ok x) P e h = h
+if_taken (Err e) P o h = absurd (false≢true (sym o))

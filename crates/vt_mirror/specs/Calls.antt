@@ -1,0 +1,87 @@
+-- What each call of a mirror answers, and what it leaves.
+use Rattle.std.specs.Prelude.{◌≡◌, ◌⊎◌, ◌↔◌, ℕ, ◌-◌, ◌^◌, Bool, true, false, List, [], Option, Some, None, Err, Ok, length, string_bytes, IfErr, IfOk, IsErr}
+use Rattle.std.specs.declared.result.Result.{Result}
+use Rattle.vt_cells.specs.Op.{bytes_of_all}
+use Rattle.vt_cells.specs.declared.error.Error.{Error}
+use Rattle.vt_cells.specs.declared.error.Error.TheVariants.{Failed, NoNumber, OutOfMemory}
+use Rattle.vt_grid.specs.Page.{SameSize}
+use Rattle.vt_redraw.specs.Redraw.{difference, redraw}
+use Rattle.vt_redraw.specs.Steady.{IsSteady}
+use Rattle.vt_screen.specs.Pages.{has_size, resized}
+use Rattle.vt_screen.specs.Screen.{ScreenValue}
+use Rattle.vt_screen.specs.Shown.{IsReadBy, IsReader, IsReaderOf, KeepsRest, Makes, ShowsPlainly, shown}
+use Rattle.vt100.specs.Parser.{IsHarmless, Ran, Stopped, quietly}
+use Rattle.vt_mirror.specs.Mirror.{MirrorValue}
+use Rattle.vt_mirror.specs.Viewers.{Puts, ViewersValue, is_viewer, next_number, note_of}
+use Rattle.vt_mirror.specs.declared.update.Update.{Update}
+use Rattle.vt_mirror.specs.declared.update.Update.TheVariants.{Diff, Full}
+
+-- bytes are read as by the parser alone, whose callbacks do nothing; the size stays, and so do the viewers
+pub record Processes (old : MirrorValue) (bytes : List ℕ) (answer : Result (Unit {0}) Error) (new : MirrorValue) : Type 0 where
+  pub viewers : new.viewers ≡ old.viewers
+  pub size : SameSize new.parser.screen.page old.parser.screen.page
+  pub ran : IfOk answer (λ _. Ran quietly old.parser bytes new.parser)
+  pub stopped : answer ≡ Err OutOfMemory → Stopped quietly old.parser bytes new.parser
+  pub failed : old.parser.is_failed ≡ true → (answer ≡ Err Failed) × (new.parser ≡ old.parser)
+  pub only : IfErr answer (λ error. (error ≡ OutOfMemory) ⊎ ((error ≡ Failed) × (old.parser.is_failed ≡ true)))
+  pub for_good : new.parser.is_failed ≡ true ↔ IsErr answer
+  pub harmless : old.parser.is_failed ≡ false → IsHarmless quietly old.parser bytes → answer ≡ Ok tt
+
+-- another size, and nothing is noted any more; the size that it has changes nothing and is never refused
+pub record Resizes (old : MirrorValue) (rows cols : ℕ) (answer : Result (Unit {0}) Error) (new : MirrorValue) : Type 0 where
+  pub same : has_size rows cols old.parser.screen ≡ true → (answer ≡ Ok tt) × (new ≡ old)
+  pub other : has_size rows cols old.parser.screen ≡ false → IfOk answer (λ _. new ≡ record { parser = record (old.parser) { screen = resized rows cols old.parser.screen }; viewers = record (old.viewers) { notes = [] } })
+  pub refused : IfErr answer (λ error. (error ≡ OutOfMemory) × (new ≡ old))
+
+-- the greatest number that is given
+abbrev pub greatest : ℕ
+greatest = 2 ^ 64 - 1
+
+-- a new viewer gets the next number, and nothing is noted for it yet; behind the greatest number there is none; refused, all is as before
+pub record Joins (old : ViewersValue) (answer : Result ℕ Error) (new : ViewersValue) : Type 0 where
+  pub number : IfOk answer (λ viewer. viewer ≡ next_number old.last)
+  pub last : IfOk answer (λ viewer. new.last ≡ Some viewer)
+  pub puts : IfOk answer (λ viewer. Puts old viewer true None new)
+  pub none : old.last ≡ Some greatest → answer ≡ Err NoNumber
+  pub only : IfErr answer (λ error. (error ≡ OutOfMemory) ⊎ ((error ≡ NoNumber) × (old.last ≡ Some greatest)))
+  pub refused : IfErr answer (λ _. new ≡ old)
+
+-- a viewer goes; the answer is whether there was one
+pub record Leaves (old : ViewersValue) (viewer : ℕ) (answer : Bool) (new : ViewersValue) : Type 0 where
+  pub was : answer ≡ is_viewer old viewer
+  pub last : new.last ≡ old.last
+  pub puts : Puts old viewer false None new
+
+-- what a text makes of the terminals that read it, where what they are to show is steady
+pub record Redraws (self : ScreenValue) (Reader : ScreenValue → Type 0) (text : List ℕ) : Type 0 where
+  pub quiet : IsSteady (shown self) → IsReadBy Reader text
+  pub shows : IsSteady (shown self) → Makes Reader text (ShowsPlainly (shown self))
+  pub rest : IsSteady (shown self) → Makes Reader text KeepsRest
+
+-- a full redraw where nothing is noted, and else the difference from the screen that is
+abbrev pub IsUpdate : (self : ScreenValue) → Option ScreenValue → Update → Type 0
+IsUpdate self (Some prev) (Diff text) =
+    (string_bytes text ≡ bytes_of_all (difference (shown self) (shown prev))) × Redraws self (IsReaderOf (shown self) (shown prev)) (string_bytes text)
+IsUpdate self None (Full rows cols text) =
+    (rows ≡ length self.page.rows) × (cols ≡ self.page.width)
+    × (string_bytes text ≡ bytes_of_all (redraw (shown self))) × Redraws self (IsReader (shown self)) (string_bytes text)
+IsUpdate self _ _ = ⊥
+
+-- a viewer is told, and the mirror's screen is noted for it
+pub record Tells (old : MirrorValue) (viewer : ℕ) (update : Update) (new : MirrorValue) : Type 0 where
+  pub is : is_viewer old.viewers viewer ≡ true
+  pub text : IsUpdate old.parser.screen (note_of old.viewers viewer) update
+  pub parser : new.parser ≡ old.parser
+  pub last : new.viewers.last ≡ old.viewers.last
+  pub puts : Puts old.viewers viewer true (Some old.parser.screen) new.viewers
+
+-- what an answer of an update means; none is for a number that is no viewer's
+abbrev pub Answers : (old : MirrorValue) → ℕ → Option Update → (new : MirrorValue) → Type 0
+Answers old viewer None new = (is_viewer old.viewers viewer ≡ false) × (new ≡ old)
+Answers old viewer (Some update) new = Tells old viewer update new
+
+-- an update is asked for; no viewer is answered none and is never refused; refused, all is as before
+pub record Asks (old : MirrorValue) (viewer : ℕ) (answer : Result (Option Update) Error) (new : MirrorValue) : Type 0 where
+  pub nobody : is_viewer old.viewers viewer ≡ false → answer ≡ Ok None
+  pub answers : IfOk answer (λ update. Answers old viewer update new)
+  pub refused : IfErr answer (λ error. (error ≡ OutOfMemory) × (new ≡ old))

@@ -1,0 +1,15 @@
+-- What a run that failed says, and the status that it ends with.
+use Rattle.std.specs.Prelude.{ℕ, List, Option, Some, None, codes}
+use Rattle.vt_show.specs.declared.faults.Fault.{Fault}
+use Rattle.vt_show.specs.declared.faults.Fault.TheVariants.{Memory, Read, Write}
+
+abbrev pub line_of : Option Fault → List ℕ
+line_of (Some Memory) = codes "vtmirror: out of memory"
+line_of (Some Read) = codes "vtmirror: read failed"
+line_of (Some Write) = codes "vtmirror: write failed"
+line_of None = codes "usage: vtmirror ROWS COLS EVERY"
+
+-- 1 for a fault, 2 for wrong arguments
+abbrev pub status_of : Option Fault → ℕ
+status_of (Some fault) = 1
+status_of None = 2

@@ -1,0 +1,6 @@
+pub mod Viewers
+pub mod Mirror
+pub mod Calls
+pub mod Watching
+pub mod Arguments
+pub mod Endings

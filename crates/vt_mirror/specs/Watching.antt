@@ -1,0 +1,117 @@
+-- A viewer of a mirror, over any calls of the mirror: it reads its updates, each in any pieces.
+use Rattle.std.specs.Prelude.{◌≡◌, ◌≢◌, ◌+◌, ℕ, Bool, List, [], ◌∷◌, Option, Some, None, Ok, Err, IfSome, string_bytes}
+use Rattle.std.specs.List.{FoldsTo}
+use Rattle.std.specs.declared.result.Result.{Result}
+use Rattle.vt_cells.specs.declared.error.Error.{Error}
+use Rattle.vt_redraw.specs.Steady.{IsSteady}
+use Rattle.vt_screen.specs.Pages.{resized}
+use Rattle.vt_screen.specs.Screen.{IsScreen, ScreenValue}
+use Rattle.vt_screen.specs.Shown.{shown}
+use Rattle.vt100.specs.Parser.{Parsing}
+use Rattle.vt100.specs.Pieces as pieces
+use Rattle.vt100.specs.Pieces.{IsPlainParser, Processing, bytes_in}
+use Rattle.vt_mirror.specs.Calls.{Asks, Joins, Leaves, Processes, Resizes}
+use Rattle.vt_mirror.specs.Mirror.{MirrorValue}
+use Rattle.vt_mirror.specs.declared.update.Update.{Update}
+use Rattle.vt_mirror.specs.declared.update.Update.TheVariants.{Diff, Full}
+
+-- ---- the mirror
+
+-- a call of a mirror, and what it answered
+pub data MirrorCall : Type 0 where
+  Process : (bytes : List ℕ) → (answer : Result (Unit {0}) Error) → MirrorCall
+  SetSize : (rows : ℕ) → (cols : ℕ) → (answer : Result (Unit {0}) Error) → MirrorCall
+  Join : (answer : Result ℕ Error) → MirrorCall
+  Leave : (viewer : ℕ) → (answer : Bool) → MirrorCall
+  Ask : (viewer : ℕ) → (answer : Result (Option Update) Error) → MirrorCall
+
+-- what the mirror does in a call
+abbrev pub Does : MirrorValue → MirrorCall → MirrorValue → Type 0
+Does old (Process bytes answer) new = Processes old bytes answer new
+Does old (SetSize rows cols answer) new = Resizes old rows cols answer new
+Does old (Join answer) new = (new.parser ≡ old.parser) × Joins old.viewers answer new.viewers
+Does old (Leave viewer answer) new = (new.parser ≡ old.parser) × Leaves old.viewers viewer answer new.viewers
+Does old (Ask viewer answer) new = Asks old viewer answer new
+
+-- no number was given, nobody views, and nothing is noted
+pub record IsFresh (mirror : MirrorValue) : Type 0 where
+  pub last : mirror.viewers.last ≡ None
+  pub numbers : mirror.viewers.numbers ≡ []
+  pub notes : mirror.viewers.notes ≡ []
+
+-- the numbers that calls gave, in order
+abbrev pub numbers_given : List MirrorCall → List ℕ
+numbers_given [] = []
+numbers_given (Join (Ok viewer) ∷ calls) = viewer ∷ numbers_given calls
+numbers_given (_ ∷ calls) = numbers_given calls
+
+-- these numbers are this one, the next one, and so on: none comes twice
+abbrev pub CountUp : ℕ → List ℕ → Type 0
+CountUp n [] = Unit {0}
+CountUp n (x ∷ xs) = (x ≡ n) × CountUp (n + 1) xs
+
+-- ---- a viewer
+
+-- a mirror, a terminal, and the mirror's screen as it was at this terminal's last update
+pub record Watching (S : Type 0) : Type 0 where
+  pub mirror : MirrorValue
+  pub viewer : Parsing S
+  pub seen : Option ScreenValue
+
+-- the terminal takes a size, as `Parser::set_size` does that answers Ok
+pub record TakesSize {S : Type 0} (rows cols : ℕ) (old new : Parsing S) : Type 0 where
+  pub sound : IsScreen new.screen
+  pub resized : new ≡ record old { screen = resized rows cols old.screen; callbacks = new.callbacks }
+
+-- it reads a text, in any calls of `process` whose slices joined are the text
+pub record ReadsText {S : Type 0} (text : List ℕ) (old new : Parsing S) : Type 0 where
+  pub sound : IsScreen new.screen
+  pub calls : List Processing
+  pub whole : bytes_in calls ≡ text
+  pub reads : FoldsTo pieces.Processes old calls new
+
+-- it takes an update: for a full one its size first, and then the text
+abbrev pub Takes : {S : Type 0} → Update → Parsing S → Parsing S → Type 0
+Takes {S} (Diff text) old new = ReadsText (string_bytes text) old new
+Takes {S} (Full rows cols text) old new = (sized : Parsing S) × TakesSize rows cols old sized × ReadsText (string_bytes text) sized new
+
+-- it takes an update, at which the mirror's screen was steady
+pub record Sees {S : Type 0} (update : Update) (old new : Watching S) : Type 0 where
+  pub steady : IsSteady (shown old.mirror.parser.screen)
+  pub takes : Takes update old.viewer new.viewer
+  pub seen : new.seen ≡ Some old.mirror.parser.screen
+
+-- it is told nothing
+pub record IsLeft {S : Type 0} (old new : Watching S) : Type 0 where
+  pub viewer : new.viewer ≡ old.viewer
+  pub seen : new.seen ≡ old.seen
+
+-- an update is taken by the viewer of its number, and by nobody else
+pub record IsTakenBy {S : Type 0} (number asked : ℕ) (update : Update) (old new : Watching S) : Type 0 where
+  pub own : asked ≡ number → Sees update old new
+  pub others : asked ≢ number → IsLeft old new
+
+-- what the viewer of a number does in a call
+abbrev pub Follows : {S : Type 0} → ℕ → Watching S → MirrorCall → Watching S → Type 0
+Follows {S} number old (Process bytes answer) new = IsLeft old new
+Follows {S} number old (SetSize rows cols answer) new = IsLeft old new
+Follows {S} number old (Join answer) new = IsLeft old new
+Follows {S} number old (Leave viewer answer) new = IsLeft old new
+Follows {S} number old (Ask viewer (Ok (Some update))) new = IsTakenBy number viewer update old new
+Follows {S} number old (Ask viewer (Ok None)) new = IsLeft old new
+Follows {S} number old (Ask viewer (Err error)) new = IsLeft old new
+
+-- a call of the mirror, and what its viewer does in it
+abbrev pub Goes : {S : Type 0} → ℕ → Watching S → MirrorCall → Watching S → Type 0
+Goes {S} number old call new = Does old.mirror call new.mirror × Follows number old call new
+
+-- a terminal that was never told anything: it is plain
+pub record IsNew {S : Type 0} (watching : Watching S) : Type 0 where
+  pub sound : IsScreen watching.viewer.screen
+  pub plain : IsPlainParser watching.viewer
+  pub seen : watching.seen ≡ None
+
+-- a plain terminal that shows the screen as it was at its last update, if there was one
+pub record ShowsSeen {S : Type 0} (watching : Watching S) : Type 0 where
+  pub plain : IsPlainParser watching.viewer
+  pub shows : IfSome watching.seen (λ screen. shown watching.viewer.screen ≡ shown screen)

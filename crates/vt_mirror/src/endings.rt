@@ -1,0 +1,24 @@
+//! How a run ends.
+
+ghost use Rattle.std.specs.Prelude.{◌≡◌};
+ghost use Rattle.vt_mirror.specs.Endings.{line_of, status_of};
+
+use vt_show::Fault;
+
+/// The line for standard error, without its end, and the exit status: those of
+/// a fault, or of wrong arguments where there is none.
+///
+/// ```text
+/// assert_eq!(ending(Some(Fault::Read)), ("vtmirror: read failed", 1));
+/// ```
+pub fn ending(fault: Option<Fault>) -> (&'static str, u8)
+    ensures line { result.0.now ≡ line_of fault }
+    ensures status { result.1 ≡ status_of fault }
+{
+    match fault {
+        Some(Fault::Memory) => ("vtmirror: out of memory", 1),
+        Some(Fault::Read) => ("vtmirror: read failed", 1),
+        Some(Fault::Write) => ("vtmirror: write failed", 1),
+        None => ("usage: vtmirror ROWS COLS EVERY", 2),
+    }
+}

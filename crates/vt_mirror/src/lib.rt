@@ -1,0 +1,17 @@
+//! Mirrors: one terminal, and any number of viewers that are kept equal to it
+//! by texts; and the engine of the program `vtmirror`.
+#![tactic(auto)]
+
+mod endings;
+mod engine;
+pub mod laws;
+mod mirror;
+mod update;
+mod viewers;
+mod words;
+
+pub use endings::ending;
+pub use engine::run;
+pub use mirror::Mirror;
+pub use update::Update;
+pub use words::arguments;

@@ -1,0 +1,175 @@
+//! A terminal and its viewers.
+
+ghost use Rattle.std.specs.Prelude.{◌≡◌, IfErr, IfOk, None, []};
+ghost use Rattle.vt100.specs.Parser.{parsing};
+ghost use Rattle.vt_mirror.specs.Calls.{Asks, IsUpdate, Joins, Leaves, Processes, Resizes};
+ghost use Rattle.vt_mirror.specs.Viewers.{note_of};
+ghost use Rattle.vt_scan.specs.Automaton.{start};
+ghost use Rattle.vt_scan.specs.Scanner.{StandsFor};
+ghost use Rattle.vt_screen.specs.Screen.{fresh_screen};
+
+use crate::update::Update;
+use crate::viewers::Viewers;
+use std::alloc::Global;
+use std::marker::Model;
+use std::num::NonZeroU16;
+use vt100::{Error, Parser, Screen};
+
+/// A terminal in memory, and viewers of it: terminals elsewhere, each of which
+/// is kept equal to it by texts.
+///
+/// A viewer has a number, and the mirror keeps a copy of the screen for it: the
+/// one of its last update. So a viewer may fall behind by any number of calls,
+/// and its next update makes up for all of them. What follows for viewers over
+/// any list of calls is [`laws::viewers`](crate::laws::viewers).
+///
+/// ```text
+/// let mut mirror = Mirror::new(rt.alloc(), rows, cols, 0)?;
+/// let viewer = mirror.join()?;
+/// mirror.process(b"ab")?;
+/// if let Some(Update::Full { text, .. }) = mirror.update(viewer)? {
+///     assert_eq!(text.as_str(), "\x1b[?25h\x1b[m\x1b[H\x1b[Jab");
+/// }
+/// ```
+#[derive(Drop)]
+pub struct Mirror {
+    parser: Parser,
+    viewers: Viewers,
+}
+
+impl Model for Mirror {
+    ghost use Rattle.vt_mirror.specs.Mirror.{IsMirror, MirrorValue};
+
+    ghost Value = { MirrorValue };
+
+    ghost view = { λ m. record { parser = m.parser; viewers = m.viewers } };
+
+    ghost invariant = { λ m. IsMirror (record { parser = m.parser; viewers = m.viewers }) };
+}
+
+impl Mirror {
+    /// A mirror with a fresh screen and no viewer. Of the rows that leave the
+    /// page at its top at most `scrollback_capacity` are kept, the last ones.
+    ///
+    /// Fails where memory for the screen is refused.
+    pub fn new(
+        alloc: Global,
+        rows: NonZeroU16,
+        cols: NonZeroU16,
+        scrollback_capacity: usize,
+    ) -> Result<Mirror, Error>
+        ensures begun { IfOk result (λ mirror. StandsFor mirror.parser.scanner start) }
+        ensures shown { IfOk result (λ mirror. mirror.parser ≡ parsing mirror.parser.scanner (fresh_screen rows.value cols.value scrollback_capacity) mirror.parser.callbacks) }
+        ensures last { IfOk result (λ mirror. mirror.viewers.last ≡ None) }
+        ensures nobody { IfOk result (λ mirror. mirror.viewers.numbers ≡ []) }
+        ensures nothing { IfOk result (λ mirror. mirror.viewers.notes ≡ []) }
+        ensures memory { IfErr result (λ error. error ≡ Error.OutOfMemory) }
+    {
+        Ok(Mirror {
+            parser: Parser::new(alloc, rows, cols, scrollback_capacity)?,
+            viewers: Viewers::new(alloc),
+        })
+    }
+
+    /// Reads bytes, as `Parser::process` does. The viewers are told at their
+    /// next updates.
+    ///
+    /// Where memory is refused, the answer is `OutOfMemory`: all steps before
+    /// the refused one were taken, and from then on the mirror reads nothing
+    /// and answers `Failed`. Its viewers still join, leave and are updated.
+    pub fn process(&mut self, bytes: &[u8]) -> Result<(), Error>
+        ensures call { Processes self.old bytes.now result self.new }
+    {
+        self.parser.screen().size();
+        self.parser.process(bytes)
+    }
+
+    /// Gives the screen another number of rows and columns, as
+    /// `Parser::set_size` does. Then nothing is noted for any viewer, so that
+    /// its next update is a full one. An equal size changes nothing and is
+    /// never refused.
+    ///
+    /// Fails where memory is refused; then nothing has changed.
+    pub fn set_size(&mut self, rows: NonZeroU16, cols: NonZeroU16) -> Result<(), Error>
+        ensures call { Resizes self.old rows.value cols.value result self.new }
+    {
+        if self.parser.screen().size() == (rows, cols) {
+            return Ok(());
+        }
+        self.parser.set_size(rows, cols)?;
+        self.viewers.forget();
+        Ok(())
+    }
+
+    /// Adds a viewer, and answers its number: 0 for the first one, and for
+    /// each later one the number behind the last that was given. None is given
+    /// twice.
+    ///
+    /// Fails with `NoNumber` exactly where `u64::MAX` was given, and else where
+    /// memory is refused; then nothing has changed.
+    pub fn join(&mut self) -> Result<u64, Error>
+        ensures parser { self.new.parser ≡ self.old.parser }
+        ensures call { Joins self.old.viewers result self.new.viewers }
+    {
+        self.viewers.join()
+    }
+
+    /// Removes a viewer, and answers whether the number was one's.
+    pub fn leave(&mut self, viewer: u64) -> bool
+        ensures parser { self.new.parser ≡ self.old.parser }
+        ensures call { Leaves self.old.viewers viewer result self.new.viewers }
+    {
+        self.viewers.leave(viewer)
+    }
+
+    /// The viewer's next update: a full one where nothing is noted for it,
+    /// which is so at first and after a resize, and else the difference from
+    /// the screen of its last update. `None` is answered exactly for a number
+    /// that is no viewer's.
+    ///
+    /// A plain terminal that takes the size of each full update before it reads
+    /// it, and that reads all updates of one viewer in order, shows the
+    /// mirror's screen as it was at the last of them, if it was steady at each
+    /// (see `Screen::contents_formatted`).
+    ///
+    /// Fails where memory for the text, or for the copy of the screen that is
+    /// noted, is refused; then nothing has changed, and the same update can be
+    /// asked for again.
+    pub fn update(&mut self, viewer: u64) -> Result<Option<Update>, Error>
+        ensures call { Asks self.old viewer result self.new }
+    {
+        if !self.viewers.has(viewer) {
+            return Ok(None);
+        }
+        let update = self.update_from(viewer)?;
+        let screen = self.parser.screen().clone()?;
+        self.viewers.put(viewer, screen)?;
+        Ok(Some(update))
+    }
+
+    /// The difference from what is noted for a viewer, or a full redraw.
+    fn update_from(&self, viewer: u64) -> Result<Update, Error>
+        ensures ok { IfOk result (λ update. IsUpdate self.now.parser.screen (note_of self.now.viewers viewer) update) }
+        ensures memory { IfErr result (λ error. error ≡ Error.OutOfMemory) }
+    {
+        let screen = self.parser.screen();
+        let Some(prev) = self.viewers.note(viewer) else {
+            return full(screen);
+        };
+        Ok(Update::Diff(screen.contents_diff(prev)?))
+    }
+}
+
+/// A full redraw.
+fn full(screen: &Screen) -> Result<Update, Error>
+    ensures ok { IfOk result (λ update. IsUpdate screen.now None update) }
+    ensures memory { IfErr result (λ error. error ≡ Error.OutOfMemory) }
+{
+    let (rows, cols) = screen.size();
+    let text = screen.contents_formatted()?;
+    Ok(Update::Full {
+        rows: rows.get(),
+        cols: cols.get(),
+        text,
+    })
+}

@@ -1,0 +1,22 @@
+//! What a viewer is to read.
+
+/// What a viewer is to read next.
+#[derive(PartialEq, Eq, Debug, Drop)]
+pub enum Update {
+    /// A text for a viewer that has read all its updates before, as
+    /// `Screen::contents_diff` gives it; empty where nothing changed.
+    Diff(String),
+
+    /// A text for any plain terminal of this size, as
+    /// `Screen::contents_formatted` gives it.
+    Full {
+        /// How many rows the mirror has.
+        rows: u16,
+
+        /// How many columns the mirror has.
+        cols: u16,
+
+        /// The text of the redraw.
+        text: String,
+    },
+}

@@ -1,0 +1,31 @@
+//! What the words after the program's name ask for.
+
+ghost use Rattle.std.specs.Int.NonZero.{non_zero_u16_get};
+ghost use Rattle.std.specs.Prelude.{ℕ, map, IfNone, IfSome};
+ghost use Rattle.vt_mirror.specs.Arguments.{Asks};
+
+use std::num::NonZeroU16;
+use vt_show::size;
+
+/// Rows, columns, and how many bytes are read between updates, from exactly
+/// three words; `None` for other words.
+///
+/// Each is decimal digits with a value from 1 to 65535, leading zeros allowed.
+///
+/// ```text
+/// assert_eq!(arguments(&["24", "80", "0"]), None);
+/// ```
+pub fn arguments(words: &[&str]) -> Option<(NonZeroU16, NonZeroU16, NonZeroU16)>
+    ensures some { IfSome result (λ a.
+        Asks (map (λ word. word.now) words.now) (non_zero_u16_get a.0) (non_zero_u16_get a.1) (non_zero_u16_get a.2)) }
+    ensures none { IfNone result ((rows cols every : ℕ) →
+        Asks (map (λ word. word.now) words.now) rows cols every → ⊥) }
+{
+    let [rows, cols, every] = words else {
+        return None;
+    };
+    let rows = size(rows)?;
+    let cols = size(cols)?;
+    let every = size(every)?;
+    Some((rows, cols, every))
+}

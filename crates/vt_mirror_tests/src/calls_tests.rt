@@ -1,0 +1,165 @@
+//! Calls of a mirror, one after the other, and what each answers.
+
+use std::alloc::Global;
+use std::num::NonZeroU16;
+use std::test::Fail;
+use vt_mirror::{Mirror, Update};
+
+/// A call, and what it answers; `process` and `set_size` answer Ok.
+#[derive(Clone, Copy, Debug)]
+enum Call {
+    /// A text is read.
+    Process(&'static str),
+
+    /// The mirror gets this size.
+    SetSize(u16, u16),
+
+    /// A viewer joins, and gets this number.
+    Join(u64),
+
+    /// The viewer of this number leaves, if there is one.
+    Leave(u64, bool),
+
+    /// The number is nobody's.
+    Nobody(u64),
+
+    /// The viewer of this number is told this difference.
+    Diff(u64, &'static str),
+
+    /// The viewer of this number is told a size and this text, behind the clear.
+    Full(u64, (u16, u16), &'static str),
+}
+
+/// What a full text begins with.
+const CLEAR: &str = "\x1b[?25h\x1b[m\x1b[H\x1b[J";
+
+#[rattlefmt::skip]
+const ONE_AND_ANOTHER: [Call; 16] = [
+    Call::Process("ab"),
+    Call::Join(0),
+    Call::Full(0, (2, 4), "ab"),
+    Call::Diff(0, ""),
+    Call::Process("c"),
+    Call::Diff(0, "c"),
+    Call::Join(1),
+    Call::Full(1, (2, 4), "abc"),
+    Call::SetSize(2, 4),
+    Call::Diff(0, ""),
+    Call::SetSize(2, 3),
+    Call::Full(0, (2, 3), "abc\x1b[1;3H"),
+    Call::Leave(0, true),
+    Call::Leave(0, false),
+    Call::Nobody(0),
+    Call::Join(2),
+];
+
+// Each viewer has what it was told itself; numbers go on.
+#[rattlefmt::skip]
+const APART: [Call; 19] = [
+    Call::Nobody(0),
+    Call::Leave(0, false),
+    Call::Join(0),
+    Call::Join(1),
+    Call::Full(1, (2, 4), ""),
+    Call::Process("ab"),
+    Call::Full(0, (2, 4), "ab"),
+    Call::Process("c"),
+    Call::Diff(0, "c"),
+    Call::Diff(1, "abc"),
+    Call::Diff(0, ""),
+    Call::Leave(1, true),
+    Call::Nobody(1),
+    Call::Nobody(2),
+    Call::Process("d"),
+    Call::Diff(0, "d"),
+    Call::Join(2),
+    Call::Full(2, (2, 4), "abcd"),
+    Call::Nobody(u64::MAX),
+];
+
+// A resize is for all viewers, one to the size before it, too, and one that was told nothing yet.
+#[rattlefmt::skip]
+const RESIZED: [Call; 14] = [
+    Call::Process("ab"),
+    Call::Join(0),
+    Call::Join(1),
+    Call::Full(0, (2, 4), "ab"),
+    Call::SetSize(3, 5),
+    Call::SetSize(2, 4),
+    Call::Full(0, (2, 4), "ab"),
+    Call::Full(1, (2, 4), "ab"),
+    Call::SetSize(1, 4),
+    Call::Full(1, (1, 4), "ab"),
+    Call::Diff(1, ""),
+    Call::Process("c"),
+    Call::Full(0, (1, 4), "abc"),
+    Call::Diff(1, "c"),
+];
+
+/// A mirror of 2 rows and 4 columns, without scrollback.
+fn mirror(alloc: Global) -> Result<Mirror, Fail> {
+    let (rows, cols) = size((2, 4))?;
+    Ok(Mirror::new(alloc, rows, cols, 0)?)
+}
+
+fn size((rows, cols): (u16, u16)) -> Result<(NonZeroU16, NonZeroU16), Fail> {
+    let rows = NonZeroU16::new(rows).ok_or("no rows")?;
+    let cols = NonZeroU16::new(cols).ok_or("no columns")?;
+    Ok((rows, cols))
+}
+
+/// Makes the calls, and fails where one answers otherwise.
+fn expect_all(mirror: &mut Mirror, calls: &[Call]) -> Result<(), Fail> {
+    for (index, call) in calls.iter().enumerate() {
+        if !answers(mirror, *call)? {
+            return Err(Fail::new(format_args!("call {index} answers otherwise: {call:?}")));
+        }
+    }
+    Ok(())
+}
+
+/// Makes the call; whether it answers as it should.
+fn answers(mirror: &mut Mirror, call: Call) -> Result<bool, Fail> {
+    match call {
+        Call::Process(text) => Ok(mirror.process(text.as_bytes()).is_ok()),
+        Call::SetSize(rows, cols) => {
+            let (rows, cols) = size((rows, cols))?;
+            Ok(mirror.set_size(rows, cols).is_ok())
+        }
+        Call::Join(viewer) => Ok(mirror.join()? == viewer),
+        Call::Leave(viewer, was) => Ok(mirror.leave(viewer) == was),
+        Call::Nobody(viewer) => Ok(mirror.update(viewer)?.is_none()),
+        Call::Diff(viewer, text) => is_diff(mirror.update(viewer)?, text),
+        Call::Full(viewer, size, text) => is_full(mirror.update(viewer)?, size, text),
+    }
+}
+
+fn is_diff(update: Option<Update>, wanted: &str) -> Result<bool, Fail> {
+    match update {
+        Some(Update::Diff(text)) => Ok(text.as_str() == wanted),
+        _ => Ok(false),
+    }
+}
+
+fn is_full(update: Option<Update>, size: (u16, u16), wanted: &str) -> Result<bool, Fail> {
+    match update {
+        Some(Update::Full { rows, cols, text }) => Ok((rows, cols) == size
+            && text.as_str().strip_prefix(CLEAR) == Some(wanted)),
+        _ => Ok(false),
+    }
+}
+
+#[test]
+fn tells_one_viewer_and_another(rt: HostRuntime) -> Result<(), Fail> {
+    expect_all(&mut mirror(rt.alloc())?, &ONE_AND_ANOTHER)
+}
+
+#[test]
+fn tells_viewers_apart(rt: HostRuntime) -> Result<(), Fail> {
+    expect_all(&mut mirror(rt.alloc())?, &APART)
+}
+
+#[test]
+fn tells_all_of_a_resize(rt: HostRuntime) -> Result<(), Fail> {
+    expect_all(&mut mirror(rt.alloc())?, &RESIZED)
+}

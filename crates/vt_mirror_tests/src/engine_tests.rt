@@ -1,0 +1,160 @@
+//! Runs on 2 rows and 4 columns, and what they write.
+
+use std::alloc::Global;
+use std::io;
+use std::io::{Read, Write};
+use std::num::NonZeroU16;
+use std::test::Fail;
+use vt_mirror::run;
+use vt_show::Fault;
+
+/// Gives its bytes at reads of at most so many of them, and fails behind them.
+#[derive(Drop)]
+struct Broken<'a> {
+    bytes: &'a [u8],
+    at_once: usize,
+}
+
+impl Read for Broken<'_> {
+    fn read(&mut self, buf: &mut [u8]) -> io::Result<usize> {
+        if self.bytes.is_empty() {
+            return Err(io::Error::from(io::ErrorKind::Interrupted));
+        }
+        let size = buf.len().min(self.at_once);
+        self.bytes.read(&mut buf[..size])
+    }
+}
+
+/// Gives its bytes one at a read.
+#[derive(Drop)]
+struct Slow<'a>(&'a [u8]);
+
+impl Read for Slow<'_> {
+    fn read(&mut self, buf: &mut [u8]) -> io::Result<usize> {
+        let size = buf.len().min(1);
+        self.0.read(&mut buf[..size])
+    }
+}
+
+/// Refuses every write, and counts them.
+#[derive(Drop)]
+struct Closed(u32);
+
+impl Write for Closed {
+    fn write(&mut self, _buf: &[u8]) -> io::Result<usize> {
+        self.0 = self.0.saturating_add(1);
+        Err(io::Error::from(io::ErrorKind::BrokenPipe))
+    }
+
+    fn flush(&mut self) -> io::Result<()> {
+        Ok(())
+    }
+}
+
+/// Takes every write, and refuses to flush.
+#[derive(Drop)]
+struct Unflushed(Vec<u8>);
+
+impl Write for Unflushed {
+    fn write(&mut self, buf: &[u8]) -> io::Result<usize> {
+        self.0.write(buf)
+    }
+
+    fn flush(&mut self) -> io::Result<()> {
+        Err(io::Error::from(io::ErrorKind::Other))
+    }
+}
+
+fn run_every<R: Read, W: Write>(
+    alloc: Global,
+    reader: &mut R,
+    writer: &mut W,
+    every: u16,
+) -> Result<Result<(), Fault>, Fail> {
+    let rows = NonZeroU16::new(2).ok_or("no rows")?;
+    let cols = NonZeroU16::new(4).ok_or("no columns")?;
+    let every = NonZeroU16::new(every).ok_or("no bytes")?;
+    Ok(run(alloc, reader, writer, rows, cols, every))
+}
+
+/// How many bytes are read between updates, an input, and what is written behind the first text, that
+/// of a blank screen.
+type Example = (u16, &'static str, &'static str);
+
+const BLANK: &str = "\x1b[?25h\x1b[m\x1b[H\x1b[J";
+
+// An update tells what is shown then; what was shown in between is not written.
+#[rattlefmt::skip]
+const RUNS: [Example; 8] = [
+    (2, "abcd", "abcd"),
+    (1, "abcd", "abcd"),
+    (3, "abcd", "abcd"),
+    (100, "abcd", "abcd"),
+    (1, "", ""),
+    (6, "ab\x1b[Hx", "xb\x1b[1;2H"),
+    (5, "ab\x1b[Hx", "ab\x1b[Hx"),
+    (65535, "ab\x1b[31mc", "ab\x1b[31mc"),
+];
+
+#[test]
+fn writes_updates(rt: HostRuntime) -> Result<(), Fail> {
+    for (every, input, wanted) in &RUNS {
+        let mut written = Vec::new(rt.alloc());
+        let done = run_every(rt.alloc(), &mut input.as_bytes(), &mut written, *every)?;
+        assert_eq!(rt; done, Ok(()));
+        expect_written(written.as_slice(), wanted)?;
+    }
+    Ok(())
+}
+
+#[test]
+fn writes_the_same_for_short_reads(rt: HostRuntime) -> Result<(), Fail> {
+    for (every, input, wanted) in &RUNS {
+        let mut written = Vec::new(rt.alloc());
+        let mut slow = Slow(input.as_bytes());
+        let done = run_every(rt.alloc(), &mut slow, &mut written, *every)?;
+        assert_eq!(rt; done, Ok(()));
+        expect_written(written.as_slice(), wanted)?;
+    }
+    Ok(())
+}
+
+/// Fails where something else was written behind the blank screen.
+fn expect_written(written: &[u8], wanted: &str) -> Result<(), Fail> {
+    if written.strip_prefix(BLANK.as_bytes()) == Some(wanted.as_bytes()) {
+        return Ok(());
+    }
+    Err(Fail::new(format_args!("written: {}", written.escape_ascii())))
+}
+
+#[test]
+fn keeps_what_was_written_where_a_read_fails(rt: HostRuntime) -> Result<(), Fail> {
+    for (every, wanted) in [(1, "abc"), (2, "ab"), (3, "abc"), (4, "")] {
+        let mut broken = Broken {
+            bytes: b"abc",
+            at_once: 2,
+        };
+        let mut written = Vec::new(rt.alloc());
+        let done = run_every(rt.alloc(), &mut broken, &mut written, every)?;
+        assert_eq!(rt; done, Err(Fault::Read));
+        expect_written(written.as_slice(), wanted)?;
+    }
+    Ok(())
+}
+
+#[test]
+fn fails_where_a_write_is_refused(rt: HostRuntime) -> Result<(), Fail> {
+    let mut closed = Closed(0);
+    let done = run_every(rt.alloc(), &mut b"ab".as_slice(), &mut closed, 1)?;
+    assert_eq!(rt; done, Err(Fault::Write));
+    assert_eq!(rt; closed.0, 1);
+    Ok(())
+}
+
+#[test]
+fn fails_where_a_flush_is_refused(rt: HostRuntime) -> Result<(), Fail> {
+    let mut unflushed = Unflushed(Vec::new(rt.alloc()));
+    let done = run_every(rt.alloc(), &mut b"ab".as_slice(), &mut unflushed, 1)?;
+    assert_eq!(rt; done, Err(Fault::Write));
+    expect_written(unflushed.0.as_slice(), "")
+}

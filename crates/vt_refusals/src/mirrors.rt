@@ -1,0 +1,154 @@
+//! Growths of a mirror with viewers.
+
+use crate::step;
+use std::{fmt, io};
+use vt_mirror::{Mirror, Update};
+use vt100::Error;
+
+/// A call of a mirror.
+#[derive(Clone, Copy)]
+enum Call {
+    /// `process`.
+    Process(&'static str),
+
+    /// `set_size`.
+    SetSize(u16, u16),
+
+    /// `join`.
+    Join,
+
+    /// `leave`.
+    Leave(u64),
+
+    /// `update`.
+    Update(u64),
+}
+
+/// What a call answers.
+#[derive(Drop)]
+enum Answer {
+    /// Ok.
+    Done,
+
+    /// The number of a viewer.
+    Number(u64),
+
+    /// Whether there was a viewer.
+    Was(bool),
+
+    /// An update.
+    Told(Update),
+
+    /// The number is no viewer's.
+    Nobody,
+
+    /// An error.
+    Refused(Error),
+}
+
+/// The calls. An update is asked for twice, and so is a size, so that what was refused is made up for.
+/// Only the third line end of the second text sends a row into scrollback.
+#[rattlefmt::skip]
+const CALLS: [Call; 21] = [
+    Call::Join,
+    Call::Join,
+    Call::Join,
+    Call::Update(0),
+    Call::Update(0),
+    Call::Process("ab"),
+    Call::Update(0),
+    Call::Update(0),
+    Call::SetSize(3, 4),
+    Call::SetSize(3, 4),
+    Call::Update(0),
+    Call::Update(0),
+    Call::Process("\r\nc\r\nd\r\ne"),
+    Call::Process("f"),
+    Call::Update(0),
+    Call::Update(0),
+    Call::Update(1),
+    Call::Update(1),
+    Call::Leave(0),
+    Call::Leave(0),
+    Call::Update(0),
+];
+
+/// A mirror of 2 rows and 4 columns, with room for one row in scrollback.
+pub fn run<R: AllocGlobal + Print>(rt: &R) -> io::Result<()> {
+    println!(rt; "-- a mirror and its viewers")?;
+    let (rows, cols) = step::size((2, 4));
+    match Mirror::new(rt.alloc(), rows, cols, 1) {
+        Ok(mut mirror) => make_calls(rt, &mut mirror),
+        Err(_) => println!(rt; "new: refused"),
+    }
+}
+
+fn make_calls<R: AllocGlobal + Print>(rt: &R, mirror: &mut Mirror) -> io::Result<()> {
+    println!(rt; "new: ok")?;
+    for call in &CALLS {
+        let answer = call.make(mirror);
+        println!(rt; "{call}: {answer}")?;
+    }
+    Ok(())
+}
+
+impl Call {
+    /// Makes this call.
+    fn make(self, mirror: &mut Mirror) -> Answer {
+        match self {
+            Call::Process(text) => match mirror.process(text.as_bytes()) {
+                Ok(()) => Answer::Done,
+                Err(error) => Answer::Refused(error),
+            },
+            Call::SetSize(rows, cols) => {
+                let (rows, cols) = step::size((rows, cols));
+                match mirror.set_size(rows, cols) {
+                    Ok(()) => Answer::Done,
+                    Err(error) => Answer::Refused(error),
+                }
+            }
+            Call::Join => match mirror.join() {
+                Ok(viewer) => Answer::Number(viewer),
+                Err(error) => Answer::Refused(error),
+            },
+            Call::Leave(viewer) => Answer::Was(mirror.leave(viewer)),
+            Call::Update(viewer) => match mirror.update(viewer) {
+                Ok(Some(update)) => Answer::Told(update),
+                Ok(None) => Answer::Nobody,
+                Err(error) => Answer::Refused(error),
+            },
+        }
+    }
+}
+
+impl fmt::Display for Call {
+    fn fmt<W: fmt::Write>(&self, f: &mut fmt::Formatter<W>) -> fmt::Result {
+        match self {
+            Call::Process(text) => write!(f, "process {}", text.as_bytes().escape_ascii()),
+            Call::SetSize(rows, cols) => write!(f, "set_size {rows} {cols}"),
+            Call::Join => write!(f, "join"),
+            Call::Leave(viewer) => write!(f, "leave {viewer}"),
+            Call::Update(viewer) => write!(f, "update {viewer}"),
+        }
+    }
+}
+
+impl fmt::Display for Answer {
+    fn fmt<W: fmt::Write>(&self, f: &mut fmt::Formatter<W>) -> fmt::Result {
+        match self {
+            Answer::Done => write!(f, "ok"),
+            Answer::Number(viewer) => write!(f, "{viewer}"),
+            Answer::Was(was) => write!(f, "{was}"),
+            Answer::Told(Update::Diff(text)) => {
+                write!(f, "difference [{}]", text.as_bytes().escape_ascii())
+            }
+            Answer::Told(Update::Full { rows, cols, text }) => {
+                write!(f, "full {rows} {cols} [{}]", text.as_bytes().escape_ascii())
+            }
+            Answer::Nobody => write!(f, "none"),
+            Answer::Refused(Error::OutOfMemory) => write!(f, "refused"),
+            Answer::Refused(Error::Failed) => write!(f, "failed"),
+            Answer::Refused(Error::NoNumber) => write!(f, "no number"),
+        }
+    }
+}

@@ -1,0 +1,41 @@
+//! `vtmirror ROWS COLS EVERY`: reads what a program wrote to its terminal, and
+//! writes what keeps another terminal of that size equal to it: a text at the
+//! start, one after every EVERY bytes, and one at the end.
+#![tactic(auto)]
+
+use std::env::Env;
+use std::io;
+use std::process::ExitCode;
+use vt_mirror::{arguments, ending, run};
+use vt_show::{Fault, given_words};
+
+/// Reads standard input to its end and writes to standard output, as the
+/// arguments ask; `None` says that these are wrong.
+fn mirror<R: Env + AllocGlobal + Input + Print>(rt: &R) -> Result<(), Option<Fault>> {
+    let words = given_words(rt)?;
+    let (rows, cols, every) = match words.as_slice() {
+        [rows, cols, every] => arguments(&[rows.as_str(), cols.as_str(), every.as_str()]),
+        _ => None,
+    }
+    .ok_or(None)?;
+    run(
+        rt.alloc(),
+        &mut rt.reader(),
+        &mut io::writer(rt),
+        rows,
+        cols,
+        every,
+    )
+    .map_err(Some)
+}
+
+fn main(rt: HostRuntime) -> ExitCode {
+    match mirror(&rt) {
+        Ok(()) => ExitCode::SUCCESS,
+        Err(fault) => {
+            let (line, status) = ending(fault);
+            let _ = eprintln!(rt; "{line}");
+            ExitCode::from(status)
+        }
+    }
+}
