@@ -13,7 +13,7 @@ mod tally;
 mod users;
 
 use pair::{Act, Pair};
-use scenes::{ACTS, MORE_TEXTS, ROWS, SCENES, Scene, TEXTS};
+use scenes::{ACTS, MORE_TEXTS, RESET, ROWS, SCENES, Scene, TEXTS};
 use shown::Shown;
 use std::alloc::Global;
 use std::io;
@@ -40,7 +40,8 @@ fn main(rt: HostRuntime) -> io::Result<()> {
     users::run_show(&rt)?;
     run_pair(&rt, "texts of two screens", &TEXTS)?;
     run_pair(&rt, "states, plain texts and captures", &MORE_TEXTS)?;
-    run_pair(&rt, "texts of the rows of two screens", &ROWS)
+    run_pair(&rt, "texts of the rows of two screens", &ROWS)?;
+    run(&rt, &RESET)
 }
 
 /// Makes a growth for each byte of standard input, and gives it back; false if one is refused.
