@@ -14,7 +14,7 @@ mod tally;
 mod users;
 
 use pair::{Act, Pair};
-use scenes::{ACTS, MORE_TEXTS, ROWS, SCENES, Scene, TEXTS};
+use scenes::{ACTS, MORE_TEXTS, RESET, ROWS, SCENES, Scene, TEXTS};
 use shown::Shown;
 use std::alloc::Global;
 use std::io;
@@ -42,6 +42,7 @@ fn main(rt: HostRuntime) -> io::Result<()> {
     run_pair(&rt, "texts of two screens", &TEXTS)?;
     run_pair(&rt, "states, plain texts and captures", &MORE_TEXTS)?;
     run_pair(&rt, "texts of the rows of two screens", &ROWS)?;
+    run(&rt, &RESET)?;
     mirrors::run(&rt)
 }
 

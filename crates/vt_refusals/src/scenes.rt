@@ -183,3 +183,11 @@ pub const ROWS: [Act; 4] = [
     Act::First(Step::Rows),
     Act::Differ(Change::Rows),
 ];
+
+/// The redraw for terminals in any region, asked for twice.
+pub const RESET: Scene = Scene {
+    name: "a redraw for any region",
+    size: (1, 4),
+    scrollback: 0,
+    steps: &[Step::Process(b"x"), Step::Reset, Step::Reset],
+};

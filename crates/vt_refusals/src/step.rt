@@ -16,6 +16,9 @@ pub enum Step {
     /// `contents_formatted` of the screen.
     Redraw,
 
+    /// `contents_formatted_reset` of the screen.
+    Reset,
+
     /// `cursor_state_formatted` of the screen.
     Cursor,
 
@@ -86,6 +89,7 @@ impl Step {
     fn text(self, alloc: Global, screen: &Screen) -> Answer {
         match self {
             Step::Redraw => told(screen.contents_formatted()),
+            Step::Reset => told(screen.contents_formatted_reset()),
             Step::Cursor => told(screen.cursor_state_formatted()),
             Step::Attributes => told(screen.attributes_formatted()),
             Step::State => told(screen.state_formatted()),
@@ -225,6 +229,7 @@ impl fmt::Display for Step {
         match self {
             Step::Process(bytes) => write!(f, "process {}", bytes.escape_ascii()),
             Step::Redraw => write!(f, "redraw"),
+            Step::Reset => write!(f, "reset"),
             Step::Cursor => write!(f, "cursor"),
             Step::Attributes => write!(f, "attributes"),
             Step::State => write!(f, "state"),

@@ -5,6 +5,7 @@ pub mod Shown
 pub mod Redrawing
 pub mod Became
 pub mod Telling
+pub mod AnyRegion
 pub mod Chains
 pub mod Viewing
 pub mod Attributes

@@ -7,6 +7,7 @@ pub mod Steps
 pub mod Run
 pub mod Reading
 pub mod Shown
+pub mod AnyRegion
 pub mod RowsShown
 pub mod Touched
 pub mod Chain

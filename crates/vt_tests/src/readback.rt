@@ -34,15 +34,23 @@ pub(crate) enum Asked {
 
     /// `input_mode_formatted`.
     Modes,
+
+    /// `contents_formatted_reset`, for a terminal with a region of its own and in origin mode.
+    Reset,
+
+    /// The same, for such a terminal on its alternate page.
+    ResetOnAlternate,
 }
 
 /// All texts of a screen.
-pub(crate) const ASKED: [Asked; 5] = [
+pub(crate) const ASKED: [Asked; 7] = [
     Asked::Redraw,
     Asked::Cursor,
     Asked::Attributes,
     Asked::State,
     Asked::Modes,
+    Asked::Reset,
+    Asked::ResetOnAlternate,
 ];
 
 impl Asked {
@@ -54,6 +62,7 @@ impl Asked {
             Asked::Attributes => screen.attributes_formatted(),
             Asked::State => screen.state_formatted(),
             Asked::Modes => screen.input_mode_formatted(),
+            Asked::Reset | Asked::ResetOnAlternate => screen.contents_formatted_reset(),
         }
     }
 
@@ -69,22 +78,26 @@ impl Asked {
         Ok(())
     }
 
-    // What a terminal reads before: where only the cursor is asked for, cells and flags.
+    // What a terminal reads before: where only the cursor is asked for, cells and flags; where any
+    // region will do, one of two rows, and origin mode.
     fn read_before(self, alloc: Global, screen: &Screen) -> Result<String, Error> {
+        let mut text = String::new(alloc);
         match self {
             Asked::Cursor => {
-                let mut text = screen.contents_formatted()?;
+                text = screen.contents_formatted()?;
                 text.push_str("\x1b[m\x1b[?25l")?;
-                Ok(text)
             }
-            _ => Ok(String::new(alloc)),
+            Asked::Reset => text.push_str("\x1b[2;3r\x1b[?6h")?,
+            Asked::ResetOnAlternate => text.push_str("\x1b[?47hz\x1b[2;3r\x1b[?6h")?,
+            _ => {}
         }
+        Ok(text)
     }
 
     // What a terminal has in common with the screen then; all else is as before.
     fn taken(self) -> &'static [Part] {
         match self {
-            Asked::Redraw => &PICTURE,
+            Asked::Redraw | Asked::Reset | Asked::ResetOnAlternate => &PICTURE,
             Asked::Cursor => &[Part::Cells, Part::Flags, Part::Cursor],
             Asked::Attributes => &[Part::Attributes],
             Asked::State => &PARTS,

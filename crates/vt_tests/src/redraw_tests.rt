@@ -1,22 +1,28 @@
 //! Redraws: their texts, and what a terminal shows that reads them.
 
 use crate::readback::ASKED;
-use crate::readback::Asked::{self, Attributes, Cursor, Redraw};
+use crate::readback::Asked::{self, Attributes, Cursor, Redraw, Reset};
+use crate::seen::{expect, read};
 use crate::steps::Step::{self, Text, View};
-use crate::steps::{Pieces, longest, taken};
+use crate::steps::{Pieces, feed, longest, taken};
 use std::alloc::Global;
 use std::test::Fail;
-use vt100::Screen;
+use vt_notes::Notes;
+use vt100::{Parser, Screen};
 
 /// What each redraw of a screen with a shown cursor begins with.
 const CLEAR: &str = "\x1b[?25h\x1b[m\x1b[H\x1b[J";
+
+/// What stands before that where the redraw is for terminals in any region: origin mode off, and the
+/// whole page as region.
+const WHOLE_REGION: &str = "\x1b[?6l\x1b[r";
 
 /// A fresh parser's size, how many rows its scrollback keeps, what is done, which text is asked for,
 /// and the text; of a redraw what comes behind `CLEAR`.
 pub(crate) type Example = ((u16, u16), usize, &'static [Step], Asked, &'static str);
 
 #[rattlefmt::skip]
-const REDRAWN: [Example; 15] = [
+const REDRAWN: [Example; 18] = [
     // A screen in colours, and a fresh one.
     (
         (24, 80), 0, &[Text("this text is \x1b[31mRED\x1b[m"), Text("\x1b[3D\x1b[32mGREEN")],
@@ -45,6 +51,11 @@ const REDRAWN: [Example; 15] = [
     // A glyph that U+FE0F made wide.
     ((2, 4), 0, &[Text("a\u{2764}\u{fe0f}b")], Redraw, "a\u{2764}\u{fe0f}b"),
 
+    // For terminals in any region. The screen's own region and its origin mode don't tell.
+    ((24, 80), 0, &[], Reset, ""),
+    ((3, 2), 0, &[Text("a")], Reset, "a"),
+    ((3, 2), 0, &[Text("\x1b[2;3r\x1b[?6ha")], Reset, "\r\na"),
+
     // Attributes.
     ((24, 80), 0, &[Text("\x1b[1;31;44m")], Attributes, "\x1b[m\x1b[31;44;1m"),
     ((24, 80), 0, &[Text("\x1b[38;5;9m")], Attributes, "\x1b[m\x1b[91m"),
@@ -54,8 +65,13 @@ const REDRAWN: [Example; 15] = [
 // The text that is wanted of an example.
 fn wanted_text(alloc: Global, asked: Asked, text: &str) -> Result<String, Fail> {
     let mut wanted = String::new(alloc);
-    if let Redraw = asked {
-        wanted.push_str(CLEAR)?;
+    match asked {
+        Redraw => wanted.push_str(CLEAR)?,
+        Reset => {
+            wanted.push_str(WHOLE_REGION)?;
+            wanted.push_str(CLEAR)?;
+        }
+        _ => {}
     }
     wanted.push_str(text)?;
     Ok(wanted)
@@ -127,4 +143,88 @@ fn redraws_are_read_back(rt: HostRuntime) -> Result<(), Fail> {
         expect_read_back(rt.alloc(), example)?;
     }
     Ok(())
+}
+
+/// What is read by a fresh terminal of three rows and two columns, and what is seen of it once it
+/// has read the redraw of a screen that shows `a`, then the one for any region, and then `AT_ENDS`.
+type InRegion = (&'static str, [&'static str; 3]);
+
+/// A letter at the first place, one at the bottom, and a line feed, which scrolls the whole page only
+/// where that is the region.
+const AT_ENDS: &[u8] = b"\x1b[Hb\x1b[3;1Hz\n";
+
+const IN_REGION: [InRegion; 5] = [
+    // Nothing is promised of the first redraw where the region isn't the whole page.
+    (
+        "\x1b[2;3r\x1b[?6h",
+        ["1:a @1,1\n", "0:a @0,1\n", "1:z @2,1\nscroll 62 0\n"],
+    ),
+    (
+        "\x1b[?47h\x1b[2;3r\x1b[?6h",
+        [
+            "1:a @1,1 alternate\n",
+            "0:a @0,1 alternate\n",
+            "1:z @2,1 alternate\nscroll 62 1\n",
+        ],
+    ),
+    (
+        "\x1b[2;3r",
+        ["0:a @0,1\n", "0:a @0,1\n", "1:z @2,1\nscroll 62 0\n"],
+    ),
+    (
+        "\x1b[?6h",
+        ["0:a @0,1\n", "0:a @0,1\n", "1:z @2,1\nscroll 62 0\n"],
+    ),
+    ("", ["0:a @0,1\n", "0:a @0,1\n", "1:z @2,1\nscroll 62 0\n"]),
+];
+
+// Fails where a terminal in one of these regions shows something else, its bytes whole or one by one.
+fn expect_each_redrawn(alloc: Global, screen: &Screen) -> Result<(), Fail> {
+    for example in &IN_REGION {
+        expect_redrawn(alloc, screen, example, Pieces::Two(usize::MAX))?;
+        expect_redrawn(alloc, screen, example, Pieces::Single)?;
+    }
+    Ok(())
+}
+
+fn expect_redrawn(
+    alloc: Global,
+    screen: &Screen,
+    (before, wanted): &InRegion,
+    pieces: Pieces,
+) -> Result<(), Fail> {
+    let mut reader = read(alloc, (3, 2), &[before.as_bytes()])?;
+    expect_each_seen(alloc, screen, &mut reader, pieces, wanted)
+}
+
+fn expect_each_seen(
+    alloc: Global,
+    screen: &Screen,
+    reader: &mut Parser<Notes>,
+    pieces: Pieces,
+    [redrawn, reset, at_ends]: &[&str; 3],
+) -> Result<(), Fail> {
+    let text = screen.contents_formatted()?;
+    expect_seen(alloc, reader, text.as_bytes(), pieces, redrawn)?;
+    let text = screen.contents_formatted_reset()?;
+    expect_seen(alloc, reader, text.as_bytes(), pieces, reset)?;
+    expect_seen(alloc, reader, AT_ENDS, pieces, at_ends)
+}
+
+// Fails where something else is seen once these bytes are read.
+fn expect_seen(
+    alloc: Global,
+    reader: &mut Parser<Notes>,
+    bytes: &[u8],
+    pieces: Pieces,
+    wanted: &str,
+) -> Result<(), Fail> {
+    feed(reader, bytes, pieces)?;
+    expect(alloc, reader, &[], wanted)
+}
+
+#[test]
+fn redraws_in_any_region(rt: HostRuntime) -> Result<(), Fail> {
+    let parser = read(rt.alloc(), (3, 2), &[b"a"])?;
+    expect_each_redrawn(rt.alloc(), parser.screen())
 }

@@ -18,6 +18,7 @@ ghost use Rattle.vt_redraw.specs.Locality.{IsLocal, MayPlace};
 ghost use Rattle.vt_redraw.specs.Picture.{SamePictureSize};
 ghost use Rattle.vt_redraw.specs.Redraw.{cursor_state, difference, redraw};
 ghost use Rattle.vt_redraw.specs.Steady.{IsSteady};
+ghost use Rattle.vt_screen.specs.AnyRegion.{IsReaderInAnyRegion, KeepsRestButRegion, reset_text};
 ghost use Rattle.vt_screen.specs.Screen.{IsColored, IsScreen, ScreenValue};
 ghost use Rattle.vt_screen.specs.Touched.{TouchesOnly};
 ghost use Rattle.vt_screen.specs.Shown.{HasCursor, HasRows, IsReadBy, IsReader, IsReaderOf, IsReaderOfRows, KeepsRest, Makes, SetsAttrs, ShowsPlainly, StaysPlain, TakesCursor, attributes_text, shown};
@@ -53,6 +54,48 @@ impl Screen {
     {
         let mut text = String::new(self.alloc);
         match self.write_contents_formatted(&mut text) {
+            Ok(()) => Ok(text),
+            Err(_) => Err(Error::OutOfMemory),
+        }
+    }
+
+    /// A text that redraws the screen on any terminal of the same size with no
+    /// scrollback in view, whatever its scroll region and origin mode are and
+    /// whatever it showed before: origin mode off (DECOM), the whole page as
+    /// scroll region (DECSTBM), and behind that the text of
+    /// [`Screen::contents_formatted`].
+    ///
+    /// By the clauses `quiet` to `rest`, for a screen whose picture is steady,
+    /// such a terminal of this size, if it is in the midst of no sequence, reads
+    /// the text without calling anybody and without taking memory, be it on its
+    /// main page or on the alternate one. Then it is plain and shows what this
+    /// screen shows; its scrollback, its other page and its modes are as before.
+    /// Beside the region and origin mode, only its saved cursor, saved origin
+    /// mode, saved attributes and last character may be others. Screens that
+    /// show the same give the same text, and by `same` only those.
+    ///
+    /// Fails where memory for the text is refused.
+    ///
+    /// ```text
+    /// // on a fresh screen
+    /// assert_eq!(
+    ///     screen.contents_formatted_reset()?,
+    ///     "\x1b[?6l\x1b[r\x1b[?25h\x1b[m\x1b[H\x1b[J",
+    /// );
+    /// ```
+    pub fn contents_formatted_reset(&self) -> Result<String, Error>
+        ensures colored { IsColored self.now }
+        ensures text { IfOk result (λ text. string_bytes text ≡ reset_text (shown self.now)) }
+        ensures quiet { IfOk result (λ text. IsSteady (shown self.now) → IsReadBy (IsReaderInAnyRegion (shown self.now)) (string_bytes text)) }
+        ensures shows { IfOk result (λ text. IsSteady (shown self.now) → Makes (IsReaderInAnyRegion (shown self.now)) (string_bytes text) (ShowsPlainly (shown self.now))) }
+        ensures rows { IfOk result (λ text. IsSteady (shown self.now) → Makes (IsReaderInAnyRegion (shown self.now)) (string_bytes text) (HasRows (shown self.now))) }
+        ensures cursor { IfOk result (λ text. IsSteady (shown self.now) → Makes (IsReaderInAnyRegion (shown self.now)) (string_bytes text) (HasCursor (shown self.now))) }
+        ensures rest { IfOk result (λ text. IsSteady (shown self.now) → Makes (IsReaderInAnyRegion (shown self.now)) (string_bytes text) KeepsRestButRegion) }
+        ensures same { IfOk result (λ text. (other : ScreenValue) → IsScreen other → IsColored other → SamePictureSize (shown self.now) (shown other) → IsSteady (shown self.now) → IsSteady (shown other) → string_bytes text ≡ reset_text (shown other) → shown self.now ≡ shown other) }
+        ensures memory { IfErr result (λ error. error ≡ Error.OutOfMemory) }
+    {
+        let mut text = String::new(self.alloc);
+        match self.write_contents_formatted_reset(&mut text) {
             Ok(()) => Ok(text),
             Err(_) => Err(Error::OutOfMemory),
         }
@@ -135,6 +178,16 @@ impl Screen {
         ensures text { OnOk result (S.text sink.new ≡ S.text sink.old ++ bytes_of_all (redraw (shown self.now))) }
     {
         write_contents_formatted(sink, &self.view())
+    }
+
+    fn write_contents_formatted_reset<S: Sink>(&self, sink: &mut S) -> Result<(), S::Error>
+        ensures whole { IsScreen self.now }
+        ensures colored { IsColored self.now }
+        ensures text { OnOk result (S.text sink.new ≡ S.text sink.old ++ reset_text (shown self.now)) }
+    {
+        let view = self.view();
+        sink.write_str("\x1b[?6l\x1b[r")?;
+        write_contents_formatted(sink, &view)
     }
 
     pub(super) fn write_contents_diff<S: Sink>(

@@ -1,0 +1,131 @@
+-- The redraw for terminals in any region, read by such a terminal: it gives them the whole page as region first, and is a redraw then.
+use Rattle.std.proofs.Common.{◌≡◌, ℕ, ◌+◌, Bool, true, false, List, [], ◌∷◌, ◌++◌, length, min, Option, Some, None, refl, sym, ap, subst, ◌∙◌, arith}
+use Rattle.std.specs.Prelude.{IfSome, drop, if◌then◌else◌, nat_lt}
+use Rattle.vt_cells.specs.Op.{bytes_of_all, csi}
+use Rattle.vt_grid.specs.Canvas.{and_then}
+use Rattle.vt_grid.specs.Page.{IsPage, Page, SameSize}
+use Rattle.vt_grid.specs.Regions.{last_row, origin_set, region_set}
+use Rattle.vt_grid.proofs.Regions.{page_origin_set, page_region_set}
+use Rattle.vt_redraw.specs.Picture.{Picture, SamePictureSize}
+use Rattle.vt_redraw.specs.Redraw.{redraw}
+use Rattle.vt_redraw.specs.Steady.{IsSteady}
+use Rattle.vt_scan.specs.Automaton.{start, fresh_step}
+use Rattle.vt_scan.specs.Parameters.{table_of, groups_of, numbers_of, number_of}
+use Rattle.vt_scan.specs.Table.{class_of}
+use Rattle.vt_scan.proofs.Written.{empty_groups}
+use Rattle.vt_screen.specs.AnyRegion.{IsReaderInAnyRegion, KeepsRestButRegion, reset_text, whole_region_text}
+use Rattle.vt_screen.specs.Reading.{Terminal, read, read_byte, terminal}
+use Rattle.vt_screen.specs.Screen.{IsColored, IsScreen, ScreenValue, with_page}
+use Rattle.vt_screen.specs.Shown.{HasCursor, HasRows, IsReadBy, IsReader, Makes, ReadsTo, ShowsPlainly, shown}
+use Rattle.vt_screen.specs.Steps.{SetRegion, UseOrigin, counted_step, marked_steps, mode_step, other_steps, private_steps, scrolling_steps, stepped}
+use Rattle.vt_screen.proofs.Became.{Redraws, redraw_redraws}
+use Rattle.vt_screen.proofs.ReadbackTexts.{csi_read, reads_append, reads_then}
+use Rattle.vt_screen.proofs.Telling.{redraws_tell}
+
+-- ---- the two sequences
+
+-- a page with origin mode off, all of it as region, and the cursor in the corner
+abbrev whole_page : Page → Page
+whole_page page = record page { top = 0; bottom = last_row page; origin = false; row = 0; column = 0 }
+
+abbrev in_whole : ScreenValue → ScreenValue
+in_whole screen = with_page (whole_page screen.page) screen
+
+origin_read : (screen : ScreenValue) → ReadsTo (csi (0x3F ∷ 0x36 ∷ []) 0x6C) screen (stepped (UseOrigin false) screen)
+unfolding read_byte fresh_step class_of table_of groups_of numbers_of number_of private_steps marked_steps mode_step
+origin_read screen = refl
+
+region_read : (screen : ScreenValue) → ReadsTo (csi [] 0x72) screen (stepped (SetRegion 0 (last_row screen.page)) screen)
+unfolding counted_step scrolling_steps other_steps
+region_read screen = csi_read [] 0x72 ((0 ∷ []) ∷ []) screen (stepped (SetRegion 0 (last_row screen.page)) screen) tt (omega arith, omega arith) empty_groups refl
+
+-- a region of one row or of more
+whole_when : (b : Bool) (page : Page) (end last : ℕ) → end ≡ last
+    → (if b then record page { top = 0; bottom = end; row = 0; column = 0 } else record page { top = 0; bottom = last; row = 0; column = 0 }) ≡ record page { top = 0; bottom = last; row = 0; column = 0 }
+whole_when true page end last e = rw e refl
+whole_when false page end last e = refl
+
+whole_is : (page : Page) → region_set 0 (last_row page) (origin_set false page) ≡ whole_page page
+unfolding region_set
+whole_is page =
+    let last = last_row page in
+    whole_when (nat_lt 0 (min last last)) (origin_set false page) (min last last) last (omega arith)
+
+whole_read : (screen : ScreenValue) → ReadsTo whole_region_text screen (in_whole screen)
+whole_read screen =
+    let middle = stepped (UseOrigin false) screen in
+    let end = stepped (SetRegion 0 (last_row screen.page)) middle in
+    reads_then (terminal start screen) (terminal start middle) (terminal start (in_whole screen)) (csi (0x3F ∷ 0x36 ∷ []) 0x6C) (csi [] 0x72) (origin_read screen)
+    (region_read middle ∙ ap (λ (page : Page). Some (terminal start (with_page page screen))) (whole_is screen.page))
+
+-- ---- the terminal then
+
+whole_sound : (page : Page) → IsPage page → IsPage (whole_page page)
+whole_sound page is =
+    subst IsPage (whole_is page) (page_region_set 0 (last_row page) (origin_set false page) (page_origin_set false page is))
+
+whole_other : (other : Option Page) (page : Page) → IfSome other (λ p. IsPage p × SameSize p page) → IfSome other (λ p. IsPage p × SameSize p (whole_page page))
+whole_other None page is = is
+whole_other (Some p) page is = (is.0, record { width = is.1.width; height = is.1.height })
+
+in_whole_is : (screen : ScreenValue) → IsScreen screen → IsScreen (in_whole screen)
+in_whole_is screen is = record {
+  page = whole_sound screen.page is.page;
+  other = whole_other screen.other screen.page is.other;
+  entered = is.entered;
+  scrollback = is.scrollback;
+  last = is.last;
+}
+
+whole_end : (page : Page) → IsPage page → last_row page + 1 ≡ length page.rows
+whole_end page is = let some = is.cursor_row in omega arith
+
+plain_reader : (picture : Picture) (reader : ScreenValue) → IsReaderInAnyRegion picture reader → IsReader picture (in_whole reader)
+plain_reader picture reader r = record {
+  sound = in_whole_is reader r.sound;
+  plain = record { page = record { whole = (refl, whole_end reader.page r.sound.page); origin = refl }; offset = r.offset };
+  size = record { width = r.size.width; height = r.size.height };
+}
+
+-- ---- the whole text
+
+-- what is read behind a text that is read
+behind : (first rest : List ℕ) (reader middle after : ScreenValue) → ReadsTo first reader middle → ReadsTo (first ++ rest) reader after → ReadsTo rest middle after
+behind first rest reader middle after p q =
+    sym (reads_append (terminal start reader) first rest ∙ ap (and_then (λ (u : Terminal). read u rest)) p) ∙ q
+
+-- all that such a text makes of its readers
+pub record Resets (picture : Picture) (text : List ℕ) : Type 0 where
+  pub quiet : IsReadBy (IsReaderInAnyRegion picture) text
+  pub shows : Makes (IsReaderInAnyRegion picture) text (ShowsPlainly picture)
+  pub rows : Makes (IsReaderInAnyRegion picture) text (HasRows picture)
+  pub cursor : Makes (IsReaderInAnyRegion picture) text (HasCursor picture)
+  pub rest : Makes (IsReaderInAnyRegion picture) text KeepsRestButRegion
+
+resets : (picture : Picture) (text : List ℕ) → Redraws (IsReader picture) picture text → Resets picture (whole_region_text ++ text)
+resets picture text d = record {
+  quiet = λ reader r.
+      let (after, reads) = d.quiet (in_whole reader) (plain_reader picture reader r) in
+      (after, reads_then (terminal start reader) (terminal start (in_whole reader)) (terminal start after) whole_region_text text (whole_read reader) reads);
+  shows = λ reader after r e. d.shows (in_whole reader) after (plain_reader picture reader r) (read_behind reader after e);
+  rows = λ reader after r e. d.rows (in_whole reader) after (plain_reader picture reader r) (read_behind reader after e);
+  cursor = λ reader after r e.
+      let has = d.cursor (in_whole reader) after (plain_reader picture reader r) (read_behind reader after e) in
+      record { row = has.row; column = has.column; attrs = has.attrs; hidden = has.hidden };
+  rest = λ reader after r e.
+      let kept = d.rest (in_whole reader) after (plain_reader picture reader r) (read_behind reader after e) in
+      let most = kept.but_modes in
+      record { other = most.other; is_alternate = most.is_alternate; scrollback = most.scrollback; width = most.width; modes = kept.modes };
+} where
+  read_behind : (reader after : ScreenValue) → ReadsTo (whole_region_text ++ text) reader after → ReadsTo text (in_whole reader) after
+  read_behind reader after e = behind whole_region_text text reader (in_whole reader) after (whole_read reader) e
+
+pub reset_resets : (self : ScreenValue) (text : List ℕ) → text ≡ reset_text (shown self) → IsScreen self → IsColored self → IsSteady (shown self) → Resets (shown self) text
+reset_resets self text told is colored steady =
+    let picture = shown self in
+    subst (Resets picture) (sym told) (resets picture (bytes_of_all (redraw picture)) (redraw_redraws self (bytes_of_all (redraw picture)) refl is colored steady))
+
+-- equal texts come from screens that show the same
+pub resets_tell : (a b : ScreenValue) → IsScreen a → IsColored a → IsSteady (shown a) → IsScreen b → IsColored b → IsSteady (shown b) → SamePictureSize (shown a) (shown b) → reset_text (shown a) ≡ reset_text (shown b) → shown a ≡ shown b
+resets_tell a b is colored steady other colored_other steady_other size e =
+    redraws_tell a b is colored steady other colored_other steady_other size (ap (drop (length whole_region_text)) e)
