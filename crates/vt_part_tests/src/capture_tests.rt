@@ -2,7 +2,7 @@ ghost use Rattle.std.specs.Prelude.{◌≡◌, All, IfOk, false};
 ghost use Rattle.vt_cells.specs.Cell.{IsCell};
 ghost use Rattle.vt_rows.specs.Cells.{IsPaired};
 
-use crate::attributes::PLAIN;
+use crate::attributes::{PLAIN, Parts};
 use std::alloc::Global;
 use std::process::Abort;
 use std::test::Fail;
@@ -11,12 +11,12 @@ use vt_rows::capture::{lent, trimmed};
 use vt_rows::copies::copied;
 use vt_rows::{BasicFormattedCaptureState, Row, RowContents, cells};
 
-const RED: Attrs = Attrs {
+const RED: Parts = Parts {
     fgcolor: Color::Idx(1),
     ..PLAIN
 };
 
-const ON_BLUE: Attrs = Attrs {
+const ON_BLUE: Parts = Parts {
     bgcolor: Color::Idx(4),
     ..PLAIN
 };
@@ -44,7 +44,7 @@ fn put(cells: &mut [Cell], column: usize, c: char, attrs: Attrs)
 fn cells_of(
     alloc: Global,
     columns: usize,
-    puts: &[(usize, char, Attrs)],
+    puts: &[(usize, char, Parts)],
 ) -> Result<Vec<Cell>, Error>
     ensures paired { IfOk result (λ cells. IsPaired cells.items) }
     ensures sound { IfOk result (λ cells. All IsCell cells.items) }
@@ -52,7 +52,7 @@ fn cells_of(
     let blank = Row::new(alloc, columns)?;
     let mut cells = copied(alloc, blank.cells())?;
     for (column, c, attrs) in puts {
-        put(&mut cells, *column, *c, *attrs);
+        put(&mut cells, *column, *c, attrs.attrs());
     }
     Ok(cells)
 }
@@ -96,7 +96,7 @@ fn lends_sound_rows(rt: HostRuntime) -> Result<(), Fail> {
 }
 
 // How many columns a row has, the characters that are put there, and what it is written as.
-const WRITTEN: [(usize, &[(usize, char, Attrs)], &str); 7] = [
+const WRITTEN: [(usize, &[(usize, char, Parts)], &str); 7] = [
     (3, &[(0, 'a', RED), (2, 'b', PLAIN)], "\x1b[31ma \x1b[mb"),
     (4, &[(0, 'a', PLAIN), (2, '\0', ON_BLUE)], "a \x1b[44m "),
     (3, &[(0, '中', PLAIN), (2, 'a', PLAIN)], "中a"),

@@ -1,5 +1,5 @@
 use std::test::Fail;
-use vt_cells::{Attrs, Cell, Color, columns};
+use vt_cells::{Attrs, Cell, Color, Intensity, columns};
 
 // The cell in which a character and the marks after it come to stand.
 fn cell_of_text(text: &str) -> Cell {
@@ -71,9 +71,9 @@ fn heart(wide: bool) -> Cell {
 #[test]
 fn compares_text_width_flags_and_attributes(rt: HostRuntime) {
     let mut bold = Attrs::new();
-    bold.set_bold();
+    bold.set_intensity(Intensity::Bold);
     let mut red = Attrs::new();
-    red.fgcolor = Color::Idx(1);
+    red.set_fgcolor(Color::Idx(1));
     let mut shorter = cell_of_text("e\u{301}");
     shorter.clear(Attrs::new());
     for (cell, other, same) in &[
@@ -100,7 +100,7 @@ fn compares_text_width_flags_and_attributes(rt: HostRuntime) {
 #[test]
 fn is_cloned_whole(rt: HostRuntime) -> Result<(), Fail> {
     let mut bold = Attrs::new();
-    bold.set_bold();
+    bold.set_intensity(Intensity::Bold);
     for cell in &[
         Cell::blank(bold),
         Cell::space(bold),
@@ -116,9 +116,9 @@ fn is_cloned_whole(rt: HostRuntime) -> Result<(), Fail> {
 #[test]
 fn lends_its_attributes(rt: HostRuntime) {
     let mut attrs = Attrs::new();
-    attrs.fgcolor = Color::Idx(1);
-    attrs.bgcolor = Color::Rgb(2, 3, 4);
-    attrs.set_dim();
+    attrs.set_fgcolor(Color::Idx(1));
+    attrs.set_bgcolor(Color::Rgb(2, 3, 4));
+    attrs.set_intensity(Intensity::Dim);
     attrs.set_italic(true);
     attrs.set_inverse(true);
     let cell = Cell::space(attrs);

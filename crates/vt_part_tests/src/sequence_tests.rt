@@ -1,4 +1,4 @@
-use crate::attributes::PLAIN;
+use crate::attributes::{PLAIN, Parts};
 use std::alloc::Global;
 use std::test::Fail;
 use vt_cells::term::{
@@ -8,7 +8,7 @@ use vt_cells::term::{
     SaveCursor,
 };
 use vt_cells::{
-    Attrs, Color, CursorStyle as Style, Error, Intensity, MouseProtocolEncoding as Encoding,
+    Color, CursorStyle as Style, Error, Intensity, MouseProtocolEncoding as Encoding,
     MouseProtocolMode as Mode, Pos,
 };
 
@@ -103,19 +103,19 @@ fn moves(rt: HostRuntime) -> Result<(), Fail> {
     Ok(())
 }
 
-const BRIGHT: Attrs = Attrs {
+const BRIGHT: Parts = Parts {
     fgcolor: Color::Idx(9),
     ..PLAIN
 };
 
-const BOLD: Attrs = Attrs {
+const BOLD: Parts = Parts {
     fgcolor: Color::Idx(1),
     bgcolor: Color::Idx(4),
     intensity: Intensity::Bold,
     ..PLAIN
 };
 
-const RICH: Attrs = Attrs {
+const RICH: Parts = Parts {
     fgcolor: Color::Rgb(1, 2, 3),
     italic: true,
     underline: true,
@@ -123,28 +123,28 @@ const RICH: Attrs = Attrs {
     ..PLAIN
 };
 
-const DIM: Attrs = Attrs {
+const DIM: Parts = Parts {
     intensity: Intensity::Dim,
     ..PLAIN
 };
 
-const BACK: Attrs = Attrs {
+const BACK: Parts = Parts {
     bgcolor: Color::Idx(200),
     ..PLAIN
 };
 
-const LIGHT: Attrs = Attrs {
+const LIGHT: Parts = Parts {
     bgcolor: Color::Idx(15),
     ..PLAIN
 };
 
-const LAST: Attrs = Attrs {
+const LAST: Parts = Parts {
     fgcolor: Color::Idx(255),
     ..PLAIN
 };
 
 // What changes from the first attributes to the second.
-const CHANGES: [(Attrs, Attrs, &str); 11] = [
+const CHANGES: [(Parts, Parts, &str); 11] = [
     (PLAIN, PLAIN, ""),
     (BOLD, BOLD, ""),
     (PLAIN, BRIGHT, "\x1b[91m"),
@@ -161,7 +161,7 @@ const CHANGES: [(Attrs, Attrs, &str); 11] = [
 #[test]
 fn attributes(rt: HostRuntime) -> Result<(), Fail> {
     for (was, new, want) in &CHANGES {
-        let (was, new) = (*was, *new);
+        let (was, new) = (was.attrs(), new.attrs());
         expect_text(rt.alloc(), &ChangeAttrs { was, new }, want)?;
     }
     Ok(())
@@ -200,7 +200,7 @@ const MOUSE_MODES: [(Mode, Mode, &str); 10] = [
 #[test]
 fn mouse_modes(rt: HostRuntime) -> Result<(), Fail> {
     for (was, new, want) in &MOUSE_MODES {
-        let (was, new) = (*was, *new);
+        let (was, new) = (was.attrs(), new.attrs());
         expect_text(rt.alloc(), &MouseProtocolMode { was, new }, want)?;
     }
     Ok(())
@@ -217,7 +217,7 @@ const MOUSE_ENCODINGS: [(Encoding, Encoding, &str); 5] = [
 #[test]
 fn mouse_encodings(rt: HostRuntime) -> Result<(), Fail> {
     for (was, new, want) in &MOUSE_ENCODINGS {
-        let (was, new) = (*was, *new);
+        let (was, new) = (was.attrs(), new.attrs());
         expect_text(rt.alloc(), &MouseProtocolEncoding { was, new }, want)?;
     }
     Ok(())
@@ -238,7 +238,7 @@ const STYLES: [(Style, Style, &str); 9] = [
 #[test]
 fn styles(rt: HostRuntime) -> Result<(), Fail> {
     for (was, new, want) in &STYLES {
-        let (was, new) = (*was, *new);
+        let (was, new) = (was.attrs(), new.attrs());
         expect_text(rt.alloc(), &CursorStyle { was, new }, want)?;
     }
     Ok(())

@@ -22,16 +22,22 @@ fn are_plain_at_first(rt: HostRuntime) {
 #[test]
 fn sets_each_attribute(rt: HostRuntime) {
     let mut attrs = Attrs::new();
-    attrs.set_bold();
+    attrs.set_intensity(Intensity::Bold);
     assert!(rt; attrs.bold() && !attrs.dim());
-    attrs.set_dim();
+    attrs.set_intensity(Intensity::Dim);
     assert!(rt; attrs.dim() && !attrs.bold());
-    attrs.set_normal_intensity();
+    attrs.set_intensity(Intensity::Normal);
     assert!(rt; !attrs.dim() && !attrs.bold());
+    attrs.set_fgcolor(Color::Rgb(1, 2, 3));
+    attrs.set_bgcolor(Color::Idx(4));
+    assert_eq!(rt; attrs.fgcolor(), Color::Rgb(1, 2, 3));
+    assert_eq!(rt; attrs.bgcolor(), Color::Idx(4));
+    attrs.set_fgcolor(Color::Default);
+    attrs.set_bgcolor(Color::Default);
     attrs.set_italic(true);
     attrs.set_underline(true);
     attrs.set_inverse(true);
-    assert!(rt; attrs.italic && attrs.underline && attrs.inverse);
+    assert!(rt; attrs.italic() && attrs.underline() && attrs.inverse());
     attrs.set_italic(false);
     attrs.set_underline(false);
     attrs.set_inverse(false);
