@@ -23,11 +23,14 @@ const RESIZED: u32 = 16;
 
 /// The most rows and columns of such a size.
 const MOST_ROWS: u32 = 40;
+
 const MOST_COLS: u32 = 100;
 
 /// The size of a viewer's terminal at first, how many rows it keeps, and what it has read.
 const SIZE: (u16, u16) = (3, 7);
+
 const KEPT: usize = 5;
+
 const BEFORE: &[u8] = b"\x1b[7mbefore \xe4\xb8\xad\x1b[30b\x1b[32;1m\x1b[?25l";
 
 /// A viewer: its number, and its terminal.

@@ -143,8 +143,9 @@ fn is_diff(update: Option<Update>, wanted: &str) -> Result<bool, Fail> {
 
 fn is_full(update: Option<Update>, size: (u16, u16), wanted: &str) -> Result<bool, Fail> {
     match update {
-        Some(Update::Full { rows, cols, text }) => Ok((rows, cols) == size
-            && text.as_str().strip_prefix(CLEAR) == Some(wanted)),
+        Some(Update::Full { rows, cols, text }) => Ok(
+            (rows, cols) == size && text.as_str().strip_prefix(CLEAR) == Some(wanted),
+        ),
         _ => Ok(false),
     }
 }
