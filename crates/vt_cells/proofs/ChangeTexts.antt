@@ -5,12 +5,13 @@ use Rattle.std.proofs.lemmas.List.{drop-drop, length-drop}
 use Rattle.std.proofs.lemmas.List.Concat.{flat_map-append}
 use Rattle.std.proofs.lemmas.Str.Ascii.{IsAscii-cons}
 use Rattle.std.proofs.lemmas.Str.{IsAscii-append, IsAscii-drop}
-use Rattle.vt_cells.specs.Attrs.{Attrs, same_color}
-use Rattle.vt_cells.specs.ChangeKeeping.{IsEnd, separated, separated_all, without_separator}
+use Rattle.vt_cells.specs.Attrs.{Attrs, same_bool, same_color, same_intensity}
+use Rattle.vt_cells.specs.AttrsKeeping.{same_style, style_of_attrs}
+use Rattle.vt_cells.specs.ChangeKeeping.{IsEnd, separated, separated_all, style_part, without_separator}
 use Rattle.vt_cells.specs.Op.{change_numbers, joined, part}
-use Rattle.vt_cells.specs.contracts.color.ColorPartialEq.TheImpl as color
 use Rattle.vt_cells.specs.declared.color.Color.{Color}
-use Rattle.vt_cells.proofs.Changes.{background_part, foreground_part, intensity_part, inverse_part, italic_part, joined_is, same_color_is, underline_part}
+use Rattle.vt_cells.proofs.Changes.{background_part, foreground_part, intensity_part, inverse_part, italic_part, joined_is, underline_part}
+use Rattle.vt_cells.proofs.Same.{two_parts}
 
 -- a number has three digits at most
 pub digits_of_byte : (n : ℕ) → n < 256 → length (decimal n) ≤ 3
@@ -55,29 +56,55 @@ pub one_put : (n : ℕ) (xs : List ℕ) → separated_all (n ∷ []) ++ xs ≡ s
 one_put n xs = ap (λ ys. ys ++ xs) (append-nil (separated n))
 
 -- colours that are the same need no number
-pub nothing_put : (a b : Color) (xs ns : List ℕ) → (color.ghosts).eq a b ≡ true → xs ≡ separated_all (part (same_color a b) ns) ++ xs
-nothing_put a b xs ns e = rw (sym (same_color_is a b), e) refl
+pub nothing_put : (a b : Color) (xs ns : List ℕ) → same_color a b ≡ true → xs ≡ separated_all (part (same_color a b) ns) ++ xs
+nothing_put a b xs ns e = rw e refl
 
-pub some_put : (a b : Color) (xs ns : List ℕ) → (color.ghosts).eq a b ≡ false → separated_all (part (same_color a b) ns) ++ xs ≡ separated_all ns ++ xs
-some_put a b xs ns e = rw (sym (same_color_is a b), e) refl
+pub some_put : (a b : Color) (xs ns : List ℕ) → same_color a b ≡ false → separated_all (part (same_color a b) ns) ++ xs ≡ separated_all ns ++ xs
+some_put a b xs ns e = rw e refl
 
--- six lists of numbers, put one before the other
-six_put : (f b i t u v end : List ℕ)
-    → separated_all f ++ (separated_all b ++ (separated_all i ++ (separated_all t ++ (separated_all u ++ (separated_all v ++ end)))))
-    ≡ separated_all (f ++ (b ++ (i ++ (t ++ (u ++ v))))) ++ end
-six_put f b i t u v end =
+-- neither do styles that are the same
+pub no_style_put : (was new : Attrs) (xs : List ℕ) → same_style (style_of_attrs was) (style_of_attrs new) ≡ true → xs ≡ separated_all (style_part was new) ++ xs
+unfolding same_style
+no_style_put was new xs e =
+    let (intensity, rest) = two_parts (same_intensity was.intensity new.intensity) _ e in
+    let (italic, others) = two_parts (same_bool was.italic new.italic) _ rest in
+    let (underline, inverse) = two_parts (same_bool was.underline new.underline) (same_bool was.inverse new.inverse) others in
+    rw (intensity, italic, underline, inverse) refl
+
+-- four lists of numbers, put one before the other
+four_put : (i t u v end : List ℕ)
+    → separated_all i ++ (separated_all t ++ (separated_all u ++ (separated_all v ++ end))) ≡ separated_all (i ++ (t ++ (u ++ v))) ++ end
+four_put i t u v end =
     rw (
-      flat_map-append separated f (b ++ (i ++ (t ++ (u ++ v)))),
-      flat_map-append separated b (i ++ (t ++ (u ++ v))),
       flat_map-append separated i (t ++ (u ++ v)),
       flat_map-append separated t (u ++ v),
       flat_map-append separated u v,
-      append_assoc (separated_all f) (separated_all b ++ (separated_all i ++ (separated_all t ++ (separated_all u ++ separated_all v)))) end,
-      append_assoc (separated_all b) (separated_all i ++ (separated_all t ++ (separated_all u ++ separated_all v))) end,
       append_assoc (separated_all i) (separated_all t ++ (separated_all u ++ separated_all v)) end,
       append_assoc (separated_all t) (separated_all u ++ separated_all v) end,
       append_assoc (separated_all u) (separated_all v) end,
     ) refl
+
+pub switches_put : (was new : Attrs) (end : List ℕ)
+    → separated_all (intensity_part was new) ++ (separated_all (italic_part was new) ++ (separated_all (underline_part was new) ++ (separated_all (inverse_part was new) ++ end)))
+    ≡ separated_all (style_part was new) ++ end
+switches_put was new end = four_put (intensity_part was new) (italic_part was new) (underline_part was new) (inverse_part was new) end
+
+-- three lists of numbers, put one before the other
+three_put : (f b i end : List ℕ) → separated_all f ++ (separated_all b ++ (separated_all i ++ end)) ≡ separated_all (f ++ (b ++ i)) ++ end
+three_put f b i end =
+    rw (
+      flat_map-append separated f (b ++ i),
+      flat_map-append separated b i,
+      append_assoc (separated_all f) (separated_all b ++ separated_all i) end,
+      append_assoc (separated_all b) (separated_all i) end,
+    ) refl
+
+-- the parts of a change, put one before the other
+pub change_put : (was new : Attrs)
+    → separated_all (foreground_part was new) ++ (separated_all (background_part was new) ++ (separated_all (style_part was new) ++ 0x6D ∷ []))
+    ≡ separated_all (change_numbers was new) ++ 0x6D ∷ []
+unfolding change_numbers
+change_put was new = three_put (foreground_part was new) (background_part was new) (style_part was new) (0x6D ∷ [])
 
 without_first : (xs : List ℕ) → 2 ≤ length xs → drop 1 xs ≡ without_separator xs
 without_first [] h = absurd (omega (arith, h))
@@ -98,16 +125,6 @@ end_without_first start bytes is_end room =
       measured = omega arith;
       ascii = IsAscii-drop (drop start bytes) 1 is_end.ascii;
     })
-
--- the parts of a change, put one before the other
-pub change_put : (was new : Attrs)
-    → separated_all (foreground_part was new) ++ (separated_all (background_part was new) ++ (separated_all (intensity_part was new)
-    ++ (separated_all (italic_part was new) ++ (separated_all (underline_part was new) ++ (separated_all (inverse_part was new) ++ 0x6D ∷ [])))))
-    ≡ separated_all (change_numbers was new) ++ 0x6D ∷ []
-unfolding change_numbers
-change_put was new =
-    six_put (foreground_part was new) (background_part was new) (intensity_part was new)
-    (italic_part was new) (underline_part was new) (inverse_part was new) (0x6D ∷ [])
 
 tail_left : (x m : ℕ) (ys : List ℕ) → without_separator (x ∷ (ys ++ m ∷ [])) ≡ ys ++ m ∷ []
 tail_left x m [] = refl

@@ -31,7 +31,7 @@ shape_of-same a b e =
       right_half = bool_of-same a.right_half b.right_half right i;
     }
 
-same_shape-itself : (a : ShapeValue) → same_shape a a ≡ true
+pub same_shape-itself : (a : ShapeValue) → same_shape a a ≡ true
 unfolding same_shape
 same_shape-itself a = rw (itself a.len, same_bool-itself a.wide, same_bool-itself a.right_half) refl
 

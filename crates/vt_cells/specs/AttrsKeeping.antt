@@ -54,6 +54,9 @@ pub record StyleValue : Type 0 where
   pub underline : Bool
   pub inverse : Bool
 
+abbrev pub style_of_attrs : Attrs → StyleValue
+style_of_attrs attrs = record { intensity = attrs.intensity; italic = attrs.italic; underline = attrs.underline; inverse = attrs.inverse }
+
 abbrev pub plain_style : StyleValue
 plain_style = record { intensity = Normal; italic = false; underline = false; inverse = false }
 

@@ -1,7 +1,7 @@
 -- How a cell keeps its value in its fields; for its model, private contracts and proofs only.
 use Rattle.std.specs.Prelude.{◌≡◌, ℕ, ◌+◌, ◌/◌, ◌%◌, ◌==◌, ◌&&◌, ◌<◌, ◌≤◌, Bool, true, false, List, [], ◌∷◌, length, if◌then◌else◌, IsUtf8}
 use Rattle.vt_cells.specs.Attrs.{Attrs, default_attrs, same_bool}
-use Rattle.vt_cells.specs.Cell.{CellValue, blank, glyph, right_half, cell_of, IsCell}
+use Rattle.vt_cells.specs.Cell.{CellValue, blank, glyph, right_half, cell_of, is_right_half, is_wide, text_of, IsCell}
 use Rattle.vt_cells.specs.Glyph.{mark_limit}
 
 -- the bytes of a cell's array: a text below the limit of marks, and one character of four bytes
@@ -16,6 +16,9 @@ pub record ShapeValue : Type 0 where
 
 unfoldable pub same_shape : ShapeValue → ShapeValue → Bool
 same_shape a b = (a.len == b.len) && (same_bool a.wide b.wide && same_bool a.right_half b.right_half)
+
+abbrev pub shape_of_cell : CellValue → ShapeValue
+shape_of_cell cell = record { len = length (text_of cell); wide = is_wide cell; right_half = is_right_half cell }
 
 -- the shape of a byte, and back: five bits of length, and one for each flag
 abbrev pub shape_of : ℕ → ShapeValue

@@ -1,5 +1,7 @@
 -- The text of a change of attributes while it is written; for private contracts and proofs only.
-use Rattle.std.specs.Prelude.{◌≡◌, ℕ, ◌+◌, ◌≤◌, List, [], ◌∷◌, decimal, flat_map, length, IsAscii}
+use Rattle.std.specs.Prelude.{◌≡◌, ℕ, ◌+◌, ◌≤◌, List, [], ◌∷◌, ◌++◌, decimal, flat_map, length, if◌then◌else◌, IsAscii}
+use Rattle.vt_cells.specs.Attrs.{Attrs, same_bool, same_intensity}
+use Rattle.vt_cells.specs.Op.{intensity_number, part}
 
 -- the end of a text, which begins at a place of the array
 pub record IsEnd (start : ℕ) (text : List ℕ) : Type 0 where
@@ -18,3 +20,11 @@ abbrev pub without_separator : List ℕ → List ℕ
 without_separator [] = []
 without_separator (x ∷ []) = x ∷ []
 without_separator (x ∷ y ∷ rest) = y ∷ rest
+
+-- the numbers of a change beside those of the colours
+abbrev pub style_part : Attrs → Attrs → List ℕ
+style_part was new =
+    part (same_intensity was.intensity new.intensity) (intensity_number new.intensity ∷ [])
+    ++ (part (same_bool was.italic new.italic) ((if new.italic then 3 else 23) ∷ [])
+    ++ (part (same_bool was.underline new.underline) ((if new.underline then 4 else 24) ∷ [])
+    ++ part (same_bool was.inverse new.inverse) ((if new.inverse then 7 else 27) ∷ [])))

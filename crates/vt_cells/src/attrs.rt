@@ -1,7 +1,8 @@
 //! Attributes that a cell is drawn with.
 
 ghost use Rattle.std.specs.Prelude.{◌≡◌};
-ghost use Rattle.vt_cells.specs.Attrs.{default_attrs, is_bold, is_dim, same_attrs};
+ghost use Rattle.vt_cells.specs.Attrs.{default_attrs, is_bold, is_dim, same_attrs, same_color};
+ghost use Rattle.vt_cells.specs.AttrsKeeping.{same_style, style_of_attrs};
 
 use crate::color::Color;
 use crate::packed_color::PackedColor;
@@ -77,6 +78,30 @@ impl Attrs {
         self.fgcolor.is_same(&other.fgcolor)
             & self.bgcolor.is_same(&other.bgcolor)
             & self.style.is_same(&other.style)
+    }
+
+    /// Whether both have the same foreground colour.
+    #[inline]
+    pub fn has_fgcolor_of(&self, other: &Attrs) -> bool
+        ensures { result ≡ same_color self.now.fgcolor other.now.fgcolor }
+    {
+        self.fgcolor.is_same(&other.fgcolor)
+    }
+
+    /// Whether both have the same background colour.
+    #[inline]
+    pub fn has_bgcolor_of(&self, other: &Attrs) -> bool
+        ensures { result ≡ same_color self.now.bgcolor other.now.bgcolor }
+    {
+        self.bgcolor.is_same(&other.bgcolor)
+    }
+
+    /// Whether both are the same but for their colours.
+    #[inline]
+    pub fn has_style_of(&self, other: &Attrs) -> bool
+        ensures { result ≡ same_style (style_of_attrs self.now) (style_of_attrs other.now) }
+    {
+        self.style.is_same(&other.style)
     }
 
     /// The foreground colour.

@@ -1,9 +1,9 @@
 //! One cell of a screen.
 
-ghost use Rattle.std.specs.Prelude.{◌≡◌, ◌≢◌, ◌<◌, ◌≤◌, ◌++◌, ◌+◌, ◌%◌, ◌↔◌, [], ◌∷◌, length, take, false, true, Some, if◌then◌else◌, IsTrue, encode_utf8, bytes_eq};
+ghost use Rattle.std.specs.Prelude.{◌≡◌, ◌≢◌, ◌<◌, ◌≤◌, ◌++◌, ◌+◌, ◌%◌, ◌↔◌, [], ◌∷◌, length, take, false, Some, if◌then◌else◌, IsTrue, encode_utf8, bytes_eq};
 ghost use Rattle.vt_cells.specs.Attrs.{default_attrs, is_bold, is_dim, same_attrs};
 ghost use Rattle.vt_cells.specs.Cell.{blank, glyph, right_half, cell_of, is_wide, is_blank, is_glyph, is_right_half, text_of, attrs_of, same_cell, marked, widened, redrawn, IsCell};
-ghost use Rattle.vt_cells.specs.CellKeeping.{spaced};
+ghost use Rattle.vt_cells.specs.CellKeeping.{same_shape, shape_of_cell, spaced};
 ghost use Rattle.vt_cells.specs.Glyph.{columns_of, is_wide_text};
 
 use crate::attrs::Attrs;
@@ -246,52 +246,43 @@ impl Cell {
         self.contents().width() > 1
     }
 
-    /// Whether both are the same cell. Cells that are kept alike, as those of a
-    /// copy are, are known as the same at once.
+    /// Whether both are the same cell.
     #[inline]
-    #[tactic(auto, using(crate::proofs::SameCells::same_cell_of))]
     fn is_same(&self, other: &Cell) -> bool
         ensures { result ≡ same_cell self.now other.now }
     {
-        if self.is_kept_alike(other) {
-            return true;
-        }
-        self.has_parts_of(other)
-    }
-
-    /// Whether both are the same byte for byte, also behind their texts.
-    #[inline]
-    fn is_kept_alike(&self, other: &Cell) -> bool
-        ensures { result ≡ true → self.now ≡ other.now }
-    {
-        self.attrs.is_same(&other.attrs)
-            & self.shape.is_same(&other.shape)
-            & (self.contents == other.contents)
-    }
-
-    /// Whether both are the same cell, part by part.
-    #[inline]
-    fn has_parts_of(&self, other: &Cell) -> bool
-        ensures { result ≡ same_cell self.now other.now }
-    {
-        if self.text_len() != other.text_len() {
+        if !self.has_shape_of(other) {
             return false;
         }
-        let alike = self.lend_attrs().is_same(other.lend_attrs())
-            & (self.is_wide() == other.is_wide())
-            & (self.is_wide_continuation() == other.is_wide_continuation());
-        alike && self.has_text_of(other)
+        if !other.has_attrs(self.lend_attrs()) {
+            return false;
+        }
+        self.has_text_of(other)
     }
 
-    /// Whether both have the same text.
+    /// Whether both have texts of the same length and are wide or right halves
+    /// alike.
+    #[inline]
+    fn has_shape_of(&self, other: &Cell) -> bool
+        ensures value { result ≡ same_shape (shape_of_cell self.now) (shape_of_cell other.now) }
+        ensures sound { IsCell self.now }
+        ensures other { IsCell other.now }
+    {
+        self.shape.is_same(&other.shape)
+    }
+
+    /// Whether both have the same text, of one length. Texts of one byte are
+    /// compared without a call.
     #[inline]
     fn has_text_of(&self, other: &Cell) -> bool
+        requires { length (text_of self.now) ≡ length (text_of other.now) }
         ensures { result ≡ bytes_eq (text_of self.now) (text_of other.now) }
     {
-        if self.text_len() == 0 {
-            return other.text_len() == 0;
+        match self.text_len() {
+            0 => true,
+            1 => self.contents().as_bytes()[0] == other.contents().as_bytes()[0],
+            _ => self.has_bytes_of(other),
         }
-        self.has_bytes_of(other)
     }
 
     /// The same test, of each byte.

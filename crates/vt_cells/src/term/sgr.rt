@@ -2,7 +2,7 @@
 
 ghost use Rattle.std.specs.Prelude.{◌≡◌, ◌+◌, ◌≤◌, ◌<◌, ℕ, List, [], ◌∷◌, ◌++◌, decimal, flat_map, length, if◌then◌else◌};
 ghost use Rattle.vt_cells.specs.Attrs.{same_bool, same_color, same_intensity};
-ghost use Rattle.vt_cells.specs.ChangeKeeping.{separated, separated_all, without_separator};
+ghost use Rattle.vt_cells.specs.ChangeKeeping.{separated, separated_all, style_part, without_separator};
 ghost use Rattle.vt_cells.specs.Op.{background_numbers, change_numbers, csi, foreground_numbers, intensity_number, joined, part};
 
 use crate::attrs::{Attrs, Intensity};
@@ -38,16 +38,14 @@ impl ChangeText {
     /// The sequence with the numbers of what differs between two sets of
     /// attributes: the foreground, the background, the intensity, italic,
     /// underline and inverse. It has no number where nothing does.
+    #[inline(always)]
     pub fn of(was: &Attrs, new: &Attrs) -> Self
         ensures { result ≡ csi (joined (change_numbers was.now new.now)) 0x6D }
     {
         let mut text = ChangeText::end();
-        text.put_switch(was.inverse(), new.inverse(), 7, 27);
-        text.put_switch(was.underline(), new.underline(), 4, 24);
-        text.put_switch(was.italic(), new.italic(), 3, 23);
-        text.put_intensity(was.intensity(), new.intensity());
-        text.put_background(was.bgcolor(), new.bgcolor());
-        text.put_foreground(was.fgcolor(), new.fgcolor());
+        text.put_style(was, new);
+        text.put_background(was, new);
+        text.put_foreground(was, new);
         text.begin();
         text
     }
@@ -97,16 +95,16 @@ impl ChangeText {
     }
 
     #[inline]
-    #[tactic(auto, using(crate::proofs::ChangeTexts::nothing_put, crate::proofs::ChangeTexts::one_put, crate::proofs::ChangeTexts::some_put, crate::proofs::Changes::same_color_is), unfolding(crate::specs::Op::foreground_numbers))]
-    fn put_foreground(&mut self, was: Color, new: Color)
+    #[tactic(auto, using(crate::proofs::ChangeTexts::nothing_put, crate::proofs::ChangeTexts::one_put, crate::proofs::ChangeTexts::some_put), unfolding(crate::specs::Op::foreground_numbers))]
+    fn put_foreground(&mut self, was: &Attrs, new: &Attrs)
         requires { length self.old + 20 ≤ 64 }
-        ensures value { self.new ≡ separated_all (part (same_color was new) (foreground_numbers new)) ++ self.old }
+        ensures value { self.new ≡ separated_all (part (same_color was.now.fgcolor new.now.fgcolor) (foreground_numbers new.now.fgcolor)) ++ self.old }
         ensures room { length self.new ≤ length self.old + 20 }
     {
-        if was == new {
+        if was.has_fgcolor_of(new) {
             return;
         }
-        match new {
+        match new.fgcolor() {
             Color::Default => self.put_number(39),
             Color::Idx(i) if i < 8 => self.put_number(30 + i),
             Color::Idx(i) if i < 16 => self.put_number(82 + i),
@@ -116,22 +114,47 @@ impl ChangeText {
     }
 
     #[inline]
-    #[tactic(auto, using(crate::proofs::ChangeTexts::nothing_put, crate::proofs::ChangeTexts::one_put, crate::proofs::ChangeTexts::some_put, crate::proofs::Changes::same_color_is), unfolding(crate::specs::Op::background_numbers))]
-    fn put_background(&mut self, was: Color, new: Color)
+    #[tactic(auto, using(crate::proofs::ChangeTexts::nothing_put, crate::proofs::ChangeTexts::one_put, crate::proofs::ChangeTexts::some_put), unfolding(crate::specs::Op::background_numbers))]
+    fn put_background(&mut self, was: &Attrs, new: &Attrs)
         requires { length self.old + 20 ≤ 64 }
-        ensures value { self.new ≡ separated_all (part (same_color was new) (background_numbers new)) ++ self.old }
+        ensures value { self.new ≡ separated_all (part (same_color was.now.bgcolor new.now.bgcolor) (background_numbers new.now.bgcolor)) ++ self.old }
         ensures room { length self.new ≤ length self.old + 20 }
     {
-        if was == new {
+        if was.has_bgcolor_of(new) {
             return;
         }
-        match new {
+        match new.bgcolor() {
             Color::Default => self.put_number(49),
             Color::Idx(i) if i < 8 => self.put_number(40 + i),
             Color::Idx(i) if i < 16 => self.put_number(92 + i),
             Color::Idx(i) => self.put_indexed(48, i),
             Color::Rgb(r, g, b) => self.put_parts(48, r, g, b),
         }
+    }
+
+    /// Puts what differs beside the colours: nothing, mostly.
+    #[inline]
+    #[tactic(auto, using(crate::proofs::ChangeTexts::no_style_put))]
+    fn put_style(&mut self, was: &Attrs, new: &Attrs)
+        requires { length self.old + 16 ≤ 64 }
+        ensures value { self.new ≡ separated_all (style_part was.now new.now) ++ self.old }
+        ensures room { length self.new ≤ length self.old + 16 }
+    {
+        if !was.has_style_of(new) {
+            self.put_switches(was, new);
+        }
+    }
+
+    #[inline(never)]
+    fn put_switches(&mut self, was: &Attrs, new: &Attrs)
+        requires { length self.old + 16 ≤ 64 }
+        ensures value { self.new ≡ separated_all (style_part was.now new.now) ++ self.old }
+        ensures room { length self.new ≤ length self.old + 16 }
+    {
+        self.put_switch(was.inverse(), new.inverse(), 7, 27);
+        self.put_switch(was.underline(), new.underline(), 4, 24);
+        self.put_switch(was.italic(), new.italic(), 3, 23);
+        self.put_intensity(was.intensity(), new.intensity());
     }
 
     #[inline]

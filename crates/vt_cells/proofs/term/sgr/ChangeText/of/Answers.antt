@@ -10,23 +10,8 @@ returns c =
         rw (
           c.put_foreground.ensures.value,
           c.put_background.ensures.value,
-          c.put_intensity.ensures.value,
-          c.put_switch-3.ensures.value,
-          c.put_switch-2.ensures.value,
-          c.put_switch.ensures.value,
+          c.put_style.ensures.value,
           c.end-text.ensures,
-          c.fgcolor.ensures,
-          c.fgcolor-2.ensures,
-          c.bgcolor.ensures,
-          c.bgcolor-2.ensures,
-          c.intensity.ensures,
-          c.intensity-2.ensures,
-          c.italic.ensures,
-          c.italic-2.ensures,
-          c.underline.ensures,
-          c.underline-2.ensures,
-          c.inverse.ensures,
-          c.inverse-2.ensures,
         )
         (change_put c.args.was.now c.args.new.now) in
     c.begin.ensures ∙ ap (λ xs. 0x1B ∷ 0x5B ∷ xs) (ap without_separator put ∙ numbers_left (change_numbers c.args.was.now c.args.new.now))
