@@ -1,5 +1,7 @@
 //! What is left to chance: how many bytes are read between two updates, and what viewers do.
 
+ghost use Rattle.std.specs.Prelude.{◌<◌};
+
 /// The most bytes between two updates.
 const MOST: u32 = 100;
 

@@ -21,16 +21,23 @@ const LEAVING: u32 = 8;
 /// At one piece in so many the mirror gets another size.
 const RESIZED: u32 = 16;
 
-/// The most rows and columns of such a size.
+/// The most rows of such a size.
 const MOST_ROWS: u32 = 40;
 
+/// The least columns: on one column a glyph may stay narrow that U+FE0F makes
+/// wide elsewhere, and it would not be steady once there are more.
+const LEAST_COLS: u32 = 2;
+
+/// The most columns.
 const MOST_COLS: u32 = 100;
 
-/// The size of a viewer's terminal at first, how many rows it keeps, and what it has read.
+/// The size of a viewer's terminal at first.
 const SIZE: (u16, u16) = (3, 7);
 
+/// How many rows it keeps in scrollback.
 const KEPT: usize = 5;
 
+/// What it has read before it is a viewer's.
 const BEFORE: &[u8] = b"\x1b[7mbefore \xe4\xb8\xad\x1b[30b\x1b[32;1m\x1b[?25l";
 
 /// A viewer: its number, and its terminal.
@@ -85,7 +92,7 @@ fn follow_all(alloc: Global, hall: &mut Hall, mut pace: Pace, bytes: &[u8]) -> R
 
 fn size(pace: &mut Pace) -> Result<(NonZeroU16, NonZeroU16)> {
     let rows = 1 + pace.next_below(MOST_ROWS);
-    let cols = 1 + pace.next_below(MOST_COLS);
+    let cols = LEAST_COLS + pace.next_below(MOST_COLS - 1);
     size_of(u16::try_from(rows)?, u16::try_from(cols)?)
 }
 
