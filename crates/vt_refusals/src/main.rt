@@ -3,66 +3,85 @@
 //! growth that is given back at once. So with the growth of one number refused, input of another
 //! length has another call refused: that call has to answer so, and all else has to stay as it was.
 //! `tests/refusals` looks at this.
+//!
+//! Where the input is an exclamation mark alone, all memory is taken first, and calls are made without
+//! any: `tests/scarce` runs that, with a limit on memory.
 #![tactic(auto)]
 
 mod mirrors;
 mod pair;
+mod scarce;
 mod scenes;
 mod shown;
+mod standing;
 mod step;
 mod tally;
 mod users;
+mod whole;
 
 use pair::{Act, Pair};
-use scenes::{ACTS, MORE_TEXTS, RESET, ROWS, SCENES, Scene, TEXTS};
+use scenes::{ACTS, MORE_SCENES, MORE_TEXTS, ROWS, SCENES, Scene, TEXTS};
 use shown::Shown;
+use standing::Standing;
 use std::alloc::Global;
 use std::io;
 use std::io::Read;
 use std::num::NonZeroU16;
-use step::Step;
 use tally::Tally;
 use vt100::{Error, Parser};
 
 /// How many bytes of standard input are read at most.
 const MOST: usize = 1024;
 
+/// The input that asks for calls without memory.
+const SCARCE: u8 = b'!';
+
 fn main(rt: HostRuntime) -> io::Result<()> {
-    if !has_warmed_up(&rt)? {
+    let mut input = [0; MOST];
+    let count = rt.reader().read(&mut input)?;
+    if count == 1 && input[0] == SCARCE {
+        return scarce::run(&rt);
+    }
+    if !has_warmed_up(rt.alloc(), count) {
         return println!(rt; "the growths that come first: refused");
     }
-    for scene in &SCENES {
-        run(&rt, scene)?;
-    }
-    run_pair(&rt, "pages, sizes and a copy", &ACTS)?;
-    users::run_default(&rt)?;
-    users::run_writer(&rt)?;
-    users::run_notes(&rt)?;
-    users::run_show(&rt)?;
-    run_pair(&rt, "texts of two screens", &TEXTS)?;
-    run_pair(&rt, "states, plain texts and captures", &MORE_TEXTS)?;
-    run_pair(&rt, "texts of the rows of two screens", &ROWS)?;
-    run(&rt, &RESET)?;
-    mirrors::run(&rt)
+    run_scenes(&rt)
 }
 
-/// Makes a growth for each byte of standard input, and gives it back; false if one is refused.
-fn has_warmed_up<R: AllocGlobal + Input>(rt: &R) -> io::Result<bool> {
-    let mut bytes = [0; MOST];
-    let count = rt.reader().read(&mut bytes)?;
+/// Makes so many growths, and gives each back; false if one is refused.
+fn has_warmed_up(alloc: Global, count: usize) -> bool {
     for _ in 0..count {
-        if Vec::<u8>::with_capacity(rt.alloc(), 1).is_err() {
-            return Ok(false);
+        if Vec::<u8>::with_capacity(alloc, 1).is_err() {
+            return false;
         }
     }
-    Ok(true)
+    true
+}
+
+/// Makes the calls of all scenes.
+fn run_scenes<R: AllocGlobal + Print>(rt: &R) -> io::Result<()> {
+    for scene in &SCENES {
+        run(rt, scene)?;
+    }
+    run_pair(rt, "pages, sizes and a copy", &ACTS)?;
+    users::run_default(rt)?;
+    users::run_writer(rt)?;
+    users::run_notes(rt)?;
+    users::run_show(rt)?;
+    run_pair(rt, "texts of two screens", &TEXTS)?;
+    run_pair(rt, "states, plain texts and captures", &MORE_TEXTS)?;
+    run_pair(rt, "texts of the rows of two screens", &ROWS)?;
+    for scene in &MORE_SCENES {
+        run(rt, scene)?;
+    }
+    mirrors::run(rt)
 }
 
 /// Makes a parser, and then its calls.
 fn run<R: AllocGlobal + Print>(rt: &R, scene: &Scene) -> io::Result<()> {
     println!(rt; "-- {}", scene.name)?;
     match new_parser(rt.alloc(), scene.size, scene.scrollback) {
-        Ok(mut parser) => make_steps(rt, &mut parser, scene.steps),
+        Ok(mut parser) => make_steps(rt, &mut parser, scene),
         Err(_) => println!(rt; "new: refused"),
     }
 }
@@ -70,12 +89,16 @@ fn run<R: AllocGlobal + Print>(rt: &R, scene: &Scene) -> io::Result<()> {
 fn make_steps<R: AllocGlobal + Print>(
     rt: &R,
     parser: &mut Parser<Tally>,
-    steps: &[Step],
+    scene: &Scene,
 ) -> io::Result<()> {
     println!(rt; "new: ok; {}", Shown(parser))?;
-    for step in steps {
+    for (number, step) in scene.steps.iter().enumerate() {
         let answer = step.make(rt.alloc(), parser);
-        println!(rt; "{step}: {answer}; {}", Shown(parser))?;
+        print!(rt; "{step}: {answer}; {}", Shown(parser))?;
+        if answer.is_refusal() {
+            tell(rt, standing::of_scene(rt.alloc(), scene, number, parser))?;
+        }
+        println!(rt)?;
     }
     Ok(())
 }
@@ -101,11 +124,23 @@ fn new_pair(alloc: Global) -> Result<Pair, &'static str> {
 }
 
 fn make_acts<R: AllocGlobal + Print>(rt: &R, pair: &mut Pair, acts: &[Act]) -> io::Result<()> {
-    for act in acts {
+    for (number, act) in acts.iter().enumerate() {
         let answer = pair.make(rt.alloc(), *act);
-        println!(rt; "{act}: {answer}; {}", Shown(pair.changed_by(*act)))?;
+        print!(rt; "{act}: {answer}; {}", Shown(pair.changed_by(*act)))?;
+        if answer.is_refusal() {
+            tell(rt, standing::of_pair(rt.alloc(), acts, number, pair))?;
+        }
+        println!(rt)?;
     }
     Ok(())
+}
+
+/// Prints what stands.
+fn tell<R: Print>(rt: &R, standing: Result<Standing, Error>) -> io::Result<()> {
+    match standing {
+        Ok(standing) => print!(rt; "; {standing}"),
+        Err(_) => print!(rt; "; refused once more"),
+    }
 }
 
 /// A parser of this size that counts calls, with room for so many rows in scrollback.

@@ -184,10 +184,50 @@ pub const ROWS: [Act; 4] = [
     Act::Differ(Change::Rows),
 ];
 
-/// The redraw for terminals in any region, asked for twice.
-pub const RESET: Scene = Scene {
-    name: "a redraw for any region",
-    size: (1, 4),
-    scrollback: 0,
-    steps: &[Step::Process(b"x"), Step::Reset, Step::Reset],
-};
+/// More calls of one parser: rows that are pushed amid a text, a title behind one, and calls on a screen
+/// that has all that a screen may have: two pages with saved cursors, regions and origin modes,
+/// attributes, modes, and scrollback with more rows that have left than it keeps.
+pub const MORE_SCENES: [Scene; 4] = [
+    Scene {
+        name: "rows that are pushed while a text is read",
+        size: (2, 4),
+        scrollback: 10,
+        steps: &[Step::Process(b"a\r\nb\r\ncd"), Step::Process(b"z")],
+    },
+    Scene {
+        name: "a title behind a text",
+        size: (2, 4),
+        scrollback: 0,
+        steps: &[Step::Process(b"x\x1b]2;t\x07"), Step::Process(b"z")],
+    },
+    Scene {
+        name: "a screen that has all that a screen may have",
+        size: (3, 4),
+        scrollback: 1,
+        steps: &[
+            Step::Process(b"\x1b[1;31ma\r\nb\r\nc\r\nd\r\n"),
+            Step::Process(b"\x1b[2;2H\x1b7\x1b[2;3r\x1b[?6h\x1b[44mx"),
+            Step::Process(b"\x1b[?47h"),
+            Step::Process(b"\x1b[3;4H\x1b7\x1b[2;3r\x1b[?6hyz\x1b[?1;1003;2004h\x1b="),
+            Step::SetSize(2, 5),
+            Step::SetSize(2, 5),
+            Step::SetScreenSize(4, 3),
+            Step::SetScreenSize(4, 3),
+            Step::State,
+            Step::State,
+            Step::Process(b"\x1b[?47l\x1b[4;1H"),
+            Step::SetScrollback(1),
+            Step::SetScrollback(1),
+            Step::Process(b"e\r\nf"),
+            Step::SetScrollback(1),
+            Step::SetScrollback(1),
+            Step::Process(b"z"),
+        ],
+    },
+    Scene {
+        name: "a redraw for any region",
+        size: (1, 4),
+        scrollback: 0,
+        steps: &[Step::Process(b"x"), Step::Reset, Step::Reset],
+    },
+];

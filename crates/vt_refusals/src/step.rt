@@ -202,6 +202,14 @@ pub struct Items {
     behind: Option<Result<String, Error>>,
 }
 
+impl Items {
+    fn has_refusal(&self) -> bool {
+        matches!(self.first, Some(Err(_)))
+            || matches!(self.second, Some(Err(_)))
+            || matches!(self.behind, Some(Err(_)))
+    }
+}
+
 impl fmt::Display for Items {
     fn fmt<W: fmt::Write>(&self, f: &mut fmt::Formatter<W>) -> fmt::Result {
         write_item(f, &self.first)?;
@@ -267,6 +275,17 @@ pub enum Answer {
 
     /// Nothing, since it gives no text.
     NoText,
+}
+
+impl Answer {
+    /// Whether memory was refused now, for the call or for one of the items.
+    pub fn is_refusal(&self) -> bool {
+        match self {
+            Answer::Refused(Error::OutOfMemory) => true,
+            Answer::Rows(items) => items.has_refusal(),
+            _ => false,
+        }
+    }
 }
 
 impl fmt::Display for Answer {

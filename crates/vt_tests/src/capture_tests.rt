@@ -1,3 +1,4 @@
+use crate::cuts::expect_read_back_at_each_byte;
 use crate::seen::read_keeping;
 use crate::steps::Step::{self, Bytes, Resize, Text, View};
 use crate::steps::{Pieces, feed, size_of, taken};
@@ -40,6 +41,7 @@ const CAPTURES: [((u16, u16), usize, &[Step], &str, &str); 14] = [
 #[test]
 fn captures(rt: HostRuntime) -> Result<(), Fail> {
     for (size, capacity, steps, visible, full) in &CAPTURES {
+        expect_read_back_at_each_byte(rt.alloc(), *size, *capacity, steps)?;
         let parser = taken(rt.alloc(), *size, *capacity, steps, Pieces::Single)?;
         let screen = parser.screen();
         assert_eq!(rt; screen.contents_formatted_basic()?.as_str(), *visible);
@@ -83,6 +85,7 @@ fn streamed_captures(rt: HostRuntime) -> Result<(), Fail> {
                 expect_streamed(rt.alloc(), *size, capacity, text, pieces, wanted)?;
             }
             expect_streamed(rt.alloc(), *size, capacity, text, Pieces::Single, wanted)?;
+            expect_read_back_at_each_byte(rt.alloc(), *size, capacity, &[Text(text)])?;
         }
     }
     Ok(())

@@ -1,5 +1,6 @@
 //! Differences: their texts, and what a terminal shows that reads them.
 
+use crate::cuts::expect_read_back_at_each_byte;
 use crate::readback::Change;
 use crate::steps::Step::{self, Text, View};
 use crate::steps::{Pieces, longest, taken};
@@ -73,7 +74,7 @@ const DIFFERENCES: [Example; 14] = [
 
 /// Fails where the parsers of an example, their bytes in two pieces or one by one, have another text of
 /// this kind, or where a terminal that reads it takes over something else; and where one of them has
-/// such a text against itself.
+/// such a text against itself, or where a screen after one of the bytes is not read back.
 pub(crate) fn expect_at_each_cut(
     alloc: Global,
     change: Change,
@@ -82,7 +83,9 @@ pub(crate) fn expect_at_each_cut(
     for most in 0..=longest(example.2).max(longest(example.3)) {
         expect(alloc, change, example, Pieces::Two(most))?;
     }
-    expect(alloc, change, example, Pieces::Single)
+    expect(alloc, change, example, Pieces::Single)?;
+    expect_read_back_at_each_byte(alloc, example.0, example.1, example.2)?;
+    expect_read_back_at_each_byte(alloc, example.0, example.1, example.3)
 }
 
 fn expect(alloc: Global, change: Change, example: &Example, pieces: Pieces) -> Result<(), Fail> {

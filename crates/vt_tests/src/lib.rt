@@ -7,9 +7,17 @@ mod callbacks_tests;
 #[cfg(test)]
 mod capture_tests;
 #[cfg(test)]
+mod changing;
+#[cfg(test)]
+mod changing_tests;
+#[cfg(test)]
 mod counter;
 #[cfg(test)]
+mod cuts;
+#[cfg(test)]
 mod difference_tests;
+#[cfg(test)]
+mod limits_tests;
 #[cfg(test)]
 mod noted;
 #[cfg(test)]

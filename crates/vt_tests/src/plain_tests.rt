@@ -1,3 +1,4 @@
+use crate::cuts::expect_read_back_at_each_byte;
 use crate::seen::read_keeping;
 use crate::steps::Step::{self, Resize, ResizeParser, Text, View};
 use crate::steps::{Pieces, longest, taken};
@@ -56,6 +57,7 @@ fn contents(rt: HostRuntime) -> Result<(), Fail> {
             )?;
         }
         expect_contents(rt.alloc(), *size, *capacity, steps, Pieces::Single, *wanted)?;
+        expect_read_back_at_each_byte(rt.alloc(), *size, *capacity, steps)?;
     }
     Ok(())
 }
@@ -106,6 +108,7 @@ fn contents_between(rt: HostRuntime) -> Result<(), Fail> {
             )?;
         }
         expect_range(rt.alloc(), *text, Pieces::Single, (*start, *end), *wanted)?;
+        expect_read_back_at_each_byte(rt.alloc(), (2, 4), 0, &[Text(*text)])?;
     }
     Ok(())
 }

@@ -1,5 +1,6 @@
 //! Redraws: their texts, and what a terminal shows that reads them.
 
+use crate::cuts::expect_read_back_at_each_byte;
 use crate::readback::ASKED;
 use crate::readback::Asked::{self, Attributes, Cursor, Redraw, Reset};
 use crate::seen::{expect, read};
@@ -22,7 +23,7 @@ const WHOLE_REGION: &str = "\x1b[?6l\x1b[r";
 pub(crate) type Example = ((u16, u16), usize, &'static [Step], Asked, &'static str);
 
 #[rattlefmt::skip]
-const REDRAWN: [Example; 18] = [
+const REDRAWN: [Example; 19] = [
     // A screen in colours, and a fresh one.
     (
         (24, 80), 0, &[Text("this text is \x1b[31mRED\x1b[m"), Text("\x1b[3D\x1b[32mGREEN")],
@@ -31,6 +32,9 @@ const REDRAWN: [Example; 18] = [
     ((24, 80), 0, &[], Redraw, ""),
     ((24, 80), 0, &[], Cursor, "\x1b[?25h\x1b[H"),
     ((2, 4), 0, &[Text("\x1b[31mabcd\x1b[m")], Redraw, "\x1b[31mabcd\x1b[m"),
+
+    // The smallest screen.
+    ((1, 1), 0, &[Text("ab")], Redraw, "b"),
 
     // Flags.
     ((3, 4), 0, &[Text("abcdx\x1b[L")], Redraw, "abcd \x08\x1b[X\r\nx\x1b[2;2H"),
@@ -77,7 +81,8 @@ fn wanted_text(alloc: Global, asked: Asked, text: &str) -> Result<String, Fail> 
     Ok(wanted)
 }
 
-/// Fails where these steps, their bytes in two pieces or one by one, give another text.
+/// Fails where these steps, their bytes in two pieces or one by one, give another text, or where the
+/// screen after one of the bytes is not read back.
 pub(crate) fn expect_at_each_cut(
     alloc: Global,
     example: &Example,
@@ -86,7 +91,8 @@ pub(crate) fn expect_at_each_cut(
     for most in 0..=longest(example.2) {
         expect_after(alloc, example, Pieces::Two(most), wanted)?;
     }
-    expect_after(alloc, example, Pieces::Single, wanted)
+    expect_after(alloc, example, Pieces::Single, wanted)?;
+    expect_read_back_at_each_byte(alloc, example.0, example.1, example.2)
 }
 
 fn expect_after(

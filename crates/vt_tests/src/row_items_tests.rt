@@ -1,3 +1,4 @@
+use crate::cuts::expect_read_back_at_each_byte;
 use crate::picture::have_same_cells;
 use crate::seen::read_keeping;
 use crate::steps::Step::Text;
@@ -46,6 +47,7 @@ fn rows_formatted(rt: HostRuntime) -> Result<(), Fail> {
             let parser = taken(rt.alloc(), *size, 0, &[Text(*text)], Pieces::Two(most))?;
             expect_texts(formatted(rt.alloc(), parser.screen(), *range)?, *wanted)?;
         }
+        expect_read_back_at_each_byte(rt.alloc(), *size, 0, &[Text(*text)])?;
         let parser = taken(rt.alloc(), *size, 0, &[Text(*text)], Pieces::Single)?;
         expect_texts(formatted(rt.alloc(), parser.screen(), *range)?, *wanted)?;
     }
@@ -55,6 +57,8 @@ fn rows_formatted(rt: HostRuntime) -> Result<(), Fail> {
 #[test]
 fn rows_diff(rt: HostRuntime) -> Result<(), Fail> {
     for (size, was, text, range, wanted) in &CHANGED {
+        expect_read_back_at_each_byte(rt.alloc(), *size, 0, &[Text(*was)])?;
+        expect_read_back_at_each_byte(rt.alloc(), *size, 0, &[Text(*text)])?;
         let prev = taken(rt.alloc(), *size, 0, &[Text(*was)], Pieces::Single)?;
         expect_changes(rt.alloc(), prev.screen(), *size, *text, *range, *wanted)?;
     }

@@ -1,5 +1,6 @@
 //! What a parser shows and called, as one text, and what is expected of it.
 
+use crate::cuts::expect_read_back_at_each_byte;
 use crate::steps::{Pieces, Step, longest, size_of, taken};
 use std::alloc::{AllocError, Global};
 use std::test::Fail;
@@ -11,7 +12,8 @@ use vt100::{
 /// A fresh parser's size, how many rows its scrollback keeps, what is done, and what is seen then.
 pub(crate) type Example = ((u16, u16), usize, &'static [Step], &'static str);
 
-/// Fails where one of these examples gives something else, its bytes in two pieces or one by one.
+/// Fails where one of these examples gives something else, its bytes in two pieces or one by one, or
+/// where the screen after one of the bytes is not read back.
 pub(crate) fn expect_each(alloc: Global, examples: &[Example]) -> Result<(), Fail> {
     for (size, capacity, steps, wanted) in examples {
         expect_at_each_cut(alloc, *size, *capacity, steps, wanted)?;
@@ -19,7 +21,8 @@ pub(crate) fn expect_each(alloc: Global, examples: &[Example]) -> Result<(), Fai
     Ok(())
 }
 
-/// Fails where these steps, their bytes in two pieces or one by one, give something else.
+/// Fails where these steps, their bytes in two pieces or one by one, give something else, or where the
+/// screen after one of the bytes is not read back.
 pub(crate) fn expect_at_each_cut(
     alloc: Global,
     size: (u16, u16),
@@ -30,7 +33,8 @@ pub(crate) fn expect_at_each_cut(
     for most in 0..=longest(steps) {
         expect_after(alloc, size, capacity, steps, Pieces::Two(most), wanted)?;
     }
-    expect_after(alloc, size, capacity, steps, Pieces::Single, wanted)
+    expect_after(alloc, size, capacity, steps, Pieces::Single, wanted)?;
+    expect_read_back_at_each_byte(alloc, size, capacity, steps)
 }
 
 // Fails where these steps, their bytes read like this, give something else.

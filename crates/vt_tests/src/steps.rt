@@ -37,8 +37,8 @@ pub(crate) enum Pieces {
 }
 
 impl Step {
-    // What is read.
-    fn bytes(self) -> &'static [u8] {
+    /// What is read.
+    pub(crate) fn bytes(self) -> &'static [u8] {
         match self {
             Step::Text(text) => text.as_bytes(),
             Step::Bytes(bytes) => bytes,

@@ -92,7 +92,7 @@ fn wraps_the_longest_row(rt: HostRuntime) -> Result<(), Fail> {
 }
 
 #[rattlefmt::skip]
-const REPORTED: [(&[u8], &str); 61] = [
+const REPORTED: [(&[u8], &str); 66] = [
     // Attributes.
     (b"\x1b[1;31;44m", "@0,0 foreground Idx(1) background Idx(4) bold\n"),
     (b"\x1b[38;5;9m", "@0,0 foreground Idx(9)\n"),
@@ -124,6 +124,9 @@ const REPORTED: [(&[u8], &str); 61] = [
     (b"\x1b[1 2qA", "0:A @0,1\n"),
     (b"\x1b[8;;50t", "@0,0\nresize(0, 50)\n"),
     (b"\x1b[8t", "@0,0\nresize(24, 80)\n"),
+    (b"\x1b[8;0;0t", "@0,0\nresize(0, 0)\n"),
+    (b"\x1b[8;65535;65535t", "@0,0\nresize(65535, 65535)\n"),
+    (b"\x1b[8;99999999999;70000;1t", "@0,0\nresize(65535, 65535)\n"),
 
     // Within a sequence: a control, bytes that nobody reads, and another sequence.
     (b"ab\x1b[2\r\x80\x7fC", "0:ab @0,2\n"),
@@ -148,6 +151,15 @@ const REPORTED: [(&[u8], &str); 61] = [
     (
         b"\x1b[0;0;0;0;0;0;0;0;0;0;0;0;0;0;0;0;0;0;0;0;0;0;0;0;0;0;0;0;0;0;0;70000z",
         "@0,0\nunhandled_csi(None, None, [[0], [0], [0], [0], [0], [0], [0], [0], [0], [0], [0], [0], [0], [0], [0], [0], [0], [0], [0], [0], [0], [0], [0], [0], [0], [0], [0], [0], [0], [0], [0], [65535]], 'z')\n",
+    ),
+
+    (
+        b"\x1b[0;0;0;0;0;0;0;0;0;0;0;0;0;0;0;0;0;0;0;0;0;0;0;0;0;0;0;0;0;0;0;0;0;0;0;0;0;0;0;1m",
+        "@0,0\n",
+    ),
+    (
+        b"\x1b[0;0;0;0;0;0;0;0;0;0;0;0;0;0;0;0;0;0;0;0;0;0;0;0;0;0;0;0;0;0;0;1;0m",
+        "@0,0 bold\n",
     ),
 
     // Operating system commands and other strings.

@@ -1,0 +1,186 @@
+//! What stands once memory was refused.
+
+use crate::pair::{Act, Pair};
+use crate::scenes::Scene;
+use crate::step::Step;
+use crate::tally::Tally;
+use crate::whole::are_alike;
+use crate::{new_pair, new_parser};
+use std::alloc::Global;
+use std::fmt;
+use vt100::{Error, Parser};
+
+/// What stands after a call whose memory was refused, told by the same calls of other parsers, to which
+/// nothing was refused.
+#[derive(Clone, Copy)]
+pub enum Standing {
+    /// All that stood before the call.
+    Before,
+
+    /// All that stands after so many steps of what the call reads.
+    After { taken: usize, of: usize },
+
+    /// Something else.
+    Other,
+}
+
+impl fmt::Display for Standing {
+    fn fmt<W: fmt::Write>(&self, f: &mut fmt::Formatter<W>) -> fmt::Result {
+        match self {
+            Standing::Before => write!(f, "all as before"),
+            Standing::After { taken, of } => write!(f, "all as after {taken} of {of} steps"),
+            Standing::Other => write!(f, "something else"),
+        }
+    }
+}
+
+/// What is read that has steps of several bytes, or several steps in one sequence, and bytes that do the
+/// same step by step. Of all else each byte is a step.
+#[rattlefmt::skip]
+const STEPS: [(&[u8], &[&[u8]]); 8] = [
+    (b"a\x1b[5b", &[b"a", b"a", b"a", b"a", b"a", b"a"]),
+    (b"\x1b[2S", &[b"\x1b[2S"]),
+    (b"\xef\xb8\x8f", &[b"\xef\xb8\x8f"]),
+    (b"\x1b[2;3H\x1b[?1;1049;2004h", &[b"\x1b[2;3H", b"\x1b[?1h", b"\x1b[?1049h", b"\x1b[?2004h"]),
+    (b"\x1b[?47h", &[b"\x1b[?47h"]),
+    (b"a\r\nb\r\n\xe4\xb8\xad", &[b"a", b"\r", b"\n", b"b", b"\r", b"\n", b"\xe4\xb8\xad"]),
+    (b"a\r\nb\r\nc\x1b[?1000h", &[b"a", b"\r", b"\n", b"b", b"\r", b"\n", b"c", b"\x1b[?1000h"]),
+    (
+        b"\x1b[1;31ma\r\nb\r\nc\r\nd\r\n",
+        &[b"\x1b[1;31m", b"a", b"\r", b"\n", b"b", b"\r", b"\n", b"c", b"\r", b"\n", b"d", b"\r", b"\n"],
+    ),
+];
+
+/// What stands after the step of this number was refused to a parser that has made those before it.
+pub fn of_scene(
+    alloc: Global,
+    scene: &Scene,
+    number: usize,
+    parser: &Parser<Tally>,
+) -> Result<Standing, Error> {
+    let mut control = new_parser(alloc, scene.size, scene.scrollback)?;
+    of_steps(alloc, scene.steps, number, &mut control, parser)
+}
+
+fn of_steps(
+    alloc: Global,
+    steps: &[Step],
+    number: usize,
+    control: &mut Parser<Tally>,
+    parser: &Parser<Tally>,
+) -> Result<Standing, Error> {
+    for step in steps.iter().take(number) {
+        let _ = step.make(alloc, control);
+    }
+    match steps.get(number) {
+        Some(Step::Process(bytes)) => of_reading(alloc, bytes, control, parser),
+        _ => of_call(alloc, control, parser),
+    }
+}
+
+// What stands after a call that changes nothing where it is refused.
+fn of_call(
+    alloc: Global,
+    control: &Parser<Tally>,
+    parser: &Parser<Tally>,
+) -> Result<Standing, Error> {
+    if are_alike(alloc, control, parser)? {
+        return Ok(Standing::Before);
+    }
+    Ok(Standing::Other)
+}
+
+// What stands of what is read: the fewest steps after which the control is like the parser.
+fn of_reading(
+    alloc: Global,
+    bytes: &[u8],
+    control: &mut Parser<Tally>,
+    parser: &Parser<Tally>,
+) -> Result<Standing, Error> {
+    if are_alike(alloc, control, parser)? {
+        return Ok(Standing::Before);
+    }
+    for (read, steps) in &STEPS {
+        if *read == bytes {
+            return of_pieces(alloc, steps, control, parser);
+        }
+    }
+    of_bytes(alloc, bytes, control, parser)
+}
+
+fn of_pieces(
+    alloc: Global,
+    pieces: &[&[u8]],
+    control: &mut Parser<Tally>,
+    parser: &Parser<Tally>,
+) -> Result<Standing, Error> {
+    let mut taken = 0usize;
+    for piece in pieces {
+        control.process(piece)?;
+        taken = taken.saturating_add(1);
+        if are_alike(alloc, control, parser)? {
+            let of = pieces.len();
+            return Ok(Standing::After { taken, of });
+        }
+    }
+    Ok(Standing::Other)
+}
+
+// What stands of what is read, each byte of which is a step.
+fn of_bytes(
+    alloc: Global,
+    bytes: &[u8],
+    control: &mut Parser<Tally>,
+    parser: &Parser<Tally>,
+) -> Result<Standing, Error> {
+    let mut taken = 0usize;
+    for byte in bytes.chunks(1) {
+        control.process(byte)?;
+        taken = taken.saturating_add(1);
+        if are_alike(alloc, control, parser)? {
+            let of = bytes.len();
+            return Ok(Standing::After { taken, of });
+        }
+    }
+    Ok(Standing::Other)
+}
+
+/// What stands after the act of this number was refused to a pair that has done those before it.
+pub fn of_pair(alloc: Global, acts: &[Act], number: usize, pair: &Pair) -> Result<Standing, Error> {
+    match new_pair(alloc) {
+        Ok(mut control) => of_acts(alloc, acts, number, &mut control, pair),
+        Err(_) => Err(Error::OutOfMemory),
+    }
+}
+
+fn of_acts(
+    alloc: Global,
+    acts: &[Act],
+    number: usize,
+    control: &mut Pair,
+    pair: &Pair,
+) -> Result<Standing, Error> {
+    for act in acts.iter().take(number) {
+        let _ = control.make(alloc, *act);
+    }
+    match acts.get(number) {
+        Some(Act::First(Step::Process(bytes))) => {
+            if !are_alike(alloc, &control.second, &pair.second)? {
+                return Ok(Standing::Other);
+            }
+            of_reading(alloc, bytes, &mut control.first, &pair.first)
+        }
+        Some(Act::Second(Step::Process(bytes))) => {
+            if !are_alike(alloc, &control.first, &pair.first)? {
+                return Ok(Standing::Other);
+            }
+            of_reading(alloc, bytes, &mut control.second, &pair.second)
+        }
+        _ => {
+            if !are_alike(alloc, &control.second, &pair.second)? {
+                return Ok(Standing::Other);
+            }
+            of_call(alloc, &control.first, &pair.first)
+        }
+    }
+}

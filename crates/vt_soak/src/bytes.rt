@@ -1,0 +1,214 @@
+//! Random input: plain text, characters of two columns and none, controls, sequences of all kinds, and
+//! bytes that are none of these.
+
+use crate::dice::Dice;
+use std::alloc::AllocError;
+
+/// Characters of one column and of two, marks, and characters that draw nothing.
+const CHARACTERS: [&str; 24] = [
+    "é",
+    "中",
+    "文",
+    "한",
+    "あ",
+    "😀",
+    "🇩",
+    "ﷺ",
+    "Ａ",
+    "│",
+    "█",
+    "©",
+    "❤",
+    "☺",
+    "\u{301}",
+    "\u{308}",
+    "\u{20dd}",
+    "\u{200d}",
+    "\u{ad}",
+    "\u{85}",
+    "\u{fffd}",
+    "\u{2764}\u{fe0f}",
+    "#\u{fe0f}",
+    "\u{fe0f}",
+];
+
+const CONTROLS: [u8; 10] = [b'\r', b'\n', b'\r', b'\n', 8, 9, 7, 11, 14, 5];
+
+/// Bytes that end a control sequence, those of moves, erasures and shifts more than once.
+const ENDS: &[u8] = b"ABCDEFGHIJKLMPSTX@`abdefghlmnqrstuABCDHJKLMPSTX@";
+
+/// Bytes behind an escape. RIS is among them, once.
+const ESCAPES: &[u8] = b"7878=>MMMcgDEHZ(#\\";
+
+const RENDITIONS: [&str; 24] = [
+    "0",
+    "",
+    "1",
+    "2",
+    "3",
+    "4",
+    "7",
+    "22",
+    "23",
+    "24",
+    "27",
+    "31",
+    "42",
+    "39",
+    "49",
+    "91",
+    "102",
+    "38;5;9",
+    "48;5;200",
+    "38;2;1;2;3",
+    "48:2:4:5:6",
+    "38:5:7",
+    "38;5;300",
+    "5",
+];
+
+const MODES: [&str; 16] = [
+    "1",
+    "6",
+    "7",
+    "9",
+    "25",
+    "47",
+    "1000",
+    "1002",
+    "1003",
+    "1005",
+    "1006",
+    "1049",
+    "2004",
+    "6;25",
+    "1;1049;2004",
+    "5",
+];
+
+const COMMANDS: [&str; 8] = [
+    "0;a",
+    "1;b",
+    "2;title",
+    "52;c;aGk=",
+    "52;c;?",
+    "9;x",
+    "2;a;b",
+    "",
+];
+
+/// Appends some input.
+pub fn push_some(bytes: &mut Vec<u8>, dice: &mut Dice) -> Result<(), AllocError> {
+    let most = if dice.is_one_in(8) { 160 } else { 12 };
+    for _ in 0..dice.up_to(most) {
+        push_one(bytes, dice)?;
+    }
+    Ok(())
+}
+
+fn push_one(bytes: &mut Vec<u8>, dice: &mut Dice) -> Result<(), AllocError> {
+    match dice.below(16) {
+        0..=3 => push_letters(bytes, dice),
+        4..=6 => push_word(bytes, dice.pick(&CHARACTERS)),
+        7 | 8 => push_byte(bytes, dice.pick(&CONTROLS)),
+        9..=11 => push_sequence(bytes, dice),
+        12 => push_renditions(bytes, dice),
+        13 => push_modes(bytes, dice),
+        14 => push_escape(bytes, dice),
+        _ => push_anything(bytes, dice),
+    }
+}
+
+fn push_letters(bytes: &mut Vec<u8>, dice: &mut Dice) -> Result<(), AllocError> {
+    for _ in 0..dice.up_to(9) {
+        push_byte(bytes, dice.pick(b"abcdefgh .~"))?;
+    }
+    Ok(())
+}
+
+fn push_byte(bytes: &mut Vec<u8>, byte: Option<u8>) -> Result<(), AllocError> {
+    bytes.push(byte.unwrap_or(b' '))?;
+    Ok(())
+}
+
+fn push_word(bytes: &mut Vec<u8>, word: Option<&str>) -> Result<(), AllocError> {
+    bytes.extend_from_slice(word.unwrap_or("").as_bytes())
+}
+
+// A control sequence: seldom with a marker or an intermediate, with up to three numbers.
+fn push_sequence(bytes: &mut Vec<u8>, dice: &mut Dice) -> Result<(), AllocError> {
+    push_word(bytes, Some("\x1b["))?;
+    if dice.is_one_in(8) {
+        push_byte(bytes, dice.pick(b"?>=!"))?;
+    }
+    for i in 0..dice.below(4) {
+        if i > 0 {
+            push_byte(bytes, Some(b';'))?;
+        }
+        push_number(bytes, dice)?;
+    }
+    if dice.is_one_in(20) {
+        push_byte(bytes, dice.pick(b" $!"))?;
+    }
+    push_byte(bytes, dice.pick(ENDS))
+}
+
+// A number: none, one digit, or now and then more.
+fn push_number(bytes: &mut Vec<u8>, dice: &mut Dice) -> Result<(), AllocError> {
+    let digits = match dice.below(16) {
+        0 => 0,
+        1 => 2,
+        2 => dice.up_to(6),
+        _ => 1,
+    };
+    for _ in 0..digits {
+        push_byte(bytes, dice.pick(b"0123456789"))?;
+    }
+    Ok(())
+}
+
+fn push_renditions(bytes: &mut Vec<u8>, dice: &mut Dice) -> Result<(), AllocError> {
+    push_word(bytes, Some("\x1b["))?;
+    for i in 0..dice.up_to(3) {
+        if i > 0 {
+            push_byte(bytes, Some(b';'))?;
+        }
+        push_word(bytes, dice.pick(&RENDITIONS))?;
+    }
+    push_byte(bytes, Some(b'm'))
+}
+
+fn push_modes(bytes: &mut Vec<u8>, dice: &mut Dice) -> Result<(), AllocError> {
+    if dice.is_one_in(4) {
+        push_word(bytes, Some("\x1b["))?;
+        push_byte(bytes, dice.pick(b"0123456"))?;
+        return push_word(bytes, Some(" q"));
+    }
+    push_word(bytes, Some("\x1b[?"))?;
+    push_word(bytes, dice.pick(&MODES))?;
+    push_byte(bytes, dice.pick(b"hl"))
+}
+
+// An escape sequence, or an operating system command or another string.
+fn push_escape(bytes: &mut Vec<u8>, dice: &mut Dice) -> Result<(), AllocError> {
+    push_byte(bytes, Some(0x1b))?;
+    match dice.below(8) {
+        0 | 1 => {
+            push_byte(bytes, Some(b']'))?;
+            push_word(bytes, dice.pick(&COMMANDS))?;
+            push_word(bytes, dice.pick(&["\x07", "\x1b\\", "\x18"]))
+        }
+        2 => push_word(
+            bytes,
+            dice.pick(&["P1$qx\x1b\\", "_a\x1b\\", "^b\x18", "Xc\x1a"]),
+        ),
+        _ => push_byte(bytes, dice.pick(ESCAPES)),
+    }
+}
+
+fn push_anything(bytes: &mut Vec<u8>, dice: &mut Dice) -> Result<(), AllocError> {
+    for _ in 0..dice.up_to(5) {
+        push_byte(bytes, Some(dice.byte()))?;
+    }
+    Ok(())
+}

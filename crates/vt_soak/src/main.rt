@@ -1,0 +1,72 @@
+//! `vt_soak SEED STEPS`: a long random run. Two terminals read the same random bytes in other pieces,
+//! and get the same calls in between; a third one is kept equal to them by differences, and a fourth
+//! one by redraws.
+//!
+//! A line with the counts is printed at the end, or one that says what differs first, after which
+//! step. The status is 1 where something differs. Where standard error is a terminal, a line there
+//! tells every so often how far the run is.
+#![tactic(auto)]
+
+mod bytes;
+mod dice;
+mod digest;
+mod part;
+mod pieces;
+mod reader;
+mod round;
+mod shown;
+mod soundness;
+mod step;
+mod tally;
+
+use anyhow::{Context, Result};
+use dice::Dice;
+use std::env;
+use std::io::IsTerminal;
+use std::process::ExitCode;
+use std::rt::Env;
+use tally::Tally;
+
+/// After how many steps a line tells how far the run is.
+const PACE: u64 = 100_000;
+
+/// After how many steps all terminals are made anew, with another size and capacity of scrollback.
+const ROUND: u64 = 2000;
+
+fn words<R: AllocGlobal + Env>(rt: &R) -> Result<(u64, u64)> {
+    let words: Vec<String> = env::args(rt)?.skip(1).collect(rt.alloc())?;
+    let [seed, steps] = words.as_slice() else {
+        return None.context("usage: vt_soak SEED STEPS");
+    };
+    let seed = seed.parse::<u64>().context("reading the seed")?;
+    let steps = steps.parse::<u64>().context("reading the number of steps")?;
+    Ok((seed, steps))
+}
+
+/// Runs rounds until all steps are done, or something differs.
+fn soak<R: AllocGlobal + Env + Eprint>(rt: &R, is_terminal: bool) -> Result<Tally> {
+    let (seed, steps) = words(rt)?;
+    let mut tally = Tally::new(seed);
+    let mut dice = Dice::new(seed);
+    for _ in 0..steps.div_ceil(ROUND) {
+        let left = steps.saturating_sub(tally.steps);
+        round::run(rt.alloc(), &mut dice, &mut tally, left.min(ROUND))?;
+        if tally.differs.is_some() {
+            break;
+        }
+        if is_terminal && tally.steps % PACE == 0 {
+            eprintln!(rt; "{tally}")?;
+        }
+    }
+    Ok(tally)
+}
+
+fn main(rt: HostRuntime) -> Result<ExitCode> {
+    let is_terminal = rt.stderr().is_terminal();
+    let tally = soak(&rt, is_terminal)?;
+    println!(rt; "{tally}")?;
+    if tally.differs.is_some() {
+        return Ok(ExitCode::FAILURE);
+    }
+    Ok(ExitCode::SUCCESS)
+}

@@ -1,0 +1,169 @@
+//! Two screens, compared.
+
+use std::fmt;
+use vt100::{Color, Screen};
+
+/// What may differ.
+#[derive(Clone, Copy)]
+pub enum Part {
+    /// The number of rows or of columns.
+    Size,
+
+    /// A cell, or what it is drawn with.
+    Cells,
+
+    /// Whether a row goes on in the next one.
+    Flags,
+
+    /// The cursor, or whether it is hidden.
+    Cursor,
+
+    /// What is drawn with.
+    Attributes,
+
+    /// Input modes, the look of the cursor, or which page is shown.
+    Modes,
+
+    /// How many rows scrollback has, shows or may keep.
+    Counts,
+
+    /// The rows of scrollback, or those of the page below rows that are in view.
+    Rows,
+
+    /// The calls of functions.
+    Calls,
+
+    /// What a screen always has.
+    Soundness,
+
+    /// What a terminal shows that has read differences.
+    Difference,
+
+    /// What a terminal shows that has read a redraw.
+    Redraw,
+
+    /// The redraw of a terminal that shows the same.
+    Text,
+}
+
+impl fmt::Display for Part {
+    fn fmt<W: fmt::Write>(&self, f: &mut fmt::Formatter<W>) -> fmt::Result {
+        f.write_str(match self {
+            Part::Size => "size",
+            Part::Cells => "cells",
+            Part::Flags => "flags",
+            Part::Cursor => "cursor",
+            Part::Attributes => "attributes",
+            Part::Modes => "modes",
+            Part::Counts => "counts of scrollback",
+            Part::Rows => "rows of scrollback",
+            Part::Calls => "calls",
+            Part::Soundness => "a screen that is not sound",
+            Part::Difference => "what differences show",
+            Part::Redraw => "what a redraw shows",
+            Part::Text => "text of a redraw",
+        })
+    }
+}
+
+/// What two screens have not in common. Cells are compared to the end of each row that is shown, also
+/// past the columns of the screen.
+pub fn differing(one: &Screen, other: &Screen) -> Option<Part> {
+    if one.size() != other.size() {
+        return Some(Part::Size);
+    }
+    if counts(one) != counts(other) {
+        return Some(Part::Counts);
+    }
+    if !have_same_cells(one, other) {
+        return Some(Part::Cells);
+    }
+    if !have_same_flags(one, other) {
+        return Some(Part::Flags);
+    }
+    if cursor(one) != cursor(other) {
+        return Some(Part::Cursor);
+    }
+    if attributes(one) != attributes(other) {
+        return Some(Part::Attributes);
+    }
+    if one.alternate_screen() != other.alternate_screen() || !have_same_modes(one, other) {
+        return Some(Part::Modes);
+    }
+    None
+}
+
+/// How many rows scrollback shows, has and may keep.
+pub fn counts(screen: &Screen) -> (usize, usize, usize) {
+    (
+        screen.scrollback(),
+        screen.scrollback_len(),
+        screen.scrollback_capacity(),
+    )
+}
+
+fn have_same_cells(one: &Screen, other: &Screen) -> bool {
+    let (rows, _cols) = one.size();
+    for row in 0..rows.get() {
+        if !is_same_row(one, other, row) {
+            return false;
+        }
+    }
+    true
+}
+
+fn is_same_row(one: &Screen, other: &Screen, row: u16) -> bool {
+    for col in 0..u16::MAX {
+        let cell = one.cell(row, col);
+        if cell != other.cell(row, col) {
+            return false;
+        }
+        if cell.is_none() {
+            return true;
+        }
+    }
+    true
+}
+
+fn have_same_flags(one: &Screen, other: &Screen) -> bool {
+    let (rows, _cols) = one.size();
+    for row in 0..rows.get() {
+        if one.row_wrapped(row) != other.row_wrapped(row) {
+            return false;
+        }
+    }
+    true
+}
+
+/// The cursor, and whether it is hidden.
+pub fn cursor(screen: &Screen) -> ((u16, u16), bool) {
+    (screen.cursor_position(), screen.hide_cursor())
+}
+
+/// What is drawn with.
+pub fn attributes(screen: &Screen) -> (Color, Color, [bool; 5]) {
+    let switches = [
+        screen.bold(),
+        screen.dim(),
+        screen.italic(),
+        screen.underline(),
+        screen.inverse(),
+    ];
+    (screen.fgcolor(), screen.bgcolor(), switches)
+}
+
+/// Whether two screens have the same input modes and look of the cursor.
+pub fn have_same_modes(one: &Screen, other: &Screen) -> bool {
+    switched_modes(one) == switched_modes(other)
+        && one.mouse_protocol_mode() == other.mouse_protocol_mode()
+        && one.mouse_protocol_encoding() == other.mouse_protocol_encoding()
+        && one.cursor_style() == other.cursor_style()
+}
+
+fn switched_modes(screen: &Screen) -> [bool; 3] {
+    [
+        screen.application_keypad(),
+        screen.application_cursor(),
+        screen.bracketed_paste(),
+    ]
+}

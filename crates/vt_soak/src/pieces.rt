@@ -1,0 +1,27 @@
+//! Bytes, read in random pieces.
+
+use crate::dice::Dice;
+use vt100::{Callbacks, Error, Parser};
+
+/// Has a parser read bytes: in one piece, in two, or one by one.
+pub fn feed<CB: Callbacks>(
+    parser: &mut Parser<CB>,
+    dice: &mut Dice,
+    bytes: &[u8],
+) -> Result<(), Error> {
+    match dice.below(4) {
+        0 => parser.process(bytes),
+        1 => {
+            for piece in bytes.chunks(1) {
+                parser.process(piece)?;
+            }
+            Ok(())
+        }
+        _ => {
+            let cut = dice.place(bytes.len()).min(bytes.len());
+            let (front, back) = bytes.split_at(cut);
+            parser.process(front)?;
+            parser.process(back)
+        }
+    }
+}

@@ -1,0 +1,85 @@
+//! Terminals that are kept equal to another one by texts alone.
+
+use crate::dice::Dice;
+use crate::part::{Part, have_same_modes};
+use crate::pieces::feed;
+use crate::shown::shows;
+use crate::tally::Tally;
+use anyhow::{Context, Result};
+use vt100::{Parser, Screen};
+
+/// Has a terminal read what differs between this screen and the one before it, in cells and modes, and
+/// answers what is not as on the screen then. If the terminal does not show the screen before, which it
+/// may have passed over, or has another size, it reads a redraw.
+pub fn read_difference(
+    dice: &mut Dice,
+    tally: &mut Tally,
+    reader: &mut Parser,
+    screen: &Screen,
+    prev: &Screen,
+) -> Result<Option<Part>> {
+    if !is_at(reader.screen(), screen, prev) {
+        return read_redraw(dice, tally, reader, screen);
+    }
+    let text = difference(screen, prev)?;
+    tally.differences = tally.differences.saturating_add(1);
+    feed(reader, dice, text.as_bytes())?;
+    Ok(missing(reader.screen(), screen, Part::Difference))
+}
+
+/// Has a terminal, whatever it shows, read the redraw of a screen, and answers what is not as on the
+/// screen then.
+pub fn read_redraw(
+    dice: &mut Dice,
+    tally: &mut Tally,
+    reader: &mut Parser,
+    screen: &Screen,
+) -> Result<Option<Part>> {
+    let (rows, cols) = screen.size();
+    reader.set_size(rows, cols)?;
+    let text = screen.contents_formatted()?;
+    tally.redraws = tally.redraws.saturating_add(1);
+    feed(reader, dice, text.as_bytes())?;
+    if reader.screen().contents_formatted()?.as_str() != text.as_str() {
+        return Ok(Some(Part::Text));
+    }
+    Ok(missing(reader.screen(), screen, Part::Redraw))
+}
+
+/// Has a terminal that has the modes of `prev` read what differs in the modes, and answers whether it
+/// then has those of the screen.
+pub fn read_modes(
+    dice: &mut Dice,
+    reader: &mut Parser,
+    screen: &Screen,
+    prev: &Screen,
+) -> Result<Option<Part>> {
+    let text = screen.input_mode_diff(prev)?;
+    feed(reader, dice, text.as_bytes())?;
+    if !have_same_modes(reader.screen(), screen) {
+        return Ok(Some(Part::Modes));
+    }
+    Ok(None)
+}
+
+// Whether the terminal and both screens have one size, and it shows the one before.
+fn is_at(reader: &Screen, screen: &Screen, prev: &Screen) -> bool {
+    reader.size() == screen.size() && prev.size() == screen.size() && shows(reader, prev)
+}
+
+fn difference(screen: &Screen, prev: &Screen) -> Result<String> {
+    let (rows, cols) = screen.size();
+    let (other_rows, other_cols) = prev.size();
+    if rows.get() != other_rows.get() || cols.get() != other_cols.get() {
+        return None.context("screens of two sizes");
+    }
+    Ok(screen.contents_diff(prev)?)
+}
+
+fn missing(reader: &Screen, screen: &Screen, part: Part) -> Option<Part> {
+    if shows(reader, screen) {
+        None
+    } else {
+        Some(part)
+    }
+}

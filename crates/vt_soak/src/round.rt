@@ -1,0 +1,164 @@
+//! A round: terminals that are made, and steps.
+
+use crate::dice::Dice;
+use crate::digest::Digest;
+use crate::part::{Part, differing};
+use crate::reader::{read_difference, read_modes, read_redraw};
+use crate::shown::is_surely_steady;
+use crate::soundness::is_sound;
+use crate::step::{Terminal, size, take_step};
+use crate::tally::Tally;
+use anyhow::Result;
+use std::alloc::Global;
+use vt100::capture::{BasicFormattedCaptureRange, BasicFormattedCaptureState};
+use vt100::{Parser, Screen};
+
+/// How many rows scrollback keeps: one of these in a round.
+const CAPACITIES: [usize; 6] = [0, 1, 3, 20, 1000, usize::MAX];
+
+/// All rows of scrollback are compared once in so many steps.
+const WHOLE: u32 = 16;
+
+/// Makes all terminals, and takes so many steps, or those up to one after which something differs.
+pub fn run(alloc: Global, dice: &mut Dice, tally: &mut Tally, steps: u64) -> Result<()> {
+    let (rows, cols) = size(dice);
+    let capacity = dice.pick(&CAPACITIES).unwrap_or(0);
+    let mut one = Parser::new_with_callbacks(alloc, rows, cols, capacity, Digest::default())?;
+    run_one(alloc, dice, tally, steps, &mut one)
+}
+
+fn run_one(
+    alloc: Global,
+    dice: &mut Dice,
+    tally: &mut Tally,
+    steps: u64,
+    one: &mut Terminal,
+) -> Result<()> {
+    let (rows, cols) = one.screen().size();
+    let capacity = one.screen().scrollback_capacity();
+    let mut other = Parser::new_with_callbacks(alloc, rows, cols, capacity, Digest::default())?;
+    run_both(alloc, dice, tally, steps, one, &mut other)
+}
+
+fn run_both(
+    alloc: Global,
+    dice: &mut Dice,
+    tally: &mut Tally,
+    steps: u64,
+    one: &mut Terminal,
+    other: &mut Terminal,
+) -> Result<()> {
+    let (rows, cols) = size(dice);
+    let mut mirror = Parser::new(alloc, rows, cols, 0)?;
+    if dice.is_one_in(2) {
+        mirror.process(b"\x1b[?1049h")?;
+    }
+    run_mirrored(alloc, dice, tally, steps, one, other, &mut mirror)
+}
+
+fn run_mirrored(
+    alloc: Global,
+    dice: &mut Dice,
+    tally: &mut Tally,
+    steps: u64,
+    one: &mut Terminal,
+    other: &mut Terminal,
+    mirror: &mut Parser,
+) -> Result<()> {
+    let (rows, cols) = size(dice);
+    let mut painter = Parser::new(alloc, rows, cols, 0)?;
+    let mut bytes = Vec::new(alloc);
+    for _ in 0..steps {
+        tally.differs = step(
+            alloc,
+            dice,
+            tally,
+            &mut bytes,
+            one,
+            other,
+            mirror,
+            &mut painter,
+        )?;
+        if tally.differs.is_some() {
+            break;
+        }
+    }
+    Ok(())
+}
+
+// One step, and what differs after it.
+fn step(
+    alloc: Global,
+    dice: &mut Dice,
+    tally: &mut Tally,
+    bytes: &mut Vec<u8>,
+    one: &mut Terminal,
+    other: &mut Terminal,
+    mirror: &mut Parser,
+    painter: &mut Parser,
+) -> Result<Option<Part>> {
+    let prev = one.screen().clone()?;
+    take_step(dice, tally, bytes, one, other)?;
+    let found = twins_part(alloc, dice, one, other)?;
+    if found.is_some() {
+        return Ok(found);
+    }
+    readers_part(dice, tally, mirror, painter, one.screen(), &prev)
+}
+
+// What differs in two terminals that read the same, or in one of them from what every screen has.
+fn twins_part(
+    alloc: Global,
+    dice: &mut Dice,
+    one: &Terminal,
+    other: &Terminal,
+) -> Result<Option<Part>> {
+    if one.callbacks() != other.callbacks() {
+        return Ok(Some(Part::Calls));
+    }
+    if !is_sound(one.screen()) {
+        return Ok(Some(Part::Soundness));
+    }
+    let found = differing(one.screen(), other.screen());
+    if found.is_some() || !dice.is_one_in(WHOLE) {
+        return Ok(found);
+    }
+    let rows = all_rows(alloc, one.screen())?;
+    if rows.as_str() != all_rows(alloc, other.screen())?.as_str() {
+        return Ok(Some(Part::Rows));
+    }
+    Ok(None)
+}
+
+// The basic text of all rows.
+fn all_rows(alloc: Global, screen: &Screen) -> Result<String> {
+    let mut text = String::new(alloc);
+    let mut state = BasicFormattedCaptureState::new();
+    let range = BasicFormattedCaptureRange::Full(&mut state);
+    screen.write_contents_formatted_basic(&mut text, range)?;
+    Ok(text)
+}
+
+// What differs in terminals that read texts of the screen, from what it shows.
+fn readers_part(
+    dice: &mut Dice,
+    tally: &mut Tally,
+    mirror: &mut Parser,
+    painter: &mut Parser,
+    screen: &Screen,
+    prev: &Screen,
+) -> Result<Option<Part>> {
+    let modes = read_modes(dice, mirror, screen, prev)?;
+    if modes.is_some() {
+        return Ok(modes);
+    }
+    if !is_surely_steady(screen) {
+        tally.unsteady = tally.unsteady.saturating_add(1);
+        return Ok(None);
+    }
+    let shown = read_difference(dice, tally, mirror, screen, prev)?;
+    if shown.is_some() {
+        return Ok(shown);
+    }
+    read_redraw(dice, tally, painter, screen)
+}

@@ -1,0 +1,75 @@
+//! Whether a terminal shows what another screen shows.
+
+use crate::part::{attributes, cursor};
+use vt100::{Cell, Color, Screen};
+
+/// Whether the page of a terminal, none of whose scrollback is in view, has the cells and flags that
+/// a screen of its size shows, and the same cursor and attributes. A row of scrollback that is longer
+/// than the screen is cut to its columns: a wide glyph cut in two is a blank, and a flag counts only in
+/// front of a last column that isn't blank, and never in the last row.
+pub fn shows(reader: &Screen, screen: &Screen) -> bool {
+    let (rows, _cols) = screen.size();
+    if reader.size() != screen.size() || reader.scrollback() != 0 {
+        return false;
+    }
+    for row in 0..rows.get() {
+        if !shows_row(reader, screen, row) {
+            return false;
+        }
+    }
+    cursor(reader) == cursor(screen) && attributes(reader) == attributes(screen)
+}
+
+fn shows_row(reader: &Screen, screen: &Screen, row: u16) -> bool {
+    let (rows, cols) = screen.size();
+    let last = cols.get().saturating_sub(1);
+    for col in 0..last {
+        if reader.cell(row, col) != screen.cell(row, col) {
+            return false;
+        }
+    }
+    let (Some(read), Some(cell)) = (reader.cell(row, last), screen.cell(row, last)) else {
+        return false;
+    };
+    let is_blank = cell.is_wide() || !(cell.has_contents() || cell.is_wide_continuation());
+    let goes_on = screen.row_wrapped(row) && !is_blank && row != rows.get().saturating_sub(1);
+    shows_last(read, cell) && reader.row_wrapped(row) == goes_on
+}
+
+// Whether a cell in the last column is shown: half a wide glyph as a blank in its attributes.
+fn shows_last(read: &Cell, cell: &Cell) -> bool {
+    if cell.is_wide() {
+        return !read.has_contents()
+            && !read.is_wide_continuation()
+            && attributes_of(read) == attributes_of(cell);
+    }
+    read == cell
+}
+
+fn attributes_of(cell: &Cell) -> (Color, Color, [bool; 5]) {
+    let switches = [
+        cell.bold(),
+        cell.dim(),
+        cell.italic(),
+        cell.underline(),
+        cell.inverse(),
+    ];
+    (cell.fgcolor(), cell.bgcolor(), switches)
+}
+
+/// Whether each glyph that is shown, printed again on a blank row, gives just itself. Those without
+/// U+FE0F do, and so does one that it made wide. Of a narrow one that has it nothing is said.
+pub fn is_surely_steady(screen: &Screen) -> bool {
+    let (rows, cols) = screen.size();
+    for row in 0..rows.get() {
+        for col in 0..cols.get() {
+            if let Some(cell) = screen.cell(row, col)
+                && !cell.is_wide()
+                && cell.contents().contains('\u{fe0f}')
+            {
+                return false;
+            }
+        }
+    }
+    true
+}

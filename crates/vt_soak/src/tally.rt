@@ -1,0 +1,56 @@
+//! What was done, and what came out.
+
+use crate::part::Part;
+use std::fmt;
+
+/// What was done from this seed on, and what differs first.
+#[derive(Clone, Copy)]
+pub struct Tally {
+    pub seed: u64,
+    pub steps: u64,
+
+    /// How many bytes each of the two terminals read.
+    pub bytes: u64,
+
+    /// How many redraws were read back.
+    pub redraws: u64,
+
+    /// How many differences were read back.
+    pub differences: u64,
+
+    /// How many screens were passed over, since a glyph on them may be another one if it is printed
+    /// again.
+    pub unsteady: u64,
+
+    /// What differs first.
+    pub differs: Option<Part>,
+}
+
+impl Tally {
+    /// Nothing done yet.
+    pub fn new(seed: u64) -> Self {
+        Tally {
+            seed,
+            steps: 0,
+            bytes: 0,
+            redraws: 0,
+            differences: 0,
+            unsteady: 0,
+            differs: None,
+        }
+    }
+}
+
+impl fmt::Display for Tally {
+    fn fmt<W: fmt::Write>(&self, f: &mut fmt::Formatter<W>) -> fmt::Result {
+        write!(
+            f,
+            "seed {}: {} steps, {} bytes read, {} redraws and {} differences read back, {} screens passed over",
+            self.seed, self.steps, self.bytes, self.redraws, self.differences, self.unsteady
+        )?;
+        match self.differs {
+            Some(part) => write!(f, "\ndiffers after step {}: {part}", self.steps),
+            None => Ok(()),
+        }
+    }
+}

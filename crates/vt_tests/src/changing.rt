@@ -1,0 +1,175 @@
+//! Callbacks that change the screen that they are lent, each with its relation.
+
+ghost use Rattle.std.specs.Prelude.{◌≡◌, IfOk};
+ghost use Rattle.vt_tests.specs.Changing.{Becomes, Exchanges, LooksBack, Resizes};
+ghost use Rattle.vt_screen.specs.Pages.{resized};
+ghost use Rattle.vt_screen.specs.Screen.{scrolled_back};
+ghost use Rattle.vt100.specs.Parser.{Ran};
+
+use std::marker::Model;
+use std::mem;
+use std::num::NonZeroU16;
+use vt100::capture::RowContents;
+use vt100::{Call, Callbacks, Error, Parser, Screen};
+
+/// Gives a program the size that it asks for. A program may ask for 65535 rows and columns: who does
+/// this for programs that may ask for anything has to take no more rows and columns than there is
+/// memory for.
+#[derive(Drop)]
+pub(crate) struct Resizer {
+    is_refused: bool,
+}
+
+impl Model for Resizer {
+    ghost use Rattle.std.specs.Prelude.{Bool};
+
+    ghost Value = { Bool };
+
+    ghost view = { λ r. r.is_refused };
+}
+
+impl Resizer {
+    /// Callbacks that were refused no memory yet.
+    pub(crate) fn new() -> Self {
+        Resizer { is_refused: false }
+    }
+
+    /// Whether memory was ever refused.
+    pub(crate) fn is_refused(&self) -> bool {
+        self.is_refused
+    }
+
+    fn give(&mut self, screen: &mut Screen, rows: NonZeroU16, cols: NonZeroU16)
+        ensures { Becomes (resized rows.value cols.value screen.old) self.old screen.old self.new screen.new }
+    {
+        if screen.set_size(rows, cols).is_err() {
+            self.is_refused = true;
+        }
+    }
+}
+
+impl Callbacks for Resizer {
+    ghost use Rattle.vt_tests.specs.Changing.{Resizes};
+
+    ghost does = { Resizes };
+
+    fn otherwise(&mut self, screen: &mut Screen, call: Call<'_>) {
+        if let Call::Resize((rows, cols)) = call
+            && let Some(rows) = NonZeroU16::new(rows)
+            && let Some(cols) = NonZeroU16::new(cols)
+        {
+            self.give(screen, rows, cols);
+        }
+    }
+
+    fn on_scroll(&mut self, _row: RowContents<'_>, _alternate: bool) {}
+}
+
+/// Keeps another screen, and exchanges both at each bell.
+#[derive(Drop)]
+pub(crate) struct Exchanger {
+    kept: Screen,
+}
+
+impl Model for Exchanger {
+    ghost use Rattle.vt_screen.specs.Screen.{ScreenValue};
+
+    ghost Value = { ScreenValue };
+
+    ghost view = { λ e. e.kept };
+}
+
+impl Exchanger {
+    /// Callbacks that keep this screen.
+    pub(crate) fn new(kept: Screen) -> Self {
+        Exchanger { kept }
+    }
+
+    /// The screen that is kept.
+    pub(crate) fn kept(&self) -> &Screen {
+        &self.kept
+    }
+}
+
+impl Callbacks for Exchanger {
+    ghost use Rattle.vt_tests.specs.Changing.{Exchanges};
+
+    ghost does = { Exchanges };
+
+    fn otherwise(&mut self, screen: &mut Screen, call: Call<'_>) {
+        if let Call::AudibleBell = call {
+            mem::swap(&mut self.kept, screen);
+        }
+    }
+
+    fn on_scroll(&mut self, _row: RowContents<'_>, _alternate: bool) {}
+}
+
+/// Brings a row of scrollback into view at each bell.
+#[derive(Drop)]
+pub(crate) struct Viewer {
+    is_refused: bool,
+}
+
+impl Model for Viewer {
+    ghost use Rattle.std.specs.Prelude.{Bool};
+
+    ghost Value = { Bool };
+
+    ghost view = { λ v. v.is_refused };
+}
+
+impl Viewer {
+    /// Callbacks that were refused no memory yet.
+    pub(crate) fn new() -> Self {
+        Viewer { is_refused: false }
+    }
+
+    /// Whether memory was ever refused.
+    pub(crate) fn is_refused(&self) -> bool {
+        self.is_refused
+    }
+
+    fn look_back(&mut self, screen: &mut Screen)
+        ensures { Becomes (scrolled_back 1 screen.old) self.old screen.old self.new screen.new }
+    {
+        if screen.set_scrollback(1).is_err() {
+            self.is_refused = true;
+        }
+    }
+}
+
+impl Callbacks for Viewer {
+    ghost use Rattle.vt_tests.specs.Changing.{LooksBack};
+
+    ghost does = { LooksBack };
+
+    fn otherwise(&mut self, screen: &mut Screen, call: Call<'_>) {
+        if let Call::AudibleBell = call {
+            self.look_back(screen);
+        }
+    }
+
+    fn on_scroll(&mut self, _row: RowContents<'_>, _alternate: bool) {}
+}
+
+/// A run in which programs get the size that they ask for.
+pub(crate) fn run_resizing(parser: &mut Parser<Resizer>, bytes: &[u8]) -> Result<(), Error>
+    ensures ran { IfOk result (λ _. Ran Resizes parser.old bytes.now parser.new) }
+{
+    parser.process(bytes)
+}
+
+/// A run in which bells exchange the screen.
+pub(crate) fn run_exchanging(parser: &mut Parser<Exchanger>, bytes: &[u8]) -> Result<(), Error>
+    ensures ran { IfOk result (λ _. Ran Exchanges parser.old bytes.now parser.new) }
+{
+    parser.process(bytes)
+}
+
+/// A run in which bells bring a row of scrollback into view.
+pub(crate) fn run_looking_back(parser: &mut Parser<Viewer>, bytes: &[u8]) -> Result<(), Error>
+    ensures ran { IfOk result (λ _. Ran LooksBack parser.old bytes.now parser.new) }
+{
+    parser.process(bytes)
+}

@@ -1,0 +1,202 @@
+//! Callbacks that resize the screen, exchange it or scroll it back, amid a text.
+
+use crate::changing::{Exchanger, Resizer, Viewer, run_exchanging, run_looking_back, run_resizing};
+use crate::seen::shown;
+use crate::steps::size_of;
+use std::alloc::Global;
+use std::test::Fail;
+use vt100::{Parser, Screen};
+
+// Fails where a screen does not show this.
+fn expect_shown(alloc: Global, screen: &Screen, wanted: &str) -> Result<(), Fail> {
+    let found = shown(alloc, screen)?;
+    if found.as_str() != wanted {
+        return Err(Fail::new(format_args!("{found}and not {wanted}")));
+    }
+    Ok(())
+}
+
+fn expect_size(screen: &Screen, size: (u16, u16)) -> Result<(), Fail> {
+    if screen.size() != size_of(size)? {
+        return Err(Fail::new(format_args!("not {size:?}")));
+    }
+    Ok(())
+}
+
+// What is read on two rows of four columns, the size after it, and what is seen.
+const SIZED: [(&str, (u16, u16), &str); 7] = [
+    ("ab\x1b[8;3;2tcd", (3, 2), "0:ac/ 1:d @1,1\n"),
+    ("ab\x1b[8;0;2tcd", (2, 4), "0:abcd @0,4\n"),
+    ("ab\x1b[8;3;0tcd", (2, 4), "0:abcd @0,4\n"),
+    ("ab\x1b[8;;tcd", (2, 4), "0:abcd @0,4\n"),
+    ("ab\x1b[8tcd", (2, 4), "0:abcd @0,4\n"),
+    ("ab\x1b[8;1tcd", (1, 4), "0:abcd @0,4\n"),
+    ("ab\x1b[8;1;65535tcd", (1, 65535), "0:abcd @0,4\n"),
+];
+
+#[test]
+fn gives_the_size_that_is_asked_for(rt: HostRuntime) -> Result<(), Fail> {
+    for (text, size, wanted) in &SIZED {
+        for cut in 0..=text.len() {
+            expect_resized(rt.alloc(), text.as_bytes(), cut, *size, wanted)?;
+        }
+    }
+    Ok(())
+}
+
+fn expect_resized(
+    alloc: Global,
+    bytes: &[u8],
+    cut: usize,
+    size: (u16, u16),
+    wanted: &str,
+) -> Result<(), Fail> {
+    let (rows, cols) = size_of((2, 4))?;
+    let mut parser = Parser::new_with_callbacks(alloc, rows, cols, 0, Resizer::new())?;
+    resize(
+        alloc,
+        &mut parser,
+        bytes.split_at(cut.min(bytes.len())),
+        size,
+        wanted,
+    )
+}
+
+fn resize(
+    alloc: Global,
+    parser: &mut Parser<Resizer>,
+    (front, back): (&[u8], &[u8]),
+    size: (u16, u16),
+    wanted: &str,
+) -> Result<(), Fail> {
+    run_resizing(parser, front)?;
+    run_resizing(parser, back)?;
+    if parser.callbacks().is_refused() {
+        return Err(Fail::new("memory was refused"));
+    }
+    expect_size(parser.screen(), size)?;
+    expect_shown(alloc, parser.screen(), wanted)
+}
+
+// What is read on two rows of four columns, the size after it, what is seen, and what is kept.
+const EXCHANGED: [(&str, (u16, u16), &str, &str); 3] = [
+    ("ab\x07c", (1, 1), "0:c @0,1\n", "0:ab @0,2\n"),
+    ("ab\x07c\x07d", (2, 4), "0:abd @0,3\n", "0:c @0,1\n"),
+    (
+        "ab\x07\x1b[?1049hc\x07d\x07",
+        (1, 1),
+        "0:c @0,1 alternate\n",
+        "0:abd @0,3\n",
+    ),
+];
+
+#[test]
+fn exchanges_the_screen(rt: HostRuntime) -> Result<(), Fail> {
+    for (text, size, seen, kept) in &EXCHANGED {
+        for cut in 0..=text.len() {
+            expect_exchanged(rt.alloc(), text.as_bytes(), cut, *size, (seen, kept))?;
+        }
+    }
+    Ok(())
+}
+
+// A fresh screen of one row and one column.
+fn small(alloc: Global) -> Result<Screen, Fail> {
+    let (rows, cols) = size_of((1, 1))?;
+    let parser = Parser::new(alloc, rows, cols, 0)?;
+    copied(&parser)
+}
+
+fn copied(parser: &Parser) -> Result<Screen, Fail> {
+    Ok(parser.screen().clone()?)
+}
+
+fn expect_exchanged(
+    alloc: Global,
+    bytes: &[u8],
+    cut: usize,
+    size: (u16, u16),
+    wanted: (&str, &str),
+) -> Result<(), Fail> {
+    let (rows, cols) = size_of((2, 4))?;
+    let exchanger = Exchanger::new(small(alloc)?);
+    let mut parser = Parser::new_with_callbacks(alloc, rows, cols, 0, exchanger)?;
+    exchange(
+        alloc,
+        &mut parser,
+        bytes.split_at(cut.min(bytes.len())),
+        size,
+        wanted,
+    )
+}
+
+fn exchange(
+    alloc: Global,
+    parser: &mut Parser<Exchanger>,
+    (front, back): (&[u8], &[u8]),
+    size: (u16, u16),
+    (seen, kept): (&str, &str),
+) -> Result<(), Fail> {
+    run_exchanging(parser, front)?;
+    run_exchanging(parser, back)?;
+    expect_size(parser.screen(), size)?;
+    expect_shown(alloc, parser.screen(), seen)?;
+    expect_shown(alloc, parser.callbacks().kept(), kept)
+}
+
+// What is read on two rows of four columns with room for ten rows of scrollback, what is seen then,
+// and what is seen once no row is in view.
+const LOOKED_BACK: [(&str, &str, &str); 2] = [
+    (
+        "a\r\nb\r\nc\x07x",
+        "0:a 1:b @1,2 kept 1 in view 1\n",
+        "0:b 1:cx @1,2 kept 1\n",
+    ),
+    (
+        "a\r\nb\r\nc\x07\r\nd",
+        "0:a 1:b @1,1 kept 2 in view 2\n",
+        "0:c 1:d @1,1 kept 2\n",
+    ),
+];
+
+#[test]
+fn looks_back_at_a_bell(rt: HostRuntime) -> Result<(), Fail> {
+    for (text, seen, below) in &LOOKED_BACK {
+        for cut in 0..=text.len() {
+            expect_looked_back(rt.alloc(), text.as_bytes(), cut, (seen, below))?;
+        }
+    }
+    Ok(())
+}
+
+fn expect_looked_back(
+    alloc: Global,
+    bytes: &[u8],
+    cut: usize,
+    wanted: (&str, &str),
+) -> Result<(), Fail> {
+    let (rows, cols) = size_of((2, 4))?;
+    let mut parser = Parser::new_with_callbacks(alloc, rows, cols, 10, Viewer::new())?;
+    look_back(
+        alloc,
+        &mut parser,
+        bytes.split_at(cut.min(bytes.len())),
+        wanted,
+    )
+}
+
+fn look_back(
+    alloc: Global,
+    parser: &mut Parser<Viewer>,
+    (front, back): (&[u8], &[u8]),
+    (seen, below): (&str, &str),
+) -> Result<(), Fail> {
+    run_looking_back(parser, front)?;
+    run_looking_back(parser, back)?;
+    if parser.callbacks().is_refused() {
+        return Err(Fail::new("memory was refused"));
+    }
+    expect_shown(alloc, parser.screen(), seen)?;
+    parser.screen_mut().set_scrollback(0)?;
+    expect_shown(alloc, parser.screen(), below)
+}
