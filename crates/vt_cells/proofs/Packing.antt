@@ -97,10 +97,10 @@ bits_same m n p q =
 -- both colours and the style are compared
 pub attrs_same : (a b : Attrs) (f g s : Bool) → f ≡ same_color a.fgcolor b.fgcolor → g ≡ same_color a.bgcolor b.bgcolor
     → s ≡ same_style (record { intensity = a.intensity; italic = a.italic; underline = a.underline; inverse = a.inverse })
-        (record { intensity = b.intensity; italic = b.italic; underline = b.underline; inverse = b.inverse })
+    (record { intensity = b.intensity; italic = b.italic; underline = b.underline; inverse = b.inverse })
     → ((f && g) && s) ≡ same_attrs a b
 unfolding same_attrs same_style
 attrs_same a b f g s is_f is_g is_s =
     rw (is_f, is_g, is_s) (from_left (same_color a.fgcolor b.fgcolor) (same_color a.bgcolor b.bgcolor)
     (same_style (record { intensity = a.intensity; italic = a.italic; underline = a.underline; inverse = a.inverse })
-        (record { intensity = b.intensity; italic = b.italic; underline = b.underline; inverse = b.inverse })))
+    (record { intensity = b.intensity; italic = b.italic; underline = b.underline; inverse = b.inverse })))

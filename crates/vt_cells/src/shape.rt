@@ -8,6 +8,7 @@ use std::marker::Model;
 /// The bit of a wide glyph, and that of a right half; the bits below are the
 /// length of the text.
 const WIDE: u8 = 32;
+
 const RIGHT_HALF: u8 = 64;
 
 /// The length of a cell's text in bytes, whether it is a wide glyph, and whether

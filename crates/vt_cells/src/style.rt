@@ -8,7 +8,9 @@ use std::marker::Model;
 
 /// The bit of each switch; the two bits below are the intensity.
 const ITALIC: u8 = 4;
+
 const UNDERLINE: u8 = 8;
+
 const INVERSE: u8 = 16;
 
 /// Intensity, italics, underlining and the exchange of colours, in one byte:

@@ -7,11 +7,11 @@ use Rattle.vt_cells.proofs.term.sgr.ChangeText.of.Goals as goal
 pub returns : goal.returns
 returns c =
     let put : c.put_foreground.new.self ≡ separated_all (change_numbers c.args.was.now c.args.new.now) ++ 0x6D ∷ [] =
-        rw (
-          c.put_foreground.ensures.value,
-          c.put_background.ensures.value,
-          c.put_style.ensures.value,
-          c.end-text.ensures,
-        )
-        (change_put c.args.was.now c.args.new.now) in
+    rw (
+      c.put_foreground.ensures.value,
+      c.put_background.ensures.value,
+      c.put_style.ensures.value,
+      c.end-text.ensures,
+    )
+    (change_put c.args.was.now c.args.new.now) in
     c.begin.ensures ∙ ap (λ xs. 0x1B ∷ 0x5B ∷ xs) (ap without_separator put ∙ numbers_left (change_numbers c.args.was.now c.args.new.now))
