@@ -7,6 +7,7 @@
 #![tactic(auto)]
 
 mod case;
+mod cut;
 mod lines;
 mod replay;
 mod script;

@@ -1,6 +1,7 @@
 //! The replay of one case.
 
 use crate::case::Case;
+use crate::cut;
 use crate::lines::{other_lines, picture_lines};
 use crate::told::{difference, is_told};
 use anyhow::{Context, Result};
@@ -9,13 +10,14 @@ use vt_notes::Notes;
 use vt100::{Parser, Screen};
 
 /// Replays a case: its bytes whole, byte by byte, and cut in two at every place; then its texts, and if
-/// it is steady what a fresh parser shows that reads them. Prints a line for the first difference of
-/// each kind, and answers whether there was none.
+/// it is steady what a fresh parser shows that reads them, also where the bytes end at any place. Prints
+/// a line for the first difference of each kind, and answers whether there was none.
 pub fn replay<R: AllocGlobal + Print>(rt: &R, case: &Case<'_>) -> Result<bool> {
     let is_shown = is_shown_however_cut(rt, case)?;
     let is_told = are_texts_told(rt, case)?;
     let is_drawn = !case.is_steady || is_drawn_again(rt, case)?;
-    Ok(is_shown && is_told && is_drawn)
+    let is_drawn_everywhere = is_drawn_at_every_place(rt, case)?;
+    Ok(is_shown && is_told && is_drawn && is_drawn_everywhere)
 }
 
 fn is_shown_however_cut<R: AllocGlobal + Print>(rt: &R, case: &Case<'_>) -> Result<bool> {
@@ -63,6 +65,35 @@ fn is_drawn_again<R: AllocGlobal + Print>(rt: &R, case: &Case<'_>) -> Result<boo
         same = false;
     }
     Ok(same)
+}
+
+fn is_drawn_at_every_place<R: AllocGlobal + Print>(rt: &R, case: &Case<'_>) -> Result<bool> {
+    if let Some(place) = place_not_drawn(rt.alloc(), case)? {
+        println!(rt; "differs: {} (drawn at {place})", case.name)?;
+        return Ok(false);
+    }
+    Ok(true)
+}
+
+/// The first place where the bytes, ended there, leave a screen whose texts do not draw it again.
+fn place_not_drawn(alloc: Global, case: &Case<'_>) -> Result<Option<usize>> {
+    let mut parser = fed(alloc, case, &[])?;
+    place_not_drawn_by(alloc, &mut parser, case.bytes.as_slice())
+}
+
+fn place_not_drawn_by(
+    alloc: Global,
+    parser: &mut Parser<Notes>,
+    bytes: &[u8],
+) -> Result<Option<usize>> {
+    for (place, byte) in bytes.chunks(1).enumerate() {
+        let prev = parser.screen().clone()?;
+        parser.process(byte)?;
+        if !cut::is_drawn(alloc, parser.screen(), &prev)? {
+            return Ok(Some(place));
+        }
+    }
+    Ok(None)
 }
 
 /// The first place where the bytes, cut there, give something else.
