@@ -58,7 +58,8 @@ impl ChangeAttrs {
         ensures { OnOk result (gathered (S.text sink.new) piece.new
             ≡ gathered (S.text sink.old) piece.old ++ csi (joined (change_numbers self.now.was self.now.new)) 0x6D) }
     {
-        let text = ChangeText::of(&self.was, &self.new);
+        let mut text = ChangeText::new();
+        text.write(&self.was, &self.new);
         piece.add(sink, text.as_str())
     }
 
@@ -68,7 +69,8 @@ impl ChangeAttrs {
         ensures { OnOk result (S.text sink.new
             ≡ S.text sink.old ++ csi (joined (change_numbers self.now.was self.now.new)) 0x6D) }
     {
-        let text = ChangeText::of(&self.was, &self.new);
+        let mut text = ChangeText::new();
+        text.write(&self.was, &self.new);
         sink.write_str(text.as_str())
     }
 }

@@ -35,19 +35,30 @@ impl Model for ChangeText {
 }
 
 impl ChangeText {
-    /// The sequence with the numbers of what differs between two sets of
+    /// A text that is still to be written.
+    #[inline(always)]
+    pub fn new() -> Self
+        ensures { result ≡ [] }
+    {
+        ChangeText {
+            bytes: [0; ROOM],
+            start: ROOM,
+        }
+    }
+
+    /// Writes the sequence with the numbers of what differs between two sets of
     /// attributes: the foreground, the background, the intensity, italic,
     /// underline and inverse. It has no number where nothing does.
     #[inline(always)]
-    pub fn of(was: &Attrs, new: &Attrs) -> Self
-        ensures { result ≡ csi (joined (change_numbers was.now new.now)) 0x6D }
+    pub fn write(&mut self, was: &Attrs, new: &Attrs)
+        requires { self.old ≡ [] }
+        ensures { self.new ≡ csi (joined (change_numbers was.now new.now)) 0x6D }
     {
-        let mut text = ChangeText::end();
-        text.put_style(was, new);
-        text.put_background(was, new);
-        text.put_foreground(was, new);
-        text.begin();
-        text
+        self.put(b'm');
+        self.put_style(was, new);
+        self.put_background(was, new);
+        self.put_foreground(was, new);
+        self.begin();
     }
 
     /// The text.
@@ -56,19 +67,6 @@ impl ChangeText {
         ensures { result.now ≡ self.now }
     {
         unsafe { str::from_utf8_unchecked(&self.bytes[self.start..]) }
-    }
-
-    /// The last byte of the sequence.
-    #[inline]
-    fn end() -> Self
-        ensures { result ≡ 0x6D ∷ [] }
-    {
-        let mut text = ChangeText {
-            bytes: [0; ROOM],
-            start: ROOM,
-        };
-        text.put(b'm');
-        text
     }
 
     /// Puts the introducer before the numbers, in the place of the `;` that
@@ -179,13 +177,18 @@ impl ChangeText {
         ensures value { self.new ≡ separated_all (part (same_bool was new) ((if new then on else off) ∷ [])) ++ self.old }
         ensures room { length self.new ≤ length self.old + 4 }
     {
-        if was != new {
-            self.put_number(if new { on } else { off });
+        if was == new {
+            return;
+        }
+        if new {
+            self.put_number(on);
+        } else {
+            self.put_number(off);
         }
     }
 
     /// A colour of the palette: the layer, 5 and its index.
-    #[inline(never)]
+    #[inline(always)]
     fn put_indexed(&mut self, layer: u8, index: u8)
         requires { length self.old + 12 ≤ 64 }
         ensures value { self.new ≡ separated_all (layer ∷ 5 ∷ index ∷ []) ++ self.old }

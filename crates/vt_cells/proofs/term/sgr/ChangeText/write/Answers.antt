@@ -2,7 +2,7 @@ use Rattle.std.proofs.Common.{◌≡◌, [], ◌∷◌, ◌++◌, ap, ◌∙◌}
 use Rattle.vt_cells.specs.ChangeKeeping.{separated_all, without_separator}
 use Rattle.vt_cells.specs.Op.{change_numbers}
 use Rattle.vt_cells.proofs.ChangeTexts.{change_put, numbers_left}
-use Rattle.vt_cells.proofs.term.sgr.ChangeText.of.Goals as goal
+use Rattle.vt_cells.proofs.term.sgr.ChangeText.write.Goals as goal
 
 pub returns : goal.returns
 returns c =
@@ -11,7 +11,8 @@ returns c =
       c.put_foreground.ensures.value,
       c.put_background.ensures.value,
       c.put_style.ensures.value,
-      c.end-text.ensures,
+      c.put.ensures,
+      c.requires,
     )
     (change_put c.args.was.now c.args.new.now) in
     c.begin.ensures ∙ ap (λ xs. 0x1B ∷ 0x5B ∷ xs) (ap without_separator put ∙ numbers_left (change_numbers c.args.was.now c.args.new.now))
