@@ -51,6 +51,10 @@ impl Piece {
     pub fn add<S: Sink>(&mut self, sink: &mut S, text: &str) -> Result<(), S::Error>
         ensures { OnOk result (gathered (S.text sink.new) self.new ≡ gathered (S.text sink.old) self.old ++ text.now) }
     {
+        if text.len() == 1 && self.len < ROOM {
+            self.push_one(text);
+            return Ok(());
+        }
         if text.len() > self.room() {
             self.flush(sink)?;
             return sink.write_str(text);
@@ -101,12 +105,35 @@ impl Piece {
         self.len = end;
     }
 
+    /// The same for a text of one byte, as most glyphs have.
+    #[inline(always)]
+    fn push_one(&mut self, text: &str)
+        requires room { length self.old + 1 ≤ 128 }
+        requires one { length text.now ≡ 1 }
+        ensures { self.new ≡ self.old ++ text.now }
+    {
+        let end = self.len + 1;
+        copy_one(&mut self.bytes[self.len..end], text.as_bytes());
+        self.len = end;
+    }
+
     #[inline]
     fn clear(&mut self)
         ensures { self.new ≡ [] }
     {
         self.len = 0;
     }
+}
+
+/// Copies the one byte that there is.
+#[inline(always)]
+#[tactic(auto, using(crate::proofs::Pieces::one_set))]
+fn copy_one(to: &mut [u8], from: &[u8])
+    requires room { length to.old ≡ length from.now }
+    requires one { length from.now ≡ 1 }
+    ensures { to.new ≡ from.now }
+{
+    to[0] = from[0];
 }
 
 /// Copies bytes; where they are at most three, as of most glyphs, without a

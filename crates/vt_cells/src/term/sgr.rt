@@ -177,18 +177,13 @@ impl ChangeText {
         ensures value { self.new ≡ separated_all (part (same_bool was new) ((if new then on else off) ∷ [])) ++ self.old }
         ensures room { length self.new ≤ length self.old + 4 }
     {
-        if was == new {
-            return;
-        }
-        if new {
-            self.put_number(on);
-        } else {
-            self.put_number(off);
+        if was != new {
+            self.put_number(if new { on } else { off });
         }
     }
 
     /// A colour of the palette: the layer, 5 and its index.
-    #[inline(always)]
+    #[inline(never)]
     fn put_indexed(&mut self, layer: u8, index: u8)
         requires { length self.old + 12 ≤ 64 }
         ensures value { self.new ≡ separated_all (layer ∷ 5 ∷ index ∷ []) ++ self.old }
