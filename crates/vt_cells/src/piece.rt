@@ -136,16 +136,15 @@ fn copy_one(to: &mut [u8], from: &[u8])
     to[0] = from[0];
 }
 
-/// Copies bytes; where they are at most three, as of most glyphs, without a
-/// call.
+/// Copies bytes; where they are two or three, as of most glyphs with more than
+/// one, without a call.
 #[inline(always)]
-#[tactic(auto, using(crate::proofs::Pieces::one_set, crate::proofs::Pieces::two_set, crate::proofs::Pieces::three_set))]
+#[tactic(auto, using(crate::proofs::Pieces::two_set, crate::proofs::Pieces::three_set))]
 fn copy(to: &mut [u8], from: &[u8])
     requires { length to.old ≡ length from.now }
     ensures { to.new ≡ from.now }
 {
     match from.len() {
-        1 => to[0] = from[0],
         2 => {
             to[0] = from[0];
             to[1] = from[1];
