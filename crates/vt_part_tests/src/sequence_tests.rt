@@ -200,7 +200,7 @@ const MOUSE_MODES: [(Mode, Mode, &str); 10] = [
 #[test]
 fn mouse_modes(rt: HostRuntime) -> Result<(), Fail> {
     for (was, new, want) in &MOUSE_MODES {
-        let (was, new) = (was.attrs(), new.attrs());
+        let (was, new) = (*was, *new);
         expect_text(rt.alloc(), &MouseProtocolMode { was, new }, want)?;
     }
     Ok(())
@@ -217,7 +217,7 @@ const MOUSE_ENCODINGS: [(Encoding, Encoding, &str); 5] = [
 #[test]
 fn mouse_encodings(rt: HostRuntime) -> Result<(), Fail> {
     for (was, new, want) in &MOUSE_ENCODINGS {
-        let (was, new) = (was.attrs(), new.attrs());
+        let (was, new) = (*was, *new);
         expect_text(rt.alloc(), &MouseProtocolEncoding { was, new }, want)?;
     }
     Ok(())
@@ -238,7 +238,7 @@ const STYLES: [(Style, Style, &str); 9] = [
 #[test]
 fn styles(rt: HostRuntime) -> Result<(), Fail> {
     for (was, new, want) in &STYLES {
-        let (was, new) = (was.attrs(), new.attrs());
+        let (was, new) = (*was, *new);
         expect_text(rt.alloc(), &CursorStyle { was, new }, want)?;
     }
     Ok(())
