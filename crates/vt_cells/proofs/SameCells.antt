@@ -2,10 +2,11 @@
 use Rattle.std.proofs.Common.{◌≡◌, ◌≢◌, ℕ, ◌&&◌, IsTrue, Bool, true, false, [], ◌∷◌, ◌==◌, List, length, slice_index_or, refl, arith, ap, sym, ◌∙◌}
 use Rattle.std.proofs.Math.Bool.{and-false}
 use Rattle.std.specs.Str.{bytes_eq}
+use Rattle.std.proofs.lemmas.Bool.Decides.{nat_tests}
 use Rattle.std.proofs.lemmas.Cmp.{nat_list_eq_equiv}
 use Rattle.std.proofs.lemmas.Slice.Eq.{bytes_eq-Decides}
-use Rattle.vt_cells.specs.Cell.{CellValue, blank, glyph, right_half, cell_of, IsCell, same_cell, text_of, attrs_of, is_wide, is_right_half}
-use Rattle.vt_cells.specs.CellKeeping.{IsKept, ShapeValue, same_shape, shape_of_cell}
+use Rattle.vt_cells.specs.Cell.{CellValue, blank, glyph, right_half, cell_of, IsCell, is_blank, same_cell, text_of, attrs_of, is_wide, is_right_half}
+use Rattle.vt_cells.specs.CellKeeping.{IsKept, ShapeValue, blank_shape, same_shape, shape_of_cell}
 use mathlib.Core.Bool.{beq}
 use Rattle.vt_cells.specs.CellEq.{cell_eq, attrs_eq}
 use Rattle.vt_cells.specs.Attrs.{Attrs, same_attrs}
@@ -104,6 +105,21 @@ shape_of_parts len [] true false attrs kept = absurd (omega (arith, kept.measure
 shape_of_parts len [] false false attrs kept = λ i. record { len = sym kept.measured i; wide = false; right_half = false }
 shape_of_parts len (b ∷ text) wide false attrs kept =
     rw (cell_of-glyph (b ∷ text) wide attrs (omega arith)) (λ i. record { len = sym kept.measured i; wide = wide; right_half = false })
+
+shape_of_blank : (cell : CellValue) → IsCell cell → same_shape (shape_of_cell cell) blank_shape ≡ is_blank cell
+unfolding same_shape
+shape_of_blank (blank attrs) is_cell = refl
+shape_of_blank (glyph text wide attrs) is_cell =
+    let some = (IsGlyphText-length text wide is_cell).0 in
+    let none : (length text == 0) ≡ false = grind (arith, nat_tests) in
+    rw none refl
+shape_of_blank right_half is_cell = refl
+
+-- a cell is blank where its shape is
+pub blank_kept : (len : ℕ) (text : List ℕ) (wide right : Bool) (attrs : Attrs) → IsKept len text wide right attrs
+    → same_shape (record { len = len; wide = wide; right_half = right }) blank_shape ≡ is_blank (cell_of text wide right attrs)
+blank_kept len text wide right attrs kept =
+    rw (shape_of_parts len text wide right attrs kept) (shape_of_blank (cell_of text wide right attrs) kept.sound)
 
 -- cells of one shape, in the same attributes, are the same where their texts are
 pub same_cell-shaped : (x y : CellValue) → IsCell x → IsCell y → same_shape (shape_of_cell x) (shape_of_cell y) ≡ true → same_attrs (attrs_of x) (attrs_of y) ≡ true

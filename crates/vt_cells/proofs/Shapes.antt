@@ -2,7 +2,7 @@
 use Rattle.std.proofs.Common.{◌≡◌, ℕ, ◌+◌, ◌/◌, ◌%◌, ◌<◌, ◌≤◌, ◌&&◌, ◌==◌, Bool, true, false, refl, arith, ap, sym, ◌∙◌, eqb-true, if◌then◌else◌}
 use Rattle.std.proofs.lemmas.Bool.Decides.{nat_tests}
 use Rattle.vt_cells.specs.Attrs.{same_bool}
-use Rattle.vt_cells.specs.CellKeeping.{ShapeValue, same_shape, shape_bits, shape_of}
+use Rattle.vt_cells.specs.CellKeeping.{ShapeValue, blank_shape, same_shape, shape_bits, shape_of}
 use Rattle.vt_cells.proofs.Same.{bool_of-same, same_bool-itself, two_parts}
 use Rattle.vt_cells.proofs.Packing.{alike, itself}
 
@@ -41,3 +41,7 @@ bits_same m n p q =
     alike (m == n) (same_shape (shape_of m) (shape_of n))
     (λ e. rw (eqb-true m n e) (same_shape-itself (shape_of n)))
     (λ e. rw (sym p ∙ ap shape_bits (shape_of-same (shape_of m) (shape_of n) e) ∙ q) (itself n))
+
+-- a byte without a bit is that of a blank
+pub no_bits : (m : ℕ) → shape_bits (shape_of m) ≡ m → (m == 0) ≡ same_shape (shape_of m) blank_shape
+no_bits m p = bits_same m 0 p refl

@@ -17,6 +17,9 @@ pub record ShapeValue : Type 0 where
 unfoldable pub same_shape : ShapeValue → ShapeValue → Bool
 same_shape a b = (a.len == b.len) && (same_bool a.wide b.wide && same_bool a.right_half b.right_half)
 
+abbrev pub blank_shape : ShapeValue
+blank_shape = record { len = 0; wide = false; right_half = false }
+
 abbrev pub shape_of_cell : CellValue → ShapeValue
 shape_of_cell cell = record { len = length (text_of cell); wide = is_wide cell; right_half = is_right_half cell }
 

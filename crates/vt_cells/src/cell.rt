@@ -235,7 +235,7 @@ impl Cell {
     pub fn is_blank(&self) -> bool
         ensures { result ≡ is_blank self.now }
     {
-        !self.shape.is_right_half() && self.shape.len() == 0
+        self.shape.is_blank()
     }
 
     /// Whether `unicode_width` gives the whole text more than one column.

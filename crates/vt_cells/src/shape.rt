@@ -1,7 +1,7 @@
 //! What a cell is, in one byte.
 
 ghost use Rattle.std.specs.Prelude.{◌≡◌, ◌<◌, false, true};
-ghost use Rattle.vt_cells.specs.CellKeeping.{same_shape};
+ghost use Rattle.vt_cells.specs.CellKeeping.{blank_shape, same_shape};
 
 use std::marker::Model;
 
@@ -76,6 +76,15 @@ impl Shape {
         ensures { result ≡ self.now.right_half }
     {
         self.bits / RIGHT_HALF == 1
+    }
+
+    /// Whether it is that of a blank: no text, and no right half.
+    #[inline]
+    #[tactic(auto, using(crate::proofs::Shapes::no_bits))]
+    pub fn is_blank(&self) -> bool
+        ensures { result ≡ same_shape self.now blank_shape }
+    {
+        self.bits == 0
     }
 
     /// Whether both are the same.
