@@ -1,5 +1,5 @@
 -- What a cell is, in one byte.
-use Rattle.std.proofs.Common.{◌≡◌, ℕ, ◌+◌, ◌/◌, ◌%◌, ◌<◌, ◌≤◌, ◌&&◌, ◌==◌, Bool, true, false, refl, arith, ap, sym, ◌∙◌, eqb-true, if◌then◌else◌}
+use Rattle.std.proofs.Common.{◌≡◌, ℕ, ◌+◌, ◌/◌, ◌%◌, ◌<◌, ◌≤◌, ◌&&◌, ◌==◌, Bool, true, false, refl, arith, ap, sym, ◌∙◌, eqb-true, if◌then◌else◌, nat_le}
 use Rattle.std.proofs.lemmas.Bool.Decides.{nat_tests}
 use Rattle.vt_cells.specs.Attrs.{same_bool}
 use Rattle.vt_cells.specs.CellKeeping.{ShapeValue, blank_shape, same_shape, shape_bits, shape_of}
@@ -45,3 +45,15 @@ bits_same m n p q =
 -- a byte without a bit is that of a blank
 pub no_bits : (m : ℕ) → shape_bits (shape_of m) ≡ m → (m == 0) ≡ same_shape (shape_of m) blank_shape
 no_bits m p = bits_same m 0 p refl
+
+flag_bits : (flag : Bool) (n : ℕ) → (if flag then n else 0) ≤ n
+flag_bits true n = omega arith
+flag_bits false n = omega arith
+
+-- the highest bit is known by size
+pub high_bit : (m : ℕ) → shape_bits (shape_of m) ≡ m → nat_le 64 m ≡ (m / 64 == 1)
+high_bit m p =
+    let wide = flag_bits (m / 32 % 2 == 1) 32 in
+    let right = flag_bits (m / 64 == 1) 64 in
+    let small : m < 128 = omega (arith, p, wide, right) in
+    grind (arith, nat_tests)

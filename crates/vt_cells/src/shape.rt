@@ -72,10 +72,11 @@ impl Shape {
 
     /// Whether it is a right half.
     #[inline]
+    #[tactic(auto, using(crate::proofs::Shapes::high_bit))]
     pub fn is_right_half(&self) -> bool
         ensures { result ≡ self.now.right_half }
     {
-        self.bits / RIGHT_HALF == 1
+        self.bits >= RIGHT_HALF
     }
 
     /// Whether it is that of a blank: no text, and no right half.

@@ -1,12 +1,12 @@
 -- The attributes of cells in basic texts.
-use Rattle.std.proofs.Common.{◌≡◌, Bool, true, false, [], refl, sym, ap, ◌∙◌}
+use Rattle.std.proofs.Common.{◌≡◌, ℕ, Bool, true, false, List, [], ◌++◌, refl, sym, ap, ◌∙◌, append-nil}
 use Rattle.std.specs.Prelude.{if◌then◌else◌}
 use Rattle.std.proofs.lemmas.Bool.{cond_both}
-use Rattle.vt_cells.specs.Cell.{CellValue, attrs_of, is_default_blank, is_right_half}
+use Rattle.vt_cells.specs.Cell.{CellValue, blank, glyph, right_half, attrs_of, is_default_blank, is_right_half}
 use Rattle.vt_cells.specs.Attrs.{same_attrs, Attrs}
 use Rattle.vt_cells.specs.Op.{change_text}
 use Rattle.vt_cells.proofs.Same.{attrs_of-same, same_attrs-itself}
-use Rattle.vt_rows.specs.Basic.{attrs_after, is_bare}
+use Rattle.vt_rows.specs.Basic.{attrs_after, is_bare, shown_text}
 
 no_change : (attrs : Attrs) → change_text attrs attrs ≡ []
 unfolding change_text
@@ -34,3 +34,16 @@ kept_right attrs cell e = both attrs (attrs_after attrs cell) (bare attrs cell (
 
 pub own : (attrs : Attrs) (cell : CellValue) → is_default_blank cell ≡ false → is_right_half cell ≡ false → attrs_after attrs cell ≡ attrs_of cell
 own attrs cell d r = ap (λ (b : Bool). if b then attrs else attrs_of cell) (ap (λ (b : Bool). if b then b else is_right_half cell) d ∙ r)
+
+half_shown : (cell : CellValue) → is_right_half cell ≡ true → shown_text cell ≡ []
+half_shown (blank attrs) e = cc
+half_shown (glyph text wide attrs) e = cc
+half_shown right_half e = refl
+
+-- a right half adds nothing to what is gathered
+pub right_adds : (attrs : Attrs) (cell : CellValue) (xs : List ℕ) → is_right_half cell ≡ true → xs ≡ xs ++ (change_text attrs (attrs_after attrs cell) ++ shown_text cell)
+right_adds attrs cell xs e = rw ((kept_right attrs cell e).1, half_shown cell e) (sym (append-nil xs))
+
+-- and keeps the attributes
+pub right_keeps : (attrs : Attrs) (cell : CellValue) → is_right_half cell ≡ true → attrs ≡ attrs_after attrs cell
+right_keeps attrs cell e = sym (kept_right attrs cell e).0

@@ -168,8 +168,10 @@ fn write_cells<S: Sink>(sink: &mut S, cells: &[Cell], attrs: Attrs) -> Result<At
     Ok(last)
 }
 
-/// Adds a cell behind a text in `attrs`, which become those of the text then.
+/// Adds a cell behind a text in `attrs`, which become those of the text then. A
+/// right half adds nothing.
 #[inline]
+#[tactic(auto, using(crate::proofs::BasicTexts::right_adds, crate::proofs::BasicTexts::right_keeps))]
 fn add_cell<S: Sink>(
     sink: &mut S,
     piece: &mut Piece,
@@ -180,6 +182,9 @@ fn add_cell<S: Sink>(
         ≡ gathered (S.text sink.old) piece.old ++ (change_text attrs.old (attrs_after attrs.old cell.now) ++ shown_text cell.now)) }
     ensures attrs { OnOk result (attrs.new ≡ attrs_after attrs.old cell.now) }
 {
+    if cell.is_wide_continuation() {
+        return Ok(());
+    }
     if keeps_attrs(cell, attrs) {
         return piece.add(sink, shown_text(cell));
     }
