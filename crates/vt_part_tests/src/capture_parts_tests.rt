@@ -1,3 +1,5 @@
+//! The pieces of captures outside of SGR, and their rows.
+
 use std::process::Abort;
 use vt_rows::capture::{
     basic_formatted_rows, basic_formatted_to_plain, basic_formatted_to_plain_indexed,

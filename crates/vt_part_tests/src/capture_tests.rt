@@ -1,3 +1,5 @@
+//! The basic texts of rows, written one after another.
+
 ghost use Rattle.std.specs.Prelude.{◌≡◌, All, IfOk, false};
 ghost use Rattle.vt_cells.specs.Cell.{IsCell};
 ghost use Rattle.vt_rows.specs.Cells.{IsPaired};

@@ -1,3 +1,5 @@
+//! Cells: texts, marks, equality and attributes.
+
 use std::test::Fail;
 use vt_cells::{Attrs, Cell, Color, Intensity, columns};
 

@@ -1,3 +1,5 @@
+//! The events of the scanner.
+
 use std::alloc::Global;
 use std::fmt::Write;
 use std::process::Abort;

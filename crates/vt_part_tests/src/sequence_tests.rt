@@ -1,3 +1,5 @@
+//! The texts of sequences.
+
 use crate::attributes::{PLAIN, Parts};
 use std::alloc::Global;
 use std::test::Fail;

@@ -1,3 +1,5 @@
+//! Colours, attributes, errors and the widths of characters.
+
 use std::alloc::AllocError;
 use std::test::Fail;
 use vt_cells::{

@@ -1,3 +1,5 @@
+//! Callbacks: that each function is called itself, and what is lent by a parser.
+
 use crate::counter::Counter;
 use crate::counter::Function::{self, *};
 use crate::seen::{expect, read};

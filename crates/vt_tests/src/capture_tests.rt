@@ -1,3 +1,5 @@
+//! Captures: of rows that are shown or kept, streamed, and into sinks that refuse.
+
 use crate::cuts::expect_read_back_at_each_byte;
 use crate::seen::read_keeping;
 use crate::steps::Step::{self, Bytes, Resize, Text, View};

@@ -5,11 +5,15 @@
 #[cfg(test)]
 mod callbacks_tests;
 #[cfg(test)]
+mod calls_tests;
+#[cfg(test)]
 mod capture_tests;
 #[cfg(test)]
 mod changing;
 #[cfg(test)]
 mod changing_tests;
+#[cfg(test)]
+mod copies_tests;
 #[cfg(test)]
 mod counter;
 #[cfg(test)]
@@ -19,13 +23,19 @@ mod difference_tests;
 #[cfg(test)]
 mod limits_tests;
 #[cfg(test)]
+mod modes_tests;
+#[cfg(test)]
 mod noted;
 #[cfg(test)]
 mod pages_tests;
 #[cfg(test)]
+mod parser_tests;
+#[cfg(test)]
 mod picture;
 #[cfg(test)]
 mod plain_tests;
+#[cfg(test)]
+mod printing_tests;
 #[cfg(test)]
 mod readback;
 #[cfg(test)]
@@ -39,8 +49,8 @@ mod scrolling_tests;
 #[cfg(test)]
 mod seen;
 #[cfg(test)]
+mod sizes_tests;
+#[cfg(test)]
 mod state_tests;
 #[cfg(test)]
 mod steps;
-#[cfg(test)]
-mod tests;

@@ -1,3 +1,5 @@
+//! Plain texts: of the screen, of ranges and of rows.
+
 use crate::cuts::expect_read_back_at_each_byte;
 use crate::seen::read_keeping;
 use crate::steps::Step::{self, Resize, ResizeParser, Text, View};

@@ -234,3 +234,43 @@ fn redraws_in_any_region(rt: HostRuntime) -> Result<(), Fail> {
     let parser = read(rt.alloc(), (3, 2), &[b"a"])?;
     expect_each_redrawn(rt.alloc(), parser.screen())
 }
+
+// Each redraw of a screen begins with whether its cursor is shown, and clears the screen.
+#[rattlefmt::skip]
+const WHOLE: [((u16, u16), &str, &str); 10] = [
+    ((24, 80), "", "\x1b[?25h\x1b[m\x1b[H\x1b[J"),
+    ((24, 80), "this text is \x1b[31mRED\x1b[m", "\x1b[?25h\x1b[m\x1b[H\x1b[Jthis text is \x1b[31mRED\x1b[m"),
+    (
+        (24, 80),
+        "this text is \x1b[31mRED\x1b[m\x1b[1;14H\x1b[32mGREEN",
+        "\x1b[?25h\x1b[m\x1b[H\x1b[Jthis text is \x1b[32mGREEN",
+    ),
+    ((2, 4), "abcd\r\nx", "\x1b[?25h\x1b[m\x1b[H\x1b[Jabcd\r\nx"),
+    ((1, 4), "\x1b[41m\x1b[1;2H\x1b[2X\x1b[m", "\x1b[?25h\x1b[m\x1b[H\x1b[J\x1b[C\x1b[41m\x1b[2X\x1b[m"),
+    ((2, 4), "\x1b[?25lx", "\x1b[?25l\x1b[m\x1b[H\x1b[Jx"),
+
+    // A cursor on a blank screen.
+    ((2, 4), "\x1b[1;2H", "\x1b[?25h\x1b[m\x1b[H\x1b[J\x1b[C"),
+    ((2, 4), "\x1b[?25l\x1b[2;1H", "\x1b[?25l\x1b[m\x1b[H\x1b[J\r\n"),
+    ((2, 4), "\x1b[?25l\x1b[2;3H", "\x1b[?25l\x1b[m\x1b[H\x1b[J\x1b[2;3H"),
+    ((2, 4), "\x1b[41m\x1b[1;4H", "\x1b[?25h\x1b[m\x1b[H\x1b[J\x1b[3C\x1b[41m"),
+];
+
+// The redraw of a screen of this size that has read this text.
+fn redrawn(alloc: Global, size: (u16, u16), text: &str) -> Result<String, Fail> {
+    let parser = read(alloc, size, &[text.as_bytes()])?;
+    redraw_of(parser.screen())
+}
+
+fn redraw_of(screen: &Screen) -> Result<String, Fail> {
+    Ok(screen.contents_formatted()?)
+}
+
+#[test]
+fn whole_redraws(rt: HostRuntime) -> Result<(), Fail> {
+    for (size, text, wanted) in &WHOLE {
+        let redraw = redrawn(rt.alloc(), *size, text)?;
+        assert_eq!(rt; redraw.as_str(), *wanted);
+    }
+    Ok(())
+}

@@ -1,3 +1,5 @@
+//! SGR: attributes and calls after each sequence.
+
 use crate::seen::expect_at_each_cut;
 use crate::steps::Step::Text;
 use std::test::Fail;

@@ -1,3 +1,5 @@
+//! Redraws and differences of rows by themselves, and what a terminal shows that reads them.
+
 use crate::cuts::expect_read_back_at_each_byte;
 use crate::picture::have_same_cells;
 use crate::seen::read_keeping;

@@ -1,3 +1,5 @@
+//! Scrolling, scrollback and its view, and the rows that leave.
+
 use crate::seen::{Example, expect, expect_at_each_cut, expect_each, read_keeping};
 use crate::steps::Step::{GiveUp, Resize, Text, View};
 use crate::steps::{Pieces, taken};
@@ -187,4 +189,26 @@ fn is_wrapped_row(call: &Note, text: &str) -> bool {
         }
         _ => false,
     }
+}
+
+// Rows that move down: the last row of the region doesn't go on.
+#[rattlefmt::skip]
+const MOVED_DOWN: [((u16, u16), &str, &str); 9] = [
+    ((2, 2), "abc\x1b[H\x1b[L", "1:ab @0,0\n"),
+    ((2, 2), "abc\x1b[T", "1:ab @1,1\n"),
+    ((2, 2), "abc\x1b[H\x1bM", "1:ab @0,0\n"),
+    ((3, 2), "abc\x1b[1;2r\x1b[L", "1:ab @0,0\n"),
+    ((3, 2), "abc\x1b[1;2r\x1b[T", "1:ab @0,0\n"),
+    ((3, 2), "abc\x1b[1;2r\x1bM", "1:ab @0,0\n"),
+    ((3, 2), "abcde\x1b[H\x1b[L", "1:ab/ 2:cd @0,0\n"),
+    ((3, 2), "abcde\x1b[T", "1:ab/ 2:cd @2,1\n"),
+    ((3, 2), "abcde\x1b[H\x1bM", "1:ab/ 2:cd @0,0\n"),
+];
+
+#[test]
+fn moves_rows_down_at_every_cut(rt: HostRuntime) -> Result<(), Fail> {
+    for (size, text, wanted) in &MOVED_DOWN {
+        expect_at_each_cut(rt.alloc(), *size, 0, &[Text(text)], wanted)?;
+    }
+    Ok(())
 }
