@@ -22,7 +22,7 @@ use Rattle.vt_grid.proofs.Sized.{sized}
 
 -- ---- where there is room
 
-has_room : (page : Page) → page.column < page.width → lacks_room 1 page ≡ false
+pub has_room : (page : Page) → page.column < page.width → lacks_room 1 page ≡ false
 has_room page h = grind (arith, nat_tests)
 
 room_kept : (page : Page) → page.column < page.width → room_made 1 page ≡ page
