@@ -1,6 +1,7 @@
 pub mod Running
 pub mod Stepping
 pub mod Deciding
+pub mod Plain
 pub mod Quiet
 pub mod Texts
 pub mod Remaining

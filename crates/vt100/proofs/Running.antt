@@ -1,9 +1,10 @@
 -- Runs, one after the other.
-use Rattle.std.proofs.Common.{◌≡◌, ℕ, List, [], ◌∷◌, ◌++◌, ◌+◌, ◌<◌, length, take, drop, slice_index_or, Some, None, refl, sym, subst, ap, ◌∙◌, inl, inr}
-use Rattle.std.proofs.lemmas.List.{append-nil, drop_more, take-append-drop}
+use Rattle.std.proofs.Common.{◌≡◌, ℕ, List, [], ◌∷◌, ◌++◌, ◌+◌, ◌<◌, ◌≤◌, length, take, drop, slice_index_or, Some, None, refl, sym, subst, ap, ◌∙◌, inl, inr, arith}
+use Rattle.std.proofs.Math.Seq.{get_or-append-add, take-append-add}
+use Rattle.std.proofs.lemmas.List.{append-nil, drop_more, length-append, length-take-le, take-append-drop}
 use Rattle.std.specs.List.{FoldsTo}
 use Rattle.vt_rows.proofs.Folds.{folds_then}
-use Rattle.vt_scan.specs.Automaton.{State, step_in}
+use Rattle.vt_scan.specs.Automaton.{State, Step, step_in}
 use Rattle.vt_scan.specs.Run.{run}
 use Rattle.vt_scan.specs.Scanner.{Feeds, Held, StandsFor, events_in}
 use Rattle.vt_scan.specs.Table.{class_of, turn_of}
@@ -16,7 +17,7 @@ use Rattle.vt_scan.proofs.Running.{run-append}
 use Rattle.vt_screen.specs.Calls.{CallValue}
 use Rattle.vt_screen.specs.Screen.{ScreenValue}
 use Rattle.vt_screen.specs.Run.{Performs, Breaks, StopsIn}
-use Rattle.vt100.specs.Parser.{Parsing, Ran, StoppedWithin, Collects, joined, stage}
+use Rattle.vt100.specs.Parser.{Parsing, Ran, Stopped, StoppedBefore, StoppedWithin, Collects, joined, stage}
 
 pub stops_first : {P A : Type 0} (R T : P → A → P → Type 0) (xs ys : List A) (p q : P) → StopsIn R T p xs q → StopsIn R T p (xs ++ ys) q
 stops_first R T [] ys p q h = absurd h
@@ -79,3 +80,38 @@ one_character code = record { first = Some (Character code); second = None }
 -- a byte that is read as its character
 pub plain_answer : (held : Held) (b code : ℕ) → Feeds held b held (one_character b) → code ≡ b → Feeds held b held (one_character code)
 plain_answer held b code feeds same = subst (λ (k : ℕ). Feeds held b held (one_character k)) (sym same) feeds
+
+-- ---- a run, and then one that ends for want of memory
+
+stopped_within_then : {S : Type 0} (does : CallValue → S → ScreenValue → S → ScreenValue → Type 0) (p q r : Parsing S) (a b : List ℕ) → Ran does p a q → StoppedWithin does q b r → StoppedWithin does p (a ++ b) r
+stopped_within_then does p q r a b first second = λ s stands.
+    let one = first s stands in
+    rw (run-append s a b) (stops_then (Performs does) (Breaks does) (run s a).events (run (run s a).state b).events (stage p) (stage q) (stage r) one.1 (second (run s a).state one.0))
+
+stopped_before_then : {S : Type 0} (does : CallValue → S → ScreenValue → S → ScreenValue → Type 0) (p q r : Parsing S) (a b : List ℕ) → Ran does p a q → StoppedBefore does q b r → StoppedBefore does p (a ++ b) r
+stopped_before_then does p q r a b first second =
+    let k = second.count in
+    let front = take-append-add a b k in
+    record {
+      count = length a + k;
+      inside = omega (arith, length-append a b, second.inside);
+      ran = subst (λ (bytes : List ℕ). Ran does p bytes r) (sym front) (ran_then does p q r a (take k b) first second.ran);
+      refused = λ s stands.
+          let reached = ap (λ (step : Step). step.state.kind) (ap (run s) front ∙ run-append s a (take k b)) in
+          let turn = second.refused (run s a).state (first s stands).0 in
+          rw (reached, get_or-append-add a b k 0) turn;
+    }
+
+pub stopped_then : {S : Type 0} (does : CallValue → S → ScreenValue → S → ScreenValue → Type 0) (p q r : Parsing S) (bytes : List ℕ) (k : ℕ) → Ran does p (take k bytes) q → Stopped does q (drop k bytes) r → Stopped does p bytes r
+stopped_then does p q r bytes k ran stopped =
+    subst (λ (all : List ℕ). Stopped does p all r) (take-append-drop k bytes) (elim stopped [
+      | inl before ↦ inl (stopped_before_then does p q r (take k bytes) (drop k bytes) ran before)
+      | inr within ↦ inr (stopped_within_then does p q r (take k bytes) (drop k bytes) ran within)
+    ])
+
+pub ran_on : {S : Type 0} (does : CallValue → S → ScreenValue → S → ScreenValue → Type 0) (p q r : Parsing S) (bytes : List ℕ) (k n : ℕ) → k ≤ length bytes → Ran does p (take k bytes) q → Ran does q (take n (drop k bytes)) r → Ran does p (take (k + n) bytes) r
+ran_on does p q r bytes k n inside first second =
+    let front = take k bytes in
+    let size : length front ≡ k = length-take-le k bytes inside in
+    let more : take (k + n) bytes ≡ front ++ take n (drop k bytes) = sym (λ i. take (size i + n) (take-append-drop k bytes i)) ∙ take-append-add front (drop k bytes) n in
+    subst (λ (all : List ℕ). Ran does p all r) (sym more) (ran_then does p q r front (take n (drop k bytes)) first second)

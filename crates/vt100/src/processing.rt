@@ -1,9 +1,9 @@
 //! The loop over bytes.
 
 ghost use Rattle.std.specs.List.{FoldsTo};
-ghost use Rattle.std.specs.Prelude.{◌≡◌, map, option_to_list, IfOk, IsErr, IfErr};
+ghost use Rattle.std.specs.Prelude.{◌≡◌, ◌<◌, ◌≤◌, IfErr, IfOk, IsErr, length, map, option_to_list, slice_index_or, take};
 ghost use Rattle.vt100.specs.Parser.{Ran, Stopped, parsing};
-ghost use Rattle.vt_scan.specs.Scanner.{event_of, events_in};
+ghost use Rattle.vt_scan.specs.Scanner.{ReadsItself, event_of, events_in};
 ghost use Rattle.vt_screen.specs.Run.{Breaks, Performs, StopsIn, state};
 
 use crate::perform::{perform, print};
@@ -11,8 +11,8 @@ use vt_cells::Error;
 use vt_scan::{Event, Events, Scanner};
 use vt_screen::{Callbacks, Screen};
 
-/// Reads bytes one by one, and does what their events say, up to a byte whose
-/// memory is refused.
+/// Reads bytes, and does what their events say, up to a byte whose memory is
+/// refused.
 pub fn process<CB: Callbacks>(
     scanner: &mut Scanner,
     screen: &mut Screen,
@@ -23,15 +23,66 @@ pub fn process<CB: Callbacks>(
     ensures stopped { IsErr result → Stopped CB.does (parsing scanner.old screen.old callbacks.old) bytes.now (parsing scanner.new screen.new callbacks.new) }
     ensures memory { IfErr result (λ error. error ≡ Error.OutOfMemory) }
 {
-    for byte in bytes {
-        if scanner.is_plain(*byte) {
-            print(screen, callbacks, char::from(*byte))?;
-            continue;
-        }
-        let events = scanner.feed(*byte)?;
-        perform_each(screen, callbacks, scanner, events)?;
+    let mut at = 0;
+    while at < bytes.len() {
+        let count = process_some(scanner, screen, callbacks, &bytes[at..])?;
+        at += count;
     }
     Ok(())
+}
+
+// Reads what comes first of these bytes: plain characters as one run, as far
+// as the cursor's row has room for them, or else one byte. Answers how many
+// bytes that were, unless memory is refused.
+#[inline(always)]
+fn process_some<CB: Callbacks>(
+    scanner: &mut Scanner,
+    screen: &mut Screen,
+    callbacks: &mut CB,
+    bytes: &[u8],
+) -> Result<usize, Error>
+    requires { 0 < length bytes.now }
+    ensures some { IfOk result (λ count. 0 < count) }
+    ensures inside { IfOk result (λ count. count ≤ length bytes.now) }
+    ensures ran { IfOk result (λ count. Ran CB.does (parsing scanner.old screen.old callbacks.old) (take count bytes.now) (parsing scanner.new screen.new callbacks.new)) }
+    ensures stopped { IsErr result → Stopped CB.does (parsing scanner.old screen.old callbacks.old) bytes.now (parsing scanner.new screen.new callbacks.new) }
+    ensures memory { IfErr result (λ error. error ≡ Error.OutOfMemory) }
+{
+    let byte = bytes[0];
+    if scanner.is_plain(byte) {
+        return print_some(scanner, screen, callbacks, bytes);
+    }
+    let events = scanner.feed(byte)?;
+    perform_each(screen, callbacks, scanner, events)?;
+    Ok(1)
+}
+
+// Prints what comes first of bytes that begin with a plain character: all
+// plain ones that the cursor's row has room for, or at its end one, which may
+// scroll. Answers how many were printed.
+#[inline]
+fn print_some<CB: Callbacks>(
+    scanner: &Scanner,
+    screen: &mut Screen,
+    callbacks: &mut CB,
+    bytes: &[u8],
+) -> Result<usize, Error>
+    requires some { 0 < length bytes.now }
+    requires plain { ReadsItself scanner.now (slice_index_or bytes.now 0 0) }
+    ensures some { IfOk result (λ count. 0 < count) }
+    ensures inside { IfOk result (λ count. count ≤ length bytes.now) }
+    ensures ran { IfOk result (λ count. Ran CB.does (parsing scanner.now screen.old callbacks.old) (take count bytes.now) (parsing scanner.now screen.new callbacks.new)) }
+    ensures stopped { IsErr result → Stopped CB.does (parsing scanner.now screen.old callbacks.old) bytes.now (parsing scanner.now screen.new callbacks.new) }
+    ensures memory { IfErr result (λ error. error ≡ Error.OutOfMemory) }
+{
+    let fitting = bytes.len().min(usize::from(screen.room()));
+    let count = scanner.plain_len(&bytes[..fitting]);
+    if count == 0 {
+        print(screen, callbacks, char::from(bytes[0]))?;
+        return Ok(1);
+    }
+    screen.print_text(&bytes[..count]);
+    Ok(count)
 }
 
 // The events of one byte, up to a step whose memory is refused.

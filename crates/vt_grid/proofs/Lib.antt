@@ -15,6 +15,7 @@ pub mod Shifting
 pub mod ShiftExamples
 pub mod Blanking
 pub mod Sized
+pub mod Texts
 pub mod Stacking
 pub mod Growing
 pub mod Scrolling

@@ -11,4 +11,5 @@ pub mod Printing
 pub mod Canvas
 pub mod Keeping
 pub mod Sheet
+pub mod Texts
 pub mod Flat

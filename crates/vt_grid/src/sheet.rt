@@ -5,6 +5,7 @@ ghost use Rattle.vt_cells.specs.Cell.{IsCell, attrs_of, is_blank, is_right_half,
 ghost use Rattle.vt_cells.specs.Glyph.{columns_of};
 ghost use Rattle.vt_rows.specs.Cells.{IsPaired, at, ends_blank, erased, marked_at, narrowed_at, put_narrow, put_wide, widened_at};
 ghost use Rattle.vt_rows.specs.Row.{RowValue, IsRow, blank_row, deleted_row, inserted_row};
+ghost use Rattle.vt_rows.specs.Texts.{IsPrintableText, put_text};
 ghost use Rattle.vt_grid.specs.Page.{rows_up};
 ghost use Rattle.vt_grid.specs.Shifts.{rows_down};
 ghost use Rattle.vt_grid.specs.Scrollback.{Sends, TakesMemory};
@@ -161,6 +162,26 @@ impl Sheet {
         let (start, end) = self.flat.part(row);
         let cells = &mut self.flat.cells[start..end];
         cells::put_narrow(cells, usize::from(col), c, attrs);
+        let goes_on = cells::flag_left(cells, goes_on);
+        self.flat.wrap(row, goes_on);
+    }
+
+    /// Puts a narrow glyph for each byte of a text of printable ASCII, from a
+    /// column of a row on; see `cells::put_text`.
+    #[inline]
+    pub fn put_text(&mut self, row: u16, col: u16, text: &[u8], attrs: Attrs)
+        requires inside { row < length self.old.rows }
+        requires paired { IsPaired (sheet_row self.old row).cells }
+        requires some { 0 < length text.now }
+        requires columns { col + length text.now ≤ length (sheet_row self.old row).cells }
+        requires printable { IsPrintableText text.now }
+        ensures { self.new ≡ with_row_cells row (put_text col text.now attrs (sheet_row self.old row).cells) self.old }
+    {
+        let row = usize::from(row);
+        let goes_on = self.flat.wrapped(row);
+        let (start, end) = self.flat.part(row);
+        let cells = &mut self.flat.cells[start..end];
+        cells::put_text(cells, usize::from(col), text, attrs);
         let goes_on = cells::flag_left(cells, goes_on);
         self.flat.wrap(row, goes_on);
     }

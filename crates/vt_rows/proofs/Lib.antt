@@ -3,6 +3,7 @@ pub mod Pairs
 pub mod Sound
 pub mod Rows
 pub mod Steps
+pub mod Texts
 pub mod Moves
 pub mod ShiftSteps
 pub mod Trims

@@ -1,5 +1,6 @@
 pub mod Row
 pub mod Cells
+pub mod Texts
 pub mod Basic
 pub mod Plain
 pub mod Stretches

@@ -9,6 +9,7 @@ ghost use Rattle.vt_cells.specs.Cell.{IsCell, attrs_of, blank, glyph, is_blank, 
 ghost use Rattle.vt_cells.specs.Glyph.{columns_of};
 ghost use Rattle.vt_rows.specs.Cells.{IsPaired, at, blanks, ends_blank, erased, marked_at, narrowed_at, put_narrow, put_wide, widened_at};
 ghost use Rattle.vt_rows.specs.Keeping.{HasRoom, left_blanked, right_replaced};
+ghost use Rattle.vt_rows.specs.Texts.{IsPrintableText, glyphs_of, put_text};
 
 use std::mem;
 use vt_cells::{Attrs, Cell};
@@ -32,6 +33,43 @@ pub fn put_narrow(cells: &mut [Cell], column: usize, c: char, attrs: Attrs)
     space_right(cells, column, attrs);
     let cell = &mut cells[column];
     cell.set_glyph(c, false, attrs);
+}
+
+/// Puts a narrow glyph for each byte of a text of printable ASCII, from a
+/// column on, one after the other.
+///
+/// The row is what `put_narrow` makes of it byte by byte. Of a wide glyph
+/// whose right half stood at the first column the left half becomes blank, in
+/// its own attributes. Of one whose left half stood at the last the right half
+/// becomes a space in `attrs`.
+#[inline]
+pub fn put_text(cells: &mut [Cell], column: usize, text: &[u8], attrs: Attrs)
+    requires paired { IsPaired cells.old }
+    requires some { 0 < length text.now }
+    requires inside { column + length text.now ≤ length cells.old }
+    requires printable { IsPrintableText text.now }
+    ensures value { cells.new ≡ put_text column text.now attrs cells.old }
+    ensures paired { IsPaired cells.new }
+    ensures sound { All IsCell cells.old → All IsCell cells.new }
+{
+    let end = column + text.len();
+    blank_left(cells, column);
+    space_right(cells, end - 1, attrs);
+    write_text(&mut cells[column..end], text, attrs);
+}
+
+/// Makes each cell the narrow glyph of a byte of printable ASCII.
+#[inline]
+fn write_text(cells: &mut [Cell], text: &[u8], attrs: Attrs)
+    requires same { length cells.old ≡ length text.now }
+    requires printable { IsPrintableText text.now }
+    ensures { cells.new ≡ glyphs_of attrs text.now }
+{
+    let count = cells.len().min(text.len());
+    for k in 0..count {
+        let cell = &mut cells[k];
+        cell.set_glyph(char::from(text[k]), false, attrs);
+    }
 }
 
 /// Puts a wide glyph at a column and the next.

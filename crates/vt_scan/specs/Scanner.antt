@@ -55,6 +55,10 @@ pub record Follows (new : Held) (answer : Events) (step : Step) : Type 0 where
   pub stands : StandsFor new step.state
   pub means : events_in new answer ≡ step.events
 
+-- a printable byte of ASCII
+abbrev pub IsPrintableByte : ℕ → Type 0
+IsPrintableByte b = (0x20 ≤ b) × (b < 0x7F)
+
 -- plain text with nothing unfinished, and a printable byte of ASCII
 abbrev pub ReadsItself : Held → ℕ → Type 0
 ReadsItself held b = (held.kind ≡ Ground) × (held.unfinished ≡ []) × (0x20 ≤ b) × (b < 0x7F)

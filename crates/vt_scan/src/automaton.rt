@@ -1,6 +1,6 @@
 //! The scanner: from bytes to events.
 
-ghost use Rattle.std.specs.Prelude.{◌≡◌, ◌≤◌, ◌↔◌, [], IfErr, IfOk, IsErr, IsTrue, None, OnErr, Some, false, length};
+ghost use Rattle.std.specs.Prelude.{◌≡◌, ◌<◌, ◌≤◌, ◌↔◌, [], All, IfErr, IfOk, IsErr, IsTrue, None, OnErr, Some, false, length, slice_index_or, take};
 ghost use Rattle.vt_scan.specs.Automaton.{State, parts_of, start};
 ghost use Rattle.vt_scan.specs.Scanner.{Feeds, ReadsItself, StandsFor};
 ghost use Rattle.vt_scan.specs.Table.{class_of, turn_of};
@@ -76,6 +76,19 @@ impl Scanner {
         ensures plain { IsTrue result ↔ ReadsItself self.now byte }
     {
         self.registers.is_plain(byte)
+    }
+
+    /// How many of these bytes, from the first on, would each be read as the
+    /// character of ASCII that it is, one after the other: at most all, and
+    /// none where a sequence or another character is unfinished. Reading them
+    /// leaves the scanner as it is, so that they need not be fed.
+    #[inline]
+    pub fn plain_len(&self, bytes: &[u8]) -> usize
+        ensures inside { result ≤ length bytes.now }
+        ensures plain { All (ReadsItself self.now) (take result bytes.now) }
+        ensures longest { result < length bytes.now → ReadsItself self.now (slice_index_or bytes.now result 0) → ⊥ }
+    {
+        self.registers.plain_len(bytes)
     }
 
     /// Says that the scanner stands for at least one state of the automaton,

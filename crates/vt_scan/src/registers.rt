@@ -1,9 +1,9 @@
 //! What the scanner holds of the bytes that it has read.
 
-ghost use Rattle.std.specs.Prelude.{◌≡◌, ◌≢◌, ◌≤◌, ◌<◌, ◌↔◌, ℕ, List, [], ◌∷◌, ◌++◌, IfErr, IfOk, IsErr, IsTrue, None, OnErr, OnOk, Some, false, length};
+ghost use Rattle.std.specs.Prelude.{◌≡◌, ◌≢◌, ◌≤◌, ◌<◌, ◌↔◌, ℕ, List, [], ◌∷◌, ◌++◌, IfErr, IfOk, IsErr, IsTrue, None, OnErr, OnOk, Some, All, false, length, slice_index_or, take};
 ghost use Rattle.vt_scan.specs.Automaton.{fresh_step, is_parameter, parts_of, start, step_in};
 ghost use Rattle.vt_scan.specs.Keeping.{Begins, Fits, answer_of};
-ghost use Rattle.vt_scan.specs.Scanner.{Feeds, Follows, Held, Reads, ReadsItself, StandsFor};
+ghost use Rattle.vt_scan.specs.Scanner.{Feeds, Follows, Held, IsPrintableByte, Reads, ReadsItself, StandsFor};
 ghost use Rattle.vt_scan.specs.Table.{class_of, turn_of};
 ghost use Rattle.vt_scan.specs.declared.event.Event.{Event};
 
@@ -71,6 +71,21 @@ impl Registers {
         ensures plain { IsTrue result ↔ ReadsItself self.now byte }
     {
         is_printable(byte) && self.is_fresh()
+    }
+
+    /// How many of these bytes, from the first on, are printable ones of
+    /// ASCII, each read by itself.
+    #[inline]
+    pub fn plain_len(&self, bytes: &[u8]) -> usize
+        ensures inside { result ≤ length bytes.now }
+        ensures plain { All (ReadsItself self.now) (take result bytes.now) }
+        ensures longest { result < length bytes.now → ReadsItself self.now (slice_index_or bytes.now result 0) → ⊥ }
+    {
+        if self.is_fresh() {
+            printable_len(bytes)
+        } else {
+            0
+        }
     }
 
     // Whether the next byte begins something.
@@ -229,6 +244,20 @@ fn is_printable(byte: u8) -> bool
     ensures { IsTrue result ↔ ((0x20 ≤ byte) × (byte < 0x7F)) }
 {
     byte >= 0x20 && byte < 0x7F
+}
+
+// How many of these bytes, from the first on, are printable ones of ASCII.
+#[inline]
+fn printable_len(bytes: &[u8]) -> usize
+    ensures inside { result ≤ length bytes.now }
+    ensures printable { All IsPrintableByte (take result bytes.now) }
+    ensures longest { result < length bytes.now → IsPrintableByte (slice_index_or bytes.now result 0) → ⊥ }
+{
+    let mut len = 0;
+    while len < bytes.len() && is_printable(bytes[len]) {
+        len += 1;
+    }
+    len
 }
 
 // Whether the byte is one of the parameter text.

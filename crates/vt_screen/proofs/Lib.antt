@@ -25,6 +25,7 @@ mod Resized
 mod Reporting
 mod Kept
 mod KeptMoves
+pub mod TextSteps
 pub mod ContentTexts
 pub mod RowTexts
 pub mod RowItemsRead

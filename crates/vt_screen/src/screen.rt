@@ -10,6 +10,7 @@ mod contents;
 mod controls;
 mod input;
 mod pages;
+mod printing;
 mod redraw;
 mod resizing;
 mod row_items;

@@ -1,15 +1,17 @@
 //! Printing: glyphs, marks, and glyphs whose width follows U+FE0F.
 
-ghost use Rattle.std.specs.Prelude.{◌≡◌, ◌≢◌, ◌+◌, ◌&&◌, ◌==◌, ◌<◌, ◌≤◌, [], IfErr, IsErr, OnErr, OnOk, Some, encode_utf8, false, if◌then◌else◌, length, nat_lt, not, slice_set, true};
+ghost use Rattle.std.specs.Prelude.{◌≡◌, ◌≢◌, ◌+◌, ◌-◌, ◌&&◌, ◌==◌, ◌<◌, ◌≤◌, [], IfErr, IsErr, OnErr, OnOk, Some, encode_utf8, false, if◌then◌else◌, length, nat_lt, not, slice_set, true};
 ghost use Rattle.vt_cells.specs.Cell.{IsCell, attrs_of, glyph, is_right_half, is_wide, marked, text_of};
 ghost use Rattle.vt_cells.specs.Glyph.{IsGlyphText, columns_of, is_selector, is_wide_text};
 ghost use Rattle.vt_rows.specs.Cells.{at, widened_at};
+ghost use Rattle.vt_rows.specs.Texts.{IsPrintableText};
 ghost use Rattle.vt_grid.specs.Canvas.{carries};
 ghost use Rattle.vt_grid.specs.Keeping.{IsSelected, lifted_page, mark_out, room_out};
 ghost use Rattle.vt_grid.specs.Outgoing.{printed_out};
 ghost use Rattle.vt_grid.specs.Page.{IsPage, cursor_row, with_row};
 ghost use Rattle.vt_grid.specs.Printing.{glyph_put, made_narrow, mark_column, mark_printed, mark_put, printed, room_made, takes_mark, width_followed, with_cursor_cells};
 ghost use Rattle.vt_grid.specs.Scrollback.{Sends, TakesMemory};
+ghost use Rattle.vt_grid.specs.Texts.{printed_text, text_put};
 
 use super::Grid;
 use crate::scrollback::Scrollback;
@@ -76,6 +78,42 @@ impl Grid {
         } else {
             self.print_mark(c, attrs, above, leaving)
         }
+    }
+
+    /// How many columns there are from the cursor on up to the end of its row,
+    /// so many as can be printed before a wrap.
+    #[inline]
+    pub fn room(&self) -> u16
+        ensures { result ≡ self.now.width - self.now.column }
+    {
+        self.size.cols - self.pos.col
+    }
+
+    /// Prints a text of printable ASCII for which the cursor's row has room:
+    /// what [`Grid::print`] does with one character after the other, as one
+    /// edit of the row. No row leaves the page.
+    #[inline]
+    pub fn print_text(&mut self, text: &[u8], attrs: Attrs)
+        requires some { 0 < length text.now }
+        requires room { self.old.column + length text.now ≤ self.old.width }
+        requires printable { IsPrintableText text.now }
+        ensures { self.new ≡ printed_text text.now attrs self.old }
+    {
+        self.put_text(text, attrs);
+    }
+
+    /// Puts a narrow glyph for each byte of a text at the cursor, which moves
+    /// behind them.
+    #[inline]
+    fn put_text(&mut self, text: &[u8], attrs: Attrs)
+        requires some { 0 < length text.now }
+        requires room { self.old.column + length text.now ≤ self.old.width }
+        requires printable { IsPrintableText text.now }
+        ensures value { self.new ≡ text_put text.now attrs self.old }
+        ensures page { IsPage self.old }
+    {
+        self.sheet.put_text(self.pos.row, self.pos.col, text, attrs);
+        self.pos.col += text.len() as u16;
     }
 
     /// Prints a character of one column.

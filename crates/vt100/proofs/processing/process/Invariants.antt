@@ -1,7 +1,13 @@
 -- The bytes so far were read.
-use Rattle.std.proofs.Common.{take}
+use Rattle.std.proofs.Common.{◌-◌, ◌≤◌, length, take}
 use Rattle.vt100.specs.Parser.{Ran, parsing}
 use Rattle.vt100.proofs.processing.process.Given as goal
 
-abbrev pub invariant-loop-byte : goal.invariant-loop-byte
-invariant-loop-byte g l = Ran g.CB.Callbacks.does (parsing l.fn.scanner l.fn.screen l.fn.callbacks) (take l.byte-index l.bytes) (parsing l.scanner l.screen l.callbacks)
+abbrev pub invariant-loop-at : goal.invariant-loop-at
+invariant-loop-at g l = record {
+  inside : l.at ≤ length l.bytes;
+  ran : Ran g.CB.Callbacks.does (parsing l.fn.scanner l.fn.screen l.fn.callbacks) (take l.at l.bytes) (parsing l.scanner l.screen l.callbacks);
+}
+
+abbrev pub decreases-loop-at : goal.decreases-loop-at
+decreases-loop-at g l = length l.bytes - l.at

@@ -1,0 +1,22 @@
+-- The text is printed, and its last character is the last one.
+use Rattle.std.proofs.Common.{◌-◌, ◌<◌, length, sym, ap, ◌∙◌, arith}
+use Rattle.std.specs.Prelude.{Some}
+use Rattle.std.proofs.Common.{rules}
+use Rattle.vt_screen.specs.Texts.{text_stepped}
+use Rattle.vt_screen.specs.contracts.screen.Screen.{the_view}
+use Rattle.vt_screen.proofs.TextSteps.{kept_text, text_stepped_is}
+use Rattle.vt_screen.proofs.screen.Screen.print_text.Goals as goal
+
+pub invariant_of-self : goal.invariant_of-self
+invariant_of-self c =
+    let b = c.requires.printable (length c.args.text.now - 1) 0 (omega arith) in
+    let low : c.from.result < 0x7F = rw c.from.ensures b.1 in
+    rw c.print_text.ensures
+    (kept_text c.args.text.now c.self.inside.attrs c.self.inside.grid c.self.inside.last c.from.result _ c.requires.printable low (search rules) c.self.invariant)
+
+pub returns : goal.returns
+returns c =
+    let s = the_view c.self.inside in
+    (λ z. record s { page = c.print_text.ensures z; last = Some (c.from.ensures z) })
+    ∙ (sym (text_stepped_is c.args.text.now s c.requires.some c.requires.printable c.self.invariant.sound.has_columns)
+    ∙ ap (text_stepped c.args.text.now) c.self.view_is)
