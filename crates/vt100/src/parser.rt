@@ -1,6 +1,6 @@
 //! The parser: bytes in, a screen and callbacks out.
 
-ghost use Rattle.std.specs.Borrow.{sem, Lends};
+ghost use Rattle.std.specs.Borrow.{sem, Lends, LendsBoth};
 ghost use Rattle.std.specs.List.{FoldsTo};
 ghost use Rattle.std.specs.Prelude.{◌≡◌, ◌≢◌, ◌↔◌, Err, IfErr, IfOk, IsErr, Ok, OnErr, OnOk, false, true};
 ghost use Rattle.vt100.specs.Parser.{IsHarmless, Ran, Stopped, parsing};
@@ -221,13 +221,11 @@ impl<CB: Callbacks> Parser<CB> {
         &mut self.callbacks
     }
 
-    /// The screen and the callbacks, to change both.
-    ///
-    /// Of the parser afterwards nothing is promised beyond what its type
-    /// promises, also not whether it has failed. [`Parser::screen_mut`] and
-    /// [`Parser::callbacks_mut`] promise that nothing else of it changes.
+    /// The screen and the callbacks, to change both. Nothing else of the parser
+    /// changes by that, also not whether it has failed.
     #[inline]
     pub fn screen_and_callbacks_mut(&mut self) -> (&mut Screen, &mut CB)
+        ensures* writes_back { sem 𝓛 (LendsBoth (parser_row CB.row ⟦<CB as Callbacks>⟧) screen_row CB.row self.entry result (λ screen callbacks. record self.old { screen = screen; callbacks = callbacks })) }
         ensures screen { result.0.now ≡ self.old.screen }
         ensures callbacks { result.1.now ≡ self.old.callbacks }
     {

@@ -1,7 +1,7 @@
 //! A page of rows with its cursor, its scroll region and what was saved.
 
-ghost use Rattle.std.specs.Prelude.{◌≡◌, ◌<◌, ◌↔◌, IfErr, IfOk, IfSome, IsSome, length};
-ghost use Rattle.vt_grid.specs.Page.{blank_page, cell_at, row_at};
+ghost use Rattle.std.specs.Prelude.{◌≡◌, ◌<◌, IfErr, IfOk, length};
+ghost use Rattle.vt_grid.specs.Page.{blank_page, row_at};
 
 mod erasing;
 mod moves;
@@ -14,7 +14,7 @@ use crate::sheet::Sheet;
 use crate::size::Size;
 use std::alloc::Global;
 use std::marker::Model;
-use vt_cells::{Attrs, Cell, Error, Pos};
+use vt_cells::{Attrs, Error, Pos};
 
 /// A page: rows of cells, a cursor, a saved cursor, a scroll region and
 /// origin mode (VT510 manual: DECSC, DECSTBM, DECOM).
@@ -125,19 +125,6 @@ impl Grid {
         ensures width { result.now.width ≡ self.now.width }
     {
         &self.sheet
-    }
-
-    /// The cell at a position, if it is on the page.
-    #[inline]
-    pub fn drawing_cell(&self, pos: Pos) -> Option<&Cell>
-        ensures inside { IsSome result ↔ ((pos.row < length self.now.rows) × (pos.col < self.now.width)) }
-        ensures value { IfSome result (λ cell. cell.now ≡ cell_at self.now pos.row pos.col) }
-    {
-        if pos.row < self.size.rows && pos.col < self.size.cols {
-            Some(self.sheet.cell(pos.row, pos.col))
-        } else {
-            None
-        }
     }
 
     /// Whether the text of a row goes on in the row below; false past the last row.

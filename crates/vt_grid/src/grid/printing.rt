@@ -15,7 +15,6 @@ ghost use Rattle.vt_grid.specs.Texts.{printed_text, text_put};
 
 use super::Grid;
 use crate::scrollback::Scrollback;
-use vt_cells::width::columns;
 use vt_cells::{Attrs, Cell, Error, MARK_LIMIT};
 use vt_rows::Leaving;
 
@@ -31,25 +30,8 @@ impl Grid {
     /// A wrap at the bottom of the scroll region scrolls it; see
     /// [`Grid::scroll_up`]. Fails where memory for scrollback is refused, and
     /// then nothing has changed and nothing was reported.
-    #[inline]
-    pub fn print<L: Leaving>(
-        &mut self,
-        c: char,
-        attrs: Attrs,
-        above: &mut Scrollback,
-        leaving: &mut L,
-    ) -> Result<(), Error>
-        requires { c ≢ 0xFFFD }
-        ensures page { OnOk result (self.new ≡ printed c attrs self.old) }
-        ensures sent { OnOk result (Sends L.leaves (length self.old.rows) self.old.width (printed_out c attrs self.old) above.old leaving.old above.new leaving.new) }
-        ensures err { OnErr result ((self.new ≡ self.old) × ((above.new ≡ above.old) × (leaving.new ≡ leaving.old))) }
-        ensures grows { IsErr result → TakesMemory (printed_out c attrs self.old) above.old }
-        ensures memory { IfErr result (λ error. error ≡ Error.OutOfMemory) }
-    {
-        self.print_columns(c, columns(c), attrs, above, leaving)
-    }
-
-    /// Prints a character as [`Grid::print`] does, where its columns are known.
+    ///
+    /// `width` is how many columns the character takes, none for a control.
     #[tactic(auto, using(crate::proofs::Dispatch::printed_none, crate::proofs::Dispatch::printed_narrow, crate::proofs::Dispatch::printed_wide, crate::proofs::Outgoing::out_none, crate::proofs::Outgoing::out_narrow, crate::proofs::Outgoing::out_wide))]
     #[inline(always)]
     pub fn print_columns<L: Leaving>(
