@@ -1,0 +1,73 @@
+//! `example_cast`: reads a recording of asciinema, version 2, plays it through a mirror, and writes
+//! what was read and what the updates of a viewer took, and then the rows that the viewer sees last.
+#![tactic(auto)]
+
+mod cast;
+mod player;
+mod tally;
+
+use anyhow::{Context, Result};
+use cast::{Event, Header};
+use player::Player;
+use std::alloc::Global;
+use std::process::ExitCode;
+use std::rt::Env;
+use std::{env, io};
+
+const USAGE: &str = "usage: example_cast <RECORDING";
+
+/// Plays a whole recording: a header in its first line, and an event in each other one.
+fn play(alloc: Global, recording: &str) -> Result<Player> {
+    let (first, events) = recording.split_once('\n').unwrap_or((recording, ""));
+    let mut player = begin(alloc, first).context("line 1")?;
+    let mut number = 2u64;
+    for line in events.lines() {
+        play_line(alloc, &mut player, line).context(format_args!("line {number}"))?;
+        number = number.saturating_add(1);
+    }
+    player.update()?;
+    Ok(player)
+}
+
+fn begin(alloc: Global, line: &str) -> Result<Player> {
+    let header = Header::read(&cast::json(alloc, line)?)?;
+    Player::new(alloc, header.rows, header.cols)
+}
+
+fn play_line(alloc: Global, player: &mut Player, line: &str) -> Result<()> {
+    let value = cast::json(alloc, line)?;
+    player.play(Event::read(&value)?)
+}
+
+/// Reads a recording from standard input, and writes what came of it.
+fn run<R: AllocGlobal + Input + Print>(rt: &R) -> Result<()> {
+    let recording = io::read_to_string(rt.alloc(), rt.reader()).context("reading the recording")?;
+    let player = play(rt.alloc(), recording.as_str())?;
+    println!(rt; "{}\n", player.tally())?;
+    for row in &player.rows(rt.alloc())? {
+        println!(rt; "{row}")?;
+    }
+    Ok(())
+}
+
+/// Whether there is a word after the program's name, or one that can't be read.
+fn has_arguments<R: AllocGlobal + Env>(rt: &R) -> bool {
+    match env::args(rt) {
+        Ok(words) => words.skip(1).next().is_some(),
+        Err(_) => true,
+    }
+}
+
+fn main(rt: HostRuntime) -> ExitCode {
+    if has_arguments(&rt) {
+        let _ = eprintln!(rt; "{USAGE}");
+        return ExitCode::from(2);
+    }
+    match run(&rt) {
+        Ok(()) => ExitCode::SUCCESS,
+        Err(error) => {
+            let _ = eprintln!(rt; "example_cast: {error:#}");
+            ExitCode::FAILURE
+        }
+    }
+}

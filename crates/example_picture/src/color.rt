@@ -1,0 +1,90 @@
+//! What the colours of cells look like.
+
+ghost use Rattle.std.specs.Prelude.{◌≡◌, ◌<◌, ◌+◌, ◌*◌, ◌==◌, if◌then◌else◌};
+
+use std::fmt;
+use vt100::Color;
+
+/// A colour by its parts.
+#[derive(Clone, Copy, PartialEq, Eq, Debug)]
+pub struct Rgb(pub u8, pub u8, pub u8);
+
+/// The colour of text that has no colour of its own.
+pub const INK: Rgb = Rgb(0xe5, 0xe5, 0xe5);
+
+/// The colour of a background that has no colour of its own.
+pub const PAPER: Rgb = Rgb(0, 0, 0);
+
+/// The first 16 colours of xterm's palette.
+const NAMED: [Rgb; 16] = [
+    Rgb(0, 0, 0),
+    Rgb(0xcd, 0, 0),
+    Rgb(0, 0xcd, 0),
+    Rgb(0xcd, 0xcd, 0),
+    Rgb(0, 0, 0xee),
+    Rgb(0xcd, 0, 0xcd),
+    Rgb(0, 0xcd, 0xcd),
+    Rgb(0xe5, 0xe5, 0xe5),
+    Rgb(0x7f, 0x7f, 0x7f),
+    Rgb(0xff, 0, 0),
+    Rgb(0, 0xff, 0),
+    Rgb(0xff, 0xff, 0),
+    Rgb(0x5c, 0x5c, 0xff),
+    Rgb(0xff, 0, 0xff),
+    Rgb(0, 0xff, 0xff),
+    Rgb(0xff, 0xff, 0xff),
+];
+
+impl Rgb {
+    /// What a cell's colour looks like, where its own is `default`.
+    pub fn of(color: Color, default: Rgb) -> Rgb {
+        match color {
+            Color::Default => default,
+            Color::Idx(index) => of_palette(index),
+            Color::Rgb(red, green, blue) => Rgb(red, green, blue),
+        }
+    }
+
+    /// The colour halfway between two.
+    pub fn mixed(self, other: Rgb) -> Rgb {
+        Rgb(
+            self.0.midpoint(other.0),
+            self.1.midpoint(other.1),
+            self.2.midpoint(other.2),
+        )
+    }
+}
+
+impl fmt::Display for Rgb {
+    fn fmt<W: fmt::Write>(&self, f: &mut fmt::Formatter<W>) -> fmt::Result {
+        let Rgb(red, green, blue) = *self;
+        write!(f, "#{red:02x}{green:02x}{blue:02x}")
+    }
+}
+
+/// A colour of xterm's palette: 16 with names, a cube of 6 steps a side, and 24 greys.
+fn of_palette(index: u8) -> Rgb {
+    match index {
+        0..=15 => NAMED[usize::from(index)],
+        16..=231 => of_cube(index - 16),
+        232..=255 => {
+            let level = 8 + 10 * (index - 232);
+            Rgb(level, level, level)
+        }
+    }
+}
+
+/// A colour of the cube, in which blue changes fastest.
+fn of_cube(place: u8) -> Rgb
+    requires { place < 216 }
+{
+    Rgb(level(place / 36), level(place / 6 % 6), level(place % 6))
+}
+
+/// How bright a step of the cube is.
+fn level(step: u8) -> u8
+    requires { step < 6 }
+    ensures { result ≡ (if step == 0 then 0 else 55 + 40 * step) }
+{
+    if step == 0 { 0 } else { 55 + 40 * step }
+}

@@ -1,0 +1,170 @@
+//! The picture of a screen.
+
+use crate::color::{INK, PAPER};
+use crate::spot::{Mark, Spot, cursor_col, spots_of};
+use crate::xml::Escaped;
+use std::alloc::{AllocError, Global};
+use vt100::Screen;
+
+/// How wide a column is.
+const WIDTH: u32 = 9;
+
+/// How high a row is.
+const HEIGHT: u32 = 17;
+
+/// How far the line on which glyphs stand is below the top of a row.
+const BASE: u32 = 13;
+
+/// How far the screen is from each side of the picture.
+const MARGIN: u32 = 9;
+
+const FONTS: &str = "'DejaVu Sans Mono', Menlo, Consolas, monospace";
+
+/// Blanks stay, and glyphs stand from left to right in the order of their columns.
+const STYLE: &str = "text { white-space: pre; direction: ltr; unicode-bidi: bidi-override }";
+
+/// The picture of a screen, as a file of SVG: backgrounds, and then texts, each of which is as long as
+/// its columns, whatever font it is shown in.
+pub fn svg(alloc: Global, screen: &Screen) -> Result<String, AllocError> {
+    let mut out = String::new(alloc);
+    let (rows, cols) = screen.size();
+    let width = u32::from(cols.get()) * WIDTH + 2 * MARGIN;
+    let height = u32::from(rows.get()) * HEIGHT + 2 * MARGIN;
+    writeln!(
+        out,
+        r#"<svg xmlns="http://www.w3.org/2000/svg" width="{width}" height="{height}" xml:space="preserve">"#
+    )?;
+    writeln!(out, "<style>{STYLE}</style>")?;
+    writeln!(
+        out,
+        r#"<rect width="{width}" height="{height}" fill="{PAPER}"/>"#
+    )?;
+    writeln!(
+        out,
+        r#"<g transform="translate({MARGIN} {MARGIN})" font-family="{FONTS}" font-size="15" fill="{INK}" shape-rendering="crispEdges">"#
+    )?;
+    for row in 0..rows.get() {
+        write_papers(&mut out, spots_of(alloc, screen, row)?.as_slice(), row)?;
+    }
+    for row in 0..rows.get() {
+        let spots = spots_of(alloc, screen, row)?;
+        write_texts(&mut out, spots.as_slice(), row)?;
+        write_mark(&mut out, screen, spots.as_slice(), row)?;
+    }
+    writeln!(out, "</g>\n</svg>")?;
+    Ok(out)
+}
+
+/// A rectangle for each stretch of one background, but for those of the whole picture's.
+fn write_papers(out: &mut String, spots: &[Spot<'_>], row: u16) -> Result<(), AllocError> {
+    for stretch in spots.chunk_by(|one, next| one.paint.paper == next.paint.paper) {
+        write_paper(out, stretch, row)?;
+    }
+    Ok(())
+}
+
+fn write_paper(out: &mut String, stretch: &[Spot<'_>], row: u16) -> Result<(), AllocError> {
+    let [first, ..] = stretch else {
+        return Ok(());
+    };
+    let paper = first.paint.paper;
+    if paper == PAPER {
+        return Ok(());
+    }
+    let (x, width) = extent(stretch);
+    let y = u32::from(row) * HEIGHT;
+    writeln!(
+        out,
+        r#"<rect x="{x}" y="{y}" width="{width}" height="{HEIGHT}" fill="{paper}"/>"#
+    )
+}
+
+/// A text for each stretch of one look, without the blanks at its ends.
+fn write_texts(out: &mut String, spots: &[Spot<'_>], row: u16) -> Result<(), AllocError> {
+    for stretch in spots.chunk_by(|one, next| one.goes_on_in(next)) {
+        if let Some(inked) = inked(stretch) {
+            write_text(out, inked, row)?;
+        }
+    }
+    Ok(())
+}
+
+/// The part from the first spot that isn't blank to the last one; `None` where all are.
+fn inked<'a, 'b>(stretch: &'a [Spot<'b>]) -> Option<&'a [Spot<'b>]> {
+    let first = stretch.iter().position(|spot| !spot.is_blank())?;
+    let last = stretch.iter().rposition(|spot| !spot.is_blank())?;
+    stretch.get(first..=last)
+}
+
+fn write_text(out: &mut String, stretch: &[Spot<'_>], row: u16) -> Result<(), AllocError> {
+    let [first, ..] = stretch else {
+        return Ok(());
+    };
+    let (x, width) = extent(stretch);
+    let y = u32::from(row) * HEIGHT + BASE;
+    write!(out, r#"<text x="{x}" y="{y}" textLength="{width}""#)?;
+    write_style(out, first)?;
+    out.push('>')?;
+    for spot in stretch {
+        let text = if spot.text.is_empty() { " " } else { spot.text };
+        write!(out, "{}", Escaped(text))?;
+    }
+    writeln!(out, "</text>")
+}
+
+/// What differs from plain text. Glyphs of another font are made as wide as their columns.
+fn write_style(out: &mut String, spot: &Spot<'_>) -> Result<(), AllocError> {
+    let paint = spot.paint;
+    if !spot.text.is_ascii() {
+        out.push_str(r#" lengthAdjust="spacingAndGlyphs""#)?;
+    }
+    if paint.ink != INK {
+        write!(out, r#" fill="{}""#, paint.ink)?;
+    }
+    if paint.bold {
+        out.push_str(r#" font-weight="bold""#)?;
+    }
+    if paint.italic {
+        out.push_str(r#" font-style="italic""#)?;
+    }
+    if paint.underline {
+        out.push_str(r#" text-decoration="underline""#)?;
+    }
+    Ok(())
+}
+
+/// Where a stretch begins, and how wide it is.
+fn extent(stretch: &[Spot<'_>]) -> (u32, u32) {
+    let (Some(first), Some(last)) = (stretch.first(), stretch.last()) else {
+        return (0, 0);
+    };
+    let begin = u32::from(first.col);
+    let cols = last.end().saturating_sub(begin);
+    (begin * WIDTH, cols.saturating_mul(WIDTH))
+}
+
+/// The cursor, where it is a line; a block is painted with the text.
+fn write_mark(
+    out: &mut String,
+    screen: &Screen,
+    spots: &[Spot<'_>],
+    row: u16,
+) -> Result<(), AllocError> {
+    let Some(col) = cursor_col(screen, row) else {
+        return Ok(());
+    };
+    let Some(spot) = spots.iter().find(|spot| spot.covers(col)) else {
+        return Ok(());
+    };
+    let x = u32::from(spot.col) * WIDTH;
+    let top = u32::from(row) * HEIGHT;
+    let (y, width, height) = match Mark::of(screen.cursor_style()) {
+        Mark::Block => return Ok(()),
+        Mark::Underline => (top + HEIGHT - 2, u32::from(spot.cols) * WIDTH, 2),
+        Mark::Bar => (top, 2, HEIGHT),
+    };
+    writeln!(
+        out,
+        r#"<rect x="{x}" y="{y}" width="{width}" height="{height}"/>"#
+    )
+}

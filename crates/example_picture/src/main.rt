@@ -1,0 +1,65 @@
+//! `example_picture ROWS COLS`: reads what a program wrote to its terminal, and writes a picture of
+//! the screen that it shows then, as SVG.
+#![tactic(auto)]
+
+mod color;
+mod drawing;
+mod spot;
+#[cfg(test)]
+mod tests;
+mod xml;
+
+use anyhow::Result;
+use std::env;
+use std::io::Read;
+use std::num::NonZeroU16;
+use std::process::ExitCode;
+use std::rt::Env;
+use vt100::Parser;
+
+const USAGE: &str = "usage: example_picture ROWS COLS";
+
+/// Rows and columns, from the words after the program's name; `None` for other words.
+fn asked_size<R: AllocGlobal + Env>(rt: &R) -> Result<Option<(NonZeroU16, NonZeroU16)>> {
+    let words: Vec<String> = env::args(rt)?.skip(1).collect(rt.alloc())?;
+    let [rows, cols] = words.as_slice() else {
+        return Ok(None);
+    };
+    let rows = rows.parse::<NonZeroU16>();
+    let cols = cols.parse::<NonZeroU16>();
+    Ok(rows.ok().zip(cols.ok()))
+}
+
+/// Reads standard input to its end into a screen of this size, and writes the picture of it.
+fn draw<R: AllocGlobal + Input + Print>(rt: &R, rows: NonZeroU16, cols: NonZeroU16) -> Result<()> {
+    let mut bytes = Vec::new(rt.alloc());
+    rt.reader().read_to_end(&mut bytes)?;
+    let mut parser = Parser::new(rt.alloc(), rows, cols, 0)?;
+    parser.process(bytes.as_slice())?;
+    let picture = drawing::svg(rt.alloc(), parser.screen())?;
+    rt.print(picture.as_str())?;
+    Ok(())
+}
+
+/// Answers whether the arguments were right.
+fn run<R: AllocGlobal + Env + Input + Print>(rt: &R) -> Result<bool> {
+    let Some((rows, cols)) = asked_size(rt)? else {
+        return Ok(false);
+    };
+    draw(rt, rows, cols)?;
+    Ok(true)
+}
+
+fn main(rt: HostRuntime) -> ExitCode {
+    match run(&rt) {
+        Ok(true) => ExitCode::SUCCESS,
+        Ok(false) => {
+            let _ = eprintln!(rt; "{USAGE}");
+            ExitCode::from(2)
+        }
+        Err(error) => {
+            let _ = eprintln!(rt; "example_picture: {error}");
+            ExitCode::FAILURE
+        }
+    }
+}
