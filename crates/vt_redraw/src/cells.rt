@@ -4,7 +4,7 @@ ghost use Rattle.std.specs.Prelude.{◌≡◌, ◌++◌, ◌+◌, ◌-◌, ◌<�
 ghost use Rattle.vt_cells.specs.Cell.{attrs_of, is_right_half, is_wide, same_cell, text_of};
 ghost use Rattle.vt_cells.specs.Op.{Print, bytes_of, bytes_of_all};
 ghost use Rattle.vt_rows.specs.Cells.{at};
-ghost use Rattle.vt_redraw.specs.Keeping.{IsRange, Leads, cells_from};
+ghost use Rattle.vt_redraw.specs.Keeping.{IsRange, Leads, Passes, cells_from};
 ghost use Rattle.vt_redraw.specs.Script.{columns, doing, erase_run, flag_behind, flag_past, pen_at};
 
 use crate::pen::Pen;
@@ -103,14 +103,48 @@ pub fn flag_past(flag: bool, over: &PictureRow<'_>, col: u16) -> bool
 
 /// Whether the cell at a column needs nothing: it stands there already, or is
 /// the right half of a glyph before it.
-#[inline]
+#[inline(always)]
 fn stands(cells: &PictureRow<'_>, over: &PictureRow<'_>, col: u16) -> bool
     requires inside { col < length cells.now.cells }
     requires over { length cells.now.cells ≤ length over.now.cells }
     ensures { result ≡ (is_right_half (at cells.now.cells col) || same_cell (at cells.now.cells col) (at over.now.cells col)) }
 {
     let cell = cells.cell(col);
-    cell.is_wide_continuation() || *cell == *over.cell(col)
+    *cell == *over.cell(col) || cell.is_wide_continuation()
+}
+
+/// The first column from `col` on, before `stop`, that needs something, or else
+/// the column where it stopped.
+#[inline(always)]
+fn pass(cells: &PictureRow<'_>, over: &PictureRow<'_>, col: u16, stop: usize) -> u16
+    requires inside { stop ≤ length cells.now.cells }
+    requires short { stop < 65536 }
+    requires range { IsRange cells.now.cells over.now.cells }
+    ensures order { col ≤ result }
+    ensures passed { Passes col result cells.now.cells over.now.cells }
+    ensures other { result < stop → (is_right_half (at cells.now.cells result) || same_cell (at cells.now.cells result) (at over.now.cells result)) ≡ false }
+{
+    let mut next = col;
+    while usize::from(next) < stop && stands(cells, over, next) {
+        next += 1;
+    }
+    next
+}
+
+/// The first column from `col` on that needs something, or else one where the
+/// row has ended. Where both rows have cells of their own and where only this
+/// one has, each is a loop over slices.
+fn next_other(cells: &PictureRow<'_>, over: &PictureRow<'_>, col: u16) -> u16
+    requires range { IsRange cells.now.cells over.now.cells }
+    ensures order { col ≤ result }
+    ensures passed { Passes col result cells.now.cells over.now.cells }
+    ensures other { result < length cells.now.cells → (is_right_half (at cells.now.cells result) || same_cell (at cells.now.cells result) (at over.now.cells result)) ≡ false }
+{
+    let cols = usize::from(cells.cols());
+    let own = cells.own_len();
+    let both = pass(cells, over, col, own.min(over.own_len()));
+    let alone = pass(cells, over, both, own);
+    pass(cells, over, alone, cols)
 }
 
 /// Writes the cell at a position, a glyph or a run of blanks that begins there.
@@ -160,14 +194,11 @@ pub fn write_cells<S: Sink>(
     ensures flag { OnOk result (flag.new ≡ (cells_from pos.row pos.col pen.old flag.old cells.now.cells over.now.cells).flag) }
 {
     let cols = cells.cols().min(over.cols());
-    let mut col = pos.col;
+    let mut col = next_other(cells, over, pos.col);
     while col < cols {
-        if stands(cells, over, col) {
-            col += 1;
-        } else {
-            let next = Pos { row: pos.row, col };
-            col += write_next(sink, pen, flag, next, cells, over)?;
-        }
+        let next = Pos { row: pos.row, col };
+        let count = write_next(sink, pen, flag, next, cells, over)?;
+        col = next_other(cells, over, col + count);
     }
     Ok(())
 }

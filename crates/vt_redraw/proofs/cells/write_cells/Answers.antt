@@ -1,17 +1,7 @@
 use Rattle.std.proofs.Common.{◌∙◌, ◌+◌, rules, sym, ap, arith}
 use Rattle.vt_redraw.specs.Keeping.{cells_from}
-use Rattle.vt_redraw.proofs.CellSteps.{leads_then, leads_text, cell_passed, cells_end}
+use Rattle.vt_redraw.proofs.CellSteps.{leads_then, leads_text, passes_leads, cells_end}
 use Rattle.vt_redraw.proofs.cells.write_cells.Goals as goal
-
-pub loop-col-preserved-then-stands : goal.loop-col-preserved-then-stands
-loop-col-preserved-then-stands g c =
-    let l = c.loop-col in
-    let text = g.S.Sink.text in
-    let xs = c.args.cells.now.cells in
-    let ys = c.args.over.now.cells in
-    let row = c.args.pos.row in
-    leads_then (text c.args.sink.now) (text l.sink) (text l.sink) (cells_from row c.args.pos.col c.args.pen.now c.args.flag.now xs ys) (cells_from row l.col l.pen l.flag xs ys) (cells_from row (l.col + 1) l.pen l.flag xs ys)
-    l.invariant (cell_passed row l.col l.pen l.flag xs ys (text l.sink) (search rules) c.requires.range (search rules))
 
 pub returns-clause-text : goal.returns-clause-text
 returns-clause-text g c =
@@ -25,7 +15,7 @@ returns-clause-text g c =
     let less = c.min-cols.ensures in
     let inside = c.requires.range.inside in
     let past = c.loop-col-test.false in
-    leads_text (text l.sink) (text c.args.sink.now) (cells_from row l.col l.pen l.flag xs ys) (cells_from row c.args.pos.col c.args.pen.now c.args.flag.now xs ys) l.pen l.flag (cells_end row l.col l.pen l.flag xs ys (omega arith)) l.invariant
+    leads_text (text l.sink) (text c.args.sink.now) (cells_from row l.col l.pen l.flag xs ys) (cells_from row c.args.pos.col c.args.pen.now c.args.flag.now xs ys) l.pen l.flag (cells_end row l.col l.pen l.flag xs ys (omega arith)) l.invariant.0
 
 pub returns-clause-pen : goal.returns-clause-pen
 returns-clause-pen g c =
@@ -35,7 +25,7 @@ returns-clause-pen g c =
     let less = c.min-cols.ensures in
     let inside = c.requires.range.inside in
     let past = c.loop-col-test.false in
-    ap (λ w. w.pen) (sym (cells_end c.args.pos.row l.col l.pen l.flag c.args.cells.now.cells c.args.over.now.cells (omega arith))) ∙ l.invariant.pen
+    ap (λ w. w.pen) (sym (cells_end c.args.pos.row l.col l.pen l.flag c.args.cells.now.cells c.args.over.now.cells (omega arith))) ∙ l.invariant.0.pen
 
 pub returns-clause-flag : goal.returns-clause-flag
 returns-clause-flag g c =
@@ -45,4 +35,4 @@ returns-clause-flag g c =
     let less = c.min-cols.ensures in
     let inside = c.requires.range.inside in
     let past = c.loop-col-test.false in
-    ap (λ w. w.flag) (sym (cells_end c.args.pos.row l.col l.pen l.flag c.args.cells.now.cells c.args.over.now.cells (omega arith))) ∙ l.invariant.flag
+    ap (λ w. w.flag) (sym (cells_end c.args.pos.row l.col l.pen l.flag c.args.cells.now.cells c.args.over.now.cells (omega arith))) ∙ l.invariant.0.flag
