@@ -11,7 +11,7 @@ use Rattle.vt_cells.specs.Op.{Op, Print, bytes_of, bytes_of_all}
 use Rattle.vt_rows.specs.Cells.{at, IsPaired}
 use Rattle.vt_redraw.specs.Items.{begun, begun_over}
 use Rattle.vt_cells.proofs.SameCells.{same_cell-itself}
-use Rattle.vt_redraw.specs.Keeping.{Leads, IsRange, cells_from}
+use Rattle.vt_redraw.specs.Keeping.{Leads, IsRange, Passes, cells_from}
 use Rattle.vt_redraw.proofs.Filling.{room}
 use Rattle.vt_redraw.specs.Script.{Written, after, nothing, doing, pen_at, run, erase_run, columns, flag_behind, flag_past, cells_written}
 use Rattle.vt_redraw.specs.declared.pen.Pen.{Pen}
@@ -152,11 +152,21 @@ first_half xs ys c range h some =
     let size = length-drop (c + 1) xs in
     ap is_right_half (head_at xs (c + 1)) ∙ range.halves c h (omega arith)
 
-pub cell_passed : (r c : ℕ) (pen : Pen) (flag : Bool) (xs ys : List CellValue) (text : List ℕ) → c < length xs → IsRange xs ys → (is_right_half (at xs c) || same_cell (at xs c) (at ys c)) ≡ true →
-    Leads text (cells_from r (c + 1) pen flag xs ys) text (cells_from r c pen flag xs ys)
-cell_passed r c pen flag xs ys text h range same =
-    leads_same text (cells_from r (c + 1) pen flag xs ys) (cells_from r c pen flag xs ys)
-    (at_column r c pen flag xs ys h range.inside ∙ passed r c pen flag (at xs c) (drop (c + 1) xs) (at ys c) (drop (c + 1) ys) same (first_half xs ys c range))
+-- ---- columns that need nothing
+
+pub passes_none : (c : ℕ) (xs ys : List CellValue) → Passes c c xs ys
+passes_none c xs ys = record { same = λ r pen flag. refl }
+
+pub passes_then : (c d e : ℕ) (xs ys : List CellValue) → Passes c d xs ys → Passes d e xs ys → Passes c e xs ys
+passes_then c d e xs ys p q = record { same = λ r pen flag. p.same r pen flag ∙ q.same r pen flag }
+
+pub passes_cell : (c : ℕ) (xs ys : List CellValue) → c < length xs → IsRange xs ys → (is_right_half (at xs c) || same_cell (at xs c) (at ys c)) ≡ true → Passes c (c + 1) xs ys
+passes_cell c xs ys h range same = record {
+  same = λ r pen flag. at_column r c pen flag xs ys h range.inside ∙ passed r c pen flag (at xs c) (drop (c + 1) xs) (at ys c) (drop (c + 1) ys) same (first_half xs ys c range);
+}
+
+pub passes_leads : (c next r : ℕ) (pen : Pen) (flag : Bool) (xs ys : List CellValue) (text : List ℕ) → Passes c next xs ys → Leads text (cells_from r next pen flag xs ys) text (cells_from r c pen flag xs ys)
+passes_leads c next r pen flag xs ys text p = leads_same text (cells_from r next pen flag xs ys) (cells_from r c pen flag xs ys) (p.same r pen flag)
 
 pub next_glyph : (r c n : ℕ) (pen next : Pen) (flag then : Bool) (xs ys : List CellValue) (text longer : List ℕ) → c < length xs → length xs ≤ length ys →
     (is_right_half (at xs c) || same_cell (at xs c) (at ys c)) ≡ false → is_blank (at xs c) ≡ false → n ≡ columns (is_wide (at xs c)) →

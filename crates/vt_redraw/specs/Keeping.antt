@@ -75,6 +75,10 @@ pub record Leads (text : List ℕ) (written : Written) (start : List ℕ) (whole
 abbrev pub cells_from : (r c : ℕ) → Pen → Bool → (xs ys : List CellValue) → Written
 cells_from r c pen flag xs ys = cells_written r c pen flag 0 (drop c xs) (drop c ys)
 
+-- what the cells need from a column on, they need from a later one on: between them all stands
+pub record Passes (c next : ℕ) (xs ys : List CellValue) : Type 0 where
+  pub same : (r : ℕ) (pen : Pen) (flag : Bool) → cells_from r c pen flag xs ys ≡ cells_from r next pen flag xs ys
+
 -- what a link wrote, and what stands after it, is that of the script
 pub record Links (start text : List ℕ) (pen : Pen) (link : Link) (whole : Linked) : Type 0 where
   pub bytes : text ≡ start ++ bytes_of_all whole.ops

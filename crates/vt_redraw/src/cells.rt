@@ -3,14 +3,15 @@
 ghost use Rattle.std.specs.Prelude.{◌≡◌, ◌++◌, ◌+◌, ◌-◌, ◌<◌, ◌≤◌, ◌==◌, ◌||◌, false, [], ◌∷◌, IfOk, OnOk, drop, length};
 ghost use Rattle.vt_cells.specs.Cell.{attrs_of, is_right_half, is_wide, same_cell, text_of};
 ghost use Rattle.vt_cells.specs.Op.{Print, bytes_of, bytes_of_all};
+ghost use Rattle.vt_cells.specs.PieceKeeping.{gathered};
 ghost use Rattle.vt_rows.specs.Cells.{at};
-ghost use Rattle.vt_redraw.specs.Keeping.{IsRange, Leads, cells_from};
+ghost use Rattle.vt_redraw.specs.Keeping.{IsRange, Leads, Passes, cells_from};
 ghost use Rattle.vt_redraw.specs.Script.{columns, doing, erase_run, flag_behind, flag_past, pen_at};
 
 use crate::pen::Pen;
 use crate::picture_row::PictureRow;
 use vt_cells::term::{BufWrite, ClearRowForward, EraseChar};
-use vt_cells::{Attrs, Cell, Pos, Sink};
+use vt_cells::{Attrs, Cell, Piece, Pos, Sink};
 
 /// How many columns a glyph takes.
 #[inline]
@@ -31,14 +32,37 @@ pub fn print_at<S: Sink>(sink: &mut S, pen: &mut Pen, pos: Pos, cell: &Cell) -> 
     sink.write_str(cell.contents())
 }
 
-/// Writes a glyph at a position; the pen ends up behind it.
+/// Gathers a glyph at a position; where the pen is then is left to the caller.
 #[inline]
-fn write_glyph<S: Sink>(sink: &mut S, pen: &mut Pen, pos: Pos, cell: &Cell) -> Result<(), S::Error>
+fn gather_at<S: Sink>(
+    sink: &mut S,
+    piece: &mut Piece,
+    pen: &mut Pen,
+    pos: Pos,
+    cell: &Cell,
+) -> Result<(), S::Error>
+    ensures text { OnOk result (gathered (S.text sink.new) piece.new ≡ gathered (S.text sink.old) piece.old ++ bytes_of_all (doing pen.old pos.row pos.col (attrs_of cell.now) (Print (text_of cell.now)))) }
+    ensures pen { OnOk result (pen.new ≡ pen_at pos.row pos.col (attrs_of cell.now)) }
+{
+    pen.move_behind(sink, piece, pos)?;
+    pen.draw_as(sink, piece, cell)?;
+    piece.add(sink, cell.contents())
+}
+
+/// Gathers a glyph at a position; the pen ends up behind it.
+#[inline]
+fn gather_glyph<S: Sink>(
+    sink: &mut S,
+    piece: &mut Piece,
+    pen: &mut Pen,
+    pos: Pos,
+    cell: &Cell,
+) -> Result<(), S::Error>
     requires { pos.col + columns (is_wide cell.now) < 65536 }
-    ensures text { OnOk result (S.text sink.new ≡ S.text sink.old ++ bytes_of_all (doing pen.old pos.row pos.col (attrs_of cell.now) (Print (text_of cell.now)))) }
+    ensures text { OnOk result (gathered (S.text sink.new) piece.new ≡ gathered (S.text sink.old) piece.old ++ bytes_of_all (doing pen.old pos.row pos.col (attrs_of cell.now) (Print (text_of cell.now)))) }
     ensures pen { OnOk result (pen.new ≡ pen_at pos.row (pos.col + columns (is_wide cell.now)) (attrs_of cell.now)) }
 {
-    print_at(sink, pen, pos, cell)?;
+    gather_at(sink, piece, pen, pos, cell)?;
     pen.col = pos.col + columns(cell);
     Ok(())
 }
@@ -81,6 +105,26 @@ pub fn write_run<S: Sink>(
     write_erase(sink, count, end, over)
 }
 
+/// The same behind what was gathered, which is written before.
+#[tactic(auto, using(vt_cells::proofs::Pieces::nothing_gathered))]
+fn write_run_behind<S: Sink>(
+    sink: &mut S,
+    piece: &mut Piece,
+    pen: &mut Pen,
+    pos: Pos,
+    attrs: Attrs,
+    count: u16,
+    over: &PictureRow<'_>,
+) -> Result<(), S::Error>
+    requires inside { pos.col + count ≤ length over.now.cells }
+    requires short { pos.col + count < 65536 }
+    ensures text { OnOk result (gathered (S.text sink.new) piece.new ≡ gathered (S.text sink.old) piece.old ++ bytes_of_all (doing pen.old pos.row pos.col attrs (erase_run count (drop (pos.col + count) over.now.cells)))) }
+    ensures pen { OnOk result (pen.new ≡ pen_at pos.row pos.col attrs) }
+{
+    piece.flush(sink)?;
+    write_run(sink, pen, pos, attrs, count, over)
+}
+
 /// Whether the reader's row still goes on below after a glyph in front of this
 /// column.
 pub fn flag_behind(flag: bool, wide: bool, over: &PictureRow<'_>, col: u16) -> bool
@@ -103,20 +147,55 @@ pub fn flag_past(flag: bool, over: &PictureRow<'_>, col: u16) -> bool
 
 /// Whether the cell at a column needs nothing: it stands there already, or is
 /// the right half of a glyph before it.
-#[inline]
+#[inline(always)]
 fn stands(cells: &PictureRow<'_>, over: &PictureRow<'_>, col: u16) -> bool
     requires inside { col < length cells.now.cells }
     requires over { length cells.now.cells ≤ length over.now.cells }
     ensures { result ≡ (is_right_half (at cells.now.cells col) || same_cell (at cells.now.cells col) (at over.now.cells col)) }
 {
     let cell = cells.cell(col);
-    cell.is_wide_continuation() || *cell == *over.cell(col)
+    *cell == *over.cell(col) || cell.is_wide_continuation()
 }
 
-/// Writes the cell at a position, a glyph or a run of blanks that begins there.
-/// Answers how many columns this settles.
+/// The first column from `col` on, before `stop`, that needs something, or else
+/// the column where it stopped.
+#[inline(always)]
+fn pass(cells: &PictureRow<'_>, over: &PictureRow<'_>, col: u16, stop: usize) -> u16
+    requires inside { stop ≤ length cells.now.cells }
+    requires short { stop < 65536 }
+    requires range { IsRange cells.now.cells over.now.cells }
+    ensures order { col ≤ result }
+    ensures passed { Passes col result cells.now.cells over.now.cells }
+    ensures other { result < stop → (is_right_half (at cells.now.cells result) || same_cell (at cells.now.cells result) (at over.now.cells result)) ≡ false }
+{
+    let mut next = col;
+    while usize::from(next) < stop && stands(cells, over, next) {
+        next += 1;
+    }
+    next
+}
+
+/// The first column from `col` on that needs something, or else one where the
+/// row has ended. Where both rows have cells of their own and where only this
+/// one has, each is a loop over slices.
+fn next_other(cells: &PictureRow<'_>, over: &PictureRow<'_>, col: u16) -> u16
+    requires range { IsRange cells.now.cells over.now.cells }
+    ensures order { col ≤ result }
+    ensures passed { Passes col result cells.now.cells over.now.cells }
+    ensures other { result < length cells.now.cells → (is_right_half (at cells.now.cells result) || same_cell (at cells.now.cells result) (at over.now.cells result)) ≡ false }
+{
+    let cols = usize::from(cells.cols());
+    let own = cells.own_len();
+    let both = pass(cells, over, col, own.min(over.own_len()));
+    let alone = pass(cells, over, both, own);
+    pass(cells, over, alone, cols)
+}
+
+/// Gathers the cell at a position, a glyph, or writes a run of blanks that
+/// begins there. Answers how many columns this settles.
 fn write_next<S: Sink>(
     sink: &mut S,
+    piece: &mut Piece,
     pen: &mut Pen,
     flag: &mut bool,
     pos: Pos,
@@ -127,25 +206,27 @@ fn write_next<S: Sink>(
     requires range { IsRange cells.now.cells over.now.cells }
     requires short { length over.now.cells < 65536 }
     requires other { (is_right_half (at cells.now.cells pos.col) || same_cell (at cells.now.cells pos.col) (at over.now.cells pos.col)) ≡ false }
-    ensures leads { IfOk result (λ n. Leads (S.text sink.new) (cells_from pos.row (pos.col + n) pen.new flag.new cells.now.cells over.now.cells) (S.text sink.old) (cells_from pos.row pos.col pen.old flag.old cells.now.cells over.now.cells)) }
+    ensures leads { IfOk result (λ n. Leads (gathered (S.text sink.new) piece.new) (cells_from pos.row (pos.col + n) pen.new flag.new cells.now.cells over.now.cells) (gathered (S.text sink.old) piece.old) (cells_from pos.row pos.col pen.old flag.old cells.now.cells over.now.cells)) }
     ensures some { IfOk result (λ n. 0 < n) }
     ensures inside { IfOk result (λ n. pos.col + n ≤ length over.now.cells) }
 {
     let cell = cells.cell(pos.col);
     if !cell.is_blank() {
         let count = columns(cell);
-        write_glyph(sink, pen, pos, cell)?;
+        gather_glyph(sink, piece, pen, pos, cell)?;
         *flag = flag_behind(*flag, cell.is_wide(), over, pos.col + count);
         return Ok(count);
     }
     let attrs = cell.attrs();
     let count = cells.run(pos.col, attrs);
-    write_run(sink, pen, pos, attrs, count, over)?;
+    write_run_behind(sink, piece, pen, pos, attrs, count, over)?;
     *flag = flag_past(*flag, over, pos.col + count);
     Ok(count)
 }
 
-/// Writes what the cells of a row need from a column on.
+/// Writes what the cells of a row need from a column on. Glyphs that follow one
+/// another are gathered, and written together.
+#[tactic(auto, using(vt_cells::proofs::Pieces::nothing_gathered))]
 pub fn write_cells<S: Sink>(
     sink: &mut S,
     pen: &mut Pen,
@@ -160,14 +241,16 @@ pub fn write_cells<S: Sink>(
     ensures flag { OnOk result (flag.new ≡ (cells_from pos.row pos.col pen.old flag.old cells.now.cells over.now.cells).flag) }
 {
     let cols = cells.cols().min(over.cols());
+    let mut piece = Piece::new();
     let mut col = pos.col;
     while col < cols {
         if stands(cells, over, col) {
-            col += 1;
+            col = next_other(cells, over, col + 1);
         } else {
             let next = Pos { row: pos.row, col };
-            col += write_next(sink, pen, flag, next, cells, over)?;
+            col += write_next(sink, &mut piece, pen, flag, next, cells, over)?;
         }
     }
+    piece.flush(sink)?;
     Ok(())
 }

@@ -2,11 +2,13 @@
 
 ghost use Rattle.std.specs.Prelude.{◌≡◌, ◌++◌, OnOk};
 ghost use Rattle.vt_cells.specs.Attrs.{default_attrs};
+ghost use Rattle.vt_cells.specs.Cell.{attrs_of};
 ghost use Rattle.vt_cells.specs.Op.{bytes_of_all};
+ghost use Rattle.vt_cells.specs.PieceKeeping.{gathered};
 ghost use Rattle.vt_redraw.specs.Script.{changing, going, is_at, pen_at};
 
 use vt_cells::term::{BufWrite, ChangeAttrs, MoveFromTo};
-use vt_cells::{Attrs, Pos, Sink};
+use vt_cells::{Attrs, Cell, Piece, Pos, Sink};
 
 /// Where the reading terminal's cursor is, and what it draws with.
 #[derive(Clone, Copy, PartialEq, Eq, Debug)]
@@ -83,6 +85,73 @@ impl Pen {
         self.attrs = new;
         Ok(())
     }
+
+    /// Moves to a position; what was gathered is written before the move.
+    #[inline]
+    pub fn move_behind<S: Sink>(
+        &mut self,
+        sink: &mut S,
+        piece: &mut Piece,
+        to: Pos,
+    ) -> Result<(), S::Error>
+        ensures text { OnOk result (gathered (S.text sink.new) piece.new ≡ gathered (S.text sink.old) piece.old ++ bytes_of_all (going self.old to.row to.col)) }
+        ensures pen { OnOk result (self.new ≡ pen_at to.row to.col self.old.attrs) }
+    {
+        if self.is_at(to.row, to.col) {
+            return Ok(());
+        }
+        self.jump_behind(sink, piece, to)
+    }
+
+    /// Moves to another position in the same way.
+    #[inline(never)]
+    #[tactic(auto, using(vt_cells::proofs::Pieces::nothing_gathered))]
+    fn jump_behind<S: Sink>(
+        &mut self,
+        sink: &mut S,
+        piece: &mut Piece,
+        to: Pos,
+    ) -> Result<(), S::Error>
+        ensures text { OnOk result (gathered (S.text sink.new) piece.new ≡ gathered (S.text sink.old) piece.old ++ bytes_of_all (going self.old to.row to.col)) }
+        ensures pen { OnOk result (self.new ≡ pen_at to.row to.col self.old.attrs) }
+    {
+        piece.flush(sink)?;
+        self.jump(sink, to)
+    }
+
+    /// Takes the attributes of a cell, and gathers the change.
+    #[inline]
+    pub fn draw_as<S: Sink>(
+        &mut self,
+        sink: &mut S,
+        piece: &mut Piece,
+        cell: &Cell,
+    ) -> Result<(), S::Error>
+        ensures text { OnOk result (gathered (S.text sink.new) piece.new ≡ gathered (S.text sink.old) piece.old ++ bytes_of_all (changing self.old.attrs (attrs_of cell.now))) }
+        ensures pen { OnOk result (self.new ≡ pen_at self.old.row self.old.col (attrs_of cell.now)) }
+    {
+        if cell.has_attrs(&self.attrs) {
+            return Ok(());
+        }
+        let new = cell.attrs();
+        add_change(sink, piece, self.attrs, new)?;
+        self.attrs = new;
+        Ok(())
+    }
+}
+
+/// Gathers a change of attributes.
+#[inline(never)]
+#[tactic(auto, using(crate::proofs::Writing::change_written))]
+fn add_change<S: Sink>(
+    sink: &mut S,
+    piece: &mut Piece,
+    was: Attrs,
+    new: Attrs,
+) -> Result<(), S::Error>
+    ensures { OnOk result (gathered (S.text sink.new) piece.new ≡ gathered (S.text sink.old) piece.old ++ bytes_of_all (changing was new)) }
+{
+    ChangeAttrs { was, new }.add(sink, piece)
 }
 
 /// Writes a change of attributes.

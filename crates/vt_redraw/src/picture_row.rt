@@ -114,6 +114,15 @@ impl<'a> PictureRow<'a> {
         self.cols
     }
 
+    /// How many cells lie in the row it was cut from; the columns behind them
+    /// are blanks of one kind.
+    #[inline]
+    pub fn own_len(&self) -> usize
+        ensures { result ≤ length self.now.cells }
+    {
+        self.cells.len()
+    }
+
     /// The cell at a column.
     #[inline]
     pub fn cell(&self, col: u16) -> &Cell

@@ -1,6 +1,8 @@
 use Rattle.std.proofs.Common.{◌∙◌, ◌+◌, rules, sym, ap, arith}
+use Rattle.vt_cells.proofs.Pieces.{nothing_gathered}
+use Rattle.vt_cells.specs.PieceKeeping.{gathered}
 use Rattle.vt_redraw.specs.Keeping.{cells_from}
-use Rattle.vt_redraw.proofs.CellSteps.{leads_then, leads_text, cell_passed, cells_end}
+use Rattle.vt_redraw.proofs.CellSteps.{leads_then, leads_text, passes_cell, passes_leads, passes_then, cells_end}
 use Rattle.vt_redraw.proofs.cells.write_cells.Goals as goal
 
 pub loop-col-preserved-then-stands : goal.loop-col-preserved-then-stands
@@ -10,8 +12,10 @@ loop-col-preserved-then-stands g c =
     let xs = c.args.cells.now.cells in
     let ys = c.args.over.now.cells in
     let row = c.args.pos.row in
-    leads_then (text c.args.sink.now) (text l.sink) (text l.sink) (cells_from row c.args.pos.col c.args.pen.now c.args.flag.now xs ys) (cells_from row l.col l.pen l.flag xs ys) (cells_from row (l.col + 1) l.pen l.flag xs ys)
-    l.invariant (cell_passed row l.col l.pen l.flag xs ys (text l.sink) (search rules) c.requires.range (search rules))
+    let now = gathered (text l.sink) l.piece in
+    let next = c.next_other-col.result in
+    leads_then (text c.args.sink.now) now now (cells_from row c.args.pos.col c.args.pen.now c.args.flag.now xs ys) (cells_from row l.col l.pen l.flag xs ys) (cells_from row next l.pen l.flag xs ys)
+    l.invariant (passes_leads l.col next row l.pen l.flag xs ys now (passes_then l.col (l.col + 1) next xs ys (passes_cell l.col xs ys (search rules) c.requires.range (search rules)) c.next_other-col.ensures.passed))
 
 pub returns-clause-text : goal.returns-clause-text
 returns-clause-text g c =
@@ -25,7 +29,8 @@ returns-clause-text g c =
     let less = c.min-cols.ensures in
     let inside = c.requires.range.inside in
     let past = c.loop-col-test.false in
-    leads_text (text l.sink) (text c.args.sink.now) (cells_from row l.col l.pen l.flag xs ys) (cells_from row c.args.pos.col c.args.pen.now c.args.flag.now xs ys) l.pen l.flag (cells_end row l.col l.pen l.flag xs ys (omega arith)) l.invariant
+    c.in_ok-flush.ensures.text
+    ∙ leads_text (gathered (text l.sink) l.piece) (text c.args.sink.now) (cells_from row l.col l.pen l.flag xs ys) (cells_from row c.args.pos.col c.args.pen.now c.args.flag.now xs ys) l.pen l.flag (cells_end row l.col l.pen l.flag xs ys (omega arith)) l.invariant
 
 pub returns-clause-pen : goal.returns-clause-pen
 returns-clause-pen g c =
