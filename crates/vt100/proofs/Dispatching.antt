@@ -2,7 +2,8 @@
 use Rattle.std.proofs.Common.{◌≡◌, ℕ, true, false, List, [], ◌∷◌, Option, None, Some, subst, rules}
 use Rattle.vt_screen.specs.Calls.{CallValue}
 use Rattle.vt_screen.specs.Screen.{ScreenValue}
-use Rattle.vt_screen.specs.Steps.{Step, counted_step, csi_steps, mark_at, marked_steps, number_or, one_or, plain_steps, scrolling_steps}
+use Rattle.vt_screen.specs.Controls.{counted_step, csi_steps, mark_at, marked_steps, number_or, one_or, plain_steps, scrolling_steps}
+use Rattle.vt_screen.specs.Steps.{Step}
 use Rattle.vt100.specs.Keeping.{Does, MadeIf, Stops}
 use Rattle.vt100.proofs.Stepping.{stepping}
 

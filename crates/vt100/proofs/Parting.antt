@@ -11,7 +11,7 @@ use Rattle.vt_scan.proofs.Running.{run-append}
 use Rattle.vt_screen.specs.Calls.{CallValue}
 use Rattle.vt_screen.specs.Screen.{ScreenValue}
 use Rattle.vt_screen.specs.Run.{Performs}
-use Rattle.vt100.specs.Parser.{Parsing, Ran, joined, parsing, stage}
+use Rattle.vt100.specs.Parser.{Parsing, Ran, pieces_joined, parsing, stage}
 use Rattle.vt100.proofs.Running.{folds_parted}
 
 -- a parser between two pieces, that has not failed
@@ -41,10 +41,10 @@ ran_parted {S} does p r a b s stands ran =
           (other_stands r.scanner (run there b).state (run t b).state same.alike ends.0, subst (λ (events : List Event). FoldsTo (Performs does) parts.0 events (stage r)) same.events parts.2);
     }
 
-pub ran_parted_list : {S : Type 0} (does : CallValue → S → ScreenValue → S → ScreenValue → Type 0) (p r : Parsing S) (piece : List ℕ) (pieces : List (List ℕ)) (s : State) → StandsFor p.scanner s → Ran does p (joined (piece ∷ pieces)) r → FoldsTo (Ran does) p (piece ∷ pieces) r
+pub ran_parted_list : {S : Type 0} (does : CallValue → S → ScreenValue → S → ScreenValue → Type 0) (p r : Parsing S) (piece : List ℕ) (pieces : List (List ℕ)) (s : State) → StandsFor p.scanner s → Ran does p (pieces_joined (piece ∷ pieces)) r → FoldsTo (Ran does) p (piece ∷ pieces) r
 ran_parted_list does p r piece [] s stands ran = (r, subst (λ (bytes : List ℕ). Ran does p bytes r) (append-nil piece) ran, refl)
 ran_parted_list does p r piece (next ∷ pieces) s stands ran =
-    let parted = ran_parted does p r piece (joined (next ∷ pieces)) s stands ran in
+    let parted = ran_parted does p r piece (pieces_joined (next ∷ pieces)) s stands ran in
     (parted.middle, parted.first, ran_parted_list does parted.middle r next pieces (run s piece).state parted.stands parted.then)
 
 -- from any state that the scanner stands for
@@ -56,7 +56,7 @@ some_parted {S} does p r a b some ran =
     let parted = ran_parted does p r a b s.0 s.1 ran in
     (parted.middle, parted.whole, parted.first, parted.then))
 
-pub some_parted_list : {S : Type 0} (does : CallValue → S → ScreenValue → S → ScreenValue → Type 0) (p r : Parsing S) (piece : List ℕ) (pieces : List (List ℕ)) → ∥ ((state : State) × StandsFor p.scanner state) ∥₁ → Ran does p (joined (piece ∷ pieces)) r
+pub some_parted_list : {S : Type 0} (does : CallValue → S → ScreenValue → S → ScreenValue → Type 0) (p r : Parsing S) (piece : List ℕ) (pieces : List (List ℕ)) → ∥ ((state : State) × StandsFor p.scanner state) ∥₁ → Ran does p (pieces_joined (piece ∷ pieces)) r
     → ∥ FoldsTo (Ran does) p (piece ∷ pieces) r ∥₁
 some_parted_list does p r piece pieces some ran =
     ∥∥₁_map {B = FoldsTo (Ran does) p (piece ∷ pieces) r} some (λ (s : (state : State) × StandsFor p.scanner state). ran_parted_list does p r piece pieces s.0 s.1 ran)

@@ -12,7 +12,8 @@ use Rattle.vt_scan.proofs.Feeding.{plain_feeds}
 use Rattle.vt_screen.specs.Calls.{CallValue}
 use Rattle.vt_screen.specs.Run.{Takes, state}
 use Rattle.vt_screen.specs.Screen.{ScreenValue}
-use Rattle.vt_screen.specs.Steps.{Step, Print, character_steps, stepped}
+use Rattle.vt_screen.specs.Controls.{character_steps}
+use Rattle.vt_screen.specs.Steps.{Step, Print, stepped}
 use Rattle.vt_screen.specs.Texts.{text_stepped}
 use Rattle.vt_screen.proofs.Sizes.{same_printed}
 use Rattle.vt_screen.proofs.TextSteps.{print_scrolls}

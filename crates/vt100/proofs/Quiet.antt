@@ -18,7 +18,8 @@ use Rattle.vt_screen.specs.Calls.{CallValue}
 use Rattle.vt_screen.specs.Screen.{ScreenValue, above_page}
 use Rattle.vt_screen.specs.Run as act
 use Rattle.vt_screen.specs.Run.{Performs, Breaks, Hears, Refuses, StopsIn, Takes, state}
-use Rattle.vt_screen.specs.Steps.{Step, Print, CarriageReturn, LineFeed, ReverseIndex, MoveUp, MoveDown, MoveLeft, NextLine, PreviousLine, Tab, MoveToColumn, MoveToRow, SetRegion, UseOrigin, EraseAbove, ErasePage, EraseScrollback, EraseStart, EraseRow, InsertChars, DeleteChars, InsertLines, DeleteLines, ScrollDown, ScrollUp, MoveRight, MoveTo, EraseBelow, EraseRest, EraseChars, Render, HideCursor, UseApplicationCursor, UseBracketedPaste, SetMouseMode, ClearMouseMode, SetMouseEncoding, ClearMouseEncoding, SetCursorStyle, SaveCursor, RestoreCursor, EnterAlternate, EnterFresh, LeaveAlternate, LeaveRestoring, Reset, UseApplicationKeypad, Tell, Grows, outgoing, stepped, steps_of}
+use Rattle.vt_screen.specs.Controls.{steps_of}
+use Rattle.vt_screen.specs.Steps.{Step, Print, CarriageReturn, LineFeed, ReverseIndex, MoveUp, MoveDown, MoveLeft, NextLine, PreviousLine, Tab, MoveToColumn, MoveToRow, SetRegion, UseOrigin, EraseAbove, ErasePage, EraseScrollback, EraseStart, EraseRow, InsertChars, DeleteChars, InsertLines, DeleteLines, ScrollDown, ScrollUp, MoveRight, MoveTo, EraseBelow, EraseRest, EraseChars, Render, HideCursor, UseApplicationCursor, UseBracketedPaste, SetMouseMode, ClearMouseMode, SetMouseEncoding, ClearMouseEncoding, SetCursorStyle, SaveCursor, RestoreCursor, EnterAlternate, EnterFresh, LeaveAlternate, LeaveRestoring, Reset, UseApplicationKeypad, Tell, Grows, outgoing, stepped}
 use Rattle.vt_screen.specs.Reading.{Terminal, terminal, grows, quiet_step, quiet_steps, quiet_events, read, read_byte}
 use Rattle.vt_screen.proofs.Readback.{and_then-some}
 use Rattle.vt100.specs.Parser.{Parsing, Ran, Stopped, Collects, stage}

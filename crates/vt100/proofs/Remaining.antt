@@ -6,7 +6,8 @@ use Rattle.vt_screen.specs.Screen.{ScreenValue}
 use Rattle.vt_screen.specs.Sgr.{group_read}
 use Rattle.vt_screen.specs.declared.sgr.Wanted.{Wanted}
 use Rattle.vt_screen.specs.declared.sgr.GroupRead.{GroupRead}
-use Rattle.vt_screen.specs.Steps.{Step, Tell, mode_step, mode_steps, osc_steps, reading_steps, sgr_from}
+use Rattle.vt_screen.specs.Controls.{mode_step, mode_steps, osc_steps, reading_steps, sgr_from}
+use Rattle.vt_screen.specs.Steps.{Step, Tell}
 use Rattle.vt100.specs.Keeping.{Does, Stops}
 use Rattle.vt100.proofs.Deciding.{other_parts}
 use Rattle.vt100.proofs.Stepping.{Left, Rest, left_through, left_within, rest_on}

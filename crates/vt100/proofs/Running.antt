@@ -17,7 +17,7 @@ use Rattle.vt_scan.proofs.Running.{run-append}
 use Rattle.vt_screen.specs.Calls.{CallValue}
 use Rattle.vt_screen.specs.Screen.{ScreenValue}
 use Rattle.vt_screen.specs.Run.{Performs, Breaks, StopsIn}
-use Rattle.vt100.specs.Parser.{Parsing, Ran, Stopped, StoppedBefore, StoppedWithin, Collects, joined, stage}
+use Rattle.vt100.specs.Parser.{Parsing, Ran, Stopped, StoppedBefore, StoppedWithin, Collects, pieces_joined, stage}
 
 pub stops_first : {P A : Type 0} (R T : P → A → P → Type 0) (xs ys : List A) (p q : P) → StopsIn R T p xs q → StopsIn R T p (xs ++ ys) q
 stops_first R T [] ys p q h = absurd h
@@ -53,9 +53,9 @@ refused_at does p q bytes k ran turn = λ s stands.
 ran_nothing : {S : Type 0} (does : CallValue → S → ScreenValue → S → ScreenValue → Type 0) (p q : Parsing S) → p ≡ q → Ran does p [] q
 ran_nothing does p q same = subst (λ z. Ran does p [] z) same (λ s stands. (stands, refl))
 
-pub ran_joined : {S : Type 0} (does : CallValue → S → ScreenValue → S → ScreenValue → Type 0) (p q : Parsing S) (pieces : List (List ℕ)) → FoldsTo (Ran does) p pieces q → Ran does p (joined pieces) q
+pub ran_joined : {S : Type 0} (does : CallValue → S → ScreenValue → S → ScreenValue → Type 0) (p q : Parsing S) (pieces : List (List ℕ)) → FoldsTo (Ran does) p pieces q → Ran does p (pieces_joined pieces) q
 ran_joined does p q [] same = ran_nothing does p q same
-ran_joined does p q (piece ∷ pieces) runs = ran_then does p runs.0 q piece (joined pieces) runs.1 (ran_joined does runs.0 q pieces runs.2)
+ran_joined does p q (piece ∷ pieces) runs = ran_then does p runs.0 q piece (pieces_joined pieces) runs.1 (ran_joined does runs.0 q pieces runs.2)
 
 -- an event that broke, among those of one byte of many
 pub stopped_within : {S : Type 0} (does : CallValue → S → ScreenValue → S → ScreenValue → Type 0) (p m q : Parsing S) (after : Held) (bytes : List ℕ) (k : ℕ) (answer : Events) → k < length bytes → Ran does p (take k bytes) m → Feeds m.scanner (slice_index_or bytes k 0) after answer

@@ -1,7 +1,10 @@
 -- Runs whose callbacks leave the screen alone leave its size.
-use Rattle.std.proofs.Common.{◌≡◌, ◌⊎◌, inl, inr, ℕ, List, [], ◌∷◌, length, take, refl, sym, ap, subst, ◌∙◌}
+use Rattle.std.proofs.Common.{◌≡◌, ◌⊎◌, inl, inr, ℕ, ◌==◌, Bool, true, false, List, [], ◌∷◌, length, take, refl, sym, ap, subst, ◌∙◌, arith}
+use Rattle.std.proofs.Math.Logic.{∥∥₁_elim}
+use Rattle.std.proofs.lemmas.Bool.{false≢true}
+use Rattle.std.proofs.lemmas.Bool.Decides.{nat_tests}
 use Rattle.std.specs.List.{FoldsTo}
-use Rattle.vt_grid.specs.Page.{SameSize}
+use Rattle.vt_grid.specs.Page.{Page, SameSize}
 use Rattle.vt_scan.specs.Automaton.{Event, State}
 use Rattle.vt_scan.specs.Run.{run}
 use Rattle.vt_scan.specs.Scanner.{StandsFor}
@@ -9,11 +12,12 @@ use Rattle.vt_screen.specs.Calls.{CallValue}
 use Rattle.vt_screen.specs.Run as act
 use Rattle.vt_screen.specs.Run.{Breaks, Performs, Refuses, StopsIn, Takes, state}
 use Rattle.vt_screen.specs.Screen.{ScreenValue, IsScreen}
-use Rattle.vt_screen.specs.Steps.{Step, steps_of}
+use Rattle.vt_screen.specs.Controls.{steps_of}
+use Rattle.vt_screen.specs.Steps.{Step}
 use Rattle.vt_screen.specs.Telling.{LeavesScreen}
 use Rattle.vt_screen.proofs.Sized.{IsSized, sized_screen}
 use Rattle.vt_screen.proofs.SizedRuns.{sized_taken}
-use Rattle.vt100.specs.Parser.{Parsing, Ran, Stopped, stage}
+use Rattle.vt100.specs.Parser.{Parsing, Ran, Stopped, quietly, stage}
 
 module _ {S : Type 0} (does : CallValue → S → ScreenValue → S → ScreenValue → Type 0) (leaves : LeavesScreen does) (height width : ℕ) where
   sized_steps : (steps : List Step) (a b : act.State S) → IsSized height width a.screen → FoldsTo (Takes does) a steps b → IsSized height width b.screen
@@ -50,3 +54,39 @@ stopped_size does leaves p q bytes scan is stands stopped = elim stopped [
   | inl before ↦ ran_size does leaves p q (take before.count bytes) scan is stands before.ran
   | inr within ↦ size_is p.screen q.screen (sized_stopped does leaves (length p.screen.page.rows) p.screen.page.width (run scan bytes).events (stage p) (stage q) (sized_screen p.screen is) (within scan stands))
 ]
+
+-- ---- parsers whose scanner stands for some state
+
+same_number : (v q : ℕ) → (v == q) ≡ true → v ≡ q
+same_number v q e = grind (arith, nat_tests)
+
+own_number : (v : ℕ) → (v == v) ≡ true
+own_number v = grind (arith, nat_tests)
+
+-- numbers that are equal once there is something are equal, where there is
+same_for_some : {A : Type 0} (m n : ℕ) → ∥ A ∥₁ → (A → m ≡ n) → m ≡ n
+same_for_some {A} m n some h = by_test (m == n) refl where
+  differ : (m == n) ≡ false → A → ⊥
+  differ e a = false≢true (sym e ∙ (ap (λ (k : ℕ). m == k) (sym (h a)) ∙ own_number m))
+
+  by_test : (b : Bool) → (m == n) ≡ b → m ≡ n
+  by_test true e = same_number m n e
+  by_test false e = absurd (∥∥₁_elim some (λ x y. absurd x) (differ e))
+
+pub same_size_for_some : {A : Type 0} (new old : Page) → ∥ A ∥₁ → (A → SameSize new old) → SameSize new old
+same_size_for_some {A} new old some h = record {
+  width = same_for_some new.width old.width some (λ (a : A). (h a).width);
+  height = same_for_some (length new.rows) (length old.rows) some (λ (a : A). (h a).height);
+}
+
+pub some_ran_size : {S : Type 0} (does : CallValue → S → ScreenValue → S → ScreenValue → Type 0) (p q : Parsing S) (bytes : List ℕ) → LeavesScreen does → IsScreen p.screen → ∥ ((scan : State) × StandsFor p.scanner scan) ∥₁ → Ran does p bytes q → SameSize q.screen.page p.screen.page
+some_ran_size does p q bytes leaves is stands ran =
+    same_size_for_some q.screen.page p.screen.page stands (λ (s : (scan : State) × StandsFor p.scanner scan). ran_size does leaves p q bytes s.0 is s.1 ran)
+
+pub some_stopped_size : {S : Type 0} (does : CallValue → S → ScreenValue → S → ScreenValue → Type 0) (p q : Parsing S) (bytes : List ℕ) → LeavesScreen does → IsScreen p.screen → ∥ ((scan : State) × StandsFor p.scanner scan) ∥₁ → Stopped does p bytes q → SameSize q.screen.page p.screen.page
+some_stopped_size does p q bytes leaves is stands stopped =
+    same_size_for_some q.screen.page p.screen.page stands (λ (s : (scan : State) × StandsFor p.scanner scan). stopped_size does leaves p q bytes s.0 is s.1 stopped)
+
+-- callbacks that do nothing leave the screen alone
+pub quiet_leaves : LeavesScreen quietly
+quiet_leaves call old new before after t = t.1

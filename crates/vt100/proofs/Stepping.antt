@@ -5,7 +5,8 @@ use Rattle.std.proofs.lemmas.Bool.{false≢true}
 use Rattle.vt_screen.specs.Calls.{CallValue}
 use Rattle.vt_screen.specs.Screen.{ScreenValue}
 use Rattle.vt_screen.specs.Run.{State, Takes, Refuses, StopsIn, state}
-use Rattle.vt_screen.specs.Steps.{Step, Print, CarriageReturn, LineFeed, ReverseIndex, MoveUp, MoveDown, MoveLeft, NextLine, PreviousLine, Tab, MoveToColumn, MoveToRow, SetRegion, UseOrigin, EraseAbove, ErasePage, EraseScrollback, EraseStart, EraseRow, InsertChars, DeleteChars, InsertLines, DeleteLines, ScrollDown, ScrollUp, MoveRight, MoveTo, EraseBelow, EraseRest, EraseChars, Render, HideCursor, UseApplicationCursor, UseBracketedPaste, SetMouseMode, ClearMouseMode, SetMouseEncoding, ClearMouseEncoding, SetCursorStyle, SaveCursor, RestoreCursor, EnterAlternate, EnterFresh, LeaveAlternate, LeaveRestoring, Reset, UseApplicationKeypad, Tell, Grows, alternate_step, fresh_step, stepped}
+use Rattle.vt_screen.specs.Controls.{alternate_step, fresh_alternate_step}
+use Rattle.vt_screen.specs.Steps.{Step, Print, CarriageReturn, LineFeed, ReverseIndex, MoveUp, MoveDown, MoveLeft, NextLine, PreviousLine, Tab, MoveToColumn, MoveToRow, SetRegion, UseOrigin, EraseAbove, ErasePage, EraseScrollback, EraseStart, EraseRow, InsertChars, DeleteChars, InsertLines, DeleteLines, ScrollDown, ScrollUp, MoveRight, MoveTo, EraseBelow, EraseRest, EraseChars, Render, HideCursor, UseApplicationCursor, UseBracketedPaste, SetMouseMode, ClearMouseMode, SetMouseEncoding, ClearMouseEncoding, SetCursorStyle, SaveCursor, RestoreCursor, EnterAlternate, EnterFresh, LeaveAlternate, LeaveRestoring, Reset, UseApplicationKeypad, Tell, Grows, stepped}
 use Rattle.vt100.specs.Keeping.{Does, Stops, is_own}
 use Rattle.vt_rows.proofs.Folds.{folds_then}
 use Rattle.vt100.proofs.Running.{stops_first, stops_then}
@@ -84,7 +85,7 @@ takes_alternate : {S : Type 0} (does : CallValue → S → ScreenValue → S →
 takes_alternate does true s d e h = ap (state s) h
 takes_alternate does false s d e h = ap (state s) h
 
-takes_fresh : {S : Type 0} (does : CallValue → S → ScreenValue → S → ScreenValue → Type 0) (on : Bool) (s : S) (d e : ScreenValue) → e ≡ stepped (fresh_step on) d → Takes does (state s d) (fresh_step on) (state s e)
+takes_fresh : {S : Type 0} (does : CallValue → S → ScreenValue → S → ScreenValue → Type 0) (on : Bool) (s : S) (d e : ScreenValue) → e ≡ stepped (fresh_alternate_step on) d → Takes does (state s d) (fresh_alternate_step on) (state s e)
 takes_fresh does true s d e h = ap (state s) h
 takes_fresh does false s d e h = ap (state s) h
 
@@ -94,11 +95,11 @@ alternating does on s d e h = (state s e, takes_alternate does on s d e h, refl)
 pub alternating_stops : {S : Type 0} (does : CallValue → S → ScreenValue → S → ScreenValue → Type 0) (on : Bool) (s : S) (d e : ScreenValue) → Grows (alternate_step on) d → e ≡ d → Stops does s d (alternate_step on ∷ []) s e
 alternating_stops does on s d e grows same = alone_refused does (alternate_step on) s d e grows same
 
-pub freshening : {S : Type 0} (does : CallValue → S → ScreenValue → S → ScreenValue → Type 0) (on : Bool) (s : S) (d e : ScreenValue) → e ≡ stepped (fresh_step on) d → Does does s d (fresh_step on ∷ []) s e
+pub freshening : {S : Type 0} (does : CallValue → S → ScreenValue → S → ScreenValue → Type 0) (on : Bool) (s : S) (d e : ScreenValue) → e ≡ stepped (fresh_alternate_step on) d → Does does s d (fresh_alternate_step on ∷ []) s e
 freshening does on s d e h = (state s e, takes_fresh does on s d e h, refl)
 
-pub freshening_stops : {S : Type 0} (does : CallValue → S → ScreenValue → S → ScreenValue → Type 0) (on : Bool) (s : S) (d e : ScreenValue) → Grows (fresh_step on) d → e ≡ d → Stops does s d (fresh_step on ∷ []) s e
-freshening_stops does on s d e grows same = alone_refused does (fresh_step on) s d e grows same
+pub freshening_stops : {S : Type 0} (does : CallValue → S → ScreenValue → S → ScreenValue → Type 0) (on : Bool) (s : S) (d e : ScreenValue) → Grows (fresh_alternate_step on) d → e ≡ d → Stops does s d (fresh_alternate_step on ∷ []) s e
+freshening_stops does on s d e grows same = alone_refused does (fresh_alternate_step on) s d e grows same
 
 -- ---- loops: what of all steps is left
 

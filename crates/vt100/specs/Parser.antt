@@ -64,6 +64,6 @@ abbrev pub IsHarmless : {S : Type 0} → (CallValue → S → ScreenValue → S 
 IsHarmless {S} does old bytes = (new : Parsing S) → Stopped does old bytes new → ⊥
 
 -- pieces put together
-abbrev pub joined : List (List ℕ) → List ℕ
-joined [] = []
-joined (piece ∷ pieces) = piece ++ joined pieces
+abbrev pub pieces_joined : List (List ℕ) → List ℕ
+pieces_joined [] = []
+pieces_joined (piece ∷ pieces) = piece ++ pieces_joined pieces

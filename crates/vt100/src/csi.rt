@@ -1,9 +1,11 @@
 //! Control sequences.
 
-ghost use Rattle.std.specs.Prelude.{◌≡◌, ◌-◌, ◌<◌, IfOk, IsErr, None, Some, length, map, IfErr};
+ghost use Rattle.std.specs.Prelude.{◌≡◌, ◌-◌, ◌<◌, IfOk, IsErr, None, Some, length, map};
+ghost use Rattle.vt_cells.specs.Refusals.{OnlyOutOfMemory};
 ghost use Rattle.vt100.specs.Keeping.{Does, MadeIf, Stops, report_of};
 ghost use Rattle.vt_screen.specs.Calls.{UnhandledCsi};
-ghost use Rattle.vt_screen.specs.Steps.{counted_step, csi_steps, marked_steps, number_at, number_or, other_steps, scrolling_steps, page_erasing, plain_steps, private_steps, repeated, row_erasing, size_or, space_steps, stepped, style_of, window_steps};
+ghost use Rattle.vt_screen.specs.Controls.{counted_step, csi_steps, marked_steps, number_at, number_or, other_steps, scrolling_steps, page_erasing, plain_steps, private_steps, repeated, row_erasing, size_or, space_steps, style_of, window_steps};
+ghost use Rattle.vt_screen.specs.Steps.{stepped};
 ghost use Rattle.vt_screen.specs.Steps as step;
 
 use crate::sequence::Sequence;
@@ -22,7 +24,7 @@ pub fn perform<CB: Callbacks>(
 ) -> Result<(), Error>
     ensures done { IfOk result (λ _. Does CB.does callbacks.old screen.old (csi_steps (map (λ group. group.now) groups.now) marks.now byte screen.old) callbacks.new screen.new) }
     ensures stopped { IsErr result → Stops CB.does callbacks.old screen.old (csi_steps (map (λ group. group.now) groups.now) marks.now byte screen.old) callbacks.new screen.new }
-    ensures memory { IfErr result (λ error. error ≡ Error.OutOfMemory) }
+    ensures memory { OnlyOutOfMemory result }
 {
     let Some(mark) = numbers::mark_at(marks, 0) else {
         return plain(screen, callbacks, groups, byte);
@@ -46,7 +48,7 @@ fn plain<CB: Callbacks>(
 ) -> Result<(), Error>
     ensures done { IfOk result (λ _. Does CB.does callbacks.old screen.old (plain_steps (map (λ group. group.now) groups.now) byte screen.old) callbacks.new screen.new) }
     ensures stopped { IsErr result → Stops CB.does callbacks.old screen.old (plain_steps (map (λ group. group.now) groups.now) byte screen.old) callbacks.new screen.new }
-    ensures memory { IfErr result (λ error. error ≡ Error.OutOfMemory) }
+    ensures memory { OnlyOutOfMemory result }
 {
     if counted(screen, byte, numbers::number_or(1, groups, 0)) {
         return Ok(());
@@ -61,7 +63,7 @@ fn plain<CB: Callbacks>(
 }
 
 // One that may scroll rows off the page, or another one.
-#[tactic(auto, using(std::proofs::lemmas::Bool::Decides::nat_tests, crate::proofs::Stepping::taken, crate::proofs::Stepping::refused), unfolding(vt_screen::specs::Steps::scrolling_steps))]
+#[tactic(auto, using(std::proofs::lemmas::Bool::Decides::nat_tests, crate::proofs::Stepping::taken, crate::proofs::Stepping::refused), unfolding(vt_screen::specs::Controls::scrolling_steps))]
 fn scrolling<CB: Callbacks>(
     screen: &mut Screen,
     callbacks: &mut CB,
@@ -70,7 +72,7 @@ fn scrolling<CB: Callbacks>(
     requires { report_of sequence ≡ UnhandledCsi None None (map (λ group. group.now) sequence.groups.now) sequence.byte }
     ensures done { IfOk result (λ _. Does CB.does callbacks.old screen.old (scrolling_steps (map (λ group. group.now) sequence.entry.groups.now) sequence.entry.byte screen.old) callbacks.new screen.new) }
     ensures stopped { IsErr result → Stops CB.does callbacks.old screen.old (scrolling_steps (map (λ group. group.now) sequence.entry.groups.now) sequence.entry.byte screen.old) callbacks.new screen.new }
-    ensures memory { IfErr result (λ error. error ≡ Error.OutOfMemory) }
+    ensures memory { OnlyOutOfMemory result }
 {
     let count = numbers::number_or(1, sequence.groups, 0);
     match sequence.byte {
@@ -87,7 +89,7 @@ fn scrolling<CB: Callbacks>(
 }
 
 // A control sequence with one count, at least 1; whether it is one of these.
-#[tactic(auto, using(std::proofs::lemmas::Bool::Decides::nat_tests), unfolding(vt_screen::specs::Steps::counted_step))]
+#[tactic(auto, using(std::proofs::lemmas::Bool::Decides::nat_tests), unfolding(vt_screen::specs::Controls::counted_step))]
 fn counted(screen: &mut Screen, byte: u8, count: u16) -> bool
     requires { 0 < count }
     ensures { MadeIf (counted_step byte count) result screen.old screen.new }
@@ -113,7 +115,7 @@ fn counted(screen: &mut Screen, byte: u8, count: u16) -> bool
 }
 
 // The other control sequences without a marker or an intermediate.
-#[tactic(auto, using(std::proofs::lemmas::Bool::Decides::nat_tests, crate::proofs::Stepping::told, crate::proofs::Stepping::told_two, crate::proofs::Stepping::stepping), unfolding(vt_screen::specs::Steps::other_steps))]
+#[tactic(auto, using(std::proofs::lemmas::Bool::Decides::nat_tests, crate::proofs::Stepping::told, crate::proofs::Stepping::told_two, crate::proofs::Stepping::stepping), unfolding(vt_screen::specs::Controls::other_steps))]
 fn other<CB: Callbacks>(screen: &mut Screen, callbacks: &mut CB, sequence: Sequence<'_>)
     requires { report_of sequence ≡ UnhandledCsi None None (map (λ group. group.now) sequence.groups.now) sequence.byte }
     ensures { Does CB.does callbacks.old screen.old (other_steps (map (λ group. group.now) sequence.entry.groups.now) sequence.entry.byte screen.old) callbacks.new screen.new }
@@ -149,7 +151,7 @@ fn set_region(screen: &mut Screen, groups: &[&[u16]])
 }
 
 // ED.
-#[tactic(auto, using(std::proofs::lemmas::Bool::Decides::nat_tests, crate::proofs::Stepping::told, crate::proofs::Stepping::told_two, crate::proofs::Stepping::stepping, crate::proofs::Stepping::taken), unfolding(vt_screen::specs::Steps::page_erasing))]
+#[tactic(auto, using(std::proofs::lemmas::Bool::Decides::nat_tests, crate::proofs::Stepping::told, crate::proofs::Stepping::told_two, crate::proofs::Stepping::stepping, crate::proofs::Stepping::taken), unfolding(vt_screen::specs::Controls::page_erasing))]
 fn erase_page<CB: Callbacks>(screen: &mut Screen, callbacks: &mut CB, sequence: Sequence<'_>)
     ensures { Does CB.does callbacks.old screen.old (page_erasing (report_of sequence.entry) (number_at 0 (map (λ group. group.now) sequence.entry.groups.now))) callbacks.new screen.new }
 {
@@ -163,7 +165,7 @@ fn erase_page<CB: Callbacks>(screen: &mut Screen, callbacks: &mut CB, sequence: 
 }
 
 // EL.
-#[tactic(auto, using(std::proofs::lemmas::Bool::Decides::nat_tests, crate::proofs::Stepping::told, crate::proofs::Stepping::told_two, crate::proofs::Stepping::stepping), unfolding(vt_screen::specs::Steps::row_erasing))]
+#[tactic(auto, using(std::proofs::lemmas::Bool::Decides::nat_tests, crate::proofs::Stepping::told, crate::proofs::Stepping::told_two, crate::proofs::Stepping::stepping), unfolding(vt_screen::specs::Controls::row_erasing))]
 fn erase_row<CB: Callbacks>(screen: &mut Screen, callbacks: &mut CB, sequence: Sequence<'_>)
     ensures { Does CB.does callbacks.old screen.old (row_erasing (report_of sequence.entry) (number_at 0 (map (λ group. group.now) sequence.entry.groups.now))) callbacks.new screen.new }
 {
@@ -179,7 +181,7 @@ fn erase_row<CB: Callbacks>(screen: &mut Screen, callbacks: &mut CB, sequence: S
 fn repeat<CB: Callbacks>(screen: &mut Screen, callbacks: &mut CB, count: u16) -> Result<(), Error>
     ensures done { IfOk result (λ _. Does CB.does callbacks.old screen.old (repeated count screen.old.last) callbacks.new screen.new) }
     ensures stopped { IsErr result → Stops CB.does callbacks.old screen.old (repeated count screen.old.last) callbacks.new screen.new }
-    ensures memory { IfErr result (λ error. error ≡ Error.OutOfMemory) }
+    ensures memory { OnlyOutOfMemory result }
 {
     let Some(character) = screen.last_char() else {
         return Ok(());
@@ -191,7 +193,7 @@ fn repeat<CB: Callbacks>(screen: &mut Screen, callbacks: &mut CB, count: u16) ->
 }
 
 // Window manipulation: a size that is asked for.
-#[tactic(auto, using(std::proofs::lemmas::Bool::Decides::nat_tests, crate::proofs::Stepping::told, crate::proofs::Stepping::told_two, crate::proofs::Stepping::stepping), unfolding(vt_screen::specs::Steps::window_steps))]
+#[tactic(auto, using(std::proofs::lemmas::Bool::Decides::nat_tests, crate::proofs::Stepping::told, crate::proofs::Stepping::told_two, crate::proofs::Stepping::stepping), unfolding(vt_screen::specs::Controls::window_steps))]
 fn window<CB: Callbacks>(screen: &mut Screen, callbacks: &mut CB, sequence: Sequence<'_>)
     requires { report_of sequence ≡ UnhandledCsi None None (map (λ group. group.now) sequence.groups.now) 0x74 }
     ensures { Does CB.does callbacks.old screen.old (window_steps (map (λ group. group.now) sequence.entry.groups.now) screen.old) callbacks.new screen.new }
@@ -217,7 +219,7 @@ fn number_or_own(own: u16, groups: &[&[u16]], i: usize) -> u16
 }
 
 // A control sequence with a marker or an intermediate.
-#[tactic(auto, using(std::proofs::lemmas::Bool::Decides::nat_tests, crate::proofs::Stepping::told), unfolding(vt_screen::specs::Steps::marked_steps))]
+#[tactic(auto, using(std::proofs::lemmas::Bool::Decides::nat_tests, crate::proofs::Stepping::told), unfolding(vt_screen::specs::Controls::marked_steps))]
 fn marked<CB: Callbacks>(
     screen: &mut Screen,
     callbacks: &mut CB,
@@ -227,7 +229,7 @@ fn marked<CB: Callbacks>(
     requires { sequence.first ≡ Some mark }
     ensures done { IfOk result (λ _. Does CB.does callbacks.old screen.old (marked_steps mark sequence.entry.second (map (λ group. group.now) sequence.entry.groups.now) sequence.entry.byte) callbacks.new screen.new) }
     ensures stopped { IsErr result → Stops CB.does callbacks.old screen.old (marked_steps mark sequence.entry.second (map (λ group. group.now) sequence.entry.groups.now) sequence.entry.byte) callbacks.new screen.new }
-    ensures memory { IfErr result (λ error. error ≡ Error.OutOfMemory) }
+    ensures memory { OnlyOutOfMemory result }
 {
     match mark {
         b'?' => private(screen, callbacks, sequence)?,
@@ -238,7 +240,7 @@ fn marked<CB: Callbacks>(
 }
 
 // Behind `?`.
-#[tactic(auto, using(std::proofs::lemmas::Bool::Decides::nat_tests, crate::proofs::Stepping::told), unfolding(vt_screen::specs::Steps::private_steps))]
+#[tactic(auto, using(std::proofs::lemmas::Bool::Decides::nat_tests, crate::proofs::Stepping::told), unfolding(vt_screen::specs::Controls::private_steps))]
 fn private<CB: Callbacks>(
     screen: &mut Screen,
     callbacks: &mut CB,
@@ -247,7 +249,7 @@ fn private<CB: Callbacks>(
     requires { sequence.first ≡ Some 0x3F }
     ensures done { IfOk result (λ _. Does CB.does callbacks.old screen.old (private_steps sequence.entry.second (map (λ group. group.now) sequence.entry.groups.now) sequence.entry.byte) callbacks.new screen.new) }
     ensures stopped { IsErr result → Stops CB.does callbacks.old screen.old (private_steps sequence.entry.second (map (λ group. group.now) sequence.entry.groups.now) sequence.entry.byte) callbacks.new screen.new }
-    ensures memory { IfErr result (λ error. error ≡ Error.OutOfMemory) }
+    ensures memory { OnlyOutOfMemory result }
 {
     match sequence.byte {
         b'J' => erase_page(screen, callbacks, sequence),
@@ -260,7 +262,7 @@ fn private<CB: Callbacks>(
 }
 
 // Behind a space.
-#[tactic(auto, using(std::proofs::lemmas::Bool::Decides::nat_tests, crate::proofs::Stepping::told, crate::proofs::Stepping::told_two, crate::proofs::Stepping::stepping), unfolding(vt_screen::specs::Steps::space_steps))]
+#[tactic(auto, using(std::proofs::lemmas::Bool::Decides::nat_tests, crate::proofs::Stepping::told, crate::proofs::Stepping::told_two, crate::proofs::Stepping::stepping), unfolding(vt_screen::specs::Controls::space_steps))]
 fn spaced<CB: Callbacks>(screen: &mut Screen, callbacks: &mut CB, sequence: Sequence<'_>)
     requires { sequence.first ≡ Some 0x20 }
     ensures { Does CB.does callbacks.old screen.old (space_steps sequence.entry.second (map (λ group. group.now) sequence.entry.groups.now) sequence.entry.byte) callbacks.new screen.new }
@@ -281,7 +283,7 @@ fn spaced<CB: Callbacks>(screen: &mut Screen, callbacks: &mut CB, sequence: Sequ
 }
 
 // The cursor styles that DECSCUSR numbers.
-#[tactic(auto, using(std::proofs::lemmas::Bool::Decides::nat_tests, crate::proofs::Stepping::told, crate::proofs::Stepping::told_two, crate::proofs::Stepping::stepping), unfolding(vt_screen::specs::Steps::style_of))]
+#[tactic(auto, using(std::proofs::lemmas::Bool::Decides::nat_tests, crate::proofs::Stepping::told, crate::proofs::Stepping::told_two, crate::proofs::Stepping::stepping), unfolding(vt_screen::specs::Controls::style_of))]
 fn style(number: u16) -> Option<CursorStyle>
     ensures { result ≡ style_of number }
 {

@@ -3,9 +3,10 @@
 
 ghost use Rattle.std.specs.List.{AllByRecursion, FoldsTo};
 ghost use Rattle.std.specs.Prelude.{◌≡◌, ℕ, Bool, false, true, List, [], ◌∷◌, ◌++◌, Some};
-ghost use Rattle.vt100.specs.Parser.{Parsing, Ran, joined};
+ghost use Rattle.vt100.specs.Parser.{Parsing, Ran, Stopped, pieces_joined, quietly};
 ghost use Rattle.vt100.specs.Pieces.{HasRead, IsFine, IsPlainParser, Processes, Processing, ShowsLast, bytes_in};
 ghost use Rattle.vt100.specs.Streams.{IsFreshParser, IsRecorder, Makes, ParserCall, bytes_of_calls, screen_by, told_by, whole_text};
+ghost use Rattle.vt_grid.specs.Page.{SameSize};
 ghost use Rattle.vt_rows.specs.Basic.{Written, unwritten};
 ghost use Rattle.vt_scan.specs.Automaton.{State, start};
 ghost use Rattle.vt_scan.specs.Scanner.{StandsFor};
@@ -29,9 +30,19 @@ use vt_screen::Callbacks;
 /// clause `stands` of `Parser::screen`.
 pub fn pieces<CB: Callbacks>()
     ensures two { (p q r : Parsing CB) (a b : List ℕ) → Ran CB.does p a q → Ran CB.does q b r → Ran CB.does p (a ++ b) r }
-    ensures list { (p q : Parsing CB) (pieces : List (List ℕ)) → FoldsTo (Ran CB.does) p pieces q → Ran CB.does p (joined pieces) q }
+    ensures list { (p q : Parsing CB) (pieces : List (List ℕ)) → FoldsTo (Ran CB.does) p pieces q → Ran CB.does p (pieces_joined pieces) q }
     ensures parted { (p r : Parsing CB) (a b : List ℕ) → ∥ ((state : State) × StandsFor p.scanner state) ∥₁ → Ran CB.does p (a ++ b) r → ∥ ((q : Parsing CB) × (q.is_failed ≡ false) × Ran CB.does p a q × Ran CB.does q b r) ∥₁ }
-    ensures parted_list { (p r : Parsing CB) (piece : List ℕ) (pieces : List (List ℕ)) → ∥ ((state : State) × StandsFor p.scanner state) ∥₁ → Ran CB.does p (joined (piece ∷ pieces)) r → ∥ FoldsTo (Ran CB.does) p (piece ∷ pieces) r ∥₁ }
+    ensures parted_list { (p r : Parsing CB) (piece : List ℕ) (pieces : List (List ℕ)) → ∥ ((state : State) × StandsFor p.scanner state) ∥₁ → Ran CB.does p (pieces_joined (piece ∷ pieces)) r → ∥ FoldsTo (Ran CB.does) p (piece ∷ pieces) r ∥₁ }
+{}
+
+/// Bytes leave the size of the screen, where the callbacks leave the screen
+/// alone, as those that do nothing do (`nobody`): those of a run that came to its
+/// end, and of one that stopped for want of memory. The premises hold of every
+/// parser, by the clauses of `Screen::size` and `Parser::screen`.
+pub fn sizes<CB: Callbacks>()
+    ensures ran { (p q : Parsing CB) (bytes : List ℕ) → LeavesScreen CB.does → IsScreen p.screen → ∥ ((state : State) × StandsFor p.scanner state) ∥₁ → Ran CB.does p bytes q → SameSize q.screen.page p.screen.page }
+    ensures stopped { (p q : Parsing CB) (bytes : List ℕ) → LeavesScreen CB.does → IsScreen p.screen → ∥ ((state : State) × StandsFor p.scanner state) ∥₁ → Stopped CB.does p bytes q → SameSize q.screen.page p.screen.page }
+    ensures nobody { LeavesScreen quietly }
 {}
 
 /// What is read quietly as one text is read so by every parser, whatever its

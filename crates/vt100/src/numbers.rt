@@ -1,7 +1,7 @@
 //! Numbers of a control sequence, and its marks.
 
 ghost use Rattle.std.specs.Prelude.{◌≡◌, ◌<◌, map};
-ghost use Rattle.vt_screen.specs.Steps.{mark_at, number_at, number_or};
+ghost use Rattle.vt_screen.specs.Controls.{mark_at, number_at, number_or};
 
 /// The first number of a group, 0 where there is no such group.
 pub fn number_at(groups: &[&[u16]], i: usize) -> u16

@@ -3,7 +3,7 @@
 ghost use Rattle.std.specs.Prelude.{◌≡◌, [], ◌∷◌, map};
 ghost use Rattle.std.specs.List.{list_all};
 ghost use Rattle.vt100.specs.Keeping.{Does};
-ghost use Rattle.vt_screen.specs.Steps.{clipboard_steps, is_base64, is_clipboard_kind, is_text, named_steps, osc_steps};
+ghost use Rattle.vt_screen.specs.Controls.{clipboard_steps, is_base64, is_clipboard_kind, same_bytes, named_steps, osc_steps};
 
 use vt_screen::{Callbacks, Screen};
 
@@ -24,7 +24,7 @@ pub fn perform<CB: Callbacks>(screen: &mut Screen, callbacks: &mut CB, parts: &[
 }
 
 // A command of two parts: a title.
-#[tactic(auto, using(crate::proofs::Stepping::told, crate::proofs::Stepping::told_two, crate::proofs::Stepping::stepping), unfolding(vt_screen::specs::Steps::named_steps))]
+#[tactic(auto, using(crate::proofs::Stepping::told, crate::proofs::Stepping::told_two, crate::proofs::Stepping::stepping), unfolding(vt_screen::specs::Controls::named_steps))]
 fn title<CB: Callbacks>(
     screen: &mut Screen,
     callbacks: &mut CB,
@@ -52,7 +52,7 @@ fn title<CB: Callbacks>(
 }
 
 // A command of three parts: a clipboard, and what it should hold.
-#[tactic(auto, using(crate::proofs::Stepping::told, crate::proofs::Stepping::told_two, crate::proofs::Stepping::stepping), unfolding(vt_screen::specs::Steps::clipboard_steps))]
+#[tactic(auto, using(crate::proofs::Stepping::told, crate::proofs::Stepping::told_two, crate::proofs::Stepping::stepping), unfolding(vt_screen::specs::Controls::clipboard_steps))]
 fn clipboard<CB: Callbacks>(
     screen: &mut Screen,
     callbacks: &mut CB,
@@ -80,7 +80,7 @@ fn clipboard<CB: Callbacks>(
 }
 
 fn is_text(text: &[u8], word: &[u8]) -> bool
-    ensures { result ≡ is_text text.now word.now }
+    ensures { result ≡ same_bytes text.now word.now }
 {
     text == word
 }

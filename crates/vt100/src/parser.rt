@@ -3,6 +3,7 @@
 ghost use Rattle.std.specs.Borrow.{sem, Lends, LendsBoth};
 ghost use Rattle.std.specs.List.{FoldsTo};
 ghost use Rattle.std.specs.Prelude.{◌≡◌, ◌≢◌, ◌↔◌, Err, IfErr, IfOk, IsErr, Ok, OnErr, OnOk, false, true};
+ghost use Rattle.vt_cells.specs.Refusals.{OnlyOutOfMemory};
 ghost use Rattle.vt100.specs.Parser.{IsHarmless, Ran, Stopped, parsing};
 ghost use Rattle.vt100.specs.Pieces.{Processes, processing};
 ghost use Rattle.vt100.specs.contracts.parser.Parser.{the_row as parser_row};
@@ -65,7 +66,7 @@ impl Parser {
         scrollback_capacity: usize,
     ) -> Result<Parser, Error>
         ensures begun { IfOk result (λ parser. StandsFor parser.scanner start) }
-        ensures memory { IfErr result (λ error. error ≡ Error.OutOfMemory) }
+        ensures memory { OnlyOutOfMemory result }
         ensures shown { IfOk result (λ parser. parser ≡ parsing parser.scanner (fresh_screen rows.value cols.value scrollback_capacity) parser.callbacks) }
     {
         Parser::new_with_callbacks(alloc, rows, cols, scrollback_capacity, ())
@@ -76,7 +77,7 @@ impl Parser {
     /// Fails where memory for the screen is refused.
     pub fn default(alloc: Global) -> Result<Parser, Error>
         ensures begun { IfOk result (λ parser. StandsFor parser.scanner start) }
-        ensures memory { IfErr result (λ error. error ≡ Error.OutOfMemory) }
+        ensures memory { OnlyOutOfMemory result }
         ensures shown { IfOk result (λ parser. parser ≡ parsing parser.scanner (fresh_screen 24 80 0) parser.callbacks) }
     {
         let rows = NonZeroU16::new(Parser::DEFAULT_ROWS).unwrap();
@@ -101,7 +102,7 @@ impl<CB: Callbacks> Parser<CB> {
     where
         CB: Drop,
         ensures begun { IfOk result (λ parser. StandsFor parser.scanner start) }
-        ensures memory { IfErr result (λ error. error ≡ Error.OutOfMemory) }
+        ensures memory { OnlyOutOfMemory result }
         ensures shown { IfOk result (λ parser. parser ≡ parsing parser.scanner (fresh_screen rows.value cols.value scrollback_capacity) callbacks) }
     {
         let scanner = Scanner::new(alloc);
@@ -175,7 +176,7 @@ impl<CB: Callbacks> Parser<CB> {
         ensures told { OnOk result (FoldsTo (Told CB.does) self.old.callbacks (calls_resized rows.value cols.value self.old.screen) self.new.callbacks) }
         ensures err { OnErr result (self.new ≡ self.old) }
         ensures grows { IsErr result → has_size rows.value cols.value self.old.screen ≡ false }
-        ensures memory { IfErr result (λ error. error ≡ Error.OutOfMemory) }
+        ensures memory { OnlyOutOfMemory result }
     {
         self.screen
             .set_size_with_cb(rows, cols, &mut self.callbacks)?;

@@ -1,12 +1,13 @@
 //! What the events of the scanner do to the screen, and which callbacks they
 //! call.
 
-ghost use Rattle.std.specs.Prelude.{◌≡◌, ◌==◌, ◌&&◌, ◌||◌, [], IfOk, IsErr, false, nat_le, IfErr};
+ghost use Rattle.std.specs.Prelude.{◌≡◌, ◌==◌, ◌&&◌, ◌||◌, [], IfOk, IsErr, false, nat_le};
+ghost use Rattle.vt_cells.specs.Refusals.{OnlyOutOfMemory};
 ghost use Rattle.vt100.specs.Keeping.{Does, Stops};
 ghost use Rattle.vt_scan.specs.Scanner.{event_of};
 ghost use Rattle.vt_scan.specs.declared.event.Event.{Event};
 ghost use Rattle.vt_screen.specs.Run.{Breaks, Performs, state};
-ghost use Rattle.vt_screen.specs.Steps.{character_steps, control_steps, escape_steps};
+ghost use Rattle.vt_screen.specs.Controls.{character_steps, control_steps, escape_steps};
 
 use crate::{csi, numbers, osc};
 use vt_cells::Error;
@@ -24,7 +25,7 @@ pub fn perform<CB: Callbacks>(
 ) -> Result<(), Error>
     ensures done { IfOk result (λ _. Performs CB.does (state callbacks.old screen.old) (event_of scanner.now event) (state callbacks.new screen.new)) }
     ensures stopped { IsErr result → Breaks CB.does (state callbacks.old screen.old) (event_of scanner.now event) (state callbacks.new screen.new) }
-    ensures memory { IfErr result (λ error. error ≡ Error.OutOfMemory) }
+    ensures memory { OnlyOutOfMemory result }
 {
     match event {
         Event::Character(character) => print(screen, callbacks, character),
@@ -52,7 +53,7 @@ fn control_sequence<CB: Callbacks>(
 ) -> Result<(), Error>
     ensures done { IfOk result (λ _. Performs CB.does (state callbacks.old screen.old) (event_of scanner.now (Event.Csi byte)) (state callbacks.new screen.new)) }
     ensures stopped { IsErr result → Breaks CB.does (state callbacks.old screen.old) (event_of scanner.now (Event.Csi byte)) (state callbacks.new screen.new) }
-    ensures memory { IfErr result (λ error. error ≡ Error.OutOfMemory) }
+    ensures memory { OnlyOutOfMemory result }
 {
     let mut few = FewGroups::new();
     if scanner.lend_groups(&mut few) {
@@ -71,7 +72,7 @@ fn long_sequence<CB: Callbacks>(
 ) -> Result<(), Error>
     ensures done { IfOk result (λ _. Performs CB.does (state callbacks.old screen.old) (event_of scanner.now (Event.Csi byte)) (state callbacks.new screen.new)) }
     ensures stopped { IsErr result → Breaks CB.does (state callbacks.old screen.old) (event_of scanner.now (Event.Csi byte)) (state callbacks.new screen.new) }
-    ensures memory { IfErr result (λ error. error ≡ Error.OutOfMemory) }
+    ensures memory { OnlyOutOfMemory result }
 {
     csi::perform(
         screen,
@@ -92,7 +93,7 @@ fn command<CB: Callbacks>(screen: &mut Screen, callbacks: &mut CB, scanner: &Sca
 
 /// A character: printed, or reported where it stands for bytes that are none.
 #[inline(always)]
-#[tactic(auto, using(std::proofs::lemmas::Bool::Decides::nat_tests, crate::proofs::Stepping::told, crate::proofs::Stepping::taken, crate::proofs::Stepping::refused), unfolding(vt_screen::specs::Steps::character_steps))]
+#[tactic(auto, using(std::proofs::lemmas::Bool::Decides::nat_tests, crate::proofs::Stepping::told, crate::proofs::Stepping::taken, crate::proofs::Stepping::refused), unfolding(vt_screen::specs::Controls::character_steps))]
 pub fn print<CB: Callbacks>(
     screen: &mut Screen,
     callbacks: &mut CB,
@@ -100,7 +101,7 @@ pub fn print<CB: Callbacks>(
 ) -> Result<(), Error>
     ensures done { IfOk result (λ _. Does CB.does callbacks.old screen.old (character_steps character) callbacks.new screen.new) }
     ensures stopped { IsErr result → Stops CB.does callbacks.old screen.old (character_steps character) callbacks.new screen.new }
-    ensures memory { IfErr result (λ error. error ≡ Error.OutOfMemory) }
+    ensures memory { OnlyOutOfMemory result }
 {
     if is_reported(character) {
         callbacks.unhandled_char(screen, character);
@@ -124,7 +125,7 @@ fn is_reported(character: char) -> bool
 fn execute<CB: Callbacks>(screen: &mut Screen, callbacks: &mut CB, byte: u8) -> Result<(), Error>
     ensures done { IfOk result (λ _. Does CB.does callbacks.old screen.old (control_steps byte) callbacks.new screen.new) }
     ensures stopped { IsErr result → Stops CB.does callbacks.old screen.old (control_steps byte) callbacks.new screen.new }
-    ensures memory { IfErr result (λ error. error ≡ Error.OutOfMemory) }
+    ensures memory { OnlyOutOfMemory result }
 {
     if (0x0A..=0x0C).contains(&byte) {
         screen.lf(callbacks)?;
@@ -135,7 +136,7 @@ fn execute<CB: Callbacks>(screen: &mut Screen, callbacks: &mut CB, byte: u8) -> 
 }
 
 // A control function of one byte that is no line feed.
-#[tactic(auto, using(std::proofs::lemmas::Bool::Decides::nat_tests, crate::proofs::Stepping::told, crate::proofs::Stepping::told_two, crate::proofs::Stepping::stepping), unfolding(vt_screen::specs::Steps::control_steps))]
+#[tactic(auto, using(std::proofs::lemmas::Bool::Decides::nat_tests, crate::proofs::Stepping::told, crate::proofs::Stepping::told_two, crate::proofs::Stepping::stepping), unfolding(vt_screen::specs::Controls::control_steps))]
 fn execute_other<CB: Callbacks>(screen: &mut Screen, callbacks: &mut CB, byte: u8)
     requires { (nat_le 0x0A byte && nat_le byte 0x0C) ≡ false }
     ensures { Does CB.does callbacks.old screen.old (control_steps byte) callbacks.new screen.new }
@@ -151,7 +152,7 @@ fn execute_other<CB: Callbacks>(screen: &mut Screen, callbacks: &mut CB, byte: u
 }
 
 // An escape sequence.
-#[tactic(auto, using(crate::proofs::Stepping::told, crate::proofs::Stepping::told_two, crate::proofs::Stepping::stepping), unfolding(vt_screen::specs::Steps::escape_steps))]
+#[tactic(auto, using(crate::proofs::Stepping::told, crate::proofs::Stepping::told_two, crate::proofs::Stepping::stepping), unfolding(vt_screen::specs::Controls::escape_steps))]
 fn escape<CB: Callbacks>(screen: &mut Screen, callbacks: &mut CB, marks: &[u8], byte: u8)
     ensures { Does CB.does callbacks.old screen.old (escape_steps marks.now byte) callbacks.new screen.new }
 {
@@ -165,7 +166,7 @@ fn escape<CB: Callbacks>(screen: &mut Screen, callbacks: &mut CB, marks: &[u8], 
 }
 
 // An escape sequence without intermediates.
-#[tactic(auto, using(std::proofs::lemmas::Bool::Decides::nat_tests, crate::proofs::Stepping::told, crate::proofs::Stepping::told_two, crate::proofs::Stepping::stepping), unfolding(vt_screen::specs::Steps::escape_steps))]
+#[tactic(auto, using(std::proofs::lemmas::Bool::Decides::nat_tests, crate::proofs::Stepping::told, crate::proofs::Stepping::told_two, crate::proofs::Stepping::stepping), unfolding(vt_screen::specs::Controls::escape_steps))]
 fn plain_escape<CB: Callbacks>(screen: &mut Screen, callbacks: &mut CB, byte: u8)
     ensures { Does CB.does callbacks.old screen.old (escape_steps [] byte) callbacks.new screen.new }
 {

@@ -1,8 +1,10 @@
 //! Private modes: DECSET and DECRST.
 
-ghost use Rattle.std.specs.Prelude.{◌≡◌, ◌==◌, [], ◌∷◌, IfOk, IsErr, OnErr, OnOk, false, map, IfErr};
+ghost use Rattle.std.specs.Prelude.{◌≡◌, ◌==◌, [], ◌∷◌, IfOk, IsErr, OnErr, OnOk, false, map};
+ghost use Rattle.vt_cells.specs.Refusals.{OnlyOutOfMemory};
 ghost use Rattle.vt100.specs.Keeping.{Does, Stops, report_of};
-ghost use Rattle.vt_screen.specs.Steps.{Grows, alternate_step, encoding_step, fresh_step, mode_step, mode_steps, mouse_step, stepped};
+ghost use Rattle.vt_screen.specs.Controls.{alternate_step, encoding_step, fresh_alternate_step, mode_step, mode_steps, mouse_step};
+ghost use Rattle.vt_screen.specs.Steps.{Grows, stepped};
 
 use crate::sequence::Sequence;
 use vt_cells::{Error, MouseProtocolEncoding, MouseProtocolMode};
@@ -18,7 +20,7 @@ pub fn perform<CB: Callbacks>(
 ) -> Result<(), Error>
     ensures done { IfOk result (λ _. Does CB.does callbacks.old screen.old (mode_steps on (report_of sequence.entry) (map (λ group. group.now) sequence.entry.groups.now)) callbacks.new screen.new) }
     ensures stopped { IsErr result → Stops CB.does callbacks.old screen.old (mode_steps on (report_of sequence.entry) (map (λ group. group.now) sequence.entry.groups.now)) callbacks.new screen.new }
-    ensures memory { IfErr result (λ error. error ≡ Error.OutOfMemory) }
+    ensures memory { OnlyOutOfMemory result }
 {
     for group in sequence.groups {
         perform_group(screen, callbacks, on, sequence, group)?;
@@ -37,7 +39,7 @@ fn perform_group<CB: Callbacks>(
 ) -> Result<(), Error>
     ensures done { IfOk result (λ _. Does CB.does callbacks.old screen.old (mode_steps on (report_of sequence.entry) (group.now ∷ [])) callbacks.new screen.new) }
     ensures stopped { IsErr result → Stops CB.does callbacks.old screen.old (mode_steps on (report_of sequence.entry) (group.now ∷ [])) callbacks.new screen.new }
-    ensures memory { IfErr result (λ error. error ≡ Error.OutOfMemory) }
+    ensures memory { OnlyOutOfMemory result }
 {
     if group.len() != 1 {
         sequence.report(screen, callbacks);
@@ -48,7 +50,7 @@ fn perform_group<CB: Callbacks>(
 
 // A mode of one number: one of the two that show the alternate page, or
 // another one.
-#[tactic(auto, using(std::proofs::lemmas::Bool::Decides::nat_tests, crate::proofs::Stepping::alternating, crate::proofs::Stepping::alternating_stops, crate::proofs::Stepping::freshening, crate::proofs::Stepping::freshening_stops), unfolding(vt_screen::specs::Steps::mode_step))]
+#[tactic(auto, using(std::proofs::lemmas::Bool::Decides::nat_tests, crate::proofs::Stepping::alternating, crate::proofs::Stepping::alternating_stops, crate::proofs::Stepping::freshening, crate::proofs::Stepping::freshening_stops), unfolding(vt_screen::specs::Controls::mode_step))]
 fn set_mode<CB: Callbacks>(
     screen: &mut Screen,
     callbacks: &mut CB,
@@ -58,7 +60,7 @@ fn set_mode<CB: Callbacks>(
 ) -> Result<(), Error>
     ensures done { IfOk result (λ _. Does CB.does callbacks.old screen.old (mode_step on (report_of sequence.entry) number) callbacks.new screen.new) }
     ensures stopped { IsErr result → Stops CB.does callbacks.old screen.old (mode_step on (report_of sequence.entry) number) callbacks.new screen.new }
-    ensures memory { IfErr result (λ error. error ≡ Error.OutOfMemory) }
+    ensures memory { OnlyOutOfMemory result }
 {
     match number {
         47 => show_alternate(screen, on)?,
@@ -69,7 +71,7 @@ fn set_mode<CB: Callbacks>(
 }
 
 // A mode of one number that shows no other page.
-#[tactic(auto, using(std::proofs::lemmas::Bool::Decides::nat_tests, crate::proofs::Stepping::told, crate::proofs::Stepping::told_two, crate::proofs::Stepping::stepping), unfolding(vt_screen::specs::Steps::mode_step))]
+#[tactic(auto, using(std::proofs::lemmas::Bool::Decides::nat_tests, crate::proofs::Stepping::told, crate::proofs::Stepping::told_two, crate::proofs::Stepping::stepping), unfolding(vt_screen::specs::Controls::mode_step))]
 fn set_other_mode<CB: Callbacks>(
     screen: &mut Screen,
     callbacks: &mut CB,
@@ -101,7 +103,7 @@ fn show_alternate(screen: &mut Screen, on: bool) -> Result<(), Error>
     ensures ok { OnOk result (screen.new ≡ stepped (alternate_step on) screen.old) }
     ensures err { OnErr result (screen.new ≡ screen.old) }
     ensures grows { IsErr result → Grows (alternate_step on) screen.old }
-    ensures memory { IfErr result (λ error. error ≡ Error.OutOfMemory) }
+    ensures memory { OnlyOutOfMemory result }
 {
     if on {
         return screen.enter_alternate();
@@ -113,10 +115,10 @@ fn show_alternate(screen: &mut Screen, on: bool) -> Result<(), Error>
 // All saved and a fresh alternate page, or the main page with what was saved
 // restored.
 fn show_fresh_alternate(screen: &mut Screen, on: bool) -> Result<(), Error>
-    ensures ok { OnOk result (screen.new ≡ stepped (fresh_step on) screen.old) }
+    ensures ok { OnOk result (screen.new ≡ stepped (fresh_alternate_step on) screen.old) }
     ensures err { OnErr result (screen.new ≡ screen.old) }
-    ensures grows { IsErr result → Grows (fresh_step on) screen.old }
-    ensures memory { IfErr result (λ error. error ≡ Error.OutOfMemory) }
+    ensures grows { IsErr result → Grows (fresh_alternate_step on) screen.old }
+    ensures memory { OnlyOutOfMemory result }
 {
     if on {
         return screen.enter_fresh_alternate();

@@ -1,7 +1,8 @@
 //! The loop over bytes.
 
 ghost use Rattle.std.specs.List.{FoldsTo};
-ghost use Rattle.std.specs.Prelude.{◌≡◌, ◌<◌, ◌≤◌, IfErr, IfOk, IsErr, length, map, option_to_list, slice_index_or, take};
+ghost use Rattle.std.specs.Prelude.{◌<◌, ◌≤◌, IfOk, IsErr, length, map, option_to_list, slice_index_or, take};
+ghost use Rattle.vt_cells.specs.Refusals.{OnlyOutOfMemory};
 ghost use Rattle.vt100.specs.Parser.{Ran, Stopped, parsing};
 ghost use Rattle.vt_scan.specs.Scanner.{ReadsItself, event_of, events_in};
 ghost use Rattle.vt_screen.specs.Run.{Breaks, Performs, StopsIn, state};
@@ -21,7 +22,7 @@ pub fn process<CB: Callbacks>(
 ) -> Result<(), Error>
     ensures ran { IfOk result (λ _. Ran CB.does (parsing scanner.old screen.old callbacks.old) bytes.now (parsing scanner.new screen.new callbacks.new)) }
     ensures stopped { IsErr result → Stopped CB.does (parsing scanner.old screen.old callbacks.old) bytes.now (parsing scanner.new screen.new callbacks.new) }
-    ensures memory { IfErr result (λ error. error ≡ Error.OutOfMemory) }
+    ensures memory { OnlyOutOfMemory result }
 {
     let mut at = 0;
     while at < bytes.len() {
@@ -46,7 +47,7 @@ fn process_some<CB: Callbacks>(
     ensures inside { IfOk result (λ count. count ≤ length bytes.now) }
     ensures ran { IfOk result (λ count. Ran CB.does (parsing scanner.old screen.old callbacks.old) (take count bytes.now) (parsing scanner.new screen.new callbacks.new)) }
     ensures stopped { IsErr result → Stopped CB.does (parsing scanner.old screen.old callbacks.old) bytes.now (parsing scanner.new screen.new callbacks.new) }
-    ensures memory { IfErr result (λ error. error ≡ Error.OutOfMemory) }
+    ensures memory { OnlyOutOfMemory result }
 {
     let byte = bytes[0];
     if scanner.is_plain(byte) {
@@ -73,7 +74,7 @@ fn print_some<CB: Callbacks>(
     ensures inside { IfOk result (λ count. count ≤ length bytes.now) }
     ensures ran { IfOk result (λ count. Ran CB.does (parsing scanner.now screen.old callbacks.old) (take count bytes.now) (parsing scanner.now screen.new callbacks.new)) }
     ensures stopped { IsErr result → Stopped CB.does (parsing scanner.now screen.old callbacks.old) bytes.now (parsing scanner.now screen.new callbacks.new) }
-    ensures memory { IfErr result (λ error. error ≡ Error.OutOfMemory) }
+    ensures memory { OnlyOutOfMemory result }
 {
     let fitting = bytes.len().min(usize::from(screen.room()));
     let count = scanner.plain_len(&bytes[..fitting]);
@@ -96,7 +97,7 @@ fn perform_each<CB: Callbacks>(
 ) -> Result<(), Error>
     ensures done { IfOk result (λ _. FoldsTo (Performs CB.does) (state callbacks.old screen.old) (events_in scanner.now events) (state callbacks.new screen.new)) }
     ensures stopped { IsErr result → StopsIn (Performs CB.does) (Breaks CB.does) (state callbacks.old screen.old) (events_in scanner.now events) (state callbacks.new screen.new) }
-    ensures memory { IfErr result (λ error. error ≡ Error.OutOfMemory) }
+    ensures memory { OnlyOutOfMemory result }
 {
     perform_some(screen, callbacks, scanner, events.first)?;
     perform_some(screen, callbacks, scanner, events.second)?;
@@ -113,7 +114,7 @@ fn perform_some<CB: Callbacks>(
 ) -> Result<(), Error>
     ensures done { IfOk result (λ _. FoldsTo (Performs CB.does) (state callbacks.old screen.old) (map (event_of scanner.now) (option_to_list event)) (state callbacks.new screen.new)) }
     ensures stopped { IsErr result → StopsIn (Performs CB.does) (Breaks CB.does) (state callbacks.old screen.old) (map (event_of scanner.now) (option_to_list event)) (state callbacks.new screen.new) }
-    ensures memory { IfErr result (λ error. error ≡ Error.OutOfMemory) }
+    ensures memory { OnlyOutOfMemory result }
 {
     let Some(event) = event else {
         return Ok(());

@@ -3,7 +3,7 @@
 ghost use Rattle.std.specs.Prelude.{◌≡◌, None, map};
 ghost use Rattle.vt_screen.specs.Calls.{UnhandledCsi};
 ghost use Rattle.vt100.specs.Keeping.{Does, report_of};
-ghost use Rattle.vt_screen.specs.Steps.{reading_steps, sgr_steps};
+ghost use Rattle.vt_screen.specs.Controls.{reading_steps, sgr_steps};
 
 use crate::sequence::Sequence;
 use vt_screen::sgr::{Reading, Wanted};

@@ -9,3 +9,4 @@ pub mod Glyph
 pub mod InputModes
 pub mod Op
 pub mod PieceKeeping
+pub mod Refusals

@@ -27,15 +27,15 @@ carries mark page =
     && (is_wide_text (text_of (marked mark cell)) && (nat_lt 1 page.width && (page.column == page.width)))
 
 -- the character would go on in the next row
-abbrev pub goes_on : Option ℕ → ℕ → Page → Bool
-goes_on None c page = false
-goes_on (Some zero) c page = if page.column == 0 then false else carries c page
-goes_on (Some (suc zero)) c page = lacks_room 1 page
-goes_on (Some (suc (suc n))) c page = nat_lt 1 page.width && lacks_room 2 page
+abbrev pub wraps_for : Option ℕ → ℕ → Page → Bool
+wraps_for None c page = false
+wraps_for (Some zero) c page = if page.column == 0 then false else carries c page
+wraps_for (Some (suc zero)) c page = lacks_room 1 page
+wraps_for (Some (suc (suc n))) c page = nat_lt 1 page.width && lacks_room 2 page
 
 -- printing the character scrolls a row off the page
 abbrev pub pushes : ℕ → Page → Bool
-pushes c page = goes_on (columns_of c) c page && feeds_out page
+pushes c page = wraps_for (columns_of c) c page && feeds_out page
 
 -- a character drawn, unless that scrolls a row off the page
 abbrev pub drawn_char : ℕ → Canvas → Option Canvas

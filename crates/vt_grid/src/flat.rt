@@ -1,9 +1,10 @@
 //! One vector with the cells of all rows, and a table that says where each row
 //! is.
 
-ghost use Rattle.std.specs.Prelude.{◌≡◌, ◌≢◌, ◌+◌, ◌*◌, ◌<◌, ◌≤◌, ◌^◌, ◌&&◌, ◌⊎◌, ℕ, IfErr, IfOk, false, length, not, slice_index_or, slice_set};
+ghost use Rattle.std.specs.Prelude.{◌≡◌, ◌≢◌, ◌+◌, ◌*◌, ◌<◌, ◌≤◌, ◌^◌, ◌&&◌, ◌⊎◌, ℕ, IfOk, false, length, not, slice_index_or, slice_set};
 ghost use Rattle.std.specs.List.{slice_range};
 ghost use Rattle.vt_cells.specs.Attrs.{default_attrs};
+ghost use Rattle.vt_cells.specs.Refusals.{OnlyOutOfMemory};
 ghost use Rattle.vt_rows.specs.Cells.{blanks, ends_blank};
 ghost use Rattle.vt_rows.specs.Keeping.{turn_source};
 
@@ -41,7 +42,7 @@ impl Flat {
         ensures cells { IfOk result (λ flat. flat.cells.items ≡ blanks default_attrs (size.rows * size.cols)) }
         ensures lines { IfOk result (λ flat. flat.lines.items ≡ in_order size.rows) }
         ensures width { IfOk result (λ flat. flat.width ≡ size.cols) }
-        ensures memory { IfErr result (λ error. error ≡ Error.OutOfMemory) }
+        ensures memory { OnlyOutOfMemory result }
     {
         let cells = blank_cells(alloc, usize::from(size.rows) * usize::from(size.cols))?;
         Ok(Flat {
@@ -58,7 +59,7 @@ impl Flat {
         ensures cells { IfOk result (λ flat. flat.cells.items ≡ self.now.cells.items) }
         ensures lines { IfOk result (λ flat. flat.lines.items ≡ self.now.lines.items) }
         ensures width { IfOk result (λ flat. flat.width ≡ self.now.width) }
-        ensures memory { IfErr result (λ error. error ≡ Error.OutOfMemory) }
+        ensures memory { OnlyOutOfMemory result }
     {
         let cells = copied(alloc, &self.cells)?;
         let lines = self.lines.to_vec(alloc)?;
@@ -140,7 +141,7 @@ impl Flat {
     /// The table of rows that lie in their order.
     fn lines_in_order(alloc: Global, rows: u16) -> Result<Vec<Line>, Error>
         ensures ok { IfOk result (λ lines. lines.items ≡ in_order rows) }
-        ensures memory { IfErr result (λ error. error ≡ Error.OutOfMemory) }
+        ensures memory { OnlyOutOfMemory result }
     {
         let mut lines = Vec::with_capacity(alloc, usize::from(rows))?;
         for place in 0..rows {
@@ -156,7 +157,7 @@ impl Flat {
 /// Default blanks, all of whose memory is taken at once.
 fn blank_cells(alloc: Global, count: usize) -> Result<Vec<Cell>, Error>
     ensures ok { IfOk result (λ cells. cells.items ≡ blanks default_attrs count) }
-    ensures memory { IfErr result (λ error. error ≡ Error.OutOfMemory) }
+    ensures memory { OnlyOutOfMemory result }
 {
     let mut cells = Vec::with_capacity(alloc, count)?;
     for _cell in 0..count {

@@ -1,6 +1,7 @@
 //! A page of rows with its cursor, its scroll region and what was saved.
 
-ghost use Rattle.std.specs.Prelude.{◌≡◌, ◌<◌, IfErr, IfOk, length};
+ghost use Rattle.std.specs.Prelude.{◌≡◌, ◌<◌, IfOk, length};
+ghost use Rattle.vt_cells.specs.Refusals.{OnlyOutOfMemory};
 ghost use Rattle.vt_grid.specs.Page.{blank_page, row_at};
 
 mod erasing;
@@ -53,7 +54,7 @@ impl Grid {
         requires rows { 0 < size.rows }
         requires cols { 0 < size.cols }
         ensures ok { IfOk result (λ grid. grid ≡ blank_page size.rows size.cols) }
-        ensures memory { IfErr result (λ error. error ≡ Error.OutOfMemory) }
+        ensures memory { OnlyOutOfMemory result }
     {
         let sheet = Sheet::new(alloc, size)?;
         Ok(Grid {
@@ -73,7 +74,7 @@ impl Grid {
     /// Fails where its memory is refused.
     pub fn try_clone(&self, alloc: Global) -> Result<Grid, Error>
         ensures ok { IfOk result (λ grid. grid ≡ self.now) }
-        ensures memory { IfErr result (λ error. error ≡ Error.OutOfMemory) }
+        ensures memory { OnlyOutOfMemory result }
     {
         Ok(Grid {
             sheet: self.sheet.try_clone(alloc)?,

@@ -1,9 +1,10 @@
 //! Lists of rows: made anew, all of whose memory is taken at once, and turned
 //! over.
 
-ghost use Rattle.std.specs.Prelude.{◌≡◌, ◌<◌, ◌≤◌, ◌++◌, All, IfErr, IfOk, IsErr, OnErr, OnOk, drop, length, map, replicate, take};
+ghost use Rattle.std.specs.Prelude.{◌≡◌, ◌<◌, ◌≤◌, ◌++◌, All, IfOk, IsErr, OnErr, OnOk, drop, length, map, replicate, take};
 ghost use Rattle.std.specs.List.{FoldsTo};
 ghost use Rattle.vt_cells.specs.Attrs.{default_attrs};
+ghost use Rattle.vt_cells.specs.Refusals.{OnlyOutOfMemory};
 ghost use Rattle.vt_rows.specs.Row.{IsRow, blank_row, trimmed_row};
 
 use crate::sheet::Sheet;
@@ -16,7 +17,7 @@ use vt_rows::{Leaving, Row};
 pub fn blank_rows(alloc: Global, columns: usize, count: usize) -> Result<Vec<Row>, Error>
     ensures ok { IfOk result (λ rows. rows.items ≡ replicate count (blank_row default_attrs columns)) }
     ensures grows { IsErr result → 0 < count }
-    ensures memory { IfErr result (λ error. error ≡ Error.OutOfMemory) }
+    ensures memory { OnlyOutOfMemory result }
 {
     let mut rows = Vec::with_capacity(alloc, count)?;
     for _row in 0..count {
@@ -31,7 +32,7 @@ pub fn trimmed_rows(alloc: Global, page: &Sheet, count: usize) -> Result<Vec<Row
     requires inside { count ≤ length page.now.rows }
     requires sound { All (IsRow page.now.width) page.now.rows }
     ensures ok { IfOk result (λ copies. copies.items ≡ map trimmed_row (take count page.now.rows)) }
-    ensures memory { IfErr result (λ error. error ≡ Error.OutOfMemory) }
+    ensures memory { OnlyOutOfMemory result }
 {
     let mut copies = Vec::with_capacity(alloc, count)?;
     for k in 0..count {
@@ -44,7 +45,7 @@ pub fn trimmed_rows(alloc: Global, page: &Sheet, count: usize) -> Result<Vec<Row
 /// Copies of rows.
 pub fn copied_rows(rows: &VecDeque<Row>, alloc: Global) -> Result<VecDeque<Row>, Error>
     ensures ok { IfOk result (λ copies. copies.items ≡ rows.now.items) }
-    ensures memory { IfErr result (λ error. error ≡ Error.OutOfMemory) }
+    ensures memory { OnlyOutOfMemory result }
 {
     let mut copies = VecDeque::new(alloc);
     copies.reserve(rows.len())?;
@@ -71,7 +72,7 @@ pub fn turn_over<L: Leaving>(
     ensures rows { OnOk result (rows.new.items ≡ drop 1 rows.old.items ++ map trimmed_row (take 1 page.now.rows)) }
     ensures left { OnOk result (FoldsTo L.leaves leaving.old (take 1 rows.old.items) leaving.new) }
     ensures err { OnErr result ((rows.new.items ≡ rows.old.items) × (leaving.new ≡ leaving.old)) }
-    ensures memory { IfErr result (λ error. error ≡ Error.OutOfMemory) }
+    ensures memory { OnlyOutOfMemory result }
 {
     let row = page.row(0);
     rows[0].leave_for(row.cells(), row.wrapped(), leaving)?;

@@ -1,10 +1,11 @@
 //! The rows that left a page at its top, as far as they are kept (xterm's
 //! saved lines).
 
-ghost use Rattle.std.specs.Prelude.{◌≡◌, ◌+◌, ◌-◌, ◌^◌, ◌==◌, ◌<◌, ◌≤◌, ◌↔◌, ◌&&◌, ◌++◌, ◌∷◌, [], ℕ, List, All, IfErr, IfOk, IfSome, IsErr, IsSome, OnErr, OnOk, if◌then◌else◌, length, map, min, nat_le, nat_lt, slice_index_or, take};
+ghost use Rattle.std.specs.Prelude.{◌≡◌, ◌+◌, ◌-◌, ◌^◌, ◌==◌, ◌<◌, ◌≤◌, ◌↔◌, ◌&&◌, ◌++◌, ◌∷◌, [], ℕ, List, All, IfOk, IfSome, IsErr, IsSome, OnErr, OnOk, if◌then◌else◌, length, map, min, nat_le, nat_lt, slice_index_or, take};
 ghost use Rattle.std.specs.List.{FoldsTo};
 ghost use Rattle.std.specs.VecDeque.{deque_capacity, deque_len};
 ghost use Rattle.vt_cells.specs.Attrs.{default_attrs};
+ghost use Rattle.vt_cells.specs.Refusals.{OnlyOutOfMemory};
 ghost use Rattle.vt_rows.specs.Row.{RowValue, IsRow, blank_row, resized_row, trimmed_row};
 ghost use Rattle.vt_grid.specs.Resize.{out_of_view, taken_back};
 ghost use Rattle.vt_grid.specs.Scrollback.{IsScrollback, Sends, TakesMemory, ViewTakesMemory, before_last, cleared, grown_row, kept_after, last_of, narrow_rows, no_scrollback, viewed, visible};
@@ -62,7 +63,7 @@ impl Scrollback {
     /// A copy of the scrollback. Fails where its memory is refused.
     pub fn try_clone(&self) -> Result<Scrollback, Error>
         ensures ok { IfOk result (λ above. above ≡ self.now) }
-        ensures memory { IfErr result (λ error. error ≡ Error.OutOfMemory) }
+        ensures memory { OnlyOutOfMemory result }
     {
         Ok(Scrollback {
             alloc: self.alloc,
@@ -131,7 +132,7 @@ impl Scrollback {
         ensures sent { OnOk result (Sends L.leaves size.rows size.cols (take count page.now.rows) self.old leaving.old self.new leaving.new) }
         ensures err { OnErr result ((self.new ≡ self.old) × (leaving.new ≡ leaving.old)) }
         ensures grows { IsErr result → TakesMemory (take count page.now.rows) self.old }
-        ensures memory { IfErr result (λ error. error ≡ Error.OutOfMemory) }
+        ensures memory { OnlyOutOfMemory result }
     {
         if count == 0 {
             return Ok(());
@@ -163,7 +164,7 @@ impl Scrollback {
         ensures sent { OnOk result (Sends L.leaves size.rows size.cols (take count page.now.rows) (out_of_view self.old) leaving.old self.new leaving.new) }
         ensures err { OnErr result ((self.new ≡ self.old) × (leaving.new ≡ leaving.old)) }
         ensures grows { IsErr result → TakesMemory (take count page.now.rows) self.old }
-        ensures memory { IfErr result (λ error. error ≡ Error.OutOfMemory) }
+        ensures memory { OnlyOutOfMemory result }
     {
         let offset = self.offset;
         self.offset = 0;
@@ -215,7 +216,7 @@ impl Scrollback {
         requires sound { All (IsRow page.now.width) page.now.rows }
         ensures sent { OnOk result ((height width : ℕ) → Sends L.leaves height width (take 1 page.now.rows) self.old leaving.old self.new leaving.new) }
         ensures err { OnErr result ((self.new ≡ self.old) × (leaving.new ≡ leaving.old)) }
-        ensures memory { IfErr result (λ error. error ≡ Error.OutOfMemory) }
+        ensures memory { OnlyOutOfMemory result }
     {
         turn_over(&mut self.rows, page, leaving)?;
         self.theoretical = self.theoretical.saturating_add(1);
@@ -237,7 +238,7 @@ impl Scrollback {
         requires kept { 0 < self.old.capacity }
         ensures sent { OnOk result (Sends L.leaves size.rows size.cols (take count page.now.rows) self.old leaving.old self.new leaving.new) }
         ensures err { OnErr result ((self.new ≡ self.old) × (leaving.new ≡ leaving.old)) }
-        ensures memory { IfErr result (λ error. error ≡ Error.OutOfMemory) }
+        ensures memory { OnlyOutOfMemory result }
     {
         let copies = trimmed_rows(self.alloc, page, count)?;
         let spare = blank_rows(
@@ -279,7 +280,7 @@ impl Scrollback {
         ensures ok { OnOk result (self.new ≡ viewed size.rows size.cols n self.old) }
         ensures err { OnErr result (self.new ≡ self.old) }
         ensures grows { IsErr result → ViewTakesMemory size.rows size.cols n self.old }
-        ensures memory { IfErr result (λ error. error ≡ Error.OutOfMemory) }
+        ensures memory { OnlyOutOfMemory result }
     {
         let offset = n.min(self.rows.len());
         let narrow = narrow_rows(&self.rows, self.rows.len() - offset, size);

@@ -1,8 +1,9 @@
 //! The rows of a page, without its cursor.
 
-ghost use Rattle.std.specs.Prelude.{◌≡◌, ◌≢◌, ◌+◌, ◌-◌, ◌^◌, ◌&&◌, ◌++◌, ◌<◌, ◌≤◌, ◌↔◌, ℕ, IfErr, IfOk, IfSome, IsErr, IsSome, OnErr, OnOk, Some, All, true, false, encode_utf8, if◌then◌else◌, length, min, nat_le, nat_lt, replicate, slice_index_or, slice_set, take, drop};
+ghost use Rattle.std.specs.Prelude.{◌≡◌, ◌≢◌, ◌+◌, ◌-◌, ◌^◌, ◌&&◌, ◌++◌, ◌<◌, ◌≤◌, ◌↔◌, ℕ, IfOk, IfSome, IsErr, IsSome, OnErr, OnOk, Some, All, true, false, encode_utf8, if◌then◌else◌, length, min, nat_le, nat_lt, replicate, slice_index_or, slice_set, take, drop};
 ghost use Rattle.vt_cells.specs.Cell.{IsCell, attrs_of, is_blank, is_right_half, is_wide, text_of, widened};
 ghost use Rattle.vt_cells.specs.Glyph.{columns_of};
+ghost use Rattle.vt_cells.specs.Refusals.{OnlyOutOfMemory};
 ghost use Rattle.vt_rows.specs.Cells.{IsPaired, at, ends_blank, erased, marked_at, narrowed_at, put_narrow, put_wide, widened_at};
 ghost use Rattle.vt_rows.specs.Row.{RowValue, IsRow, blank_row, deleted_row, inserted_row};
 ghost use Rattle.vt_rows.specs.Texts.{IsPrintableText, put_text};
@@ -48,7 +49,7 @@ impl Sheet {
     /// Fails where memory for them is refused.
     pub fn new(alloc: Global, size: Size) -> Result<Sheet, Error>
         ensures ok { IfOk result (λ sheet. sheet ≡ blank_sheet size.rows size.cols) }
-        ensures memory { IfErr result (λ error. error ≡ Error.OutOfMemory) }
+        ensures memory { OnlyOutOfMemory result }
     {
         let flat = Flat::new(alloc, size)?;
         Ok(Sheet { flat })
@@ -59,7 +60,7 @@ impl Sheet {
     /// Fails where its memory is refused.
     pub fn try_clone(&self, alloc: Global) -> Result<Sheet, Error>
         ensures ok { IfOk result (λ sheet. sheet ≡ self.now) }
-        ensures memory { IfErr result (λ error. error ≡ Error.OutOfMemory) }
+        ensures memory { OnlyOutOfMemory result }
     {
         let flat = self.flat.try_clone(alloc)?;
         Ok(Sheet { flat })
@@ -445,7 +446,7 @@ impl Sheet {
         ensures sent { OnOk result (Sends L.leaves size.rows size.cols (take (min count (bottom + 1)) self.old.rows) above.old leaving.old above.new leaving.new) }
         ensures err { OnErr result ((self.new ≡ self.old) × ((above.new ≡ above.old) × (leaving.new ≡ leaving.old))) }
         ensures grows { IsErr result → TakesMemory (take (min count (bottom + 1)) self.old.rows) above.old }
-        ensures memory { IfErr result (λ error. error ≡ Error.OutOfMemory) }
+        ensures memory { OnlyOutOfMemory result }
     {
         let gone = usize::from(count).min(usize::from(bottom) + 1);
         above.push(self, gone, size, leaving)?;

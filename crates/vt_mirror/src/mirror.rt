@@ -1,6 +1,7 @@
 //! A terminal and its viewers.
 
-ghost use Rattle.std.specs.Prelude.{◌≡◌, IfErr, IfOk, None, []};
+ghost use Rattle.std.specs.Prelude.{◌≡◌, IfOk, None, []};
+ghost use Rattle.vt_cells.specs.Refusals.{OnlyOutOfMemory};
 ghost use Rattle.vt100.specs.Parser.{parsing};
 ghost use Rattle.vt_mirror.specs.Calls.{Asks, IsUpdate, Joins, Leaves, Processes, Resizes};
 ghost use Rattle.vt_mirror.specs.Viewers.{note_of};
@@ -63,7 +64,7 @@ impl Mirror {
         ensures last { IfOk result (λ mirror. mirror.viewers.last ≡ None) }
         ensures nobody { IfOk result (λ mirror. mirror.viewers.numbers ≡ []) }
         ensures nothing { IfOk result (λ mirror. mirror.viewers.notes ≡ []) }
-        ensures memory { IfErr result (λ error. error ≡ Error.OutOfMemory) }
+        ensures memory { OnlyOutOfMemory result }
     {
         Ok(Mirror {
             parser: Parser::new(alloc, rows, cols, scrollback_capacity)?,
@@ -150,7 +151,7 @@ impl Mirror {
     /// The difference from what is noted for a viewer, or a full redraw.
     fn update_from(&self, viewer: u64) -> Result<Update, Error>
         ensures ok { IfOk result (λ update. IsUpdate self.now.parser.screen (note_of self.now.viewers viewer) update) }
-        ensures memory { IfErr result (λ error. error ≡ Error.OutOfMemory) }
+        ensures memory { OnlyOutOfMemory result }
     {
         let screen = self.parser.screen();
         let Some(prev) = self.viewers.note(viewer) else {
@@ -163,7 +164,7 @@ impl Mirror {
 /// A full redraw.
 fn full(screen: &Screen) -> Result<Update, Error>
     ensures ok { IfOk result (λ update. IsUpdate screen.now None update) }
-    ensures memory { IfErr result (λ error. error ≡ Error.OutOfMemory) }
+    ensures memory { OnlyOutOfMemory result }
 {
     let (rows, cols) = screen.size();
     let text = screen.contents_formatted()?;

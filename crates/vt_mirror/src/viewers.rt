@@ -1,6 +1,7 @@
 //! The viewers of a mirror.
 
-ghost use Rattle.std.specs.Prelude.{◌≡◌, ◌≢◌, IfErr, IfNone, IfOk, IfSome, None, OnErr, OnOk, Some, [], option_copied, true};
+ghost use Rattle.std.specs.Prelude.{◌≡◌, ◌≢◌, IfNone, IfOk, IfSome, None, OnErr, OnOk, Some, [], option_copied, true};
+ghost use Rattle.vt_cells.specs.Refusals.{OnlyOutOfMemory};
 ghost use Rattle.vt_mirror.specs.Calls.{Joins, Leaves, greatest};
 ghost use Rattle.vt_mirror.specs.Viewers.{Puts, is_viewer, next_number, note_of};
 
@@ -88,7 +89,7 @@ impl Viewers {
         ensures ok { OnOk result (Puts self.old viewer true (Some screen) self.new) }
         ensures last { self.new.last ≡ self.old.last }
         ensures err { OnErr result (self.new ≡ self.old) }
-        ensures memory { IfErr result (λ error. error ≡ Error.OutOfMemory) }
+        ensures memory { OnlyOutOfMemory result }
     {
         if self.notes.insert(viewer, screen).is_err() {
             return Err(Error::OutOfMemory);

@@ -11,9 +11,10 @@ use Rattle.vt_screen.specs.Calls.{CallValue, OnScroll}
 use Rattle.vt_screen.specs.Screen.{ScreenValue}
 use Rattle.vt_screen.specs.Run as act
 use Rattle.vt_screen.specs.Run.{Hears, Performs, Scrolls, Takes, state}
-use Rattle.vt_screen.specs.Steps.{Step, Print, CarriageReturn, LineFeed, ReverseIndex, MoveUp, MoveDown, MoveRight, MoveLeft, NextLine, PreviousLine, Tab, MoveTo, MoveToColumn, MoveToRow, SetRegion, UseOrigin, EraseBelow, EraseAbove, ErasePage, EraseScrollback, EraseRest, EraseStart, EraseRow, EraseChars, InsertChars, DeleteChars, InsertLines, DeleteLines, ScrollUp, ScrollDown, Render, HideCursor, UseApplicationCursor, UseBracketedPaste, SetMouseMode, ClearMouseMode, SetMouseEncoding, ClearMouseEncoding, SetCursorStyle, SaveCursor, RestoreCursor, EnterAlternate, EnterFresh, LeaveAlternate, LeaveRestoring, Reset, UseApplicationKeypad, Tell, reports, scrolled, stepped, steps_of}
+use Rattle.vt_screen.specs.Controls.{steps_of}
+use Rattle.vt_screen.specs.Steps.{Step, Print, CarriageReturn, LineFeed, ReverseIndex, MoveUp, MoveDown, MoveRight, MoveLeft, NextLine, PreviousLine, Tab, MoveTo, MoveToColumn, MoveToRow, SetRegion, UseOrigin, EraseBelow, EraseAbove, ErasePage, EraseScrollback, EraseRest, EraseStart, EraseRow, EraseChars, InsertChars, DeleteChars, InsertLines, DeleteLines, ScrollUp, ScrollDown, Render, HideCursor, UseApplicationCursor, UseBracketedPaste, SetMouseMode, ClearMouseMode, SetMouseEncoding, ClearMouseEncoding, SetCursorStyle, SaveCursor, RestoreCursor, EnterAlternate, EnterFresh, LeaveAlternate, LeaveRestoring, Reset, UseApplicationKeypad, Tell, reports, scrolled, stepped}
 use Rattle.vt_screen.specs.Telling.{calls_of, calls_of_all, stepped_all, steps_of_all, steps_in, calls_in, screen_in}
-use Rattle.vt100.specs.Parser.{Parsing, Ran, joined, parsing, stage}
+use Rattle.vt100.specs.Parser.{Parsing, Ran, pieces_joined, parsing, stage}
 use Rattle.vt_rows.proofs.Folds.{folds_then}
 use Rattle.vt100.proofs.Running.{ran_joined}
 use Rattle.vt_notes.specs.Noting.{Noted, NotesIt, nothing_noted, with_call, with_gap}
@@ -152,12 +153,12 @@ pub record HasRead (screen : ScreenValue) (bytes : List ℕ) (new : Parsing Note
   pub shown : new.screen ≡ screen_in start screen bytes
   pub noted : new.callbacks.is_complete ≡ true → new.callbacks.calls ≡ calls_in start screen bytes
 
-pub has_read : (old new : Parsing Noted) (screen : ScreenValue) (pieces : List (List ℕ)) → old ≡ parsing old.scanner screen nothing_noted → StandsFor old.scanner start → FoldsTo (Ran NotesIt) old pieces new → HasRead screen (joined pieces) new
+pub has_read : (old new : Parsing Noted) (screen : ScreenValue) (pieces : List (List ℕ)) → old ≡ parsing old.scanner screen nothing_noted → StandsFor old.scanner start → FoldsTo (Ran NotesIt) old pieces new → HasRead screen (pieces_joined pieces) new
 has_read old new screen pieces fresh stands runs =
-    let done = done_run old new (joined pieces) start (ran_joined NotesIt old new pieces runs) stands in
+    let done = done_run old new (pieces_joined pieces) start (ran_joined NotesIt old new pieces runs) stands in
     record {
-      shown = done.shown ∙ ap (λ (p : Parsing Noted). screen_in start p.screen (joined pieces)) fresh;
-      noted = λ all. done.noted all ∙ ap (λ (p : Parsing Noted). p.callbacks.calls ++ calls_in start p.screen (joined pieces)) fresh;
+      shown = done.shown ∙ ap (λ (p : Parsing Noted). screen_in start p.screen (pieces_joined pieces)) fresh;
+      noted = λ all. done.noted all ∙ ap (λ (p : Parsing Noted). p.callbacks.calls ++ calls_in start p.screen (pieces_joined pieces)) fresh;
     }
 
 pub read_more : (old mid new : Parsing Noted) (pieces : List (List ℕ)) (piece : List ℕ) → FoldsTo (Ran NotesIt) old pieces mid → Ran NotesIt mid piece new → FoldsTo (Ran NotesIt) old (pieces ++ piece ∷ []) new

@@ -1,7 +1,7 @@
 //! Bytes read with notes of all calls.
 
 ghost use Rattle.std.specs.Prelude.{◌≡◌, map, true, IfErr, IfOk};
-ghost use Rattle.vt100.specs.Parser.{joined};
+ghost use Rattle.vt100.specs.Parser.{pieces_joined};
 ghost use Rattle.vt_scan.specs.Automaton.{start};
 ghost use Rattle.vt_screen.specs.Screen.{fresh_screen};
 ghost use Rattle.vt_screen.specs.Telling.{calls_in, screen_in};
@@ -21,9 +21,9 @@ pub fn read(
     cols: NonZeroU16,
     pieces: &[&[u8]],
 ) -> Result<Parser<Notes>, Error>
-    ensures noted { IfOk result (λ parser. parser.callbacks.calls ≡ calls_in start (fresh_screen rows.value cols.value 0) (joined (map (λ piece. piece.now) pieces.now))) }
+    ensures noted { IfOk result (λ parser. parser.callbacks.calls ≡ calls_in start (fresh_screen rows.value cols.value 0) (pieces_joined (map (λ piece. piece.now) pieces.now))) }
     ensures complete { IfOk result (λ parser. parser.callbacks.is_complete ≡ true) }
-    ensures shown { IfOk result (λ parser. parser.screen ≡ screen_in start (fresh_screen rows.value cols.value 0) (joined (map (λ piece. piece.now) pieces.now))) }
+    ensures shown { IfOk result (λ parser. parser.screen ≡ screen_in start (fresh_screen rows.value cols.value 0) (pieces_joined (map (λ piece. piece.now) pieces.now))) }
 {
     let mut parser = Parser::new_with_callbacks(alloc, rows, cols, 0, Notes::new(alloc))?;
     for piece in pieces {

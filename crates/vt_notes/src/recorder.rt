@@ -1,6 +1,6 @@
 //! Callbacks that write a capture as rows are reported.
 
-ghost use Rattle.std.specs.Prelude.{◌≡◌, ◌++◌, true, OnOk};
+ghost use Rattle.std.specs.Prelude.{◌≡◌, ◌++◌, false, true, OnErr, OnOk};
 ghost use Rattle.vt_notes.specs.Recording.{nothing_recorded};
 ghost use Rattle.vt_screen.specs.Capture.{all_rows, basic_texts};
 
@@ -48,18 +48,23 @@ impl Recorder {
 
     /// Writes the scrollback and the page of a screen behind the rows so far.
     ///
-    /// Fails where memory is refused, or was refused for a row before.
+    /// Fails where memory is refused, or was refused for a row before; from then
+    /// on the capture isn't whole, since part of the text may stand there.
     pub fn capture(&mut self, screen: &Screen) -> Result<(), Error>
         ensures whole { OnOk result (self.old.is_whole ≡ true) }
         ensures text { OnOk result (self.new.text ≡ self.old.text ++ basic_texts self.old.state (all_rows screen.now)) }
+        ensures kept { OnOk result (self.new.is_whole ≡ true) }
+        ensures lost { OnErr result (self.new.is_whole ≡ false) }
     {
         if !self.is_whole {
             return Err(Error::OutOfMemory);
         }
-        screen.write_contents_formatted_basic(
+        let written = screen.write_contents_formatted_basic(
             &mut self.text,
             BasicFormattedCaptureRange::Full(&mut self.state),
-        )
+        );
+        self.is_whole = written.is_ok();
+        written
     }
 }
 

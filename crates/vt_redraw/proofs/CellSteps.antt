@@ -13,38 +13,39 @@ use Rattle.vt_redraw.specs.Items.{begun, begun_over}
 use Rattle.vt_cells.proofs.SameCells.{same_cell-itself}
 use Rattle.vt_redraw.specs.Keeping.{Leads, IsRange, Passes, cells_from}
 use Rattle.vt_redraw.proofs.Filling.{room}
-use Rattle.vt_redraw.specs.Script.{Written, after, nothing, doing, pen_at, run, erase_run, columns, flag_behind, flag_past, cells_written}
+use Rattle.vt_cells.specs.Glyph.{first_columns}
+use Rattle.vt_redraw.specs.Script.{Scripted, after, nothing, doing, pen_at, blank_run, erase_run, flag_behind, flag_past, cells_written}
 use Rattle.vt_redraw.specs.declared.pen.Pen.{Pen}
 
 -- ---- how far a writer has come
 
-pub leads_start : (text : List ℕ) (whole : Written) → Leads text whole text whole
+pub leads_start : (text : List ℕ) (whole : Scripted) → Leads text whole text whole
 leads_start text whole = record { bytes = refl; pen = refl; flag = refl }
 
-pub leads_then : (t u v : List ℕ) (x y z : Written) → Leads u y t x → Leads v z u y → Leads v z t x
+pub leads_then : (t u v : List ℕ) (x y z : Scripted) → Leads u y t x → Leads v z u y → Leads v z t x
 leads_then t u v x y z p q = record { bytes = q.bytes ∙ p.bytes; pen = q.pen ∙ p.pen; flag = q.flag ∙ p.flag }
 
 -- the text of some operations was appended, and the rest is to write
-pub leads_after : (text longer : List ℕ) (ops : List Op) (rest whole : Written) → longer ≡ text ++ bytes_of_all ops → whole ≡ after ops rest → Leads longer rest text whole
+pub leads_after : (text longer : List ℕ) (ops : List Op) (rest whole : Scripted) → longer ≡ text ++ bytes_of_all ops → whole ≡ after ops rest → Leads longer rest text whole
 leads_after text longer ops rest whole e f =
     let bytes : longer ++ bytes_of_all rest.ops ≡ text ++ bytes_of_all (after ops rest).ops =
     ap (λ (z : List ℕ). z ++ bytes_of_all rest.ops) e ∙ (append_assoc text (bytes_of_all ops) (bytes_of_all rest.ops) ∙ ap (λ (z : List ℕ). text ++ z) (sym (flat_map-append bytes_of ops rest.ops))) in
     record {
-      bytes = bytes ∙ ap (λ (w : Written). text ++ bytes_of_all w.ops) (sym f);
-      pen = ap (λ (w : Written). w.pen) (sym f);
-      flag = ap (λ (w : Written). w.flag) (sym f);
+      bytes = bytes ∙ ap (λ (w : Scripted). text ++ bytes_of_all w.ops) (sym f);
+      pen = ap (λ (w : Scripted). w.pen) (sym f);
+      flag = ap (λ (w : Scripted). w.flag) (sym f);
     }
 
-pub leads_same : (text : List ℕ) (rest whole : Written) → whole ≡ rest → Leads text rest text whole
+pub leads_same : (text : List ℕ) (rest whole : Scripted) → whole ≡ rest → Leads text rest text whole
 leads_same text rest whole f = record {
-  bytes = ap (λ (w : Written). text ++ bytes_of_all w.ops) (sym f);
-  pen = ap (λ (w : Written). w.pen) (sym f);
-  flag = ap (λ (w : Written). w.flag) (sym f);
+  bytes = ap (λ (w : Scripted). text ++ bytes_of_all w.ops) (sym f);
+  pen = ap (λ (w : Scripted). w.pen) (sym f);
+  flag = ap (λ (w : Scripted). w.flag) (sym f);
 }
 
 -- at the end
-pub leads_text : (text start : List ℕ) (rest whole : Written) (pen : Pen) (flag : Bool) → rest ≡ nothing pen flag → Leads text rest start whole → text ≡ start ++ bytes_of_all whole.ops
-leads_text text start rest whole pen flag e h = sym (append-nil text) ∙ (ap (λ (w : Written). text ++ bytes_of_all w.ops) (sym e) ∙ h.bytes)
+pub leads_text : (text start : List ℕ) (rest whole : Scripted) (pen : Pen) (flag : Bool) → rest ≡ nothing pen flag → Leads text rest start whole → text ≡ start ++ bytes_of_all whole.ops
+leads_text text start rest whole pen flag e h = sym (append-nil text) ∙ (ap (λ (w : Scripted). text ++ bytes_of_all w.ops) (sym e) ∙ h.bytes)
 
 -- ---- settled cells need nothing
 
@@ -84,7 +85,7 @@ passed r c pen flag (glyph text true a) xs y ys h paired = cond-true (same_cell 
 glyph_printed : (r c : ℕ) (pen : Pen) (flag : Bool) (x : CellValue) (xs : List CellValue) (y : CellValue) (ys : List CellValue) → (is_right_half x || same_cell x y) ≡ false → is_blank x ≡ false →
     cells_written r c pen flag 0 (x ∷ xs) (y ∷ ys)
     ≡ after (doing pen r c (attrs_of x) (Print (text_of x)))
-    (cells_written r (c + columns (is_wide x)) (pen_at r (c + columns (is_wide x)) (attrs_of x)) (flag_behind flag (is_wide x) (drop (columns (is_wide x)) (y ∷ ys))) 0 (drop (columns (is_wide x)) (x ∷ xs)) (drop (columns (is_wide x)) (y ∷ ys)))
+    (cells_written r (c + first_columns (is_wide x)) (pen_at r (c + first_columns (is_wide x)) (attrs_of x)) (flag_behind flag (is_wide x) (drop (first_columns (is_wide x)) (y ∷ ys))) 0 (drop (first_columns (is_wide x)) (x ∷ xs)) (drop (first_columns (is_wide x)) (y ∷ ys)))
 unfolding cells_written
 glyph_printed r c pen flag right_half xs y ys h b = absurd cc
 glyph_printed r c pen flag (blank a) xs y ys h b = absurd cc
@@ -95,16 +96,16 @@ glyph_printed r c pen flag (glyph text true a) xs y ys h b =
     (settled_passed r (c + 1) (pen_at r (c + 2) a) (flag_behind flag true (drop 1 ys)) 1 xs ys
     ∙ ap (λ (n : ℕ). cells_written r n (pen_at r (c + 2) a) (flag_behind flag true (drop 1 ys)) 0 (drop 1 xs) (drop 1 ys)) (omega arith))
 
-run_first : (a : Attrs) (xs : List CellValue) → run a (blank a ∷ xs) ≡ suc (run a xs)
-run_first a xs = cond-true (same_attrs a a) (1 + run a xs) 0 (same_attrs-itself a) ∙ one-add (run a xs)
+run_first : (a : Attrs) (xs : List CellValue) → blank_run a (blank a ∷ xs) ≡ suc (blank_run a xs)
+run_first a xs = cond-true (same_attrs a a) (1 + blank_run a xs) 0 (same_attrs-itself a) ∙ one-add (blank_run a xs)
 
 run_here : (r c : ℕ) (pen : Pen) (flag : Bool) (a : Attrs) (xs : List CellValue) (y : CellValue) (ys : List CellValue) → same_cell (blank a) y ≡ false →
     cells_written r c pen flag 0 (blank a ∷ xs) (y ∷ ys)
-    ≡ after (doing pen r c a (erase_run (suc (run a xs)) (drop (run a xs) ys)))
-    (cells_written r (c + suc (run a xs)) (pen_at r c a) (flag_past flag (drop (run a xs) ys)) 0 (drop (run a xs) xs) (drop (run a xs) ys))
+    ≡ after (doing pen r c a (erase_run (suc (blank_run a xs)) (drop (blank_run a xs) ys)))
+    (cells_written r (c + suc (blank_run a xs)) (pen_at r c a) (flag_past flag (drop (blank_run a xs) ys)) 0 (drop (blank_run a xs) xs) (drop (blank_run a xs) ys))
 unfolding cells_written
 run_here r c pen flag a xs y ys h =
-    let n = run a xs in
+    let n = blank_run a xs in
     let f = flag_past flag (drop n ys) in
     cond-false (same_cell (blank a) y) _ _ h
     ∙ ap (after (doing pen r c a (erase_run (suc n) (drop n ys))))
@@ -115,12 +116,12 @@ blank_is (blank a) h = refl
 blank_is (glyph text wide a) h = absurd cc
 blank_is right_half h = absurd cc
 
-run_erased : (r c : ℕ) (pen : Pen) (flag : Bool) (x : CellValue) (xs : List CellValue) (y : CellValue) (ys : List CellValue) (n : ℕ) → (is_right_half x || same_cell x y) ≡ false → is_blank x ≡ true → n ≡ run (attrs_of x) (x ∷ xs) →
+run_erased : (r c : ℕ) (pen : Pen) (flag : Bool) (x : CellValue) (xs : List CellValue) (y : CellValue) (ys : List CellValue) (n : ℕ) → (is_right_half x || same_cell x y) ≡ false → is_blank x ≡ true → n ≡ blank_run (attrs_of x) (x ∷ xs) →
     cells_written r c pen flag 0 (x ∷ xs) (y ∷ ys)
     ≡ after (doing pen r c (attrs_of x) (erase_run n (drop n (y ∷ ys))))
     (cells_written r (c + n) (pen_at r c (attrs_of x)) (flag_past flag (drop n (y ∷ ys))) 0 (drop n (x ∷ xs)) (drop n (y ∷ ys)))
 run_erased r c pen flag (blank a) xs y ys n h b count =
-    let e : suc (run a xs) ≡ n = sym (count ∙ run_first a xs) in
+    let e : suc (blank_run a xs) ≡ n = sym (count ∙ run_first a xs) in
     run_here r c pen flag a xs y ys h
     ∙ ap (λ (m : ℕ). after (doing pen r c a (erase_run m (drop m (y ∷ ys)))) (cells_written r (c + m) (pen_at r c a) (flag_past flag (drop m (y ∷ ys))) 0 (drop m (blank a ∷ xs)) (drop m (y ∷ ys)))) e
 run_erased r c pen flag (glyph text wide a) xs y ys n h b count = absurd cc
@@ -169,13 +170,13 @@ pub passes_leads : (c next r : ℕ) (pen : Pen) (flag : Bool) (xs ys : List Cell
 passes_leads c next r pen flag xs ys text p = leads_same text (cells_from r next pen flag xs ys) (cells_from r c pen flag xs ys) (p.same r pen flag)
 
 pub next_glyph : (r c n : ℕ) (pen next : Pen) (flag then : Bool) (xs ys : List CellValue) (text longer : List ℕ) → c < length xs → length xs ≤ length ys →
-    (is_right_half (at xs c) || same_cell (at xs c) (at ys c)) ≡ false → is_blank (at xs c) ≡ false → n ≡ columns (is_wide (at xs c)) →
-    longer ≡ text ++ bytes_of_all (doing pen r c (attrs_of (at xs c)) (Print (text_of (at xs c)))) → next ≡ pen_at r (c + columns (is_wide (at xs c))) (attrs_of (at xs c)) →
+    (is_right_half (at xs c) || same_cell (at xs c) (at ys c)) ≡ false → is_blank (at xs c) ≡ false → n ≡ first_columns (is_wide (at xs c)) →
+    longer ≡ text ++ bytes_of_all (doing pen r c (attrs_of (at xs c)) (Print (text_of (at xs c)))) → next ≡ pen_at r (c + first_columns (is_wide (at xs c))) (attrs_of (at xs c)) →
     then ≡ flag_behind flag (is_wide (at xs c)) (drop (c + n) ys) → Leads longer (cells_from r (c + n) next then xs ys) text (cells_from r c pen flag xs ys)
 next_glyph r c n pen next flag then xs ys text longer h le other b count told pens flags =
     let x = at xs c in
     let ops = doing pen r c (attrs_of x) (Print (text_of x)) in
-    let m = columns (is_wide x) in
+    let m = first_columns (is_wide x) in
     leads_after text longer ops (cells_from r (c + n) next then xs ys) (cells_from r c pen flag xs ys) told
     (at_column r c pen flag xs ys h le
     ∙ (glyph_printed r c pen flag x (drop (c + 1) xs) (at ys c) (drop (c + 1) ys) other b
@@ -186,13 +187,13 @@ next_glyph r c n pen next flag then xs ys text longer h le other b count told pe
     ∙ ap (λ (f : Bool). after ops (cells_from r (c + n) next f xs ys)) (sym flags)))))))
 
 pub next_run : (r c n : ℕ) (pen next : Pen) (flag then : Bool) (xs ys : List CellValue) (a : Attrs) (text longer : List ℕ) → c < length xs → length xs ≤ length ys →
-    (is_right_half (at xs c) || same_cell (at xs c) (at ys c)) ≡ false → is_blank (at xs c) ≡ true → a ≡ attrs_of (at xs c) → n ≡ run a (drop c xs) →
+    (is_right_half (at xs c) || same_cell (at xs c) (at ys c)) ≡ false → is_blank (at xs c) ≡ true → a ≡ attrs_of (at xs c) → n ≡ blank_run a (drop c xs) →
     longer ≡ text ++ bytes_of_all (doing pen r c a (erase_run n (drop (c + n) ys))) → next ≡ pen_at r c a →
     then ≡ flag_past flag (drop (c + n) ys) → Leads longer (cells_from r (c + n) next then xs ys) text (cells_from r c pen flag xs ys)
 next_run r c n pen next flag then xs ys a text longer h le other b same count told pens flags =
     let x = at xs c in
     let ops = λ (zs : List CellValue). doing pen r c a (erase_run n zs) in
-    let counted : n ≡ run (attrs_of x) (x ∷ drop (c + 1) xs) = count ∙ (ap (run a) (from_column xs c h) ∙ ap (λ (z : Attrs). run z (x ∷ drop (c + 1) xs)) same) in
+    let counted : n ≡ blank_run (attrs_of x) (x ∷ drop (c + 1) xs) = count ∙ (ap (blank_run a) (from_column xs c h) ∙ ap (λ (z : Attrs). blank_run z (x ∷ drop (c + 1) xs)) same) in
     leads_after text longer (ops (drop (c + n) ys)) (cells_from r (c + n) next then xs ys) (cells_from r c pen flag xs ys) told
     (at_column r c pen flag xs ys h le
     ∙ (run_erased r c pen flag x (drop (c + 1) xs) (at ys c) (drop (c + 1) ys) n other b counted
@@ -202,16 +203,16 @@ next_run r c n pen next flag then xs ys a text longer h le other b same count to
     ∙ (ap (λ (p : Pen). after (ops (drop (c + n) ys)) (cells_written r (c + n) p (flag_past flag (drop (c + n) ys)) 0 (drop (c + n) xs) (drop (c + n) ys))) (sym pens)
     ∙ ap (λ (f : Bool). after (ops (drop (c + n) ys)) (cells_from r (c + n) next f xs ys)) (sym flags)))))))
 
-pub run_some : (a : Attrs) (xs : List CellValue) (c n : ℕ) → c < length xs → is_blank (at xs c) ≡ true → a ≡ attrs_of (at xs c) → n ≡ run a (drop c xs) → 0 < n
+pub run_some : (a : Attrs) (xs : List CellValue) (c n : ℕ) → c < length xs → is_blank (at xs c) ≡ true → a ≡ attrs_of (at xs c) → n ≡ blank_run a (drop c xs) → 0 < n
 run_some a xs c n h b same count =
     let first : at xs c ≡ blank a = blank_is (at xs c) b ∙ ap blank (sym same) in
-    let all : n ≡ suc (run a (drop (c + 1) xs)) = count ∙ (ap (run a) (from_column xs c h) ∙ (ap (λ (z : CellValue). run a (z ∷ drop (c + 1) xs)) first ∙ run_first a (drop (c + 1) xs))) in
+    let all : n ≡ suc (blank_run a (drop (c + 1) xs)) = count ∙ (ap (blank_run a) (from_column xs c h) ∙ (ap (λ (z : CellValue). blank_run a (z ∷ drop (c + 1) xs)) first ∙ run_first a (drop (c + 1) xs))) in
     omega arith
 
 -- a glyph has its columns in the row that the reader shows
-pub glyph_inside : (xs ys : List CellValue) (c : ℕ) → c < length xs → IsRange xs ys → c + columns (is_wide (at xs c)) ≤ length ys
+pub glyph_inside : (xs ys : List CellValue) (c : ℕ) → c < length xs → IsRange xs ys → c + first_columns (is_wide (at xs c)) ≤ length ys
 glyph_inside xs ys c h range = by_width (is_wide (at xs c)) refl where
-  by_width : (w : Bool) → is_wide (at xs c) ≡ w → c + columns w ≤ length ys
+  by_width : (w : Bool) → is_wide (at xs c) ≡ w → c + first_columns w ≤ length ys
   by_width false e = let le = range.inside in omega arith
   by_width true e = let r = range.room c e in omega arith
 
@@ -224,11 +225,11 @@ cells_end r c pen flag xs ys h = ap (λ (zs : List CellValue). cells_written r c
 -- ---- the same, of a cell that was read
 
 pub glyph_leads : (r c n : ℕ) (pen next : Pen) (flag then : Bool) (xs ys : List CellValue) (x : CellValue) (text longer : List ℕ) → x ≡ at xs c → c < length xs → length xs ≤ length ys →
-    (is_right_half (at xs c) || same_cell (at xs c) (at ys c)) ≡ false → is_blank x ≡ false → n ≡ columns (is_wide x) →
-    longer ≡ text ++ bytes_of_all (doing pen r c (attrs_of x) (Print (text_of x))) → next ≡ pen_at r (c + columns (is_wide x)) (attrs_of x) →
+    (is_right_half (at xs c) || same_cell (at xs c) (at ys c)) ≡ false → is_blank x ≡ false → n ≡ first_columns (is_wide x) →
+    longer ≡ text ++ bytes_of_all (doing pen r c (attrs_of x) (Print (text_of x))) → next ≡ pen_at r (c + first_columns (is_wide x)) (attrs_of x) →
     then ≡ flag_behind flag (is_wide x) (drop (c + n) ys) → Leads longer (cells_from r (c + n) next then xs ys) text (cells_from r c pen flag xs ys)
 glyph_leads r c n pen next flag then xs ys x text longer e h le other =
-    subst (λ (z : CellValue). is_blank z ≡ false → n ≡ columns (is_wide z) → longer ≡ text ++ bytes_of_all (doing pen r c (attrs_of z) (Print (text_of z))) → next ≡ pen_at r (c + columns (is_wide z)) (attrs_of z) →
+    subst (λ (z : CellValue). is_blank z ≡ false → n ≡ first_columns (is_wide z) → longer ≡ text ++ bytes_of_all (doing pen r c (attrs_of z) (Print (text_of z))) → next ≡ pen_at r (c + first_columns (is_wide z)) (attrs_of z) →
     then ≡ flag_behind flag (is_wide z) (drop (c + n) ys) → Leads longer (cells_from r (c + n) next then xs ys) text (cells_from r c pen flag xs ys))
     (sym e) (λ b count told pens flags. next_glyph r c n pen next flag then xs ys text longer h le other b count told pens flags)
 
@@ -282,7 +283,7 @@ begin_same r c pen flag xs ys text e =
       over_is (glyph t w a ∷ zs) ws h = refl
       over_is (right_half ∷ zs) ws h = absurd cc
 
-begun_erased : (r c m : ℕ) (pen : Pen) (flag : Bool) (more : List CellValue) (y : CellValue) (under : List CellValue) → m ≡ run default_attrs (default_blank ∷ more) →
+begun_erased : (r c m : ℕ) (pen : Pen) (flag : Bool) (more : List CellValue) (y : CellValue) (under : List CellValue) → m ≡ blank_run default_attrs (default_blank ∷ more) →
     cells_written r c pen flag 0 (default_blank ∷ more) (right_half ∷ under)
     ≡ after (doing pen r c default_attrs (erase_run m (drop m (y ∷ under)))) (cells_written r (c + m) (pen_at r c default_attrs) (flag_past flag (drop m (y ∷ under))) 0 (drop m (right_half ∷ more)) (drop m (y ∷ under)))
 unfolding same_cell
@@ -290,9 +291,9 @@ begun_erased r c m pen flag more y under e =
     subst (λ (j : ℕ). cells_written r c pen flag 0 (default_blank ∷ more) (right_half ∷ under)
     ≡ after (doing pen r c default_attrs (erase_run j (drop j (y ∷ under)))) (cells_written r (c + j) (pen_at r c default_attrs) (flag_past flag (drop j (y ∷ under))) 0 (drop j (right_half ∷ more)) (drop j (y ∷ under))))
     (sym (e ∙ run_first default_attrs more))
-    (run_erased r c pen flag default_blank more right_half under (suc (run default_attrs more)) refl refl (sym (run_first default_attrs more)))
+    (run_erased r c pen flag default_blank more right_half under (suc (blank_run default_attrs more)) refl refl (sym (run_first default_attrs more)))
 
-one_erased : (r c m : ℕ) (pen : Pen) (flag : Bool) (x : CellValue) (more : List CellValue) (y : CellValue) (under : List CellValue) → is_right_half x ≡ true → is_right_half y ≡ false → m ≡ run default_attrs (default_blank ∷ more) →
+one_erased : (r c m : ℕ) (pen : Pen) (flag : Bool) (x : CellValue) (more : List CellValue) (y : CellValue) (under : List CellValue) → is_right_half x ≡ true → is_right_half y ≡ false → m ≡ blank_run default_attrs (default_blank ∷ more) →
     cells_written r c pen flag 0 (begun (x ∷ more)) (begun_over (x ∷ more) (y ∷ under))
     ≡ after (doing pen r c default_attrs (erase_run m (drop m (y ∷ under)))) (cells_written r (c + m) (pen_at r c default_attrs) (flag_past flag (drop m (y ∷ under))) 0 (drop m (x ∷ more)) (drop m (y ∷ under)))
 one_erased r c m pen flag right_half more (blank b) under e f k = begun_erased r c m pen flag more (blank b) under k
@@ -303,7 +304,7 @@ one_erased r c m pen flag (glyph text wide a) more y under e f k = absurd cc
 
 -- a right half there, where the reader has none
 pub half_erased : (r c n m : ℕ) (pen next : Pen) (flag then : Bool) (xs ys : List CellValue) (text longer : List ℕ) → c < length xs → length xs ≤ length ys → is_right_half (at xs c) ≡ true → is_right_half (at ys c) ≡ false →
-    n ≡ run default_attrs (drop (c + 1) xs) → m ≡ n + 1 → longer ≡ text ++ bytes_of_all (doing pen r c default_attrs (erase_run m (drop (c + m) ys))) → next ≡ pen_at r c default_attrs → then ≡ flag_past flag (drop (c + m) ys) →
+    n ≡ blank_run default_attrs (drop (c + 1) xs) → m ≡ n + 1 → longer ≡ text ++ bytes_of_all (doing pen r c default_attrs (erase_run m (drop (c + m) ys))) → next ≡ pen_at r c default_attrs → then ≡ flag_past flag (drop (c + m) ys) →
     Leads longer (cells_from r (c + m) next then xs ys) text (cells_written r c pen flag 0 (begun (drop c xs)) (begun_over (drop c xs) (drop c ys)))
 half_erased r c n m pen next flag then xs ys text longer h le e f count more told pens flags =
     let ops = λ (zs : List CellValue). doing pen r c default_attrs (erase_run m zs) in
@@ -319,5 +320,5 @@ half_erased r c n m pen next flag then xs ys text longer h le e f count more tol
     ∙ (ap (λ (zs : List CellValue). after (ops zs) (cells_written r (c + m) (pen_at r c default_attrs) (flag_past flag zs) 0 (drop (c + m) xs) zs)) (behind c m ys (omega arith))
     ∙ (ap (λ (p : Pen). after (ops (drop (c + m) ys)) (cells_written r (c + m) p (flag_past flag (drop (c + m) ys)) 0 (drop (c + m) xs) (drop (c + m) ys))) (sym pens)
     ∙ ap (λ (b : Bool). after (ops (drop (c + m) ys)) (cells_from r (c + m) next b xs ys)) (sym flags))))))) where
-      run_first_one : (zs : List CellValue) → run default_attrs (default_blank ∷ zs) ≡ run default_attrs zs + 1
+      run_first_one : (zs : List CellValue) → blank_run default_attrs (default_blank ∷ zs) ≡ blank_run default_attrs zs + 1
       run_first_one zs = run_first default_attrs zs ∙ omega arith

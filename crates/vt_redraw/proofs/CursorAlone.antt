@@ -14,7 +14,8 @@ use Rattle.vt_rows.specs.Row.{RowValue, IsRow, blank_row}
 use Rattle.vt_grid.specs.Page.{row_or}
 use Rattle.vt_grid.specs.Page.{IsPlainPage}
 use Rattle.vt_grid.specs.Canvas.{Canvas}
-use Rattle.vt_redraw.specs.Script.{pen_at, changing, columns}
+use Rattle.vt_cells.specs.Glyph.{first_columns}
+use Rattle.vt_redraw.specs.Script.{pen_at, changing}
 use Rattle.vt_redraw.specs.declared.pen.Pen.{Pen}
 use Rattle.vt_grid.proofs.Drawing.{Draws}
 use Rattle.vt_redraw.specs.Touching.{Touches}
@@ -56,12 +57,12 @@ printed_again May base done below xs flag r pen origin e w h full prints may =
     in_then May (MoveTo r c ∷ []) (changing pen.attrs a ++ Print text ∷ []) m0 m1 m3
     (quiet_in May (MoveTo r c ∷ []) m0 m1 (refl, tt) (move_to_draws base rows pen r c origin (omega arith) (omega arith)))
     (in_then May (changing pen.attrs a) (Print text ∷ []) m1 m2 m3 (quiet_in May (changing pen.attrs a) m1 m2 (changing_quiet pen.attrs a) (changing_draws base rows (pen_at r c pen.attrs) a))
-    (in_to May (Print text ∷ []) m2 (mid base done below row flag (pen_at r (c + columns wide) a)) m3
+    (in_to May (Print text ∷ []) m2 (mid base done below row flag (pen_at r (c + first_columns wide) a)) m3
     (print_again May base done below pre text wide a flag r (prints_last base.page.width pre text wide a p) e (sym n ∙ size) front sound mays)
     (ap (λ (k : ℕ). mid base done below row flag (pen_at r k a)) (sym n ∙ size)))))
     xs h full prints w (λ _. full) may
   where
-    some_columns : (wide : Bool) → 0 < columns wide
+    some_columns : (wide : Bool) → 0 < first_columns wide
     some_columns true = omega arith
     some_columns false = omega arith
 

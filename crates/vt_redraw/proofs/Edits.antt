@@ -12,7 +12,8 @@ use Rattle.vt_grid.specs.Moves.{line_feed}
 use Rattle.vt_grid.specs.Erasing.{erased_chars, erased_rest, erased_columns}
 use Rattle.vt_grid.specs.Printing.{with_cursor_cells, glyph_put, room_made, lacks_room, wrapped_page}
 use Rattle.vt_grid.specs.Canvas.{Canvas, with_page}
-use Rattle.vt_redraw.specs.Script.{pen_at, columns, erase_run}
+use Rattle.vt_cells.specs.Glyph.{first_columns}
+use Rattle.vt_redraw.specs.Script.{pen_at, erase_run}
 use Rattle.vt_redraw.specs.declared.pen.Pen.{Pen}
 use Rattle.vt_grid.proofs.Drawing.{Draws}
 use Rattle.vt_redraw.proofs.Steps.{at_pen}
@@ -53,8 +54,8 @@ orphan true attrs = blank attrs
 
 pub glyph_put_at : (base : Canvas) (done below : List RowValue) (pre rest : List CellValue) (flag : Bool) (r c : ℕ) (text : List ℕ) (wide : Bool) (attrs : Attrs) → length done ≡ r → length pre ≡ c → Paired pre →
     glyph_put text wide attrs (mid base done below (pre ++ rest) flag (pen_at r c attrs)).page
-    ≡ (mid base done below (pre ++ (glyph_cells text wide attrs ++ opened (orphan wide attrs) (drop (columns wide) rest)))
-    (kept flag (pre ++ (glyph_cells text wide attrs ++ opened (orphan wide attrs) (drop (columns wide) rest)))) (pen_at r (c + columns wide) attrs)).page
+    ≡ (mid base done below (pre ++ (glyph_cells text wide attrs ++ opened (orphan wide attrs) (drop (first_columns wide) rest)))
+    (kept flag (pre ++ (glyph_cells text wide attrs ++ opened (orphan wide attrs) (drop (first_columns wide) rest)))) (pen_at r (c + first_columns wide) attrs)).page
 glyph_put_at base done below pre rest flag r c text false attrs e l h =
     ap (λ (page : Page). record page { column = c + 1 })
     (edited_at base done below (pre ++ rest) flag (pen_at r c attrs) (put_narrow c text attrs) _ e (put_at pre rest (glyph text false attrs ∷ []) (glyph (0x20 ∷ []) false attrs) c 1 l h))

@@ -12,12 +12,13 @@ use Rattle.vt_rows.specs.Cells.{at, ends_blank}
 use Rattle.vt_rows.specs.Row.{RowValue, IsRow}
 use Rattle.vt_grid.specs.Page.{row_or}
 use Rattle.vt_redraw.specs.Fits.{Fits, IsPrintableText}
-use Rattle.vt_redraw.specs.Script.{pen_at, going, changing, run, erase_run, columns}
+use Rattle.vt_cells.specs.Glyph.{first_columns}
+use Rattle.vt_redraw.specs.Script.{pen_at, going, changing, blank_run, erase_run}
 use Rattle.vt_redraw.specs.declared.pen.Pen.{Pen}
 use Rattle.vt_redraw.proofs.Runs.{run_bound}
 use Rattle.vt_redraw.proofs.Printable.{printable_text}
 use Rattle.vt_redraw.specs.Picture.{Picture, IsPicture, IsColoredPicture}
-use Rattle.vt_redraw.specs.Script.{Written, nothing, after, doing, cells_written, last_column, last_glyph, is_at, behind, going_behind, Linked, unlinked, first_written, starts_other, link_after, linked, breaking, broken, flag_behind, flag_past}
+use Rattle.vt_redraw.specs.Script.{Scripted, nothing, after, doing, cells_written, last_column, last_glyph, is_at, behind, going_behind, Linked, unlinked, first_written, starts_other, link_after, linked, breaking, broken, flag_behind, flag_past}
 use Rattle.vt_redraw.specs.Redraw.{row_written, link_of, rows_below, rows_written, nearest, over_blank, under_last, pending_at, cursor_written, pen_of, script, hiding, difference, blank_like, redraw, pending_alone, cursor_state}
 
 -- ---- lists of operations
@@ -75,11 +76,11 @@ text_fits (glyph text wide a) h = printable_text text wide h
 text_fits (blank a) h = record { characters = []; spelled = refl; printable = tt }
 text_fits right_half h = record { characters = []; spelled = refl; printable = tt }
 
-pub record FitsWritten (w : Written) : Type 0 where
+pub record FitsWritten (w : Scripted) : Type 0 where
   pub ops : AllFit w.ops
   pub attrs : FitsAttrs w.pen.attrs
 
-pub fits_after : (ops : List Op) (w : Written) → AllFit ops → FitsWritten w → FitsWritten (after ops w)
+pub fits_after : (ops : List Op) (w : Scripted) → AllFit ops → FitsWritten w → FitsWritten (after ops w)
 fits_after ops w h k = record { ops = fits_append ops w.ops h k.ops; attrs = k.attrs }
 
 pub cells_fit : (r c : ℕ) (pen : Pen) (flag : Bool) (k : ℕ) (xs ys : List CellValue) → r < 65535 → c + length xs < 2 ^ 16 → FitsAttrs pen.attrs → AllByRecursion IsFit xs → FitsWritten (cells_written r c pen flag k xs ys)
@@ -89,7 +90,7 @@ cells_fit r c pen flag k (x ∷ xs) [] h l was fit = record { ops = tt; attrs = 
 cells_fit r c pen flag (suc k) (x ∷ xs) (y ∷ ys) h l was fit = cells_fit r (c + 1) pen flag k xs ys h (omega arith) was fit.1
 cells_fit r c pen flag zero (right_half ∷ xs) (y ∷ ys) h l was fit = cells_fit r (c + 1) pen flag zero xs ys h (omega arith) was fit.1
 cells_fit r c pen flag zero (blank a ∷ xs) (y ∷ ys) h l was fit =
-    let n = run a xs in
+    let n = blank_run a xs in
     let bound = run_bound a xs in
     let op = erase_run (suc n) (drop n ys) in
     let rest = cells_written r (c + 1) (pen_at r c a) (flag_past flag (drop n ys)) n xs ys in
@@ -99,8 +100,8 @@ cells_fit r c pen flag zero (blank a ∷ xs) (y ∷ ys) h l was fit =
     (doing_fits pen r c a op h (omega arith) was fit.0.1 (erase_run_fits (suc n) (drop n ys) (omega arith)))
     (cells_fit r (c + 1) (pen_at r c a) (flag_past flag (drop n ys)) n xs ys h (omega arith) fit.0.1 fit.1))
 cells_fit r c pen flag zero (glyph text wide a ∷ xs) (y ∷ ys) h l was fit =
-    let k = columns wide - 1 in
-    let next = pen_at r (c + columns wide) a in
+    let k = first_columns wide - 1 in
+    let next = pen_at r (c + first_columns wide) a in
     let now = flag_behind flag wide (drop 1 ys) in
     let rest = cells_written r (c + 1) next now k xs ys in
     cond_both (same_cell (glyph text wide a) y) (cells_written r (c + 1) pen flag k xs ys) (after (doing pen r c a (Print text)) rest) FitsWritten
@@ -117,7 +118,7 @@ last_low cells some h = cond_both (is_right_half (at cells (length cells - 1))) 
 pub behind_fits : (r : ℕ) (pen : Pen) (cells : List CellValue) → r < 65535 → 0 < length cells → length cells < 2 ^ 16 → FitsAttrs pen.attrs → AllByRecursion IsFit cells → FitsWritten (going_behind r pen cells)
 behind_fits r pen cells h some l was fit =
     let last = at_fits cells (last_column cells) fit in
-    let again : Written = record { ops = doing pen r (last_column cells) (attrs_of (last_glyph cells)) (Print (text_of (last_glyph cells))); pen = behind r cells; flag = true } in
+    let again : Scripted = record { ops = doing pen r (last_column cells) (attrs_of (last_glyph cells)) (Print (text_of (last_glyph cells))); pen = behind r cells; flag = true } in
     cond_both (is_at pen r (length cells)) (nothing pen true) again FitsWritten (λ _. record { ops = tt; attrs = was })
     (λ _. record { ops = doing_fits pen r (last_column cells) (attrs_of (last_glyph cells)) (Print (text_of (last_glyph cells))) h (last_low cells some l) was last.1 (text_fits (last_glyph cells) last.0); attrs = last.1 })
 

@@ -16,7 +16,8 @@ use Rattle.vt_grid.specs.Canvas.{Canvas, drawn_all}
 use Rattle.vt_grid.proofs.Drawing.{Draws}
 use Rattle.vt_redraw.specs.Items.{in_range, range_written, is_whole, item_of_difference, item_of_redraw, linked_item, with_range, CutsNone, AwaitsItem, changed_row, formatted_row, row_drawn, going_on}
 use Rattle.vt_redraw.specs.Picture.{Picture, IsPicture, SamePictureSize, picture_of}
-use Rattle.vt_redraw.specs.Script.{Written, nothing, after, pen_at, run, columns, doing, erase_run, flag_past, flag_behind, cells_written, first_written, broken, breaking, going_behind}
+use Rattle.vt_cells.specs.Glyph.{first_columns}
+use Rattle.vt_redraw.specs.Script.{Scripted, nothing, after, pen_at, blank_run, doing, erase_run, flag_past, flag_behind, cells_written, first_written, broken, breaking, going_behind}
 use Rattle.vt_redraw.specs.Steady.{IsSteady, IsSteadyCell}
 use Rattle.vt_redraw.specs.declared.pen.Pen.{Pen}
 use Rattle.vt_redraw.proofs.Difference.{row_stands, picture_prints}
@@ -96,15 +97,15 @@ cells_off r c pen k (x ∷ xs) [] = refl
 cells_off r c pen (suc k) (x ∷ xs) (y ∷ ys) = cells_off r (c + 1) pen k xs ys
 cells_off r c pen zero (right_half ∷ xs) (y ∷ ys) = cells_off r (c + 1) pen zero xs ys
 cells_off r c pen zero (blank a ∷ xs) (y ∷ ys) =
-    let n = run a xs in
+    let n = blank_run a xs in
     let rest = cells_written r (c + 1) (pen_at r c a) (flag_past false (drop n ys)) n xs ys in
-    cond_both (same_cell (blank a) y) (cells_written r (c + 1) pen false zero xs ys) (after (doing pen r c a (erase_run (suc n) (drop n ys))) rest) (λ (w : Written). w.flag ≡ false)
+    cond_both (same_cell (blank a) y) (cells_written r (c + 1) pen false zero xs ys) (after (doing pen r c a (erase_run (suc n) (drop n ys))) rest) (λ (w : Scripted). w.flag ≡ false)
     (λ _. cells_off r (c + 1) pen zero xs ys) (λ _. cells_off r (c + 1) (pen_at r c a) n xs ys)
 cells_off r c pen zero (glyph text wide a ∷ xs) (y ∷ ys) =
-    let k = columns wide - 1 in
-    let next = pen_at r (c + columns wide) a in
+    let k = first_columns wide - 1 in
+    let next = pen_at r (c + first_columns wide) a in
     let rest = cells_written r (c + 1) next (flag_behind false wide (drop 1 ys)) k xs ys in
-    cond_both (same_cell (glyph text wide a) y) (cells_written r (c + 1) pen false k xs ys) (after (doing pen r c a (Print text)) rest) (λ (w : Written). w.flag ≡ false)
+    cond_both (same_cell (glyph text wide a) y) (cells_written r (c + 1) pen false k xs ys) (after (doing pen r c a (Print text)) rest) (λ (w : Scripted). w.flag ≡ false)
     (λ _. cells_off r (c + 1) pen k xs ys) (λ _. cells_off r (c + 1) next k xs ys)
 
 first_off : (r : ℕ) (pen : Pen) (xs ys : List CellValue) → (first_written r pen false xs ys).flag ≡ false
@@ -132,7 +133,7 @@ item_off r width x y e off =
     let b = broken r w.pen w.flag x.wrapped x.cells in
     let t : is_whole 0 width (length x.cells) ≡ true = grind (arith, nat_tests) in
     let none : b.flag ≡ false = ap (λ (f : Bool). (broken r w.pen w.flag f x.cells).flag) off ∙ broken_off r w.pen w.flag x.cells in
-    rw t (cond_both (x.wrapped && not b.flag) (record { ops = (after w.ops b).ops ++ (going_behind r (after w.ops b).pen x.cells).ops; pen = (going_behind r (after w.ops b).pen x.cells).pen; flag = b.flag }) (after w.ops b) (λ (v : Written). v.flag ≡ false)
+    rw t (cond_both (x.wrapped && not b.flag) (record { ops = (after w.ops b).ops ++ (going_behind r (after w.ops b).pen x.cells).ops; pen = (going_behind r (after w.ops b).pen x.cells).pen; flag = b.flag }) (after w.ops b) (λ (v : Scripted). v.flag ≡ false)
     (λ _. none) (λ _. none))
 
 -- ---- one row among others
@@ -200,7 +201,7 @@ drawn_in self r start y any ops cells flag pen at draws =
 -- ---- items of a difference
 
 -- what an item makes of the canvas: the row has these cells, and nothing else changes but its flag, the cursor and the attributes
-abbrev DrawsItem : Written → Canvas → ℕ → List CellValue → Type 0
+abbrev DrawsItem : Scripted → Canvas → ℕ → List CellValue → Type 0
 DrawsItem w any r cells = drawn_all w.ops any ≡ Some (row_drawn r (record { cells = cells; wrapped = w.flag }) w.pen any)
 
 -- where an item is written, for the laws on rows
@@ -263,7 +264,7 @@ difference_item_draws self r start stop y any is steady item le low cx cy =
     let range = range_written r start stop y.wrapped x.cells y.cells in
     by_test (is_whole start stop (length x.cells)) refl at (omega arith) (omega arith)
   where
-    Goal : Written → Type 0
+    Goal : Scripted → Type 0
     Goal w = DrawsItem w any r (with_range start stop (row_or self.width self.rows r).cells y.cells)
 
     by_test : (t : Bool) → is_whole start stop (length (row_or self.width self.rows r).cells) ≡ t → Stood self r start y any → stop ≤ any.page.width → length (row_or self.width self.rows r).cells ≡ any.page.width →
@@ -280,10 +281,10 @@ difference_item_draws self r start stop y any is steady item le low cx cy =
 -- ---- items of a redraw
 
 -- the row of an item of a redraw, which is not to go on below
-abbrev DrawsOff : Written → Canvas → ℕ → List CellValue → Type 0
+abbrev DrawsOff : Scripted → Canvas → ℕ → List CellValue → Type 0
 DrawsOff w any r cells = drawn_all w.ops any ≡ Some (row_drawn r (record { cells = cells; wrapped = false }) w.pen any)
 
-turned_off : (w : Written) (any : Canvas) (r : ℕ) (cells : List CellValue) → w.flag ≡ false → DrawsItem w any r cells → DrawsOff w any r cells
+turned_off : (w : Scripted) (any : Canvas) (r : ℕ) (cells : List CellValue) → w.flag ≡ false → DrawsItem w any r cells → DrawsOff w any r cells
 turned_off w any r cells off h = h ∙ ap (λ (b : Bool). Some (row_drawn r (record { cells = cells; wrapped = b }) w.pen any)) off
 
 linked_drawn : (self : Picture) (r : ℕ) (any : Canvas) → Stood self r 0 (blank_row default_attrs self.width) any → self.width ≡ any.page.width →
@@ -319,7 +320,7 @@ redraw_item_draws self r start stop is_linked any is steady item le low cx =
     let drawn : DrawsItem range any r (with_range start stop x.cells (blanks default_attrs self.width)) =
     subst (λ (n : ℕ). DrawsItem (range_written r start stop false x.cells (blanks default_attrs n)) any r (with_range start stop x.cells (blanks default_attrs self.width))) (sym e)
     (range_drawn self r start stop (blank_row default_attrs self.width) any at le (omega arith) cx (cuts_no_blanks start stop self.width)) in
-    cond_both (is_whole start stop (length x.cells) && is_linked) (linked_item r x.cells) range (λ (w : Written). DrawsOff w any r (with_range start stop x.cells (blanks default_attrs self.width)))
+    cond_both (is_whole start stop (length x.cells) && is_linked) (linked_item r x.cells) range (λ (w : Scripted). DrawsOff w any r (with_range start stop x.cells (blanks default_attrs self.width)))
     (λ (t : (is_whole start stop (length x.cells) && is_linked) ≡ true).
     let both = and_parts (start == 0) (stop == length x.cells) (and_parts (is_whole start stop (length x.cells)) is_linked t).0 in
     let b = eqb-true start 0 both.0 in

@@ -14,7 +14,8 @@ use Rattle.vt_rows.specs.Row.{RowValue, IsRow}
 use Rattle.vt_grid.specs.Page.{row_or}
 use Rattle.vt_redraw.specs.Items.{in_range, begun, begun_over, range_written, is_whole, item_of_difference}
 use Rattle.vt_redraw.specs.Picture.{Picture, IsPicture, SamePictureSize}
-use Rattle.vt_redraw.specs.Script.{Written, nothing, after, pen_at, going, changing, doing, run, erase_run, columns, flag_past, flag_behind, cells_written, last_column, last_glyph, is_at, behind, going_behind, broken, breaking}
+use Rattle.vt_cells.specs.Glyph.{first_columns}
+use Rattle.vt_redraw.specs.Script.{Scripted, nothing, after, pen_at, going, changing, doing, blank_run, erase_run, flag_past, flag_behind, cells_written, last_column, last_glyph, is_at, behind, going_behind, broken, breaking}
 use Rattle.vt_redraw.specs.declared.pen.Pen.{Pen}
 use Rattle.vt_redraw.proofs.Edits.{glyph_cells}
 use Rattle.vt_redraw.proofs.Flags.{ends, ends_is}
@@ -65,14 +66,14 @@ cells_none r c pen flag (blank a ∷ xs) (y ∷ ys) e h k is none = by_test (λ 
   where
     by_test : (more : Paired ys → bytes_of_all (cells_written r (c + 1) pen flag 0 xs ys).ops ≡ [] → xs ≡ ys) (t : Bool) → same_cell (blank a) y ≡ t →
         bytes_of_all (if t then cells_written r (c + 1) pen flag 0 xs ys
-        else after (doing pen r c a (erase_run (suc (run a xs)) (drop (run a xs) ys))) (cells_written r (c + 1) (pen_at r c a) (flag_past flag (drop (run a xs) ys)) (run a xs) xs ys)).ops ≡ [] →
+        else after (doing pen r c a (erase_run (suc (blank_run a xs)) (drop (blank_run a xs) ys))) (cells_written r (c + 1) (pen_at r c a) (flag_past flag (drop (blank_run a xs) ys)) (blank_run a xs) xs ys)).ops ≡ [] →
         blank a ∷ xs ≡ y ∷ ys
     by_test more true t none =
         let same = cell_of-same (blank a) y t in
         same_ahead (blank a) y xs ys same (more (subst (λ (z : CellValue). Paired (z ∷ ys)) (sym same) k) none)
     by_test more false t none =
-        let op = erase_run (suc (run a xs)) (drop (run a xs) ys) in
-        absurd (some_run (run a xs) (drop (run a xs) ys) (no_doing pen r c a op (none_of_ops (doing pen r c a op) _ none).0))
+        let op = erase_run (suc (blank_run a xs)) (drop (blank_run a xs) ys) in
+        absurd (some_run (blank_run a xs) (drop (blank_run a xs) ys) (no_doing pen r c a op (none_of_ops (doing pen r c a op) _ none).0))
 cells_none r c pen flag (glyph text false a ∷ xs) (y ∷ ys) e h k is none = by_test (λ p n. cells_none r (c + 1) pen flag xs ys (omega arith) h p is.1 n) (same_cell (glyph text false a) y) refl none
   where
     by_test : (more : Paired ys → bytes_of_all (cells_written r (c + 1) pen flag 0 xs ys).ops ≡ [] → xs ≡ ys) (t : Bool) → same_cell (glyph text false a) y ≡ t →
@@ -162,7 +163,7 @@ range_is r w flag xs ys e h =
     ∙ ap (λ (z : List CellValue). cells_written r 0 (pen_at r 0 default_attrs) flag 0 xs z) (begun_over_paired xs ys h))
 
 -- the item behind cells that are written so
-abbrev item_behind : ℕ → Written → Bool → List CellValue → List Op
+abbrev item_behind : ℕ → Scripted → Bool → List CellValue → List Op
 item_behind r w wanted cells =
     let b = broken r w.pen w.flag wanted cells in
     if wanted && not b.flag then (w.ops ++ b.ops) ++ (going_behind r b.pen cells).ops else w.ops ++ b.ops
@@ -174,9 +175,9 @@ item_is r width x y e h =
     let w = range_written r 0 width y.wrapped x.cells y.cells in
     let b = broken r w.pen w.flag x.wrapped x.cells in
     rw t (ops_of (x.wrapped && not b.flag) w b (going_behind r b.pen x.cells)
-    ∙ ap (λ (z : Written). item_behind r z x.wrapped x.cells) (range_is r width y.wrapped x.cells y.cells e h))
+    ∙ ap (λ (z : Scripted). item_behind r z x.wrapped x.cells) (range_is r width y.wrapped x.cells y.cells e h))
   where
-    ops_of : (t : Bool) (w b g : Written) → (if t then record { ops = (w.ops ++ b.ops) ++ g.ops; pen = g.pen; flag = b.flag } else after w.ops b).ops ≡ (if t then (w.ops ++ b.ops) ++ g.ops else w.ops ++ b.ops)
+    ops_of : (t : Bool) (w b g : Scripted) → (if t then record { ops = (w.ops ++ b.ops) ++ g.ops; pen = g.pen; flag = b.flag } else after w.ops b).ops ≡ (if t then (w.ops ++ b.ops) ++ g.ops else w.ops ++ b.ops)
     ops_of true w b g = refl
     ops_of false w b g = refl
 
@@ -199,7 +200,7 @@ item_none r width x y some hx hy none =
     let same = cells_none r 0 (pen_at r 0 default_attrs) y.wrapped x.cells y.cells (ex ∙ sym ey) px (paired_of y.cells hy.paired) cells (front_none (x.wrapped && not b.flag) w.ops b.ops (going_behind r b.pen x.cells).ops is) in
     let stands : w ≡ nothing (pen_at r 0 default_attrs) y.wrapped =
     ap (λ (z : List CellValue). cells_written r 0 (pen_at r 0 default_attrs) y.wrapped 0 x.cells z) (sym same) ∙ cells_nothing r 0 0 (pen_at r 0 default_attrs) y.wrapped x.cells in
-    let ends_none = ap (λ (z : Written). bytes_of_all (item_behind r z x.wrapped x.cells)) (sym stands) ∙ is in
+    let ends_none = ap (λ (z : Scripted). bytes_of_all (item_behind r z x.wrapped x.cells)) (sym stands) ∙ is in
     same_row x y same (end_none r y.wrapped x.wrapped x.cells (omega arith) px cells (λ t. sym (ends_is x.cells) ∙ hx.flagged t) ends_none)
 
 item_same : (r width : ℕ) (x y : RowValue) → IsRow width x → x ≡ y → bytes_of_all (item_of_difference r 0 width x y).ops ≡ []
@@ -207,7 +208,7 @@ item_same r width x y hx e =
     let px = paired_of x.cells hx.paired in
     ap (λ (z : RowValue). bytes_of_all (item_of_difference r 0 width x z).ops) (sym e)
     ∙ (ap bytes_of_all (item_is r width x x hx.columns px)
-    ∙ (ap (λ (z : Written). bytes_of_all (item_behind r z x.wrapped x.cells)) (cells_nothing r 0 0 (pen_at r 0 default_attrs) x.wrapped x.cells)
+    ∙ (ap (λ (z : Scripted). bytes_of_all (item_behind r z x.wrapped x.cells)) (cells_nothing r 0 0 (pen_at r 0 default_attrs) x.wrapped x.cells)
     ∙ ap bytes_of_all (end_nothing r x.wrapped x.cells)))
 
 pub difference_item_empty : (self prev : Picture) (r : ℕ) → IsPicture self → IsPicture prev → SamePictureSize self prev → r < length self.rows →

@@ -14,7 +14,7 @@ use Rattle.vt_grid.specs.Page.{row_or}
 use Rattle.vt_redraw.specs.Fits.{Fits}
 use Rattle.vt_redraw.specs.Items.{in_range, begun, begun_over, range_written, is_whole, item_of_difference, item_of_redraw, linked_item}
 use Rattle.vt_redraw.specs.Picture.{Picture, IsPicture, IsColoredPicture}
-use Rattle.vt_redraw.specs.Script.{Written, after, pen_at, first_written, cells_written, going_behind, broken}
+use Rattle.vt_redraw.specs.Script.{Scripted, after, pen_at, first_written, cells_written, going_behind, broken}
 use Rattle.vt_redraw.proofs.Fitting.{IsFit, IsFitRow, FitsWritten, fits_after, fits_append, cells_fit, behind_fits, first_fits, broken_fits, row_at_fits, picture_fits}
 
 plain : FitsAttrs default_attrs
@@ -90,6 +90,6 @@ redraw_item_fits self r start stop is_linked is colors low le inside =
     let tall = colors.height in
     let x = row_or self.width self.rows r in
     let fit = row_at_fits self.width self.rows r (picture_fits self is colors) low in
-    cond_both (is_whole start stop (length x.cells) && is_linked) (linked_item r x.cells) _ (λ (w : Written). AllByRecursion Fits w.ops)
+    cond_both (is_whole start stop (length x.cells) && is_linked) (linked_item r x.cells) _ (λ (w : Scripted). AllByRecursion Fits w.ops)
     (λ _. (linked_fits r self.width x (omega arith) colors.columns fit).ops)
     (λ _. (range_fits r start stop self.width false x (blanks default_attrs (length x.cells)) (omega arith) le inside colors.columns fit).ops)

@@ -12,7 +12,7 @@ use Rattle.vt_rows.specs.Row.{RowValue}
 use Rattle.vt_grid.specs.Page.{row_or}
 use Rattle.vt_redraw.specs.Items.{begun, begun_over, in_range, is_linked, is_whole, item_of_difference, item_of_redraw, linked_item, marked_on, range_written}
 use Rattle.vt_redraw.specs.Keeping.{IsRange, Links, cells_from, mark_of}
-use Rattle.vt_redraw.specs.Script.{Written, after, broken, cells_written, first_written, going_behind, pen_at}
+use Rattle.vt_redraw.specs.Script.{Scripted, after, broken, cells_written, first_written, going_behind, pen_at}
 use Rattle.vt_redraw.specs.declared.links.Link.{Link}
 use Rattle.vt_redraw.specs.declared.pen.Pen.{Pen}
 use Rattle.vt_redraw.proofs.CellSteps.{settled_passed}
@@ -59,21 +59,21 @@ range_wrote r start stop pen flag cut xs ys h e p =
 
 -- ---- an item of a difference
 
-marked_ops : (r : ℕ) (w b : Written) (wanted : Bool) (cells : List CellValue) → (marked_on r (after w.ops b) wanted cells).ops ≡ w.ops ++ (b.ops ++ mark_of r b.pen b.flag wanted cells)
+marked_ops : (r : ℕ) (w b : Scripted) (wanted : Bool) (cells : List CellValue) → (marked_on r (after w.ops b) wanted cells).ops ≡ w.ops ++ (b.ops ++ mark_of r b.pen b.flag wanted cells)
 marked_ops r w b wanted cells = by_case (wanted && not b.flag) where
   by_case : (c : Bool) → (if c then record { ops = (w.ops ++ b.ops) ++ (going_behind r b.pen cells).ops; pen = (going_behind r b.pen cells).pen; flag = b.flag } else after w.ops b).ops
       ≡ w.ops ++ (b.ops ++ (if c then (going_behind r b.pen cells).ops else []))
   by_case true = append_assoc w.ops b.ops (going_behind r b.pen cells).ops
   by_case false = ap (λ (zs : List Op). w.ops ++ zs) (sym (append-nil b.ops))
 
-pub part_item : (r start stop : ℕ) (x y : RowValue) (w : Written) (t0 t1 : List ℕ) → is_whole start stop (length x.cells) ≡ false → w ≡ range_written r start stop y.wrapped x.cells y.cells → t1 ≡ t0 ++ bytes_of_all w.ops →
+pub part_item : (r start stop : ℕ) (x y : RowValue) (w : Scripted) (t0 t1 : List ℕ) → is_whole start stop (length x.cells) ≡ false → w ≡ range_written r start stop y.wrapped x.cells y.cells → t1 ≡ t0 ++ bytes_of_all w.ops →
     t1 ≡ t0 ++ bytes_of_all (item_of_difference r start stop x y).ops
 part_item r start stop x y w t0 t1 part e t =
     let range = range_written r start stop y.wrapped x.cells y.cells in
-    t ∙ (ap (λ (z : Written). t0 ++ bytes_of_all z.ops) e
-    ∙ ap (λ (z : Written). t0 ++ bytes_of_all z.ops) (sym (cond-false (is_whole start stop (length x.cells)) (marked_on r (after range.ops (broken r range.pen range.flag x.wrapped x.cells)) x.wrapped x.cells) range part)))
+    t ∙ (ap (λ (z : Scripted). t0 ++ bytes_of_all z.ops) e
+    ∙ ap (λ (z : Scripted). t0 ++ bytes_of_all z.ops) (sym (cond-false (is_whole start stop (length x.cells)) (marked_on r (after range.ops (broken r range.pen range.flag x.wrapped x.cells)) x.wrapped x.cells) range part)))
 
-pub whole_item : (r start stop : ℕ) (x y : RowValue) (w : Written) (pen : Pen) (flag : Bool) (t0 t1 t2 : List ℕ) → is_whole start stop (length x.cells) ≡ true → w ≡ range_written r start stop y.wrapped x.cells y.cells →
+pub whole_item : (r start stop : ℕ) (x y : RowValue) (w : Scripted) (pen : Pen) (flag : Bool) (t0 t1 t2 : List ℕ) → is_whole start stop (length x.cells) ≡ true → w ≡ range_written r start stop y.wrapped x.cells y.cells →
     t1 ≡ t0 ++ bytes_of_all w.ops → pen ≡ w.pen → flag ≡ w.flag →
     t2 ≡ t1 ++ bytes_of_all ((broken r pen flag x.wrapped x.cells).ops ++ mark_of r (broken r pen flag x.wrapped x.cells).pen (broken r pen flag x.wrapped x.cells).flag x.wrapped x.cells) →
     t2 ≡ t0 ++ bytes_of_all (item_of_difference r start stop x y).ops
@@ -82,14 +82,14 @@ whole_item r start stop x y w pen flag t0 t1 t2 whole e t p f more =
     let b = broken r range.pen range.flag x.wrapped x.cells in
     let rest = λ (q : Pen) (g : Bool). (broken r q g x.wrapped x.cells).ops ++ mark_of r (broken r q g x.wrapped x.cells).pen (broken r q g x.wrapped x.cells).flag x.wrapped x.cells in
     let same : rest pen flag ≡ rest range.pen range.flag =
-    ap (λ (q : Pen). rest q flag) (p ∙ ap (λ (z : Written). z.pen) e) ∙ ap (λ (g : Bool). rest range.pen g) (f ∙ ap (λ (z : Written). z.flag) e) in
-    let first : t1 ≡ t0 ++ bytes_of_all range.ops = t ∙ ap (λ (z : Written). t0 ++ bytes_of_all z.ops) e in
+    ap (λ (q : Pen). rest q flag) (p ∙ ap (λ (z : Scripted). z.pen) e) ∙ ap (λ (g : Bool). rest range.pen g) (f ∙ ap (λ (z : Scripted). z.flag) e) in
+    let first : t1 ≡ t0 ++ bytes_of_all range.ops = t ∙ ap (λ (z : Scripted). t0 ++ bytes_of_all z.ops) e in
     more ∙ (ap (λ (ops : List Op). t1 ++ bytes_of_all ops) same
     ∙ (ap (λ (z : List ℕ). z ++ bytes_of_all (rest range.pen range.flag)) first
     ∙ (append_assoc t0 (bytes_of_all range.ops) (bytes_of_all (rest range.pen range.flag))
     ∙ (ap (λ (z : List ℕ). t0 ++ z) (sym (flat_map-append bytes_of range.ops (rest range.pen range.flag)))
     ∙ (ap (λ (ops : List Op). t0 ++ bytes_of_all ops) (sym (marked_ops r range b x.wrapped x.cells))
-    ∙ ap (λ (z : Written). t0 ++ bytes_of_all z.ops) (sym (cond-true (is_whole start stop (length x.cells)) (marked_on r (after range.ops b) x.wrapped x.cells) range whole)))))))
+    ∙ ap (λ (z : Scripted). t0 ++ bytes_of_all z.ops) (sym (cond-true (is_whole start stop (length x.cells)) (marked_on r (after range.ops b) x.wrapped x.cells) range whole)))))))
 
 -- ---- an item of a redraw
 
@@ -111,19 +111,19 @@ linked_wrote r xs ys pen p1 link t0 t1 t2 e p h more =
     ∙ (ap (λ (k : ℕ). cells_from r k p1 link.flag xs over) n
     ∙ (ap (λ (z : Pen). cells_from r first.settled z link.flag xs over) q ∙ (ap (λ (b : Bool). cells_from r first.settled first.pen b xs over) f ∙ zero_settled))) in
     let text : t1 ≡ t0 ++ bytes_of_all first.ops = h.bytes ∙ ap (λ w. t0 ++ bytes_of_all w.ops) same in
-    more ∙ (ap (λ (w : Written). t1 ++ bytes_of_all w.ops) reads
+    more ∙ (ap (λ (w : Scripted). t1 ++ bytes_of_all w.ops) reads
     ∙ (ap (λ (z : List ℕ). z ++ bytes_of_all cells.ops) text
     ∙ (append_assoc t0 (bytes_of_all first.ops) (bytes_of_all cells.ops) ∙ ap (λ (z : List ℕ). t0 ++ z) (sym (flat_map-append bytes_of first.ops cells.ops)))))
 
 pub whole_redraw : (r start stop : ℕ) (linked : Bool) (x : RowValue) (t0 t1 : List ℕ) → (is_whole start stop (length x.cells) && linked) ≡ true → t1 ≡ t0 ++ bytes_of_all (linked_item r x.cells).ops →
     t1 ≡ t0 ++ bytes_of_all (item_of_redraw r start stop linked x).ops
 whole_redraw r start stop linked x t0 t1 whole t =
-    t ∙ ap (λ (z : Written). t0 ++ bytes_of_all z.ops) (sym (cond-true (is_whole start stop (length x.cells) && linked) (linked_item r x.cells) (range_written r start stop false x.cells (blanks default_attrs (length x.cells))) whole))
+    t ∙ ap (λ (z : Scripted). t0 ++ bytes_of_all z.ops) (sym (cond-true (is_whole start stop (length x.cells) && linked) (linked_item r x.cells) (range_written r start stop false x.cells (blanks default_attrs (length x.cells))) whole))
 
 pub part_redraw : (r start stop : ℕ) (linked : Bool) (x : RowValue) (t0 t1 : List ℕ) → (is_whole start stop (length x.cells) && linked) ≡ false →
     t1 ≡ t0 ++ bytes_of_all (range_written r start stop false x.cells (blanks default_attrs (length x.cells))).ops → t1 ≡ t0 ++ bytes_of_all (item_of_redraw r start stop linked x).ops
 part_redraw r start stop linked x t0 t1 part t =
-    t ∙ ap (λ (z : Written). t0 ++ bytes_of_all z.ops) (sym (cond-false (is_whole start stop (length x.cells) && linked) (linked_item r x.cells) (range_written r start stop false x.cells (blanks default_attrs (length x.cells))) part))
+    t ∙ ap (λ (z : Scripted). t0 ++ bytes_of_all z.ops) (sym (cond-false (is_whole start stop (length x.cells) && linked) (linked_item r x.cells) (range_written r start stop false x.cells (blanks default_attrs (length x.cells))) part))
 
 -- whether the row above a row goes on below
 pub linked_below : (width : ℕ) (rows : List RowValue) (row : ℕ) → 0 < row → is_linked width rows row ≡ (row_or width rows (row - 1)).wrapped

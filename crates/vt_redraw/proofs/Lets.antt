@@ -5,7 +5,7 @@ use Rattle.std.proofs.lemmas.Bool.Decides.{nat_tests}
 use Rattle.vt_cells.specs.Cell.{CellValue, blank, glyph, right_half, is_right_half, same_cell}
 use Rattle.vt_cells.specs.Attrs.{Attrs}
 use Rattle.vt_rows.specs.Cells.{at}
-use Rattle.vt_redraw.specs.Script.{run, is_blank_of}
+use Rattle.vt_redraw.specs.Script.{blank_run, is_blank_of}
 use Rattle.vt_redraw.proofs.Runs.{blank_of_is}
 use Rattle.vt_redraw.proofs.Halves.{Paired}
 use Rattle.vt_redraw.proofs.TouchedTexts.{MayGlyph}
@@ -54,12 +54,12 @@ torn_may May r c (glyph text wide a ∷ xs) (y ∷ ys) p h le tail t = let m = h
 torn_may May r c (right_half ∷ xs) (y ∷ ys) p h le tail t = absurd p
 
 -- all of a run
-pub run_may : (May : ℕ → ℕ → Type 0) (r c : ℕ) (a : Attrs) (xs ys : List CellValue) (k : ℕ) → Lets May r c xs ys → length xs ≤ length ys → c ≤ k → k < c + run a xs → May r k
+pub run_may : (May : ℕ → ℕ → Type 0) (r c : ℕ) (a : Attrs) (xs ys : List CellValue) (k : ℕ) → Lets May r c xs ys → length xs ≤ length ys → c ≤ k → k < c + blank_run a xs → May r k
 run_may May r c a [] ys k h le low high = absurd (omega arith)
 run_may May r c a (x ∷ xs) [] k h le low high = absurd (omega arith)
 run_may May r c a (x ∷ xs) (y ∷ ys) k h le low high =
-    cond_both (is_blank_of a x) (1 + run a xs) 0 (λ (n : ℕ). k < c + n → May r k)
-    (λ (t : is_blank_of a x ≡ true) (lt : k < c + (1 + run a xs)).
+    cond_both (is_blank_of a x) (1 + blank_run a xs) 0 (λ (n : ℕ). k < c + n → May r k)
+    (λ (t : is_blank_of a x ≡ true) (lt : k < c + (1 + blank_run a xs)).
     by_test (k == c) refl (subst (λ (z : CellValue). Lets May r c (z ∷ xs) (y ∷ ys)) (blank_of_is a x t) h)
     (λ l m. run_may May r (c + 1) a xs ys k m (omega arith) l (omega arith)))
     (λ _ lt. absurd (omega arith)) high

@@ -8,10 +8,11 @@ use Rattle.vt_cells.specs.Op.{Print, EraseChars}
 use Rattle.vt_cells.specs.Attrs.{Attrs}
 use Rattle.vt_rows.specs.Row.{RowValue}
 use Rattle.vt_grid.specs.Canvas.{Canvas}
-use Rattle.vt_redraw.specs.Script.{pen_at, going, changing, columns}
+use Rattle.vt_cells.specs.Glyph.{first_columns}
+use Rattle.vt_redraw.specs.Script.{pen_at, going, changing}
 use Rattle.vt_redraw.specs.declared.pen.Pen.{Pen}
 use Rattle.vt_redraw.proofs.Steps.{Reads, Within, changing_draws}
-use Rattle.vt_redraw.specs.Script.{Written, nothing, doing, cells_written, last_column, last_glyph, is_at, behind, going_behind, breaking, broken}
+use Rattle.vt_redraw.specs.Script.{Scripted, nothing, doing, cells_written, last_column, last_glyph, is_at, behind, going_behind, breaking, broken}
 use Rattle.vt_redraw.specs.Redraw.{row_written}
 use Rattle.vt_redraw.proofs.Halves.{Paired, opened_paired}
 use Rattle.vt_redraw.proofs.Flags.{ends, ends_append, kept, Sound}
@@ -62,7 +63,7 @@ ends_glyph (glyph text true a ∷ right_half ∷ []) h e = record { pre = []; te
 ends_glyph (glyph text true a ∷ right_half ∷ z ∷ zs) h e = longer_two text a (z ∷ zs) (ends_glyph (z ∷ zs) h e)
 ends_glyph (right_half ∷ zs) h e = absurd h
 
-pub length_glyph : (pre : List CellValue) (text : List ℕ) (wide : Bool) (a : Attrs) → length (pre ++ glyph_cells text wide a) ≡ length pre + columns wide
+pub length_glyph : (pre : List CellValue) (text : List ℕ) (wide : Bool) (a : Attrs) → length (pre ++ glyph_cells text wide a) ≡ length pre + first_columns wide
 length_glyph pre text true a = length-append pre (glyph_cells text true a)
 length_glyph pre text false a = length-append pre (glyph_cells text false a)
 
@@ -96,9 +97,9 @@ still : (flag : Bool) → (flag && not false) ≡ flag
 still flag = grind (arith)
 
 -- over itself
-pub print_again : (May : ℕ → ℕ → Type 0) (base : Canvas) (done below : List RowValue) (pre : List CellValue) (text : List ℕ) (wide : Bool) (a : Attrs) (flag : Bool) (r : ℕ) → Prints base.page.width text wide → length done ≡ r → length pre + columns wide ≡ base.page.width → Paired pre →
+pub print_again : (May : ℕ → ℕ → Type 0) (base : Canvas) (done below : List RowValue) (pre : List CellValue) (text : List ℕ) (wide : Bool) (a : Attrs) (flag : Bool) (r : ℕ) → Prints base.page.width text wide → length done ≡ r → length pre + first_columns wide ≡ base.page.width → Paired pre →
     Sound flag (pre ++ glyph_cells text wide a) → ((k : ℕ) → length pre ≤ k → k < base.page.width → May r k) →
-    DrawsIn May (Print text ∷ []) (mid base done below (pre ++ glyph_cells text wide a) flag (pen_at r (length pre) a)) (mid base done below (pre ++ glyph_cells text wide a) flag (pen_at r (length pre + columns wide) a))
+    DrawsIn May (Print text ∷ []) (mid base done below (pre ++ glyph_cells text wide a) flag (pen_at r (length pre) a)) (mid base done below (pre ++ glyph_cells text wide a) flag (pen_at r (length pre + first_columns wide) a))
 print_again May base done below pre text false a flag r prints e w h sound may =
     let row = pre ++ glyph text false a ∷ [] in
     in_to May (Print text ∷ []) (mid base done below row flag (pen_at r (length pre) a)) (mid base done below row (flag && not false) (pen_at r (length pre + 1) a)) (mid base done below row flag (pen_at r (length pre + 1) a))
@@ -113,7 +114,7 @@ print_again May base done below pre text true a flag r prints e w h sound may =
     (ap (λ (f : Bool). mid base done below row f (pen_at r (length pre + 2) a)) (still flag))
 
 -- the pen goes behind the last glyph, and nothing else changes
-pub record GoesBehind (May : ℕ → ℕ → Type 0) (w : Written) (base : Canvas) (done below : List RowValue) (cells : List CellValue) (flag : Bool) (r : ℕ) (pen : Pen) : Type 0 where
+pub record GoesBehind (May : ℕ → ℕ → Type 0) (w : Scripted) (base : Canvas) (done below : List RowValue) (cells : List CellValue) (flag : Bool) (r : ℕ) (pen : Pen) : Type 0 where
   pub draws : DrawsIn May w.ops (mid base done below cells flag pen) (mid base done below cells flag w.pen)
   pub there : w.pen ≡ pen_at r base.page.width w.pen.attrs
 
@@ -128,8 +129,8 @@ pub going_behind_draws : (May : ℕ → ℕ → Type 0) (base : Canvas) (done be
     Paired xs → ends xs ≡ false → PrintsCells base.page.width xs → Within pen height base.page.width → (is_at pen r (length xs) ≡ false → (k : ℕ) → last_column xs ≤ k → k < base.page.width → May r k) →
     GoesBehind May (going_behind r pen xs) base done below xs flag r pen
 going_behind_draws May base done below xs flag r height pen reads e rows w h full prints within may =
-    let again : Written = record { ops = doing pen r (last_column xs) (attrs_of (last_glyph xs)) (Print (text_of (last_glyph xs))); pen = behind r xs; flag = true } in
-    cond_both (is_at pen r (length xs)) (nothing pen true) again (λ (v : Written). GoesBehind May v base done below xs flag r pen)
+    let again : Scripted = record { ops = doing pen r (last_column xs) (attrs_of (last_glyph xs)) (Print (text_of (last_glyph xs))); pen = behind r xs; flag = true } in
+    cond_both (is_at pen r (length xs)) (nothing pen true) again (λ (v : Scripted). GoesBehind May v base done below xs flag r pen)
     (λ (t : is_at pen r (length xs) ≡ true). record { draws = record { draws = refl; touches = tt }; there = same_pen pen r (length xs) t ∙ ap (λ (c : ℕ). pen_at r c pen.attrs) w })
     (λ (t : is_at pen r (length xs) ≡ false). record {
       draws = last_cases
@@ -139,7 +140,7 @@ going_behind_draws May base done below xs flag r height pen reads e rows w h ful
           let n = length_glyph pre text wide a in
           let one = some_columns wide in
           doing_draws May base done below (pre ++ glyph_cells text wide a) flag r (length pre) height pen a (Print text) (mid base done below (pre ++ glyph_cells text wide a) flag (pen_at r (length (pre ++ glyph_cells text wide a)) a)) reads e rows (omega arith) within
-          (in_to May (Print text ∷ []) (mid base done below (pre ++ glyph_cells text wide a) flag (pen_at r (length pre) a)) (mid base done below (pre ++ glyph_cells text wide a) flag (pen_at r (length pre + columns wide) a))
+          (in_to May (Print text ∷ []) (mid base done below (pre ++ glyph_cells text wide a) flag (pen_at r (length pre) a)) (mid base done below (pre ++ glyph_cells text wide a) flag (pen_at r (length pre + first_columns wide) a))
           (mid base done below (pre ++ glyph_cells text wide a) flag (pen_at r (length (pre ++ glyph_cells text wide a)) a))
           (print_again May base done below pre text wide a flag r (prints_last base.page.width pre text wide a p) e (sym n ∙ size) front sound mays)
           (ap (λ (c : ℕ). mid base done below (pre ++ glyph_cells text wide a) flag (pen_at r c a)) (sym n))))
@@ -147,7 +148,7 @@ going_behind_draws May base done below xs flag r height pen reads e rows w h ful
       there = ap (λ (c : ℕ). pen_at r c (attrs_of (last_glyph xs))) w;
     })
   where
-    some_columns : (wide : Bool) → 0 < columns wide
+    some_columns : (wide : Bool) → 0 < first_columns wide
     some_columns true = omega arith
     some_columns false = omega arith
 
@@ -166,7 +167,7 @@ erase_touches May canvas c lt e h =
     let m : min 1 (canvas.page.width - canvas.page.column) ≡ 1 = omega arith in
     (λ _. subst (λ (n : ℕ). Changes May canvas.page.column n canvas.page) (sym m) (subst (λ (k : ℕ). Changes May k 1 canvas.page) (sym e) h), λ q f. tt)
 
-pub erase_last : (May : ℕ → ℕ → Type 0) (base : Canvas) (done below : List RowValue) (pre : List CellValue) (text : List ℕ) (wide : Bool) (b a : Attrs) (flag : Bool) (r : ℕ) → length done ≡ r → length pre + columns wide ≡ base.page.width → Paired pre → ((k : ℕ) → length pre ≤ k → k < base.page.width → May r k) →
+pub erase_last : (May : ℕ → ℕ → Type 0) (base : Canvas) (done below : List RowValue) (pre : List CellValue) (text : List ℕ) (wide : Bool) (b a : Attrs) (flag : Bool) (r : ℕ) → length done ≡ r → length pre + first_columns wide ≡ base.page.width → Paired pre → ((k : ℕ) → length pre ≤ k → k < base.page.width → May r k) →
     DrawsIn May (EraseChars 1 ∷ []) (mid base done below (pre ++ glyph_cells text wide b) flag (pen_at r (length pre) a)) (mid base done below (pre ++ bare wide a) false (pen_at r (length pre) a))
 erase_last May base done below pre text false b a flag r e w h may =
     let start = mid base done below (pre ++ glyph text false b ∷ []) flag (pen_at r (length pre) a) in
@@ -185,8 +186,8 @@ erase_last May base done below pre text true b a flag r e w h may =
           (changes_at May base done below pre (glyph text true b ∷ right_half ∷ []) flag r (length pre) 1 (length pre) a e refl h (λ k low high. may k low (omega arith)) (λ t. may (length pre + 1) (omega arith) (omega arith)));
     }
 
-pub print_bare : (May : ℕ → ℕ → Type 0) (base : Canvas) (done below : List RowValue) (pre : List CellValue) (text : List ℕ) (wide : Bool) (b a : Attrs) (r : ℕ) → Prints base.page.width text wide → length done ≡ r → length pre + columns wide ≡ base.page.width → Paired pre → ((k : ℕ) → length pre ≤ k → k < base.page.width → May r k) →
-    DrawsIn May (Print text ∷ []) (mid base done below (pre ++ bare wide b) false (pen_at r (length pre) a)) (mid base done below (pre ++ glyph_cells text wide a) false (pen_at r (length pre + columns wide) a))
+pub print_bare : (May : ℕ → ℕ → Type 0) (base : Canvas) (done below : List RowValue) (pre : List CellValue) (text : List ℕ) (wide : Bool) (b a : Attrs) (r : ℕ) → Prints base.page.width text wide → length done ≡ r → length pre + first_columns wide ≡ base.page.width → Paired pre → ((k : ℕ) → length pre ≤ k → k < base.page.width → May r k) →
+    DrawsIn May (Print text ∷ []) (mid base done below (pre ++ bare wide b) false (pen_at r (length pre) a)) (mid base done below (pre ++ glyph_cells text wide a) false (pen_at r (length pre + first_columns wide) a))
 print_bare May base done below pre text false b a r prints e w h may =
     print_in May base done below pre default_blank (blank b) [] false r (length pre) text false a prints (record { row = e; col = refl; fits = omega arith; front = h; sound = λ t. absurd (cc) })
     (record { first = may (length pre) (omega arith) (omega arith); second = λ t. absurd (cc); torn = λ t. absurd (cc) })
@@ -195,7 +196,7 @@ print_bare May base done below pre text true b a r prints e w h may =
     (record { first = may (length pre) (omega arith) (omega arith); second = λ _. may (length pre + 1) (omega arith) (omega arith); torn = λ t. absurd (cc) })
 
 -- what is left for the next row: where the flag stands still, it is to
-pub record Broke (May : ℕ → ℕ → Type 0) (w : Written) (base : Canvas) (done below : List RowValue) (start : Canvas) (cells : List CellValue) (wanted : Bool) (height : ℕ) : Type 0 where
+pub record Broke (May : ℕ → ℕ → Type 0) (w : Scripted) (base : Canvas) (done below : List RowValue) (start : Canvas) (cells : List CellValue) (wanted : Bool) (height : ℕ) : Type 0 where
   pub draws : DrawsIn May w.ops start (mid base done below cells w.flag w.pen)
   pub within : Within w.pen height base.page.width
   pub keeps : w.flag ≡ true → wanted ≡ true
@@ -221,7 +222,7 @@ breaking_draws May base done below xs flag wanted r height pen reads e rows w h 
       (in_then May (changing pen.attrs a) (Print text ∷ []) (mid base done below gone false (pen_at r c pen.attrs)) (mid base done below gone false (pen_at r c a)) goal
       (quiet_in May (changing pen.attrs a) (mid base done below gone false (pen_at r c pen.attrs)) (mid base done below gone false (pen_at r c a)) (changing_quiet pen.attrs a)
       (changing_draws base (done ++ row_of gone false ∷ below) (pen_at r c pen.attrs) a))
-      (in_to May (Print text ∷ []) (mid base done below gone false (pen_at r c a)) (mid base done below row false (pen_at r (c + columns wide) a)) goal
+      (in_to May (Print text ∷ []) (mid base done below gone false (pen_at r c a)) (mid base done below row false (pen_at r (c + first_columns wide) a)) goal
       (print_bare May base done below pre text wide pen.attrs a r (prints_last base.page.width pre text wide a p) e (sym n ∙ size) front mays)
       (ap (λ (k : ℕ). mid base done below row false (pen_at r k a)) (sym n))))))
       xs h full prints w may;
@@ -229,7 +230,7 @@ breaking_draws May base done below xs flag wanted r height pen reads e rows w h 
   keeps = λ t. absurd (cc);
 }
   where
-    some_columns : (wide : Bool) → 0 < columns wide
+    some_columns : (wide : Bool) → 0 < first_columns wide
     some_columns true = omega arith
     some_columns false = omega arith
 
@@ -245,7 +246,7 @@ pub broken_draws : (May : ℕ → ℕ → Type 0) (base : Canvas) (done below : 
     Broke May (broken r pen flag wanted xs) base done below (mid base done below xs flag pen) xs wanted height
 unfolding broken
 broken_draws May base done below xs flag wanted r height pen reads e rows w h sound prints within may =
-    cond_both (flag && not wanted) (breaking r pen xs) (nothing pen flag) (λ (v : Written). Broke May v base done below (mid base done below xs flag pen) xs wanted height)
+    cond_both (flag && not wanted) (breaking r pen xs) (nothing pen flag) (λ (v : Scripted). Broke May v base done below (mid base done below xs flag pen) xs wanted height)
     (λ (t : (flag && not wanted) ≡ true). breaking_draws May base done below xs flag wanted r height pen reads e rows w h (sound (and_true flag (not wanted) t)) prints within may)
     (λ (t : (flag && not wanted) ≡ false). record { draws = record { draws = refl; touches = tt }; within = within; keeps = wants flag wanted t })
 
@@ -297,7 +298,7 @@ standing_draws : (May : ℕ → ℕ → Type 0) (base : Canvas) (done below : Li
     Broke May (row_written r k pen x.wrapped x x.cells) base done below (mid base done below (shown [] o k x.cells x.cells) x.wrapped pen) x.cells x.wrapped height
 standing_draws May base done below x o r k height pen ready within =
     let start = mid base done below (shown [] o k x.cells x.cells) x.wrapped pen in
-    subst (λ (v : Written). Broke May v base done below start x.cells x.wrapped height) (sym (row_nothing r k pen x))
+    subst (λ (v : Scripted). Broke May v base done below start x.cells x.wrapped height) (sym (row_nothing r k pen x))
     (record { draws = record { draws = ap (λ (z : List CellValue). Some (mid base done below z x.wrapped pen)) (same_row x.cells o k ready.new); touches = tt }; within = within; keeps = λ t. t })
 
 -- where the reader shows another row, the flag is what it was for a row that stood

@@ -14,7 +14,7 @@ use Rattle.vt_rows.proofs.Columns.{put_columns, length-put_cells}
 use Rattle.vt_rows.proofs.Pairs.{is_right_half-marked, is_wide-marked}
 use Rattle.vt_grid.specs.Page.{Page}
 use Rattle.vt_grid.specs.Printing.{with_cursor_cells, mark_column, takes_mark, mark_put, made_wide, made_narrow, carried, width_followed, mark_printed, printed_by}
-use Rattle.vt_grid.specs.Canvas.{Canvas, with_page, and_then, drawn_char, drawn_text, carries, goes_on}
+use Rattle.vt_grid.specs.Canvas.{Canvas, with_page, and_then, drawn_char, drawn_text, carries, wraps_for}
 use Rattle.vt_redraw.specs.Script.{pen_at}
 use Rattle.vt_redraw.specs.Steady.{blank_line}
 use Rattle.vt_redraw.proofs.Flags.{kept}
@@ -212,7 +212,7 @@ line_past width attrs cells flag col m end is_mark past h =
     let page = canvas.page in
     let far = past.far in
     let some : (col == 0) ≡ false = ne_eqb col 0 (λ same. omega arith) in
-    let by = λ (w : Option ℕ). if goes_on w m page && true then None else Some (with_page (printed_by w m attrs page) canvas) in
+    let by = λ (w : Option ℕ). if wraps_for w m page && true then None else Some (with_page (printed_by w m attrs page) canvas) in
     let zero_columns : by (Some 0) ≡ (if carries m page && true then None else Some (with_page (mark_printed m attrs page) canvas)) = rw some refl in
     by_push width attrs (mark_printed m attrs page) canvas end (carries m page) (mark_past width attrs cells flag col m past)
     (sym zero_columns ∙ (sym (ap by is_mark.1) ∙ h))

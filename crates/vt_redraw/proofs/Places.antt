@@ -12,7 +12,7 @@ use Rattle.vt_redraw.specs.Script.{pen_at, going, changing, erase_run}
 use Rattle.vt_redraw.specs.declared.pen.Pen.{Pen}
 use Rattle.vt_grid.proofs.Drawing.{Draws}
 use Rattle.vt_redraw.proofs.Steps.{at_pen, Reads, Within, going_draws, changing_draws}
-use Rattle.vt_redraw.specs.Script.{Written, after, doing, is_nil, is_torn, flag_past}
+use Rattle.vt_redraw.specs.Script.{Scripted, after, doing, is_nil, is_torn, flag_past}
 use Rattle.vt_redraw.proofs.Halves.{Paired, Loose, drop_opened}
 use Rattle.vt_redraw.proofs.Flags.{ends_append, ends_blanks, kept, Sound, flag_step}
 use Rattle.vt_redraw.proofs.Edits.{row_of, mid, run_erased}
@@ -71,12 +71,12 @@ ready_next x xs ys pre o k flag same tail le behind new old sound = record {
 }
 
 -- the operations draw these cells in the row, and leave the flag and the pen that they say
-pub record Wrote (May : ℕ → ℕ → Type 0) (w : Written) (base : Canvas) (done below : List RowValue) (start : Canvas) (goal : List CellValue) (height : ℕ) : Type 0 where
+pub record Wrote (May : ℕ → ℕ → Type 0) (w : Scripted) (base : Canvas) (done below : List RowValue) (start : Canvas) (goal : List CellValue) (height : ℕ) : Type 0 where
   pub draws : DrawsIn May w.ops start (mid base done below goal w.flag w.pen)
   pub within : Within w.pen height base.page.width
   pub sound : Sound w.flag goal
 
-pub wrote_after : (May : ℕ → ℕ → Type 0) (ops : List Op) (w : Written) (base : Canvas) (done below : List RowValue) (a b : Canvas) (goal : List CellValue) (height : ℕ) → DrawsIn May ops a b → Wrote May w base done below b goal height → Wrote May (after ops w) base done below a goal height
+pub wrote_after : (May : ℕ → ℕ → Type 0) (ops : List Op) (w : Scripted) (base : Canvas) (done below : List RowValue) (a b : Canvas) (goal : List CellValue) (height : ℕ) → DrawsIn May ops a b → Wrote May w base done below b goal height → Wrote May (after ops w) base done below a goal height
 wrote_after May ops w base done below a b goal height h k = record {
   draws = in_then May ops w.ops a b (mid base done below goal w.flag w.pen) h k.draws;
   within = k.within;
@@ -84,7 +84,7 @@ wrote_after May ops w base done below a b goal height h k = record {
 }
 
 -- one cell more stands: the same row, cut one column later
-pub shifted : (May : ℕ → ℕ → Type 0) (w : Written) (base : Canvas) (done below : List RowValue) (pre : List CellValue) (x : CellValue) (rest goal : List CellValue) (flag : Bool) (pen : Pen) (height : ℕ) →
+pub shifted : (May : ℕ → ℕ → Type 0) (w : Scripted) (base : Canvas) (done below : List RowValue) (pre : List CellValue) (x : CellValue) (rest goal : List CellValue) (flag : Bool) (pen : Pen) (height : ℕ) →
     Wrote May w base done below (mid base done below ((pre ++ x ∷ []) ++ rest) flag pen) ((pre ++ x ∷ []) ++ goal) height → Wrote May w base done below (mid base done below (pre ++ x ∷ rest) flag pen) (pre ++ x ∷ goal) height
 shifted May w base done below pre x rest goal flag pen height h =
     let P : List CellValue → List CellValue → Type 0 = λ a b. Wrote May w base done below (mid base done below a flag pen) b height in

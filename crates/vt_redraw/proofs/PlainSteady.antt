@@ -18,7 +18,7 @@ use Rattle.vt_cells.specs.Attrs.{Attrs, default_attrs}
 use Rattle.vt_rows.specs.Cells.{blanks}
 use Rattle.vt_grid.specs.Page.{Page}
 use Rattle.vt_grid.specs.Canvas.{Canvas, with_page, and_then, drawn_text, drawn_all}
-use Rattle.vt_redraw.specs.Script.{columns}
+use Rattle.vt_cells.specs.Glyph.{first_columns}
 use Rattle.vt_redraw.specs.Steady.{blank_line, has_selector, HasNoSelector, heart_text, IsSteady, IsSteadyCell, IsSteadyGlyph}
 use Rattle.vt_redraw.proofs.Spots.{Spot, glyph_put_here}
 use Rattle.vt_redraw.proofs.Texts.{next, Grows, Prints}
@@ -53,7 +53,7 @@ grows_plain width wide text (m ∷ ms) whole marks joins none =
     let no = first_not (is_selector m) (list_any is_selector ms) none in
     rw no ((marks.0, joins.0), ((λ t. t), grows_plain width wide (text ++ encode_utf8 m) ms whole marks.1 joins.1 (rest_not (is_selector m) (list_any is_selector ms) none)))
 
-pub plain_steady : (n : ℕ) (text : List ℕ) (wide : Bool) (attrs : Attrs) (g : IsGlyphText text wide) → list_any is_selector g.marks ≡ false → columns wide ≤ suc n → IsSteadyGlyph (suc n) text wide attrs
+pub plain_steady : (n : ℕ) (text : List ℕ) (wide : Bool) (attrs : Attrs) (g : IsGlyphText text wide) → list_any is_selector g.marks ≡ false → first_columns wide ≤ suc n → IsSteadyGlyph (suc n) text wide attrs
 plain_steady n text wide attrs g none le = prints_steady n text wide attrs (record {
   first = g.first;
   marks = g.marks;
@@ -102,7 +102,7 @@ heart_steady n attrs =
 -- ---- rows and pictures without U+FE0F
 
 -- a cell without it, that fits, is steady
-plain_cell : (n : ℕ) (text : List ℕ) (wide : Bool) (attrs : Attrs) → IsGlyphText text wide → has_selector (glyph text wide attrs) ≡ false → columns wide ≤ suc n → IsSteadyGlyph (suc n) text wide attrs
+plain_cell : (n : ℕ) (text : List ℕ) (wide : Bool) (attrs : Attrs) → IsGlyphText text wide → has_selector (glyph text wide attrs) ≡ false → first_columns wide ≤ suc n → IsSteadyGlyph (suc n) text wide attrs
 plain_cell n text wide attrs g none le =
     let spelled : list_any is_selector (g.first ∷ g.marks) ≡ false = ap (list_any is_selector) (sym (IsGlyphText-chars text wide g)) ∙ none in
     plain_steady n text wide attrs g (rest_not (is_selector g.first) (list_any is_selector g.marks) spelled) le

@@ -12,7 +12,7 @@ use Rattle.vt_rows.specs.Row.{RowValue}
 use Rattle.vt_grid.specs.Page.{Page}
 use Rattle.vt_grid.specs.Printing.{glyph_put, lacks_room, room_made, wrapped_page, made_wide}
 use Rattle.vt_grid.specs.Canvas.{Canvas, with_page, and_then, drawn_char, drawn_text, drawn_all, carries}
-use Rattle.vt_redraw.specs.Script.{pen_at, columns}
+use Rattle.vt_redraw.specs.Script.{pen_at}
 use Rattle.vt_grid.proofs.Drawing.{Draws}
 use Rattle.vt_redraw.specs.Script.{is_torn, flag_behind}
 use Rattle.vt_redraw.proofs.Halves.{drop_opened, put_at}
@@ -61,19 +61,19 @@ settled page c attrs true false true h made = let k = h refl in absurd (cc)
 settled page c attrs true false false h made = refl
 settled page c attrs true true false h made = made refl
 
-pub wider_spot : (base : Canvas) (done : List RowValue) (pre : List CellValue) (o y : CellValue) (ys : List CellValue) (flag : Bool) (r c : ℕ) (w v : Bool) → columns w ≤ columns v → Spot base done pre o y ys flag r c v → Spot base done pre o y ys flag r c w
+pub wider_spot : (base : Canvas) (done : List RowValue) (pre : List CellValue) (o y : CellValue) (ys : List CellValue) (flag : Bool) (r c : ℕ) (w v : Bool) → first_columns w ≤ first_columns v → Spot base done pre o y ys flag r c v → Spot base done pre o y ys flag r c w
 wider_spot base done pre o y ys flag r c w v le at_spot = let fits = at_spot.fits in record { row = at_spot.row; col = at_spot.col; fits = omega arith; front = at_spot.front; sound = at_spot.sound }
 
 at_true : (n : Bool) (base : Canvas) (done : List RowValue) (pre : List CellValue) (o y : CellValue) (ys : List CellValue) (flag : Bool) (r c : ℕ) → n ≡ true → Spot base done pre o y ys flag r c n → Spot base done pre o y ys flag r c true
 at_true n base done pre o y ys flag r c e at_spot = subst (Spot base done pre o y ys flag r c) e at_spot
 
-widths_grow : (w v : Bool) → (w ≡ true → v ≡ true) → columns w ≤ columns v
+widths_grow : (w v : Bool) → (w ≡ true → v ≡ true) → first_columns w ≤ first_columns v
 widths_grow false false h = omega arith
 widths_grow false true h = omega arith
 widths_grow true true h = omega arith
 widths_grow true false h = let k = h refl in absurd (cc)
 
-some_column : (wide : Bool) (c : ℕ) → (c + columns wide == 0) ≡ false
+some_column : (wide : Bool) (c : ℕ) → (c + first_columns wide == 0) ≡ false
 some_column true c = ne_eqb (c + 2) 0 (λ same. omega arith)
 some_column false c = ne_eqb (c + 1) 0 (λ same. omega arith)
 
@@ -96,7 +96,7 @@ mark_follows base done below pre o y ys flag r c text wide attrs m is_mark room 
     let never : carries m canvas.page ≡ false =
     stays m canvas.page c text wide attrs (mark_column_is base done below pre text wide attrs rest flagged r c at_spot.row at_spot.col)
     (marked_cell base done below pre text wide attrs rest flagged r c at_spot.row at_spot.col) room
-    (λ narrow t. ne_eqb (c + columns wide) base.page.width (λ same. let k : columns wide ≡ 1 = ap columns narrow in let l = place narrow t in absurd (omega arith))) in
+    (λ narrow t. ne_eqb (c + first_columns wide) base.page.width (λ same. let k : first_columns wide ≡ 1 = ap first_columns narrow in let l = place narrow t in absurd (omega arith))) in
     let again : flagged ≡ kept flagged (with_glyph pre longer wide attrs ys) =
     let one = glyph_flag pre o y ys flag longer wide attrs at_spot.sound in
     sym (ap (λ (f : Bool). kept f (with_glyph pre longer wide attrs ys)) (sym one) ∙ (flag_again flag (ends (with_glyph pre longer wide attrs ys)) ∙ one)) in
@@ -104,9 +104,9 @@ mark_follows base done below pre o y ys flag r c text wide attrs m is_mark room 
     (rw (some, never) refl)
     (rw some (
     mark_printed_is base done below pre text wide attrs rest flagged r c m at_spot.row at_spot.col room made
-    (ap (λ (f : Bool). (mid base done below (with_glyph pre longer wide attrs ys) f (pen_at r (c + columns wide) attrs)).page) again)))
+    (ap (λ (f : Bool). (mid base done below (with_glyph pre longer wide attrs ys) f (pen_at r (c + first_columns wide) attrs)).page) again)))
 
-room_for : (n : Bool) (c width : ℕ) → c + columns n ≤ width → n ≡ true → c + 2 ≤ width
+room_for : (n : Bool) (c width : ℕ) → c + first_columns n ≤ width → n ≡ true → c + 2 ≤ width
 room_for true c width h e = h
 room_for false c width h e = absurd (cc)
 
@@ -126,7 +126,7 @@ mark_drawn base done below pre o y ys flag r c text wide attrs m is_mark room gr
 
 -- ---- the whole text
 
-pub grows_le : (width : ℕ) (wide : Bool) (text : List ℕ) (ms : List ℕ) (last : Bool) (whole : List ℕ) → Grows width wide text ms last whole → columns wide ≤ columns last
+pub grows_le : (width : ℕ) (wide : Bool) (text : List ℕ) (ms : List ℕ) (last : Bool) (whole : List ℕ) → Grows width wide text ms last whole → first_columns wide ≤ first_columns last
 grows_le width wide text [] last whole h = widths_grow wide last (λ e. sym h.0 ∙ e)
 grows_le width wide text (m ∷ ms) last whole h =
     let one = widths_grow wide (next width wide text m) h.1.0 in

@@ -10,11 +10,12 @@ use Rattle.vt_cells.proofs.SameCells.{cell_of-same}
 use Rattle.vt_rows.specs.Cells.{blanks, opened}
 use Rattle.vt_rows.specs.Row.{RowValue}
 use Rattle.vt_grid.specs.Canvas.{Canvas}
-use Rattle.vt_redraw.specs.Script.{pen_at, run, erase_run, columns, is_blank_of}
+use Rattle.vt_cells.specs.Glyph.{first_columns}
+use Rattle.vt_redraw.specs.Script.{pen_at, blank_run, erase_run, is_blank_of}
 use Rattle.vt_redraw.specs.declared.pen.Pen.{Pen}
 use Rattle.vt_redraw.proofs.Steps.{Within}
 use Rattle.vt_redraw.proofs.Runs.{run_bound, run_blanks, blank_of_is}
-use Rattle.vt_redraw.specs.Script.{Written, after, doing, flag_behind, flag_past, cells_written}
+use Rattle.vt_redraw.specs.Script.{Scripted, after, doing, flag_behind, flag_past, cells_written}
 use Rattle.vt_redraw.proofs.Halves.{Paired, paired_append, paired_blanks, Loose, paired_loose, loose_step, loose_drop, opened_paired}
 use Rattle.vt_redraw.proofs.Flags.{Sound, sound_kept}
 use Rattle.vt_redraw.proofs.Edits.{mid, orphan}
@@ -24,13 +25,13 @@ use Rattle.vt_redraw.proofs.TouchedTexts.{print_in}
 use Rattle.vt_redraw.proofs.Lets.{Lets, lets_next, lets_drop, torn_may, run_may, narrow_may, wide_may}
 use Rattle.vt_redraw.proofs.Places.{PrintsCells, Place, next_place, shown, Ready, ready_next, Wrote, wrote_after, shifted, doing_draws, run_in, run_flagged}
 
-run_paired : (a : Attrs) (xs : List CellValue) → Paired xs → Paired (drop (run a xs) xs)
+run_paired : (a : Attrs) (xs : List CellValue) → Paired xs → Paired (drop (blank_run a xs) xs)
 run_paired a [] h = tt
 run_paired a (x ∷ xs) h =
-    cond_both (is_blank_of a x) (1 + run a xs) 0 (λ (n : ℕ). Paired (drop n (x ∷ xs)))
+    cond_both (is_blank_of a x) (1 + blank_run a xs) 0 (λ (n : ℕ). Paired (drop n (x ∷ xs)))
     (λ (t : is_blank_of a x ≡ true).
-    let more : Paired (drop (run a xs) xs) = run_paired a xs (subst (λ (z : CellValue). Paired (z ∷ xs)) (blank_of_is a x t) h) in
-    let e : 1 + run a xs ≡ suc (run a xs) = omega arith in
+    let more : Paired (drop (blank_run a xs) xs) = run_paired a xs (subst (λ (z : CellValue). Paired (z ∷ xs)) (blank_of_is a x t) h) in
+    let e : 1 + blank_run a xs ≡ suc (blank_run a xs) = omega arith in
     subst (λ (n : ℕ). Paired (drop n (x ∷ xs))) (sym e) more)
     (λ _. h)
 
@@ -47,7 +48,7 @@ pen_within base done below pre r c height left col a at h =
     record { row = omega arith; col = omega arith }
 
 -- where a glyph is printed
-glyph_spot : (base : Canvas) (done below : List RowValue) (pre : List CellValue) (o y : CellValue) (ys : List CellValue) (flag : Bool) (r c height left : ℕ) (wide : Bool) → Place base done below pre r c height left → columns wide ≤ left → Paired pre →
+glyph_spot : (base : Canvas) (done below : List RowValue) (pre : List CellValue) (o y : CellValue) (ys : List CellValue) (flag : Bool) (r c height left : ℕ) (wide : Bool) → Place base done below pre r c height left → first_columns wide ≤ left → Paired pre →
     Sound flag (pre ++ opened o (y ∷ ys)) → Spot base done pre o y ys flag r c wide
 glyph_spot base done below pre o y ys flag r c height left wide at h front sound =
     let columns = at.columns in
@@ -59,7 +60,7 @@ RowDraws May base done below xs ys pre o r c k pen flag height =
     Wrote May (cells_written r c pen flag k xs ys) base done below (mid base done below (shown pre o k xs ys) flag pen) (pre ++ (xs ++ drop (length xs) ys)) height
 
 -- the first cell stands already
-same_draws : (May : ℕ → ℕ → Type 0) (w : Written) (base : Canvas) (done below : List RowValue) (x y : CellValue) (pre ys goal : List CellValue) (o : CellValue) (flag : Bool) (pen : Pen) (height : ℕ) → same_cell x y ≡ true → Loose (y ∷ ys) → opened o (x ∷ ys) ≡ x ∷ ys →
+same_draws : (May : ℕ → ℕ → Type 0) (w : Scripted) (base : Canvas) (done below : List RowValue) (x y : CellValue) (pre ys goal : List CellValue) (o : CellValue) (flag : Bool) (pen : Pen) (height : ℕ) → same_cell x y ≡ true → Loose (y ∷ ys) → opened o (x ∷ ys) ≡ x ∷ ys →
     Sound flag (pre ++ opened o (y ∷ ys)) → (Loose (x ∷ ys) → Sound flag (pre ++ x ∷ ys) → Wrote May w base done below (mid base done below (pre ++ x ∷ ys) flag pen) goal height) →
     Wrote May w base done below (mid base done below (pre ++ opened o (y ∷ ys)) flag pen) goal height
 same_draws May w base done below x y pre ys goal o flag pen height t loose whole sound h =
@@ -68,7 +69,7 @@ same_draws May w base done below x y pre ys goal o flag pen height t loose whole
     let Q : List CellValue → Type 0 = λ z. Sound flag (pre ++ z) → Wrote May w base done below (mid base done below (pre ++ z) flag pen) goal height in
     subst P e (λ l. subst Q (sym whole) (h l)) loose sound
 
-blank_may : (May : ℕ → ℕ → Type 0) (r c : ℕ) (a : Attrs) (xs ys : List CellValue) (k : ℕ) → May r c → Lets May r (c + 1) xs ys → length xs ≤ length ys → c ≤ k → k < c + suc (run a xs) → May r k
+blank_may : (May : ℕ → ℕ → Type 0) (r c : ℕ) (a : Attrs) (xs ys : List CellValue) (k : ℕ) → May r c → Lets May r (c + 1) xs ys → length xs ≤ length ys → c ≤ k → k < c + suc (blank_run a xs) → May r k
 blank_may May r c a xs ys k first more le low high = by_test (k == c) refl where
   by_test : (b : Bool) → (k == c) ≡ b → May r k
   by_test true t = let e : c ≡ k = grind (arith, nat_tests) in subst (May r) e first
@@ -108,13 +109,13 @@ cells_draw May base done below (blank a ∷ xs) (y ∷ ys) pre o r c zero pen fl
     let goal = pre ++ blank a ∷ (xs ++ drop (length xs) ys) in
     let same = h.same in
     let here = at.columns in
-    let n = run a xs in
+    let n = blank_run a xs in
     let le = run_bound a xs in
     let more = lets.1 in
     let next = next_place base done below pre (blank a) r c height (length ys) at in
     cond_both (same_cell (blank a) y) (cells_written r (c + 1) pen flag 0 xs ys)
     (after (doing pen r c a (erase_run (suc n) (drop n ys))) (cells_written r (c + 1) (pen_at r c a) (flag_past flag (drop n ys)) n xs ys))
-    (λ (w : Written). Wrote May w base done below (mid base done below (pre ++ opened o (y ∷ ys)) flag pen) goal height)
+    (λ (w : Scripted). Wrote May w base done below (mid base done below (pre ++ opened o (y ∷ ys)) flag pen) goal height)
     (λ (t : same_cell (blank a) y ≡ true).
     same_draws May (cells_written r (c + 1) pen flag 0 xs ys) base done below (blank a) y pre ys goal o flag pen height t h.old refl h.sound (λ old sound.
     subst (λ (z : List CellValue). Sound flag (pre ++ blank a ∷ z) → Wrote May (cells_written r (c + 1) pen flag 0 xs ys) base done below (mid base done below (pre ++ blank a ∷ z) flag pen) goal height) (opened_paired o ys old)
@@ -150,7 +151,7 @@ cells_draw May base done below (glyph text false a ∷ xs) (y ∷ ys) pre o r c 
     let next = next_place base done below pre x r c height (length ys) at in
     cond_both (same_cell x y) (cells_written r (c + 1) pen flag 0 xs ys)
     (after (doing pen r c a (Print text)) (cells_written r (c + 1) q now 0 xs ys))
-    (λ (w : Written). Wrote May w base done below (mid base done below (pre ++ opened o (y ∷ ys)) flag pen) goal height)
+    (λ (w : Scripted). Wrote May w base done below (mid base done below (pre ++ opened o (y ∷ ys)) flag pen) goal height)
     (λ (t : same_cell x y ≡ true).
     same_draws May (cells_written r (c + 1) pen flag 0 xs ys) base done below x y pre ys goal o flag pen height t h.old refl h.sound (λ old sound.
     subst (λ (z : List CellValue). Sound flag (pre ++ x ∷ z) → Wrote May (cells_written r (c + 1) pen flag 0 xs ys) base done below (mid base done below (pre ++ x ∷ z) flag pen) goal height) (opened_paired o ys old)
@@ -185,7 +186,7 @@ cells_draw May base done below (glyph text true a ∷ right_half ∷ xs) (y ∷ 
     let w1 = cells_written r (c + 1) pen flag 1 xr (y2 ∷ ys) in
     let w2 = cells_written r (c + 1) q now 1 xr (y2 ∷ ys) in
     cond_both (same_cell x y) w1 (after (doing pen r c a (Print text)) w2)
-    (λ (w : Written). Wrote May w base done below (mid base done below (pre ++ opened o (y ∷ y2 ∷ ys)) flag pen) goal height)
+    (λ (w : Scripted). Wrote May w base done below (mid base done below (pre ++ opened o (y ∷ y2 ∷ ys)) flag pen) goal height)
     (λ (t : same_cell x y ≡ true).
     same_draws May w1 base done below x y pre (y2 ∷ ys) goal o flag pen height t h.old refl h.sound (λ old sound.
     let pair = behind_wide text a y2 ys old in

@@ -8,7 +8,7 @@ use Rattle.vt_cells.specs.Op.{Op, bytes_of, bytes_of_all}
 use Rattle.vt_rows.specs.Row.{RowValue, blank_row}
 use Rattle.vt_grid.specs.Page.{row_or}
 use Rattle.vt_redraw.specs.Keeping.{Leads, Links, Writes, cells_from, rows_under}
-use Rattle.vt_redraw.specs.Script.{Written, after, nothing, broken, cells_written}
+use Rattle.vt_redraw.specs.Script.{Scripted, after, nothing, broken, cells_written}
 use Rattle.vt_redraw.specs.Redraw.{link_of, row_written, rows_below, rows_written}
 use Rattle.vt_redraw.specs.declared.links.Link.{Link}
 use Rattle.vt_redraw.specs.declared.pen.Pen.{Pen}
@@ -30,9 +30,9 @@ unfolding row_written
 row_writes r k pen p1 p2 flag f1 on x ys t0 t1 t2 e f g h =
     let same = from_settled r k pen flag x.cells ys in
     let cells = cells_written r 0 pen flag k x.cells ys in
-    let text : t1 ≡ t0 ++ bytes_of_all cells.ops = e ∙ ap (λ (w : Written). t0 ++ bytes_of_all w.ops) same in
+    let text : t1 ≡ t0 ++ bytes_of_all cells.ops = e ∙ ap (λ (w : Scripted). t0 ++ bytes_of_all w.ops) same in
     let end : broken r p1 f1 x.wrapped x.cells ≡ broken r cells.pen cells.flag x.wrapped x.cells =
-    ap (λ (p : Pen). broken r p f1 x.wrapped x.cells) (f ∙ ap (λ (w : Written). w.pen) same) ∙ ap (λ (b : Bool). broken r cells.pen b x.wrapped x.cells) (g ∙ ap (λ (w : Written). w.flag) same) in
+    ap (λ (p : Pen). broken r p f1 x.wrapped x.cells) (f ∙ ap (λ (w : Scripted). w.pen) same) ∙ ap (λ (b : Bool). broken r cells.pen b x.wrapped x.cells) (g ∙ ap (λ (w : Scripted). w.flag) same) in
     let last = subst (Writes t1 t2 p2 on) end h in
     record {
       bytes = joined_bytes t0 t1 t2 cells.ops (broken r cells.pen cells.flag x.wrapped x.cells).ops text last.bytes;

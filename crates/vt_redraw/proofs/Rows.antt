@@ -9,10 +9,11 @@ use Rattle.vt_cells.specs.Attrs.{Attrs}
 use Rattle.vt_rows.specs.Cells.{at, opened}
 use Rattle.vt_rows.specs.Row.{RowValue}
 use Rattle.vt_grid.specs.Canvas.{Canvas}
-use Rattle.vt_redraw.specs.Script.{pen_at, changing, columns}
+use Rattle.vt_cells.specs.Glyph.{first_columns}
+use Rattle.vt_redraw.specs.Script.{pen_at, changing}
 use Rattle.vt_redraw.specs.declared.pen.Pen.{Pen}
 use Rattle.vt_redraw.proofs.Steps.{at_pen, Reads, Within, changing_draws}
-use Rattle.vt_redraw.specs.Script.{Written, after, is_nil, is_torn, flag_behind, Linked, unlinked, first_written, starts_other, link_after, linked, is_at, going_behind, last_column}
+use Rattle.vt_redraw.specs.Script.{Scripted, after, is_nil, is_torn, flag_behind, Linked, unlinked, first_written, starts_other, link_after, linked, is_at, going_behind, last_column}
 use Rattle.vt_redraw.specs.Redraw.{row_written, link_of, rows_below, rows_written}
 use Rattle.vt_redraw.proofs.Halves.{Paired, paired_loose, loose_step, opened_paired, opened_twice}
 use Rattle.vt_redraw.proofs.Flags.{ends, kept, Sound, sound_kept, flag_step}
@@ -39,14 +40,14 @@ pub record Joins (May : ℕ → ℕ → Type 0) (j : Linked) (base : Canvas) (do
 
 -- a glyph is printed at the begin of the row below
 first_glyph : (May : ℕ → ℕ → Type 0) (base : Canvas) (done below : List RowValue) (above : List CellValue) (on : Bool) (y : CellValue) (ys : List CellValue) (flag : Bool) (r : ℕ) (b : Attrs) (text : List ℕ) (wide : Bool) (a : Attrs) → length done ≡ r →
-    base.page.bottom + 1 ≡ length done + suc (suc (length below)) → ends above ≡ false → Paired (y ∷ ys) → Sound flag (y ∷ ys) → columns wide ≤ base.page.width → Prints base.page.width text wide → MayGlyph May (r + 1) 0 wide ys →
+    base.page.bottom + 1 ≡ length done + suc (suc (length below)) → ends above ≡ false → Paired (y ∷ ys) → Sound flag (y ∷ ys) → first_columns wide ≤ base.page.width → Prints base.page.width text wide → MayGlyph May (r + 1) 0 wide ys →
     DrawsIn May (changing b a ++ Print text ∷ []) (two base done below above on (y ∷ ys) flag (pen_at r base.page.width b))
-    (mid base (done ++ row_of above true ∷ []) below (with_glyph [] text wide a ys) (flag_behind flag wide (drop 1 ys)) (pen_at (r + 1) (0 + columns wide) a))
+    (mid base (done ++ row_of above true ∷ []) below (with_glyph [] text wide a ys) (flag_behind flag wide (drop 1 ys)) (pen_at (r + 1) (0 + first_columns wide) a))
 first_glyph May base done below above on y ys flag r b text wide a e bottom full paired sound fits prints may =
     let top = done ++ row_of above true ∷ [] in
     let n : length top ≡ r + 1 = let l = length-append done (row_of above true ∷ []) in omega arith in
     let whole = opened_paired default_blank (y ∷ ys) paired in
-    let goal = mid base top below (with_glyph [] text wide a ys) (flag_behind flag wide (drop 1 ys)) (pen_at (r + 1) (0 + columns wide) a) in
+    let goal = mid base top below (with_glyph [] text wide a ys) (flag_behind flag wide (drop 1 ys)) (pen_at (r + 1) (0 + first_columns wide) a) in
     let spot : Spot base top [] default_blank y ys flag (r + 1) 0 wide = record { row = n; col = refl; fits = omega arith; front = tt; sound = subst (Sound flag) (sym whole) sound } in
     let there : two base done below above (not (ends above)) (y ∷ ys) flag (pen_at (r + 1) 0 a) ≡ mid base top below (opened default_blank (y ∷ ys)) flag (pen_at (r + 1) 0 a) =
     ap (λ (t : Bool). two base done below above (not t) (y ∷ ys) flag (pen_at (r + 1) 0 a)) full
@@ -243,11 +244,11 @@ abbrev pub ends_unwrapped : RowValue → List RowValue → Type 0
 ends_unwrapped x [] = x.wrapped ≡ false
 ends_unwrapped x (y ∷ ys) = ends_unwrapped y ys
 
-pub record Drew (May : ℕ → ℕ → Type 0) (w : Written) (base : Canvas) (start : Canvas) (rows : List RowValue) (height : ℕ) : Type 0 where
+pub record Drew (May : ℕ → ℕ → Type 0) (w : Scripted) (base : Canvas) (start : Canvas) (rows : List RowValue) (height : ℕ) : Type 0 where
   pub draws : DrawsIn May w.ops start (at_pen base rows w.pen)
   pub within : Within w.pen height base.page.width
 
-drew_after : (May : ℕ → ℕ → Type 0) (ops : List Op) (w : Written) (base a b : Canvas) (rows : List RowValue) (height : ℕ) → DrawsIn May ops a b → Drew May w base b rows height → Drew May (after ops w) base a rows height
+drew_after : (May : ℕ → ℕ → Type 0) (ops : List Op) (w : Scripted) (base a b : Canvas) (rows : List RowValue) (height : ℕ) → DrawsIn May ops a b → Drew May w base b rows height → Drew May (after ops w) base a rows height
 drew_after May ops w base a b rows height h k = record { draws = in_then May ops w.ops a b (at_pen base rows w.pen) h k.draws; within = k.within }
 
 same_flag : (on wrapped : Bool) → wrapped ≡ false → (on ≡ true → wrapped ≡ true) → on ≡ wrapped
@@ -306,7 +307,7 @@ link_same r pen above on x y h sound e =
 row_same : (r k : ℕ) (pen : Pen) (flag : Bool) (x y : RowValue) → x ≡ y → flag ≡ y.wrapped → (row_written r k pen flag x y.cells).flag ≡ x.wrapped
 row_same r k pen flag x y e f =
     ap (λ (b : Bool). (row_written r k pen b x y.cells).flag) (f ∙ ap (λ (z : RowValue). z.wrapped) (sym e))
-    ∙ (ap (λ (z : RowValue). (row_written r k pen x.wrapped x z.cells).flag) (sym e) ∙ ap (λ (w : Written). w.flag) (row_nothing r k pen x))
+    ∙ (ap (λ (z : RowValue). (row_written r k pen x.wrapped x z.cells).flag) (sym e) ∙ ap (λ (w : Scripted). w.flag) (row_nothing r k pen x))
 
 -- so where it falls although it is to stand, the rows differ
 fell : (r k : ℕ) (pen : Pen) (flag : Bool) (x y : RowValue) → (x ≡ y → flag ≡ y.wrapped) → (row_written r k pen flag x y.cells).flag ≡ false → x.wrapped ≡ true → x ≢ y

@@ -10,8 +10,8 @@ use Rattle.vt_rows.specs.Row.{RowValue}
 use Rattle.vt_grid.specs.Page.{Page}
 use Rattle.vt_grid.specs.Printing.{glyph_put, printed_by, printed}
 use Rattle.vt_grid.specs.Moves.{feeds_out}
-use Rattle.vt_grid.specs.Canvas.{Canvas, with_page, drawn_char, goes_on}
-use Rattle.vt_redraw.specs.Script.{pen_at, columns}
+use Rattle.vt_grid.specs.Canvas.{Canvas, with_page, drawn_char, wraps_for}
+use Rattle.vt_redraw.specs.Script.{pen_at}
 use Rattle.vt_redraw.specs.Script.{is_nil, is_torn, flag_behind}
 use Rattle.vt_redraw.proofs.Halves.{Paired, drop_opened}
 use Rattle.vt_redraw.proofs.Flags.{ends_append, kept, Sound, flag_step}
@@ -30,7 +30,7 @@ with_glyph pre text wide attrs ys = pre ++ (glyph_cells text wide attrs ++ opene
 pub record Spot (base : Canvas) (done : List RowValue) (pre : List CellValue) (o y : CellValue) (ys : List CellValue) (flag : Bool) (r c : ℕ) (wide : Bool) : Type 0 where
   pub row : length done ≡ r
   pub col : length pre ≡ c
-  pub fits : c + columns wide ≤ base.page.width
+  pub fits : c + first_columns wide ≤ base.page.width
   pub front : Paired pre
   pub sound : Sound flag (pre ++ opened o (y ∷ ys))
 
@@ -39,7 +39,7 @@ abbrev pub spot : Canvas → (done below : List RowValue) → (pre : List CellVa
 spot base done below pre o y ys flag r c attrs = mid base done below (pre ++ opened o (y ∷ ys)) flag (pen_at r c attrs)
 
 abbrev pub put : Canvas → (done below : List RowValue) → (pre : List CellValue) → (ys : List CellValue) → Bool → (r c : ℕ) → (text : List ℕ) → (wide : Bool) → Attrs → Canvas
-put base done below pre ys flag r c text wide attrs = mid base done below (with_glyph pre text wide attrs ys) (flag_behind flag wide (drop 1 ys)) (pen_at r (c + columns wide) attrs)
+put base done below pre ys flag r c text wide attrs = mid base done below (with_glyph pre text wide attrs ys) (flag_behind flag wide (drop 1 ys)) (pen_at r (c + first_columns wide) attrs)
 
 narrow_flag : (f n t : Bool) → (f && not ((n && false) || (t && false))) ≡ (f && not false)
 narrow_flag f n t = grind (arith)
@@ -56,7 +56,7 @@ glyph_flag pre o y ys flag text true attrs sound =
     flag_step pre (glyph text true attrs ∷ right_half ∷ []) y ys (orphan true attrs) o 1 flag false (ends_append pre (glyph text true attrs) (right_half ∷ [])) sound
     ∙ wide_flag flag (is_nil (drop 1 ys)) (is_torn (drop 1 ys))
 
-behind_opened : (wide : Bool) (o y : CellValue) (ys : List CellValue) → drop (columns wide) (opened o (y ∷ ys)) ≡ rest_behind wide ys
+behind_opened : (wide : Bool) (o y : CellValue) (ys : List CellValue) → drop (first_columns wide) (opened o (y ∷ ys)) ≡ rest_behind wide ys
 behind_opened false o y ys = drop_opened 0 o (y ∷ ys)
 behind_opened true o y ys = drop_opened 1 o (y ∷ ys)
 
@@ -64,7 +64,7 @@ pub glyph_put_here : (base : Canvas) (done below : List RowValue) (pre : List Ce
     Spot base done pre o y ys flag r c wide →
     glyph_put text wide attrs (spot base done below pre o y ys flag r c attrs).page ≡ (put base done below pre ys flag r c text wide attrs).page
 glyph_put_here base done below pre o y ys flag r c text wide attrs at =
-    let pen = pen_at r (c + columns wide) attrs in
+    let pen = pen_at r (c + first_columns wide) attrs in
     let row = λ (rest : List CellValue). pre ++ (glyph_cells text wide attrs ++ opened (orphan wide attrs) rest) in
     glyph_put_at base done below pre (opened o (y ∷ ys)) flag r c text wide attrs at.row at.col at.front
     ∙ (ap (λ (rest : List CellValue). (mid base done below (row rest) (kept flag (row rest)) pen).page) (behind_opened wide o y ys)
@@ -72,14 +72,14 @@ glyph_put_here base done below pre o y ys flag r c text wide attrs at =
 
 -- ---- a character that takes columns
 
-pub char_drawn : (c : ℕ) (w : Option ℕ) (canvas : Canvas) (page : Page) → columns_of c ≡ w → (goes_on w c canvas.page && feeds_out canvas.page) ≡ false → printed_by w c canvas.attrs canvas.page ≡ page →
+pub char_drawn : (c : ℕ) (w : Option ℕ) (canvas : Canvas) (page : Page) → columns_of c ≡ w → (wraps_for w c canvas.page && feeds_out canvas.page) ≡ false → printed_by w c canvas.attrs canvas.page ≡ page →
     drawn_char c canvas ≡ Some (with_page page canvas)
 char_drawn c w canvas page e f h =
-    let never : (goes_on (columns_of c) c canvas.page && feeds_out canvas.page) ≡ false = ap (λ (z : Option ℕ). goes_on z c canvas.page && feeds_out canvas.page) e ∙ f in
+    let never : (wraps_for (columns_of c) c canvas.page && feeds_out canvas.page) ≡ false = ap (λ (z : Option ℕ). wraps_for z c canvas.page && feeds_out canvas.page) e ∙ f in
     let is : printed c canvas.attrs canvas.page ≡ page = ap (λ (z : Option ℕ). printed_by z c canvas.attrs canvas.page) e ∙ h in
     rw (never, is) refl
 
-pub char_drawn-mark : (c : ℕ) (canvas : Canvas) (page : Page) → columns_of c ≡ Some 0 → (goes_on (Some 0) c canvas.page && feeds_out canvas.page) ≡ false → printed_by (Some 0) c canvas.attrs canvas.page ≡ page →
+pub char_drawn-mark : (c : ℕ) (canvas : Canvas) (page : Page) → columns_of c ≡ Some 0 → (wraps_for (Some 0) c canvas.page && feeds_out canvas.page) ≡ false → printed_by (Some 0) c canvas.attrs canvas.page ≡ page →
     drawn_char c canvas ≡ Some (with_page page canvas)
 char_drawn-mark c canvas page e f h = char_drawn c (Some 0) canvas page e f h
 

@@ -3,7 +3,7 @@ use Rattle.std.proofs.Common.{◌≡◌, ◌≢◌, ◌⊎◌, ℕ, zero, suc, �
 use Rattle.vt_cells.specs.Cell.{CellValue, blank, glyph, right_half, same_cell}
 use Rattle.vt_cells.proofs.SameCells.{cell_of-same, same_cell-itself}
 use Rattle.vt_rows.specs.Row.{RowValue}
-use Rattle.vt_redraw.specs.Script.{columns}
+use Rattle.vt_cells.specs.Glyph.{first_columns}
 use Rattle.vt_redraw.specs.declared.pen.Pen.{Pen}
 use Rattle.vt_redraw.specs.Script.{nothing, starts_other, cells_written, broken}
 use Rattle.vt_redraw.specs.Redraw.{row_written}
@@ -14,7 +14,7 @@ cells_nothing r c zero pen flag [] = refl
 cells_nothing r c (suc k) pen flag [] = refl
 cells_nothing r c (suc k) pen flag (x ∷ xs) = cells_nothing r (c + 1) k pen flag xs
 cells_nothing r c zero pen flag (blank a ∷ xs) = rw (same_cell-itself (blank a)) (cells_nothing r (c + 1) 0 pen flag xs)
-cells_nothing r c zero pen flag (glyph text wide a ∷ xs) = rw (same_cell-itself (glyph text wide a)) (cells_nothing r (c + 1) (columns wide - 1) pen flag xs)
+cells_nothing r c zero pen flag (glyph text wide a ∷ xs) = rw (same_cell-itself (glyph text wide a)) (cells_nothing r (c + 1) (first_columns wide - 1) pen flag xs)
 cells_nothing r c zero pen flag (right_half ∷ xs) = cells_nothing r (c + 1) 0 pen flag xs
 
 pub row_nothing : (r k : ℕ) (pen : Pen) (x : RowValue) → row_written r k pen x.wrapped x x.cells ≡ nothing pen x.wrapped

@@ -11,7 +11,7 @@ use Rattle.vt_rows.specs.Row.{RowValue}
 use Rattle.vt_grid.specs.Page.{Page, cursor_row}
 use Rattle.vt_grid.specs.Printing.{mark_column, takes_mark, mark_put, made_wide, made_narrow, width_followed, mark_printed}
 use Rattle.vt_grid.specs.Canvas.{Canvas, carries}
-use Rattle.vt_redraw.specs.Script.{pen_at, columns}
+use Rattle.vt_redraw.specs.Script.{pen_at}
 use Rattle.vt_redraw.proofs.Flags.{kept}
 use Rattle.vt_redraw.proofs.Edits.{mid, glyph_cells, cursor_row_is, edited_at}
 
@@ -50,7 +50,7 @@ glyph_at pre text false attrs rest c e = get_or_at pre (glyph text false attrs) 
 glyph_at pre text true attrs rest c e = get_or_at pre (glyph text true attrs) (right_half ∷ rest) default_blank c e
 
 pub mark_column_at : (pre : List CellValue) (text : List ℕ) (wide : Bool) (attrs : Attrs) (rest : List CellValue) (c : ℕ) → length pre ≡ c →
-    (if is_right_half (at (pre ++ (glyph_cells text wide attrs ++ rest)) (c + columns wide - 1)) then c + columns wide - 2 else c + columns wide - 1) ≡ c
+    (if is_right_half (at (pre ++ (glyph_cells text wide attrs ++ rest)) (c + first_columns wide - 1)) then c + first_columns wide - 2 else c + first_columns wide - 1) ≡ c
 mark_column_at pre text false attrs rest c e =
     let i : c + 1 - 1 ≡ c = omega arith in
     rw (i, glyph_at pre text false attrs rest c e) refl
@@ -60,20 +60,20 @@ mark_column_at pre text true attrs rest c e =
 
 -- the page with a glyph before its cursor
 abbrev pub marking : Canvas → (done below : List RowValue) → (pre : List CellValue) → (text : List ℕ) → (wide : Bool) → Attrs → (rest : List CellValue) → (flag : Bool) → (r c : ℕ) → Page
-marking base done below pre text wide attrs rest flag r c = (mid base done below (pre ++ (glyph_cells text wide attrs ++ rest)) flag (pen_at r (c + columns wide) attrs)).page
+marking base done below pre text wide attrs rest flag r c = (mid base done below (pre ++ (glyph_cells text wide attrs ++ rest)) flag (pen_at r (c + first_columns wide) attrs)).page
 
 pub mark_column_is : (base : Canvas) (done below : List RowValue) (pre : List CellValue) (text : List ℕ) (wide : Bool) (attrs : Attrs) (rest : List CellValue) (flag : Bool) (r c : ℕ) → length done ≡ r → length pre ≡ c →
     mark_column (marking base done below pre text wide attrs rest flag r c) ≡ c
 mark_column_is base done below pre text wide attrs rest flag r c e l =
-    let pen = pen_at r (c + columns wide) attrs in
-    ap (λ (row : RowValue). if is_right_half (at row.cells (c + columns wide - 1)) then c + columns wide - 2 else c + columns wide - 1)
+    let pen = pen_at r (c + first_columns wide) attrs in
+    ap (λ (row : RowValue). if is_right_half (at row.cells (c + first_columns wide - 1)) then c + first_columns wide - 2 else c + first_columns wide - 1)
     (cursor_row_is base done below (pre ++ (glyph_cells text wide attrs ++ rest)) flag pen e)
     ∙ mark_column_at pre text wide attrs rest c l
 
 pub marked_cell : (base : Canvas) (done below : List RowValue) (pre : List CellValue) (text : List ℕ) (wide : Bool) (attrs : Attrs) (rest : List CellValue) (flag : Bool) (r c : ℕ) → length done ≡ r → length pre ≡ c →
     at (cursor_row (marking base done below pre text wide attrs rest flag r c)).cells c ≡ glyph text wide attrs
 marked_cell base done below pre text wide attrs rest flag r c e l =
-    ap (λ (row : RowValue). at row.cells c) (cursor_row_is base done below (pre ++ (glyph_cells text wide attrs ++ rest)) flag (pen_at r (c + columns wide) attrs) e)
+    ap (λ (row : RowValue). at row.cells c) (cursor_row_is base done below (pre ++ (glyph_cells text wide attrs ++ rest)) flag (pen_at r (c + first_columns wide) attrs) e)
     ∙ glyph_at pre text wide attrs rest c l
 
 -- ---- nothing is carried to the next row
@@ -95,7 +95,7 @@ pub put_marked : (base : Canvas) (done below : List RowValue) (pre : List CellVa
     mark_put c m (marking base done below pre text wide attrs rest flag r c)
     ≡ marking base done below pre (text ++ encode_utf8 m) wide attrs rest (kept flag (pre ++ (glyph_cells (text ++ encode_utf8 m) wide attrs ++ rest))) r c
 put_marked base done below pre text wide attrs rest flag r c m e l room =
-    edited_at base done below (pre ++ (glyph_cells text wide attrs ++ rest)) flag (pen_at r (c + columns wide) attrs) (marked_at c m) (pre ++ (glyph_cells (text ++ encode_utf8 m) wide attrs ++ rest)) e
+    edited_at base done below (pre ++ (glyph_cells text wide attrs ++ rest)) flag (pen_at r (c + first_columns wide) attrs) (marked_at c m) (pre ++ (glyph_cells (text ++ encode_utf8 m) wide attrs ++ rest)) e
     (ap (λ (x : CellValue). set (pre ++ (glyph_cells text wide attrs ++ rest)) c (marked m x)) (glyph_at pre text wide attrs rest c l)
     ∙ (ap (λ (t : Bool). set (pre ++ (glyph_cells text wide attrs ++ rest)) c (glyph (if t then text ++ encode_utf8 m else text) wide attrs)) room
     ∙ replaced wide))

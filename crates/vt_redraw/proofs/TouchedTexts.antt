@@ -13,7 +13,7 @@ use Rattle.vt_rows.specs.Row.{RowValue}
 use Rattle.vt_grid.specs.Page.{Page, cursor_row}
 use Rattle.vt_grid.specs.Printing.{room_made, lacks_room}
 use Rattle.vt_grid.specs.Canvas.{Canvas}
-use Rattle.vt_redraw.specs.Script.{pen_at, columns}
+use Rattle.vt_redraw.specs.Script.{pen_at}
 use Rattle.vt_redraw.specs.Script.{flag_behind}
 use Rattle.vt_redraw.specs.Touching.{Changes, WideTouches, FollowTouches, MarkTouches, CharTouches, TextTouches}
 use Rattle.vt_redraw.proofs.Flags.{ends, kept}
@@ -27,7 +27,7 @@ use Rattle.vt_redraw.proofs.Touched.{DrawsIn, some_same, changes_at}
 pub record MayGlyph (May : ℕ → ℕ → Type 0) (r c : ℕ) (wide : Bool) (ys : List CellValue) : Type 0 where
   pub first : May r c
   pub second : wide ≡ true → May r (c + 1)
-  pub torn : is_right_half (at (rest_behind wide ys) 0) ≡ true → May r (c + columns wide)
+  pub torn : is_right_half (at (rest_behind wide ys) 0) ≡ true → May r (c + first_columns wide)
 
 at_opened : (o y : CellValue) (ys : List CellValue) (k : ℕ) → at (opened o (y ∷ ys)) (suc k) ≡ at ys k
 at_opened o (blank a) ys k = refl

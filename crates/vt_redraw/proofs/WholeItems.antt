@@ -10,11 +10,12 @@ use Rattle.vt_cells.specs.Op.{Print, Backspace, EraseChars}
 use Rattle.vt_rows.specs.Cells.{blanks, opened}
 use Rattle.vt_rows.specs.Row.{RowValue}
 use Rattle.vt_grid.specs.Canvas.{Canvas}
-use Rattle.vt_redraw.specs.Script.{pen_at, changing, columns}
+use Rattle.vt_cells.specs.Glyph.{first_columns}
+use Rattle.vt_redraw.specs.Script.{pen_at, changing}
 use Rattle.vt_redraw.specs.declared.pen.Pen.{Pen}
 use Rattle.vt_grid.proofs.Drawing.{Draws}
 use Rattle.vt_redraw.proofs.Steps.{Reads, Within, changing_draws}
-use Rattle.vt_redraw.specs.Script.{Written, after, is_nil, flag_behind, Linked, first_written, cells_written, going_behind, broken}
+use Rattle.vt_redraw.specs.Script.{Scripted, after, is_nil, flag_behind, Linked, first_written, cells_written, going_behind, broken}
 use Rattle.vt_redraw.specs.Items.{range_written, with_range, is_whole, marked_on, item_of_difference, linked_item}
 use Rattle.vt_redraw.proofs.Halves.{Paired, paired_loose, paired_blanks, loose_step, opened_paired}
 use Rattle.vt_redraw.proofs.Flags.{ends, Sound}
@@ -42,7 +43,7 @@ range_all xs ys w e f =
     take_whole (z ∷ zs) = ap (λ (r : List CellValue). z ∷ r) (take_whole zs)
 
 -- the row stands, and goes on below only where it is to
-pub record DrewRow (w : Written) (base : Canvas) (done below : List RowValue) (start : Canvas) (x : RowValue) : Type 0 where
+pub record DrewRow (w : Scripted) (base : Canvas) (done below : List RowValue) (start : Canvas) (x : RowValue) : Type 0 where
   pub draws : Draws w.ops start (mid base done below x.cells w.flag w.pen)
   pub keeps : w.flag ≡ true → x.wrapped ≡ true
 
@@ -61,7 +62,7 @@ whole_item_draws base done below r height x y item hx hy =
     let columns_x = hx.columns in
     let t : is_whole 0 width (length x.cells) ≡ true = grind (arith, nat_tests) in
     subst (λ (t : Bool). DrewRow (if t then marked_on r full x.wrapped x.cells else w) base done below start x) (sym t)
-    (cond_both (x.wrapped && not full.flag) (record { ops = full.ops ++ (going_behind r full.pen x.cells).ops; pen = (going_behind r full.pen x.cells).pen; flag = full.flag }) full (λ (v : Written). DrewRow v base done below start x)
+    (cond_both (x.wrapped && not full.flag) (record { ops = full.ops ++ (going_behind r full.pen x.cells).ops; pen = (going_behind r full.pen x.cells).pen; flag = full.flag }) full (λ (v : Scripted). DrewRow v base done below start x)
     (λ (u : (x.wrapped && not full.flag) ≡ true).
     let goes = going_behind_draws Any base done below x.cells full.flag r height full.pen item.reads item.above item.rows hx.columns hx.paired (hx.sound (and_true x.wrapped (not full.flag) u)) item.prints two.within (λ f k low high. tt) in
     let all = in_then Any full.ops (going_behind r full.pen x.cells).ops start (mid base done below x.cells b.flag b.pen) (mid base done below x.cells full.flag (going_behind r full.pen x.cells).pen) both goes.draws in
@@ -89,13 +90,13 @@ begin_draws base done below (x ∷ xs) [] flag r height b e rows hx hy pos h k s
 begin_draws base done below (right_half ∷ xs) (y ∷ ys) flag r height b e rows hx hy pos h k sound prints = absurd h
 begin_draws base done below (glyph text wide a ∷ xs) (y ∷ ys) flag r height b e rows hx hy pos h k sound prints = by_width wide xs ys h hx hy k sound prints
   where
-    printed : (wide : Bool) (ys : List CellValue) → columns wide ≤ base.page.width → Paired (y ∷ ys) → Sound flag (y ∷ ys) → Prints base.page.width text wide →
-        DrawsIn Any (changing b a ++ Print text ∷ []) (mid base done below (y ∷ ys) flag (pen_at r 0 b)) (mid base done below (with_glyph [] text wide a ys) (flag_behind flag wide (drop 1 ys)) (pen_at r (0 + columns wide) a))
+    printed : (wide : Bool) (ys : List CellValue) → first_columns wide ≤ base.page.width → Paired (y ∷ ys) → Sound flag (y ∷ ys) → Prints base.page.width text wide →
+        DrawsIn Any (changing b a ++ Print text ∷ []) (mid base done below (y ∷ ys) flag (pen_at r 0 b)) (mid base done below (with_glyph [] text wide a ys) (flag_behind flag wide (drop 1 ys)) (pen_at r (0 + first_columns wide) a))
     printed wide ys fits k sound p =
         let whole = opened_paired default_blank (y ∷ ys) k in
         let d0 = mid base done below (y ∷ ys) flag (pen_at r 0 b) in
         let d1 = mid base done below (y ∷ ys) flag (pen_at r 0 a) in
-        let goal = mid base done below (with_glyph [] text wide a ys) (flag_behind flag wide (drop 1 ys)) (pen_at r (0 + columns wide) a) in
+        let goal = mid base done below (with_glyph [] text wide a ys) (flag_behind flag wide (drop 1 ys)) (pen_at r (0 + first_columns wide) a) in
         let spot : Spot base done [] default_blank y ys flag r 0 wide = record { row = e; col = refl; fits = omega arith; front = tt; sound = subst (Sound flag) (sym whole) sound } in
         in_then Any (changing b a) (Print text ∷ []) d0 d1 goal
         (quiet_in Any (changing b a) d0 d1 (changing_quiet b a) (changing_draws base (done ++ row_of (y ∷ ys) flag ∷ below) (pen_at r 0 b) a))

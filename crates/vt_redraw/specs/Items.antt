@@ -9,7 +9,7 @@ use Rattle.vt_grid.specs.Page.{IsPlainPage, row_at, row_or, with_row}
 use Rattle.vt_redraw.specs.Picture.{Picture, IsPicture, SamePictureSize, picture_of}
 use Rattle.vt_redraw.specs.Script.{pen_at}
 use Rattle.vt_redraw.specs.declared.pen.Pen.{Pen}
-use Rattle.vt_redraw.specs.Script.{Written, after, cells_written, first_written, going_behind, broken}
+use Rattle.vt_redraw.specs.Script.{Scripted, after, cells_written, first_written, going_behind, broken}
 
 -- the columns of a row in a range
 abbrev pub in_range : (start stop : ℕ) → List CellValue → List CellValue
@@ -29,7 +29,7 @@ begun_over (right_half ∷ xs) (glyph text wide a ∷ ys) = right_half ∷ ys
 begun_over _ ys = ys
 
 -- the cells of the range
-abbrev pub range_written : (r start stop : ℕ) → Bool → (xs ys : List CellValue) → Written
+abbrev pub range_written : (r start stop : ℕ) → Bool → (xs ys : List CellValue) → Scripted
 range_written r start stop flag xs ys =
     cells_written r start (pen_at r start default_attrs) flag 0 (begun (in_range start stop xs)) (begun_over (in_range start stop xs) (drop start ys))
 
@@ -37,7 +37,7 @@ abbrev pub is_whole : (start stop width : ℕ) → Bool
 is_whole start stop width = (start == 0) && (stop == width)
 
 -- where the row is to go on below and the reader's does not, its last glyph is printed again
-abbrev pub marked_on : ℕ → Written → Bool → List CellValue → Written
+abbrev pub marked_on : ℕ → Scripted → Bool → List CellValue → Scripted
 marked_on r w wanted cells =
     if wanted && not w.flag then record { ops = w.ops ++ (going_behind r w.pen cells).ops; pen = (going_behind r w.pen cells).pen; flag = w.flag } else w
 
@@ -47,20 +47,20 @@ is_linked width rows zero = false
 is_linked width rows (suc r) = (row_or width rows r).wrapped
 
 -- an item of a difference: the range, and for a whole row whether it goes on
-abbrev pub item_of_difference : (r start stop : ℕ) → (x y : RowValue) → Written
+abbrev pub item_of_difference : (r start stop : ℕ) → (x y : RowValue) → Scripted
 item_of_difference r start stop x y =
     let w = range_written r start stop y.wrapped x.cells y.cells in
     let b = broken r w.pen w.flag x.wrapped x.cells in
     if is_whole start stop (length x.cells) then marked_on r (after w.ops b) x.wrapped x.cells else w
 
 -- a whole row under a row that goes on: its first cell as in a link
-abbrev pub linked_item : ℕ → List CellValue → Written
+abbrev pub linked_item : ℕ → List CellValue → Scripted
 linked_item r xs =
     let first = first_written r (pen_at r 0 default_attrs) false xs (blanks default_attrs (length xs)) in
     after first.ops (cells_written r 0 first.pen first.flag first.settled xs (blanks default_attrs (length xs)))
 
 -- an item of a redraw; linked: the row above goes on
-abbrev pub item_of_redraw : (r start stop : ℕ) → (linked : Bool) → RowValue → Written
+abbrev pub item_of_redraw : (r start stop : ℕ) → (linked : Bool) → RowValue → Scripted
 item_of_redraw r start stop linked x =
     if is_whole start stop (length x.cells) && linked then linked_item r x.cells
     else range_written r start stop false x.cells (blanks default_attrs (length x.cells))

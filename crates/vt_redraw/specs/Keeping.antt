@@ -7,7 +7,7 @@ use Rattle.vt_rows.specs.Cells.{at, ends_blank, resized}
 use Rattle.vt_rows.specs.Row.{RowValue, IsRow, blank_row}
 use Rattle.vt_grid.specs.Scrollback.{Scrollback, IsScrollback, visible}
 use Rattle.vt_redraw.specs.Picture.{Picture, cut_rows}
-use Rattle.vt_redraw.specs.Script.{Written, Linked, cells_written, going_behind}
+use Rattle.vt_redraw.specs.Script.{Scripted, Linked, cells_written, going_behind}
 use Rattle.vt_redraw.specs.Redraw.{rows_below}
 use Rattle.vt_grid.specs.Page.{row_or}
 use Rattle.vt_redraw.specs.declared.links.Link.{Link}
@@ -66,13 +66,13 @@ viewed is_blank above rows width pen hidden = record {
 }
 
 -- the text so far and what is still to write are together a text before and all that was to write then
-pub record Leads (text : List ℕ) (written : Written) (start : List ℕ) (whole : Written) : Type 0 where
+pub record Leads (text : List ℕ) (written : Scripted) (start : List ℕ) (whole : Scripted) : Type 0 where
   pub bytes : text ++ bytes_of_all written.ops ≡ start ++ bytes_of_all whole.ops
   pub pen : written.pen ≡ whole.pen
   pub flag : written.flag ≡ whole.flag
 
 -- what the cells of row r from column c on need over those of another row
-abbrev pub cells_from : (r c : ℕ) → Pen → Bool → (xs ys : List CellValue) → Written
+abbrev pub cells_from : (r c : ℕ) → Pen → Bool → (xs ys : List CellValue) → Scripted
 cells_from r c pen flag xs ys = cells_written r c pen flag 0 (drop c xs) (drop c ys)
 
 -- what the cells need from a column on, they need from a later one on: between them all stands
@@ -87,13 +87,13 @@ pub record Links (start text : List ℕ) (pen : Pen) (link : Link) (whole : Link
   pub done : link.settled ≡ whole.settled
 
 -- what a row wrote is that of the script
-pub record Writes (start text : List ℕ) (pen : Pen) (flag : Bool) (whole : Written) : Type 0 where
+pub record Writes (start text : List ℕ) (pen : Pen) (flag : Bool) (whole : Scripted) : Type 0 where
   pub bytes : text ≡ start ++ bytes_of_all whole.ops
   pub stands : pen ≡ whole.pen
   pub goes_on : flag ≡ whole.flag
 
 -- what the rows below row r need
-abbrev pub rows_under : (r width : ℕ) → Pen → Bool → (xs ys : List RowValue) → Written
+abbrev pub rows_under : (r width : ℕ) → Pen → Bool → (xs ys : List RowValue) → Scripted
 rows_under r width pen on xs ys = rows_below r pen (row_or width xs r) on (drop (r + 1) xs) (drop (r + 1) ys)
 
 -- the operations by which a whole row is made to go on below

@@ -9,12 +9,12 @@ use Rattle.vt_grid.specs.Page.{row_or}
 use Rattle.vt_redraw.specs.Script.{pen_at, going, changing}
 use Rattle.vt_redraw.specs.declared.pen.Pen.{Pen}
 use Rattle.vt_redraw.specs.Picture.{Picture}
-use Rattle.vt_redraw.specs.Script.{Written, nothing, after, is_at, going_behind, last_column, last_glyph, cells_written, Linked, unlinked, linked, broken}
+use Rattle.vt_redraw.specs.Script.{Scripted, nothing, after, is_at, going_behind, last_column, last_glyph, cells_written, Linked, unlinked, linked, broken}
 
 -- ---- the rows from the top
 
 -- one row: its cells but for those that are settled, and the break
-unfoldable pub row_written : (r settled : ℕ) → Pen → Bool → RowValue → List CellValue → Written
+unfoldable pub row_written : (r settled : ℕ) → Pen → Bool → RowValue → List CellValue → Scripted
 row_written r settled pen flag x ys =
     let cells = cells_written r 0 pen flag settled x.cells ys in
     after cells.ops (broken r cells.pen cells.flag x.wrapped x.cells)
@@ -24,7 +24,7 @@ abbrev pub link_of : ℕ → Pen → RowValue → Bool → RowValue → RowValue
 link_of r pen above on x y = if above.wrapped then linked r pen above.cells on y.wrapped x.cells y.cells else unlinked pen y.wrapped
 
 -- the rows under row r, which is `above`; on: the reader's row r goes on below
-unfoldable pub rows_below : ℕ → Pen → RowValue → Bool → (xs ys : List RowValue) → Written
+unfoldable pub rows_below : ℕ → Pen → RowValue → Bool → (xs ys : List RowValue) → Scripted
 rows_below r pen above on [] ys = nothing pen on
 rows_below r pen above on (x ∷ xs) [] = nothing pen on
 rows_below r pen above on (x ∷ xs) (y ∷ ys) =
@@ -32,7 +32,7 @@ rows_below r pen above on (x ∷ xs) (y ∷ ys) =
     let row = row_written (r + 1) link.settled link.pen link.flag x y.cells in
     after (link.ops ++ row.ops) (rows_below (r + 1) row.pen x row.flag xs ys)
 
-unfoldable pub rows_written : Pen → (xs ys : List RowValue) → Written
+unfoldable pub rows_written : Pen → (xs ys : List RowValue) → Scripted
 rows_written pen [] ys = nothing pen false
 rows_written pen (x ∷ xs) [] = nothing pen false
 rows_written pen (x ∷ xs) (y ∷ ys) =

@@ -1,5 +1,6 @@
 -- What turns a row that the reader shows into another: its cells, its link with the row above, and the break to the row below.
 use Rattle.std.specs.Prelude.{ℕ, suc, zero, ◌+◌, ◌-◌, ◌==◌, ◌&&◌, ◌||◌, not, Bool, true, false, List, [], ◌∷◌, ◌++◌, length, drop, if◌then◌else◌}
+use Rattle.vt_cells.specs.Glyph.{first_columns}
 use Rattle.vt_cells.specs.Cell.{CellValue, blank, glyph, right_half, is_glyph, is_right_half, same_cell, text_of, attrs_of}
 use Rattle.std.specs.List.{prefix_len}
 use Rattle.vt_cells.specs.Attrs.{same_attrs, Attrs}
@@ -24,27 +25,24 @@ is_blank_of attrs (glyph text wide b) = false
 is_blank_of attrs right_half = false
 
 -- how many blanks of these attributes the cells begin with
-abbrev pub run : Attrs → List CellValue → ℕ
-run attrs cells = prefix_len (is_blank_of attrs) cells
+abbrev pub blank_run : Attrs → List CellValue → ℕ
+blank_run attrs cells = prefix_len (is_blank_of attrs) cells
 
 -- a run of n blanks: to the end of the row where nothing is behind it
 abbrev pub erase_run : ℕ → List CellValue → Op
 erase_run n [] = EraseRest
 erase_run n (x ∷ xs) = EraseChars n
 
-abbrev pub columns : Bool → ℕ
-columns wide = if wide then 2 else 1
-
 -- operations, where the reader's cursor is after them and with which attributes, and whether the reader's row goes on below
-pub record Written : Type 0 where
+pub record Scripted : Type 0 where
   pub ops : List Op
   pub pen : Pen
   pub flag : Bool
 
-abbrev pub nothing : Pen → Bool → Written
+abbrev pub nothing : Pen → Bool → Scripted
 nothing pen flag = record { ops = []; pen = pen; flag = flag }
 
-abbrev pub after : List Op → Written → Written
+abbrev pub after : List Op → Scripted → Scripted
 after ops written = record { ops = ops ++ written.ops; pen = written.pen; flag = written.flag }
 
 -- one operation at a place and in attributes
@@ -73,19 +71,19 @@ flag_past flag rest = flag && not (is_nil rest || is_torn rest)
 -- ---- the cells of a row, from left to right
 
 -- from column c on; the first `settled` cells need nothing, xs are the row's cells from there and ys those that the reader shows
-unfoldable pub cells_written : (r c : ℕ) → Pen → (flag : Bool) → (settled : ℕ) → (xs ys : List CellValue) → Written
+unfoldable pub cells_written : (r c : ℕ) → Pen → (flag : Bool) → (settled : ℕ) → (xs ys : List CellValue) → Scripted
 cells_written r c pen flag settled [] ys = nothing pen flag
 cells_written r c pen flag settled (x ∷ xs) [] = nothing pen flag
 cells_written r c pen flag (suc settled) (x ∷ xs) (y ∷ ys) = cells_written r (c + 1) pen flag settled xs ys
 cells_written r c pen flag zero (right_half ∷ xs) (y ∷ ys) = cells_written r (c + 1) pen flag zero xs ys
 cells_written r c pen flag zero (blank a ∷ xs) (y ∷ ys) =
     if same_cell (blank a) y then cells_written r (c + 1) pen flag zero xs ys
-    else after (doing pen r c a (erase_run (suc (run a xs)) (drop (run a xs) ys)))
-    (cells_written r (c + 1) (pen_at r c a) (flag_past flag (drop (run a xs) ys)) (run a xs) xs ys)
+    else after (doing pen r c a (erase_run (suc (blank_run a xs)) (drop (blank_run a xs) ys)))
+    (cells_written r (c + 1) (pen_at r c a) (flag_past flag (drop (blank_run a xs) ys)) (blank_run a xs) xs ys)
 cells_written r c pen flag zero (glyph text wide a ∷ xs) (y ∷ ys) =
-    if same_cell (glyph text wide a) y then cells_written r (c + 1) pen flag (columns wide - 1) xs ys
+    if same_cell (glyph text wide a) y then cells_written r (c + 1) pen flag (first_columns wide - 1) xs ys
     else after (doing pen r c a (Print text))
-    (cells_written r (c + 1) (pen_at r (c + columns wide) a) (flag_behind flag wide (drop 1 ys)) (columns wide - 1) xs ys)
+    (cells_written r (c + 1) (pen_at r (c + first_columns wide) a) (flag_behind flag wide (drop 1 ys)) (first_columns wide - 1) xs ys)
 
 -- ---- the last glyph of a row that does not end blank
 
@@ -102,7 +100,7 @@ is_at pen row col = (pen.row == row) && (pen.col == col)
 abbrev pub behind : ℕ → List CellValue → Pen
 behind r cells = pen_at r (length cells) (attrs_of (last_glyph cells))
 
-abbrev pub going_behind : ℕ → Pen → List CellValue → Written
+abbrev pub going_behind : ℕ → Pen → List CellValue → Scripted
 going_behind r pen cells =
     if is_at pen r (length cells) then nothing pen true
     else record {
@@ -136,9 +134,9 @@ first_written r pen flag (blank a ∷ xs) (y ∷ ys) = record {
 }
 first_written r pen flag (glyph text wide a ∷ xs) (y ∷ ys) = record {
   ops = changing pen.attrs a ++ Print text ∷ [];
-  pen = pen_at r (columns wide) a;
+  pen = pen_at r (first_columns wide) a;
   flag = flag_behind flag wide (drop 1 ys);
-  settled = columns wide;
+  settled = first_columns wide;
 }
 
 -- the row begins with a glyph that the reader does not show there
@@ -160,12 +158,12 @@ linked r pen above on flag xs ys =
 -- ---- the break to the row below
 
 -- the reader's row goes on below and is not to: its last glyph is erased and printed again
-abbrev pub breaking : ℕ → Pen → List CellValue → Written
+abbrev pub breaking : ℕ → Pen → List CellValue → Scripted
 breaking r pen cells = record {
   ops = going pen r (last_column cells) ++ (EraseChars 1 ∷ (changing pen.attrs (attrs_of (last_glyph cells)) ++ Print (text_of (last_glyph cells)) ∷ []));
   pen = behind r cells;
   flag = false;
 }
 
-unfoldable pub broken : ℕ → Pen → (flag wanted : Bool) → List CellValue → Written
+unfoldable pub broken : ℕ → Pen → (flag wanted : Bool) → List CellValue → Scripted
 broken r pen flag wanted cells = if flag && not wanted then breaking r pen cells else nothing pen flag

@@ -6,7 +6,8 @@ ghost use Rattle.vt_cells.specs.Op.{Print, bytes_of, bytes_of_all};
 ghost use Rattle.vt_cells.specs.PieceKeeping.{gathered};
 ghost use Rattle.vt_rows.specs.Cells.{at};
 ghost use Rattle.vt_redraw.specs.Keeping.{IsRange, Leads, Passes, cells_from};
-ghost use Rattle.vt_redraw.specs.Script.{columns, doing, erase_run, flag_behind, flag_past, pen_at};
+ghost use Rattle.vt_cells.specs.Glyph.{first_columns};
+ghost use Rattle.vt_redraw.specs.Script.{doing, erase_run, flag_behind, flag_past, pen_at};
 
 use crate::pen::Pen;
 use crate::picture_row::PictureRow;
@@ -16,7 +17,7 @@ use vt_cells::{Attrs, Cell, Piece, Pos, Sink};
 /// How many columns a glyph takes.
 #[inline]
 pub fn columns(cell: &Cell) -> u16
-    ensures { result ≡ columns (is_wide cell.now) }
+    ensures { result ≡ first_columns (is_wide cell.now) }
 {
     if cell.is_wide() { 2 } else { 1 }
 }
@@ -58,9 +59,9 @@ fn gather_glyph<S: Sink>(
     pos: Pos,
     cell: &Cell,
 ) -> Result<(), S::Error>
-    requires { pos.col + columns (is_wide cell.now) < 65536 }
+    requires { pos.col + first_columns (is_wide cell.now) < 65536 }
     ensures text { OnOk result (gathered (S.text sink.new) piece.new ≡ gathered (S.text sink.old) piece.old ++ bytes_of_all (doing pen.old pos.row pos.col (attrs_of cell.now) (Print (text_of cell.now)))) }
-    ensures pen { OnOk result (pen.new ≡ pen_at pos.row (pos.col + columns (is_wide cell.now)) (attrs_of cell.now)) }
+    ensures pen { OnOk result (pen.new ≡ pen_at pos.row (pos.col + first_columns (is_wide cell.now)) (attrs_of cell.now)) }
 {
     gather_at(sink, piece, pen, pos, cell)?;
     pen.col = pos.col + columns(cell);

@@ -6,7 +6,7 @@ ghost use Rattle.vt_cells.specs.Cell.{attrs_of, blank, default_blank, is_blank, 
 ghost use Rattle.vt_rows.specs.Cells.{IsPaired, at, ends_blank, resized};
 ghost use Rattle.vt_rows.specs.Row.{RowValue, blank_row, with_cells};
 ghost use Rattle.vt_redraw.specs.Keeping.{cut_row, end_of, kept_len};
-ghost use Rattle.vt_redraw.specs.Script.{is_blank_of, is_torn, last_column, run};
+ghost use Rattle.vt_redraw.specs.Script.{is_blank_of, is_torn, last_column, blank_run};
 
 use std::marker::Model;
 use vt_cells::{Attrs, Cell};
@@ -182,7 +182,7 @@ impl<'a> PictureRow<'a> {
     /// after the other.
     pub fn run(&self, col: u16, attrs: Attrs) -> u16
         requires { col ≤ length self.now.cells }
-        ensures value { result ≡ run attrs (drop col self.now.cells) }
+        ensures value { result ≡ blank_run attrs (drop col self.now.cells) }
         ensures inside { col + result ≤ length self.now.cells }
     {
         let cols = self.cols();

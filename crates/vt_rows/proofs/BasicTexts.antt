@@ -1,6 +1,6 @@
 -- The attributes of cells in basic texts.
 use Rattle.std.proofs.Common.{◌≡◌, ℕ, Bool, true, false, List, [], ◌++◌, refl, sym, ap, ◌∙◌, append-nil}
-use Rattle.std.specs.Prelude.{if◌then◌else◌}
+use Rattle.std.specs.Prelude.{◌||◌, if◌then◌else◌}
 use Rattle.std.proofs.lemmas.Bool.{cond_both}
 use Rattle.vt_cells.specs.Cell.{CellValue, blank, glyph, right_half, attrs_of, is_default_blank, is_right_half}
 use Rattle.vt_cells.specs.Attrs.{same_attrs, Attrs}
@@ -24,16 +24,16 @@ bare : (attrs : Attrs) (cell : CellValue) → is_bare cell ≡ true → attrs_af
 bare attrs cell e = ap (λ (b : Bool). if b then attrs else attrs_of cell) e
 
 pub kept_default : (attrs : Attrs) (cell : CellValue) → is_default_blank cell ≡ true → (attrs_after attrs cell ≡ attrs) × (change_text attrs (attrs_after attrs cell) ≡ [])
-kept_default attrs cell e = both attrs (attrs_after attrs cell) (bare attrs cell (ap (λ (b : Bool). if b then b else is_right_half cell) e))
+kept_default attrs cell e = both attrs (attrs_after attrs cell) (bare attrs cell (ap (λ (b : Bool). b || is_right_half cell) e))
 
 pub kept_right : (attrs : Attrs) (cell : CellValue) → is_right_half cell ≡ true → (attrs_after attrs cell ≡ attrs) × (change_text attrs (attrs_after attrs cell) ≡ [])
 kept_right attrs cell e = both attrs (attrs_after attrs cell) (bare attrs cell (right (is_default_blank cell) refl)) where
   right : (b : Bool) → is_default_blank cell ≡ b → is_bare cell ≡ true
-  right true d = ap (λ (b : Bool). if b then b else is_right_half cell) d
-  right false d = ap (λ (b : Bool). if b then b else is_right_half cell) d ∙ e
+  right true d = ap (λ (b : Bool). b || is_right_half cell) d
+  right false d = ap (λ (b : Bool). b || is_right_half cell) d ∙ e
 
 pub own : (attrs : Attrs) (cell : CellValue) → is_default_blank cell ≡ false → is_right_half cell ≡ false → attrs_after attrs cell ≡ attrs_of cell
-own attrs cell d r = ap (λ (b : Bool). if b then attrs else attrs_of cell) (ap (λ (b : Bool). if b then b else is_right_half cell) d ∙ r)
+own attrs cell d r = ap (λ (b : Bool). if b then attrs else attrs_of cell) (ap (λ (b : Bool). b || is_right_half cell) d ∙ r)
 
 half_shown : (cell : CellValue) → is_right_half cell ≡ true → shown_text cell ≡ []
 half_shown (blank attrs) e = cc

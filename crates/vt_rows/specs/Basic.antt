@@ -1,5 +1,5 @@
 -- The text of a row with SGR alone: what is left of a row that is captured (ECMA-48's SGR).
-use Rattle.std.specs.Prelude.{ℕ, not, Bool, false, List, [], ◌∷◌, ◌++◌, if◌then◌else◌}
+use Rattle.std.specs.Prelude.{◌||◌, ℕ, not, Bool, false, List, [], ◌∷◌, ◌++◌, if◌then◌else◌}
 use Rattle.vt_cells.specs.Attrs.{default_attrs, Attrs}
 use Rattle.vt_cells.specs.Cell.{CellValue, blank, glyph, right_half, is_default_blank, is_right_half, attrs_of}
 use Rattle.vt_cells.specs.Op.{change_text}
@@ -16,7 +16,7 @@ unwritten = record { attrs = default_attrs; is_due = false }
 
 -- a cell without attributes of its own: a default blank, and the right half of what was written
 abbrev pub is_bare : CellValue → Bool
-is_bare cell = if is_default_blank cell then is_default_blank cell else is_right_half cell
+is_bare cell = is_default_blank cell || is_right_half cell
 
 -- the text of a cell: a blank is a space, and a right half is nothing
 abbrev pub shown_text : CellValue → List ℕ

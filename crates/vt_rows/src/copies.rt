@@ -1,6 +1,7 @@
 //! Copies of cells.
 
-ghost use Rattle.std.specs.Prelude.{◌≡◌, ◌≤◌, ◌+◌, ◌++◌, IfErr, IfOk, length, vec_capacity, vec_len};
+ghost use Rattle.std.specs.Prelude.{◌≡◌, ◌≤◌, ◌+◌, ◌++◌, IfOk, length, vec_capacity, vec_len};
+ghost use Rattle.vt_cells.specs.Refusals.{OnlyOutOfMemory};
 
 use std::alloc::Global;
 use vt_cells::{Cell, Error};
@@ -10,7 +11,7 @@ use vt_cells::{Cell, Error};
 /// Fails where its memory is refused.
 pub fn copied(alloc: Global, cells: &[Cell]) -> Result<Vec<Cell>, Error>
     ensures ok { IfOk result (λ copies. copies.items ≡ cells.now) }
-    ensures memory { IfErr result (λ error. error ≡ Error.OutOfMemory) }
+    ensures memory { OnlyOutOfMemory result }
 {
     let mut copies = Vec::with_capacity(alloc, cells.len())?;
     push_copies(&mut copies, cells);

@@ -1,7 +1,8 @@
 //! One row of a screen.
 
-ghost use Rattle.std.specs.Prelude.{◌≡◌, ◌&&◌, ◌≤◌, ◌+◌, ◌++◌, IfErr, IfOk, OnErr, OnOk, length, vec_capacity, vec_len};
+ghost use Rattle.std.specs.Prelude.{◌≡◌, ◌&&◌, ◌≤◌, ◌+◌, ◌++◌, IfOk, OnErr, OnOk, length, vec_capacity, vec_len};
 ghost use Rattle.vt_cells.specs.Attrs.{default_attrs};
+ghost use Rattle.vt_cells.specs.Refusals.{OnlyOutOfMemory};
 ghost use Rattle.vt_rows.specs.Cells.{IsPaired, blanks};
 ghost use Rattle.vt_rows.specs.Row.{IsRow, blank_row, resized_row, trimmed_row};
 
@@ -33,7 +34,7 @@ impl Row {
     /// Fails where its memory is refused.
     pub fn new(alloc: Global, columns: usize) -> Result<Row, Error>
         ensures ok { IfOk result (λ row. row ≡ blank_row default_attrs columns) }
-        ensures memory { IfErr result (λ error. error ≡ Error.OutOfMemory) }
+        ensures memory { OnlyOutOfMemory result }
     {
         let mut cells = Vec::with_capacity(alloc, columns)?;
         push_blanks(&mut cells, columns);
@@ -48,7 +49,7 @@ impl Row {
     /// Fails where its memory is refused.
     pub fn try_clone(&self, alloc: Global) -> Result<Row, Error>
         ensures ok { IfOk result (λ row. row ≡ self.now) }
-        ensures memory { IfErr result (λ error. error ≡ Error.OutOfMemory) }
+        ensures memory { OnlyOutOfMemory result }
     {
         let cells = copied(alloc, &self.cells)?;
         Ok(Row {
@@ -62,7 +63,7 @@ impl Row {
     /// Fails where its memory is refused.
     pub fn trimmed_copy(alloc: Global, cells: &[Cell], wrapped: bool) -> Result<Row, Error>
         ensures ok { IfOk result (λ row. row ≡ trimmed_row (record { cells = cells.now; wrapped = wrapped })) }
-        ensures memory { IfErr result (λ error. error ≡ Error.OutOfMemory) }
+        ensures memory { OnlyOutOfMemory result }
     {
         let kept = &cells[..cuts::trimmed_len(cells)];
         let cells = copied(alloc, kept)?;
@@ -108,7 +109,7 @@ impl Row {
         ensures row { OnOk result (self.new ≡ trimmed_row (record { cells = cells.now; wrapped = wrapped })) }
         ensures left { OnOk result (L.leaves leaving.old self.old leaving.new) }
         ensures err { OnErr result ((self.new ≡ self.old) × (leaving.new ≡ leaving.old)) }
-        ensures memory { IfErr result (λ error. error ≡ Error.OutOfMemory) }
+        ensures memory { OnlyOutOfMemory result }
     {
         let kept = &cells[..cuts::trimmed_len(cells)];
         let more = kept.len().saturating_sub(self.cells.len());

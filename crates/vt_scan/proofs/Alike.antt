@@ -2,7 +2,7 @@
 use Rattle.std.proofs.Common.{◌≡◌, ◌≢◌, ℕ, Bool, true, false, not, ◌⊎◌, List, [], ◌∷◌, ◌++◌, take, filter, inl, inr, refl, sym, subst, ◌∙◌, ap, rules}
 use Rattle.std.proofs.Math.Logic.{⊎_elim}
 use Rattle.vt_scan.specs.Table.{turn_of, class_of}
-use Rattle.vt_scan.specs.Parameters.{Table, table_of}
+use Rattle.vt_scan.specs.Parameters.{GroupTable, table_of}
 use Rattle.vt_scan.specs.Automaton.{State, Step, EscDispatch, CsiDispatch, OscDispatch, Executed, is_parameter, parameter_text, marks_of, parts_of, given, after, step_in}
 use Rattle.vt_scan.specs.Run.{run}
 use Rattle.vt_scan.specs.Scanner.{Held, Reads, ReadsSequence, StandsFor}
@@ -139,7 +139,7 @@ given_alike kind next ends.EscDispatch a b x fits r =
     ap (λ marks. EscDispatch marks x ∷ []) reads.marks
 given_alike kind next ends.CsiDispatch a b x fits r =
     let reads = sequence_from kind (held_of (at kind a)) b fits.0 r in
-    ap (λ (t : Table). CsiDispatch t.groups (marks_of a) x ∷ []) reads.table ∙ ap (λ marks. CsiDispatch (table_of (parameter_text b)).groups marks x ∷ []) reads.marks
+    ap (λ (t : GroupTable). CsiDispatch t.groups (marks_of a) x ∷ []) reads.table ∙ ap (λ marks. CsiDispatch (table_of (parameter_text b)).groups marks x ∷ []) reads.marks
 given_alike kind next ends.OscDispatch a b x fits r = ap (λ text. OscDispatch (parts_of text) ∷ []) (same_text kind a b fits.0 r)
 given_alike kind next ends.OscDispatchAndExecuted a b x fits r = ap (λ text. OscDispatch (parts_of text) ∷ Executed x ∷ []) (same_text kind a b fits.0 r)
 

@@ -2,13 +2,13 @@
 use Rattle.std.proofs.Common.{◌≡◌, ℕ, ◌+◌, ◌-◌, ◌<◌, ◌≤◌, ◌≢◌, Bool, true, false, nat_lt, List, [], ◌∷◌, ◌++◌, length, get_or, set, take, refl, sym, ◌∙◌, ap, arith}
 use Rattle.std.proofs.lemmas.List.{take_more_set}
 use Rattle.std.proofs.lemmas.Bool.Decides.{nat_tests}
-use Rattle.vt_scan.specs.Parameters.{Table, groups_of, total, first_numbers, table_of}
+use Rattle.vt_scan.specs.Parameters.{GroupTable, groups_of, total, first_numbers, table_of}
 use Rattle.vt_scan.specs.Keeping.{groups_from, Ascends}
 use Rattle.vt_scan.proofs.Lists.{on_last}
 use Rattle.vt_scan.proofs.Reading.{with_digit, with_number, groups_of-digit, groups_of-colon, groups_of-semicolon, groups_of-empty, groups_of-all_some, groups_of-some}
 use Rattle.vt_scan.proofs.Rows.{total-append, total-digit, total-number, first_numbers-all, first_numbers-digit, first_numbers-number, first_numbers-groups, groups_from-digit, groups_from-number, groups_from-group, groups_from-total, Ascends-group}
 
-abbrev pub table : List (List ℕ) → Bool → Table
+abbrev pub table : List (List ℕ) → Bool → GroupTable
 table groups is_cut = record { groups = groups; is_cut = is_cut }
 
 -- all numbers are kept
@@ -35,13 +35,13 @@ unfolding table_of
 cut_is text = refl
 
 pub is_whole : (groups : List (List ℕ)) (text : List ℕ) → table groups false ≡ table_of text → total (groups_of text) ≤ 32
-is_whole groups text e = let test : nat_lt 32 (total (groups_of text)) ≡ false = sym (ap (λ (t : Table). t.is_cut) e ∙ cut_is text) in grind (arith, nat_tests)
+is_whole groups text e = let test : nat_lt 32 (total (groups_of text)) ≡ false = sym (ap (λ (t : GroupTable). t.is_cut) e ∙ cut_is text) in grind (arith, nat_tests)
 
 pub is_cut : (groups : List (List ℕ)) (text : List ℕ) → table groups true ≡ table_of text → 32 < total (groups_of text)
-is_cut groups text e = let test : nat_lt 32 (total (groups_of text)) ≡ true = sym (ap (λ (t : Table). t.is_cut) e ∙ cut_is text) in grind (arith, nat_tests)
+is_cut groups text e = let test : nat_lt 32 (total (groups_of text)) ≡ true = sym (ap (λ (t : GroupTable). t.is_cut) e ∙ cut_is text) in grind (arith, nat_tests)
 
 first_is : (groups : List (List ℕ)) (b : Bool) (text : List ℕ) → table groups b ≡ table_of text → groups ≡ first_numbers 32 (groups_of text)
-first_is groups b text e = ap (λ (t : Table). t.groups) e ∙ groups_is text
+first_is groups b text e = ap (λ (t : GroupTable). t.groups) e ∙ groups_is text
 
 pub whole_is : (groups : List (List ℕ)) (text : List ℕ) → table groups false ≡ table_of text → groups ≡ groups_of text
 whole_is groups text e = first_is groups false text e ∙ first_numbers-all 32 (groups_of text) (groups_of-all_some text) (is_whole groups text e)

@@ -30,9 +30,9 @@ first_numbers n [] = []
 first_numbers n (group ∷ groups) = if n == 0 then [] else take n group ∷ first_numbers (n - length group) groups
 
 -- what is kept of the numbers: the first 32, and whether there were more
-pub record Table : Type 0 where
+pub record GroupTable : Type 0 where
   pub groups : List (List ℕ)
   pub is_cut : Bool
 
-unfoldable pub table_of : List ℕ → Table
+unfoldable pub table_of : List ℕ → GroupTable
 table_of text = record { groups = first_numbers 32 (groups_of text); is_cut = nat_lt 32 (total (groups_of text)) }

@@ -1,6 +1,6 @@
 -- What the scanner holds of the bytes that it has read, which states of the automaton that stands for, and what its answer means.
 use Rattle.std.specs.Prelude.{◌≡◌, ℕ, ◌<◌, ◌≤◌, List, [], ◌++◌, map, option_to_list}
-use Rattle.vt_scan.specs.Parameters.{Table, table_of}
+use Rattle.vt_scan.specs.Parameters.{GroupTable, table_of}
 use Rattle.vt_scan.specs.Automaton as automaton
 use Rattle.vt_scan.specs.Automaton.{State, Step, parameter_text, marks_of, parts_of, step_in}
 use Rattle.vt_scan.specs.declared.table.Kind.{Kind}
@@ -15,7 +15,7 @@ pub record Held : Type 0 where
   -- the bytes of an unfinished character
   pub unfinished : List ℕ
   -- the numbers of a sequence
-  pub table : Table
+  pub table : GroupTable
   -- the first two of its marker and intermediates
   pub marks : List ℕ
   -- the text of an operating system command

@@ -1,6 +1,7 @@
 //! The scanner: from bytes to events.
 
-ghost use Rattle.std.specs.Prelude.{◌≡◌, ◌<◌, ◌≤◌, ◌↔◌, [], All, IfErr, IfOk, IsErr, IsTrue, None, OnErr, Some, false, length, slice_index_or, take};
+ghost use Rattle.std.specs.Prelude.{◌≡◌, ◌<◌, ◌≤◌, ◌↔◌, [], All, IfOk, IsErr, IsTrue, None, OnErr, Some, false, length, slice_index_or, take};
+ghost use Rattle.vt_cells.specs.Refusals.{OnlyOutOfMemory};
 ghost use Rattle.vt_scan.specs.Automaton.{State, parts_of, start};
 ghost use Rattle.vt_scan.specs.Scanner.{Feeds, ReadsItself, StandsFor};
 ghost use Rattle.vt_scan.specs.Table.{class_of, turn_of};
@@ -60,7 +61,7 @@ impl Scanner {
     pub fn feed(&mut self, byte: u8) -> Result<Events, Error>
         ensures fed { IfOk result (Feeds self.old byte self.new) }
         ensures err { OnErr result (self.new ≡ self.old) }
-        ensures only { IfErr result (λ e. e ≡ Error.OutOfMemory) }
+        ensures only { OnlyOutOfMemory result }
         ensures text { IsErr result → turn_of self.old.kind (class_of byte) ≡ Turn.Collect Kind.OscString }
     {
         self.registers.feed(byte)

@@ -1,7 +1,7 @@
 //! The numbers of a control sequence.
 
 ghost use Rattle.std.specs.Prelude.{◌≡◌, ℕ, ◌+◌, ◌*◌, ◌<◌, ◌≤◌, ◌↔◌, List, [], ◌∷◌, ◌++◌, IsTrue, false, length, min, take, true};
-ghost use Rattle.vt_scan.specs.Parameters.{Table, table_of};
+ghost use Rattle.vt_scan.specs.Parameters.{GroupTable, table_of};
 ghost use Rattle.vt_scan.specs.Keeping.{Ascends, groups_from};
 
 use crate::groups::{FewGroups, Groups, MAX_FEW, MAX_NUMBERS};
@@ -22,7 +22,7 @@ pub struct Parameters {
 }
 
 impl Model for Parameters {
-    ghost Value = { Table };
+    ghost Value = { GroupTable };
 
     ghost view = { λ p. record { groups = groups_from 0 (take p.closed p.ends) p.len p.numbers; is_cut = p.is_cut } };
 

@@ -1,6 +1,7 @@
 //! What the scanner holds of the bytes that it has read.
 
-ghost use Rattle.std.specs.Prelude.{◌≡◌, ◌≢◌, ◌≤◌, ◌<◌, ◌↔◌, ℕ, List, [], ◌∷◌, ◌++◌, IfErr, IfOk, IsErr, IsTrue, None, OnErr, OnOk, Some, All, false, length, slice_index_or, take};
+ghost use Rattle.std.specs.Prelude.{◌≡◌, ◌≢◌, ◌≤◌, ◌<◌, ◌↔◌, ℕ, List, [], ◌∷◌, ◌++◌, IfOk, IsErr, IsTrue, None, OnErr, OnOk, Some, All, false, length, slice_index_or, take};
+ghost use Rattle.vt_cells.specs.Refusals.{OnlyOutOfMemory};
 ghost use Rattle.vt_scan.specs.Automaton.{fresh_step, is_parameter, parts_of, start, step_in};
 ghost use Rattle.vt_scan.specs.Keeping.{Begins, Fits, answer_of};
 ghost use Rattle.vt_scan.specs.Scanner.{Feeds, Follows, Held, IsPrintableByte, Reads, ReadsItself, StandsFor};
@@ -55,7 +56,7 @@ impl Registers {
     pub fn feed(&mut self, byte: u8) -> Result<Events, Error>
         ensures fed { IfOk result (Feeds self.old byte self.new) }
         ensures err { OnErr result (self.new ≡ self.old) }
-        ensures only { IfErr result (λ e. e ≡ Error.OutOfMemory) }
+        ensures only { OnlyOutOfMemory result }
         ensures text { IsErr result → turn_of self.old.kind (class_of byte) ≡ Turn.Collect Kind.OscString }
     {
         match self.kind {
@@ -145,7 +146,7 @@ impl Registers {
         requires { self.old.kind ≢ Kind.Ground }
         ensures fed { IfOk result (Feeds self.old byte self.new) }
         ensures err { OnErr result (self.new ≡ self.old) }
-        ensures only { IfErr result (λ e. e ≡ Error.OutOfMemory) }
+        ensures only { OnlyOutOfMemory result }
         ensures text { IsErr result → turn_of self.old.kind (class_of byte) ≡ Turn.Collect Kind.OscString }
     {
         match turn_at(self.kind, byte) {
@@ -168,7 +169,7 @@ impl Registers {
         ensures kind { OnOk result (self.new.kind ≡ kind) }
         ensures reads { IfOk result (λ _. (text : List ℕ) → Reads self.old self.old.kind text → Reads self.new kind (text ++ byte ∷ [])) }
         ensures err { OnErr result (self.new ≡ self.old) }
-        ensures only { IfErr result (λ e. e ≡ Error.OutOfMemory) }
+        ensures only { OnlyOutOfMemory result }
         ensures text { IsErr result → kind ≡ Kind.OscString }
     {
         if self.kind == Kind::OscString {

@@ -17,7 +17,8 @@ use Rattle.vt_screen.specs.AnyRegion.{IsReaderInAnyRegion, KeepsRestButRegion, r
 use Rattle.vt_screen.specs.Reading.{Terminal, read, read_byte, terminal}
 use Rattle.vt_screen.specs.Screen.{IsColored, IsScreen, ScreenValue, with_page}
 use Rattle.vt_screen.specs.Shown.{HasCursor, HasRows, IsReadBy, IsReader, Makes, ReadsTo, ShowsPlainly, shown}
-use Rattle.vt_screen.specs.Steps.{SetRegion, UseOrigin, counted_step, marked_steps, mode_step, other_steps, private_steps, scrolling_steps, stepped}
+use Rattle.vt_screen.specs.Controls.{counted_step, marked_steps, mode_step, other_steps, private_steps, scrolling_steps}
+use Rattle.vt_screen.specs.Steps.{SetRegion, UseOrigin, stepped}
 use Rattle.vt_screen.proofs.Became.{Redraws, redraw_redraws}
 use Rattle.vt_screen.proofs.ReadbackTexts.{csi_read, reads_append, reads_then}
 use Rattle.vt_screen.proofs.Telling.{redraws_tell}

@@ -15,7 +15,8 @@ use Rattle.vt_screen.specs.Screen.{ScreenValue, IsPrintable}
 use Rattle.vt_screen.specs.Sgr.{group_read}
 use Rattle.vt_screen.specs.Streamed.{HasNoRis, ris, row_told, sent_off_in}
 use Rattle.vt_screen.specs.Telling.{calls_in, screen_in, stepped_all, steps_in, steps_of_all}
-use Rattle.vt_screen.specs.Steps.{Step, Print, Reset, Tell, alternate_step, character_steps, clipboard_steps, control_steps, counted_step, csi_steps, encoding_step, escape_steps, fresh_step, marked_steps, mark_at, mode_step, mode_steps, mouse_step, named_steps, number_or, one_or, osc_steps, other_steps, page_erasing, plain_steps, private_steps, reading_steps, repeated, row_erasing, scrolling_steps, sgr_from, space_steps, steps_of, style_steps, window_steps}
+use Rattle.vt_screen.specs.Controls.{alternate_step, character_steps, clipboard_steps, control_steps, counted_step, csi_steps, encoding_step, escape_steps, fresh_alternate_step, marked_steps, mark_at, mode_step, mode_steps, mouse_step, named_steps, number_or, one_or, osc_steps, other_steps, page_erasing, plain_steps, private_steps, reading_steps, repeated, row_erasing, scrolling_steps, sgr_from, space_steps, steps_of, style_steps, window_steps}
+use Rattle.vt_screen.specs.Steps.{Step, Print, Reset, Tell}
 use Rattle.vt_screen.specs.declared.sgr.Reading.{Reading}
 use Rattle.vt_screen.specs.declared.sgr.Reading.TheVariants.{Silent, Set, Unhandled}
 use Rattle.vt_screen.specs.declared.sgr.Wanted.{Wanted}
@@ -146,7 +147,7 @@ stream_alternate : (on : Bool) → AllStream (alternate_step on ∷ [])
 stream_alternate true = (own _ tt)
 stream_alternate false = (own _ tt)
 
-stream_fresh : (on : Bool) → AllStream (fresh_step on ∷ [])
+stream_fresh : (on : Bool) → AllStream (fresh_alternate_step on ∷ [])
 stream_fresh true = (own _ tt)
 stream_fresh false = (own _ tt)
 

@@ -8,7 +8,8 @@ use Rattle.vt_screen.specs.Calls.{CallValue, OnScroll}
 use Rattle.vt_screen.specs.Screen.{ScreenValue}
 use Rattle.vt_screen.specs.Run as act
 use Rattle.vt_screen.specs.Run.{Hears, Performs, Scrolls, Takes, Told, state}
-use Rattle.vt_screen.specs.Steps.{Step, Print, CarriageReturn, LineFeed, ReverseIndex, MoveUp, MoveDown, MoveRight, MoveLeft, NextLine, PreviousLine, Tab, MoveTo, MoveToColumn, MoveToRow, SetRegion, UseOrigin, EraseBelow, EraseAbove, ErasePage, EraseScrollback, EraseRest, EraseStart, EraseRow, EraseChars, InsertChars, DeleteChars, InsertLines, DeleteLines, ScrollUp, ScrollDown, Render, HideCursor, UseApplicationCursor, UseBracketedPaste, SetMouseMode, ClearMouseMode, SetMouseEncoding, ClearMouseEncoding, SetCursorStyle, SaveCursor, RestoreCursor, EnterAlternate, EnterFresh, LeaveAlternate, LeaveRestoring, Reset, UseApplicationKeypad, Tell, reports, scrolled, stepped, steps_of}
+use Rattle.vt_screen.specs.Controls.{steps_of}
+use Rattle.vt_screen.specs.Steps.{Step, Print, CarriageReturn, LineFeed, ReverseIndex, MoveUp, MoveDown, MoveRight, MoveLeft, NextLine, PreviousLine, Tab, MoveTo, MoveToColumn, MoveToRow, SetRegion, UseOrigin, EraseBelow, EraseAbove, ErasePage, EraseScrollback, EraseRest, EraseStart, EraseRow, EraseChars, InsertChars, DeleteChars, InsertLines, DeleteLines, ScrollUp, ScrollDown, Render, HideCursor, UseApplicationCursor, UseBracketedPaste, SetMouseMode, ClearMouseMode, SetMouseEncoding, ClearMouseEncoding, SetCursorStyle, SaveCursor, RestoreCursor, EnterAlternate, EnterFresh, LeaveAlternate, LeaveRestoring, Reset, UseApplicationKeypad, Tell, reports, scrolled, stepped}
 use Rattle.vt_screen.specs.Telling.{Heard, LeavesScreen, calls_of, calls_of_all, stepped_all, steps_of_all}
 use Rattle.vt_screen.proofs.Reporting.{told_rows}
 

@@ -15,7 +15,7 @@ use Rattle.vt_screen.specs.Reading.{Terminal, read_byte, read, terminal}
 use Rattle.vt_screen.specs.Screen.{Modes, ScreenValue, fresh_screen, no_modes}
 use Rattle.vt_screen.specs.Shown.{ReadsTo}
 use Rattle.vt_screen.specs.States.{HasDefaultMouseAndStyle, SetsModes}
-use Rattle.vt_screen.specs.Steps.{escape_steps, marked_steps, private_steps, mode_step, space_steps, style_of}
+use Rattle.vt_screen.specs.Controls.{escape_steps, marked_steps, private_steps, mode_step, space_steps, style_of}
 use Rattle.vt_screen.proofs.ReadbackTexts.{reads_then}
 
 -- a terminal with the one modes reads the text, and has the others then

@@ -22,7 +22,8 @@ use Rattle.vt_scan.specs.Texts.{place_groups}
 use Rattle.vt_scan.proofs.Readback.{read_written}
 use Rattle.vt_scan.proofs.Written.{alone, empty_groups, decimal_groups, joined_groups, place_groups_are, decimal_is_parameter, joined_is_parameter, place_is_parameter}
 use Rattle.vt_screen.specs.Screen.{ScreenValue, canvas_of, with_canvas, with_page}
-use Rattle.vt_screen.specs.Steps.{plain_steps, counted_step, scrolling_steps, other_steps, page_erasing, row_erasing, character_steps, control_steps, escape_steps, marked_steps, private_steps, mode_step, number_or, stepped}
+use Rattle.vt_screen.specs.Controls.{plain_steps, counted_step, scrolling_steps, other_steps, page_erasing, row_erasing, character_steps, control_steps, escape_steps, marked_steps, private_steps, mode_step, number_or}
+use Rattle.vt_screen.specs.Steps.{stepped}
 use Rattle.vt_screen.specs.Steps as steps
 use Rattle.vt_screen.specs.Reading.{quiet_step, quiet_steps, terminal, read_byte, read}
 use Rattle.vt_screen.proofs.ReadbackSgr.{sgr_change, sgr_clear, few_changes, some_changes}

@@ -20,7 +20,8 @@ use Rattle.vt_screen.specs.declared.sgr.Wanted.{Wanted}
 use Rattle.vt_screen.specs.declared.sgr.Wanted.TheVariants.{Any, Form, Index, Red, Green, Blue}
 use Rattle.vt_screen.specs.Sgr.{GroupRead, group_read, number_read, setting_read, form_read, part_read, silent, set, colored, rendered}
 use Rattle.vt_screen.specs.Screen.{ScreenValue}
-use Rattle.vt_screen.specs.Steps.{Step, sgr_from, sgr_steps, reading_steps}
+use Rattle.vt_screen.specs.Controls.{sgr_from, sgr_steps, reading_steps}
+use Rattle.vt_screen.specs.Steps.{Step}
 use Rattle.vt_screen.specs.Reading.{quiet_steps}
 
 -- ---- one group

@@ -16,7 +16,7 @@ use Rattle.vt_scan.specs.declared.table.Class.TheVariants.{Bell, Cancel, Introdu
 use Rattle.vt_scan.proofs.Running.{behind}
 use Rattle.vt_scan.proofs.Sequences.{read_csi}
 use Rattle.vt_screen.specs.Screen.{ScreenValue}
-use Rattle.vt_screen.specs.Steps.{plain_steps, steps_of}
+use Rattle.vt_screen.specs.Controls.{plain_steps, steps_of}
 use Rattle.vt_screen.specs.Reading.{quiet_steps, quiet_events, grows, Terminal, terminal, read_byte, read}
 
 -- ---- texts one after the other

@@ -10,7 +10,8 @@ use Rattle.vt_grid.specs.Scrollback.{pushed}
 use Rattle.vt_scan.specs.Automaton.{Event}
 use Rattle.vt_screen.specs.Pages.{fresh_page, page_aside, entered, entered_fresh, left, left_restored, saved, restored, reset}
 use Rattle.vt_screen.specs.Screen.{ScreenValue, IsScreen}
-use Rattle.vt_screen.specs.Steps.{Step, Print, CarriageReturn, LineFeed, ReverseIndex, MoveUp, MoveDown, MoveRight, MoveLeft, NextLine, PreviousLine, Tab, MoveTo, MoveToColumn, MoveToRow, SetRegion, UseOrigin, EraseBelow, EraseAbove, ErasePage, EraseScrollback, EraseRest, EraseStart, EraseRow, EraseChars, InsertChars, DeleteChars, InsertLines, DeleteLines, ScrollUp, ScrollDown, Render, HideCursor, UseApplicationCursor, UseBracketedPaste, SetMouseMode, ClearMouseMode, SetMouseEncoding, ClearMouseEncoding, SetCursorStyle, SaveCursor, RestoreCursor, EnterAlternate, EnterFresh, LeaveAlternate, LeaveRestoring, Reset, UseApplicationKeypad, Tell, outgoing, sent, scrolled, stepped, steps_of}
+use Rattle.vt_screen.specs.Controls.{steps_of}
+use Rattle.vt_screen.specs.Steps.{Step, Print, CarriageReturn, LineFeed, ReverseIndex, MoveUp, MoveDown, MoveRight, MoveLeft, NextLine, PreviousLine, Tab, MoveTo, MoveToColumn, MoveToRow, SetRegion, UseOrigin, EraseBelow, EraseAbove, ErasePage, EraseScrollback, EraseRest, EraseStart, EraseRow, EraseChars, InsertChars, DeleteChars, InsertLines, DeleteLines, ScrollUp, ScrollDown, Render, HideCursor, UseApplicationCursor, UseBracketedPaste, SetMouseMode, ClearMouseMode, SetMouseEncoding, ClearMouseEncoding, SetCursorStyle, SaveCursor, RestoreCursor, EnterAlternate, EnterFresh, LeaveAlternate, LeaveRestoring, Reset, UseApplicationKeypad, Tell, outgoing, sent, scrolled, stepped}
 use Rattle.vt_grid.specs.Page.{scrolled_up}
 use Rattle.vt_grid.specs.Moves.{carriage_return, moved_left, moved_right, moved_to, line_feed, cursor_saved, cursor_restored}
 use Rattle.vt_grid.specs.Regions.{moved_up, moved_down, next_line, previous_line, tabbed, moved_to_column, moved_to_row, region_set, origin_set}

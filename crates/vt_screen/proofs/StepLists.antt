@@ -5,7 +5,8 @@ use Rattle.vt_scan.specs.Automaton.{State, Event, Step as Outcome}
 use Rattle.vt_scan.specs.Run.{run}
 use Rattle.vt_scan.proofs.Running.{run-append}
 use Rattle.vt_screen.specs.Screen.{ScreenValue}
-use Rattle.vt_screen.specs.Steps.{Step, scrolled, steps_of}
+use Rattle.vt_screen.specs.Controls.{steps_of}
+use Rattle.vt_screen.specs.Steps.{Step, scrolled}
 use Rattle.vt_screen.specs.Streamed.{sent_off, sent_off_all, sent_off_in}
 use Rattle.vt_screen.specs.Telling.{screen_in, stepped_all, steps_in, steps_of_all}
 

@@ -23,7 +23,7 @@ use Rattle.vt_grid.proofs.Shifting.{page_scrolled_down, page_reverse_index, page
 use Rattle.vt_screen.specs.Calls.{CallValue, OnScroll}
 use Rattle.vt_screen.specs.Pages.{fresh_page, page_aside, entered, entered_fresh, left, left_restored, saved, restored}
 use Rattle.vt_screen.specs.Screen.{IsPrintable, IsScreen, ScreenValue, fresh_screen, scrolled_back, with_page}
-use Rattle.vt_screen.specs.Steps.{Step, Print, CarriageReturn, LineFeed, ReverseIndex, MoveUp, MoveDown, MoveRight, MoveLeft, NextLine, PreviousLine, Tab, MoveTo, MoveToColumn, MoveToRow, SetRegion, UseOrigin, EraseBelow, EraseAbove, ErasePage, EraseScrollback, EraseRest, EraseStart, EraseRow, EraseChars, InsertChars, DeleteChars, InsertLines, DeleteLines, ScrollUp, ScrollDown, Render, HideCursor, UseApplicationCursor, UseBracketedPaste, SetMouseMode, ClearMouseMode, SetMouseEncoding, ClearMouseEncoding, SetCursorStyle, SaveCursor, RestoreCursor, EnterAlternate, EnterFresh, LeaveAlternate, LeaveRestoring, Reset, UseApplicationKeypad, Tell, is_kept, scrolled, stepped}
+use Rattle.vt_screen.specs.Steps.{Step, Print, CarriageReturn, LineFeed, ReverseIndex, MoveUp, MoveDown, MoveRight, MoveLeft, NextLine, PreviousLine, Tab, MoveTo, MoveToColumn, MoveToRow, SetRegion, UseOrigin, EraseBelow, EraseAbove, ErasePage, EraseScrollback, EraseRest, EraseStart, EraseRow, EraseChars, InsertChars, DeleteChars, InsertLines, DeleteLines, ScrollUp, ScrollDown, Render, HideCursor, UseApplicationCursor, UseBracketedPaste, SetMouseMode, ClearMouseMode, SetMouseEncoding, ClearMouseEncoding, SetCursorStyle, SaveCursor, RestoreCursor, EnterAlternate, EnterFresh, LeaveAlternate, LeaveRestoring, Reset, UseApplicationKeypad, Tell, becomes_last, scrolled, stepped}
 use Rattle.vt_screen.specs.Streamed.{AreAlike, HasWideFlags, row_told, rows_told, sent_off, sent_off_all}
 use Rattle.vt_screen.specs.Telling.{calls_of, calls_of_all, stepped_all}
 use Rattle.vt_screen.proofs.Alike.{IsWide}
@@ -211,7 +211,7 @@ step_streams (Print c) s i k =
     sends s.is_alternate s (stepped (Print c) s) (printed_out c s.attrs s.page) (rows_printed_out c s.attrs s.page k.sound) k
     (let same = same_printed c s.attrs s.page in
     let held = held_page s.page (printed c s.attrs s.page) s.other s.scrollback s.last (page_printed c s.attrs s.page i.0 i.1 k.sound) same k in
-    record { sound = held.sound; other = held.other; rows = held.rows; wide = held.wide; last = printed_last (is_kept s (columns_of c)) c s.last i k.last })
+    record { sound = held.sound; other = held.other; rows = held.rows; wide = held.wide; last = printed_last (becomes_last s (columns_of c)) c s.last i k.last })
     refl (same_printed c s.attrs s.page).width
 step_streams LineFeed s i k =
     sends s.is_alternate s (stepped LineFeed s) (fed_out s.page) (rows_fed_out s.page k.sound) k

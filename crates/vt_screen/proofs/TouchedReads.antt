@@ -9,7 +9,7 @@ use Rattle.std.proofs.lemmas.Str.{chars-encodes}
 use Rattle.vt_cells.specs.Attrs.{default_attrs, same_attrs, changed_attrs, Attrs}
 use Rattle.vt_cells.specs.Glyph.{columns_of}
 use Rattle.vt_cells.specs.Op.{Op, Hide, ClearAttrs, MoveTo, MoveRight, NextRow, LineFeed, Backspace, EraseBelow, EraseRest, EraseChars, SaveCursor, RestoreCursor, ChangeAttrs, Print, csi, counted, place, joined, change_numbers, change_text, FitsAttrs, bytes_of, bytes_of_all}
-use Rattle.vt_grid.specs.Canvas.{Canvas, and_then, drawn, drawn_all, drawn_char, drawn_text, goes_on, pushes, fed, with_page as with_drawn}
+use Rattle.vt_grid.specs.Canvas.{Canvas, and_then, drawn, drawn_all, drawn_char, drawn_text, wraps_for, pushes, fed, with_page as with_drawn}
 use Rattle.vt_grid.specs.Page.{Page}
 use Rattle.vt_grid.specs.Canvas.{saved, restored}
 use Rattle.vt_grid.specs.Erasing.{erased_below, erased_rest, erased_chars}
@@ -28,7 +28,8 @@ use Rattle.vt_scan.proofs.Written.{alone, empty_groups, decimal_groups, joined_g
 use Rattle.vt_screen.specs.Reading.{quiet_steps, quiet_events, Terminal, terminal, read_byte, read}
 use Rattle.vt_screen.specs.Screen.{ScreenValue, canvas_of, with_canvas, with_page}
 use Rattle.vt_screen.specs.Sgr.{group_read}
-use Rattle.vt_screen.specs.Steps.{private_steps, marked_steps, mode_step, plain_steps, counted_step, scrolling_steps, other_steps, page_erasing, row_erasing, character_steps, control_steps, escape_steps, number_or, stepped, steps_of, reading_steps, sgr_from}
+use Rattle.vt_screen.specs.Controls.{private_steps, marked_steps, mode_step, plain_steps, counted_step, scrolling_steps, other_steps, page_erasing, row_erasing, character_steps, control_steps, escape_steps, number_or, steps_of, reading_steps, sgr_from}
+use Rattle.vt_screen.specs.Steps.{stepped}
 use Rattle.vt_screen.specs.Steps as steps
 use Rattle.vt_screen.specs.Touched.{FeedTouches, StepTouches, StepsTouch, EventsTouch, ReadTouches}
 use Rattle.vt_screen.specs.declared.sgr.Reading.{Reading}
@@ -199,7 +200,7 @@ print_touches M c screen p top quiet touched =
     let range = shown_range c p.shown in
     event_touches M (encode_utf8 c) (Character c) screen (read_written c p.scalar (grind (arith, range))) refl
     (subst (λ (list : List steps.Step). StepsTouch M list screen) (sym (prints c p))
-    ((touched, λ (on : goes_on (columns_of c) c screen.page ≡ true). feed_touches M screen.page top (both_true (goes_on (columns_of c) c screen.page) (feeds_out screen.page) quiet on)), λ next e. tt))
+    ((touched, λ (on : wraps_for (columns_of c) c screen.page ≡ true). feed_touches M screen.page top (both_true (wraps_for (columns_of c) c screen.page) (feeds_out screen.page) quiet on)), λ next e. tt))
 
 text_touches : (M : ℕ → ℕ → Type 0) (cs : List ℕ) (screen : ScreenValue) (d : Canvas) → AllByRecursion IsPrintable cs → screen.page.top ≡ 0 → drawn_text cs (canvas_of screen) ≡ Some d → TextTouches M cs (canvas_of screen) →
     ReadTouches M (terminal start screen) (encode_utf8_all cs)

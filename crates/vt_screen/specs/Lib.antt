@@ -4,6 +4,7 @@ pub mod Sgr
 pub mod Screen
 pub mod Pages
 pub mod Steps
+pub mod Controls
 pub mod Texts
 pub mod Run
 pub mod Reading

@@ -3,7 +3,8 @@ use Rattle.std.specs.Prelude.{◌==◌, ℕ, Bool, true, false, List, [], ◌∷
 use Rattle.vt_grid.specs.Canvas.{and_then, pushes}
 use Rattle.vt_grid.specs.Moves.{feeds_out}
 use Rattle.vt_screen.specs.Screen.{ScreenValue}
-use Rattle.vt_screen.specs.Steps.{Step, Print, LineFeed, ScrollUp, EraseScrollback, EnterAlternate, EnterFresh, Tell, stepped, steps_of}
+use Rattle.vt_screen.specs.Controls.{steps_of}
+use Rattle.vt_screen.specs.Steps.{Step, Print, LineFeed, ScrollUp, EraseScrollback, EnterAlternate, EnterFresh, Tell, stepped}
 use Rattle.vt_scan.specs.Automaton.{State, Event, step_in}
 use Rattle.vt_scan.specs.Table.{class_of, turn_of}
 use Rattle.vt_scan.specs.declared.table.Kind.TheVariants.{OscString}

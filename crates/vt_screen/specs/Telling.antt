@@ -4,7 +4,8 @@ use Rattle.vt_scan.specs.Automaton.{State, Event}
 use Rattle.vt_scan.specs.Run.{run}
 use Rattle.vt_screen.specs.Calls.{CallValue, OnScroll}
 use Rattle.vt_screen.specs.Screen.{ScreenValue}
-use Rattle.vt_screen.specs.Steps.{Step, Tell, reports, scrolled, steps_of}
+use Rattle.vt_screen.specs.Controls.{steps_of}
+use Rattle.vt_screen.specs.Steps.{Step, Tell, reports, scrolled}
 
 -- callbacks that leave the screen alone
 abbrev pub LeavesScreen : {S : Type 0} → (CallValue → S → ScreenValue → S → ScreenValue → Type 0) → Type 0

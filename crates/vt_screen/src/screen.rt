@@ -1,9 +1,10 @@
 //! The screen of a terminal.
 
-ghost use Rattle.std.specs.Prelude.{◌≡◌, ◌≢◌, ◌<◌, ◌↔◌, IfErr, IfOk, IfSome, IsSome, None, OnOk, Some, false, length};
+ghost use Rattle.std.specs.Prelude.{◌≡◌, ◌≢◌, ◌<◌, ◌↔◌, IfOk, IfSome, IsSome, None, OnOk, Some, false, length};
 ghost use Rattle.vt_cells.specs.Attrs.{is_bold, is_dim};
+ghost use Rattle.vt_cells.specs.Refusals.{OnlyOutOfMemory};
 ghost use Rattle.vt_rows.specs.Cells.{at};
-ghost use Rattle.vt_screen.specs.Screen.{IsScreen, fresh_screen, visible_row};
+ghost use Rattle.vt_screen.specs.Screen.{IsColored, IsScreen, fresh_screen, visible_row};
 
 mod capture;
 mod contents;
@@ -80,7 +81,7 @@ impl Screen {
         scrollback_capacity: usize,
     ) -> Result<Screen, Error>
         ensures fresh { IfOk result (λ screen. screen ≡ fresh_screen rows.value cols.value scrollback_capacity) }
-        ensures memory { IfErr result (λ error. error ≡ Error.OutOfMemory) }
+        ensures memory { OnlyOutOfMemory result }
     {
         let size = Size {
             rows: rows.get(),
@@ -107,7 +108,7 @@ impl Screen {
     /// Fails where its memory is refused.
     pub fn clone(&self) -> Result<Screen, Error>
         ensures ok { IfOk result (λ screen. screen ≡ self.now) }
-        ensures memory { IfErr result (λ error. error ≡ Error.OutOfMemory) }
+        ensures memory { OnlyOutOfMemory result }
     {
         Ok(Screen {
             alloc: self.alloc,
@@ -129,16 +130,18 @@ impl Screen {
 impl Screen {
     /// How many rows and columns the screen has.
     ///
-    /// The clause `whole` says what every screen is, whatever was done to it:
-    /// both pages of one size, with rows, cursors and regions in bounds,
-    /// scrollback within its capacity, and a last character that is one to
-    /// print.
+    /// The clauses `whole` and `colored` say what every screen is, whatever was
+    /// done to it: both pages of one size, with rows, cursors and regions in
+    /// bounds, scrollback within its capacity, and a last character that is one
+    /// to print; and colours whose numbers are at most 255.
     pub fn size(&self) -> (NonZeroU16, NonZeroU16)
         ensures whole { IsScreen self.now }
+        ensures colored { IsColored self.now }
         ensures rows { result.0.value ≡ length self.now.page.rows }
         ensures cols { result.1.value ≡ self.now.page.width }
     {
         let size = self.grid.size();
+        self.sound();
         (non_zero(size.rows), non_zero(size.cols))
     }
 
@@ -313,7 +316,7 @@ impl Screen {
 /// A copy of a page, if there is one.
 fn copied_page(page: &Option<Grid>, alloc: Global) -> Result<Option<Grid>, Error>
     ensures ok { IfOk result (λ copy. copy ≡ page.now) }
-    ensures memory { IfErr result (λ error. error ≡ Error.OutOfMemory) }
+    ensures memory { OnlyOutOfMemory result }
 {
     match page {
         Some(page) => Ok(Some(page.try_clone(alloc)?)),

@@ -1,8 +1,9 @@
 //! Printing: glyphs, marks, and glyphs whose width follows U+FE0F.
 
-ghost use Rattle.std.specs.Prelude.{◌≡◌, ◌≢◌, ◌+◌, ◌-◌, ◌&&◌, ◌==◌, ◌<◌, ◌≤◌, [], IfErr, IsErr, OnErr, OnOk, Some, encode_utf8, false, if◌then◌else◌, length, nat_lt, not, slice_set, true};
+ghost use Rattle.std.specs.Prelude.{◌≡◌, ◌≢◌, ◌+◌, ◌-◌, ◌&&◌, ◌==◌, ◌<◌, ◌≤◌, [], IsErr, OnErr, OnOk, Some, encode_utf8, false, if◌then◌else◌, length, nat_lt, not, slice_set, true};
 ghost use Rattle.vt_cells.specs.Cell.{IsCell, attrs_of, glyph, is_right_half, is_wide, marked, text_of};
 ghost use Rattle.vt_cells.specs.Glyph.{IsGlyphText, columns_of, is_selector, is_wide_text};
+ghost use Rattle.vt_cells.specs.Refusals.{OnlyOutOfMemory};
 ghost use Rattle.vt_rows.specs.Cells.{at, widened_at};
 ghost use Rattle.vt_rows.specs.Texts.{IsPrintableText};
 ghost use Rattle.vt_grid.specs.Canvas.{carries};
@@ -48,7 +49,7 @@ impl Grid {
         ensures sent { OnOk result (Sends L.leaves (length self.old.rows) self.old.width (printed_out c attrs self.old) above.old leaving.old above.new leaving.new) }
         ensures err { OnErr result ((self.new ≡ self.old) × ((above.new ≡ above.old) × (leaving.new ≡ leaving.old))) }
         ensures grows { IsErr result → TakesMemory (printed_out c attrs self.old) above.old }
-        ensures memory { IfErr result (λ error. error ≡ Error.OutOfMemory) }
+        ensures memory { OnlyOutOfMemory result }
     {
         let Some(width) = width else {
             return Ok(());
@@ -72,7 +73,7 @@ impl Grid {
     }
 
     /// Prints a text of printable ASCII for which the cursor's row has room:
-    /// what [`Grid::print`] does with one character after the other, as one
+    /// what [`Grid::print_columns`] does with one character after the other, as one
     /// edit of the row. No row leaves the page.
     #[inline]
     pub fn print_text(&mut self, text: &[u8], attrs: Attrs)
@@ -113,7 +114,7 @@ impl Grid {
         ensures sent { OnOk result (Sends L.leaves (length self.old.rows) self.old.width (room_out 1 self.old) above.old leaving.old above.new leaving.new) }
         ensures err { OnErr result ((self.new ≡ self.old) × ((above.new ≡ above.old) × (leaving.new ≡ leaving.old))) }
         ensures grows { IsErr result → TakesMemory (room_out 1 self.old) above.old }
-        ensures memory { IfErr result (λ error. error ≡ Error.OutOfMemory) }
+        ensures memory { OnlyOutOfMemory result }
     {
         self.make_room(1, above, leaving)?;
         self.put_narrow(c, attrs);
@@ -133,7 +134,7 @@ impl Grid {
         ensures sent { OnOk result (Sends L.leaves (length self.old.rows) self.old.width (room_out columns self.old) above.old leaving.old above.new leaving.new) }
         ensures err { OnErr result ((self.new ≡ self.old) × ((above.new ≡ above.old) × (leaving.new ≡ leaving.old))) }
         ensures grows { IsErr result → TakesMemory (room_out columns self.old) above.old }
-        ensures memory { IfErr result (λ error. error ≡ Error.OutOfMemory) }
+        ensures memory { OnlyOutOfMemory result }
         ensures some { 0 < self.old.width }
     {
         if self.pos.col > self.size.cols.saturating_sub(columns) {
@@ -158,7 +159,7 @@ impl Grid {
         ensures sent { OnOk result (Sends L.leaves (length self.old.rows) self.old.width (if self.old.column == 0 then [] else mark_out mark attrs self.old) above.old leaving.old above.new leaving.new) }
         ensures err { OnErr result ((self.new ≡ self.old) × ((above.new ≡ above.old) × (leaving.new ≡ leaving.old))) }
         ensures grows { IsErr result → TakesMemory (if self.old.column == 0 then [] else mark_out mark attrs self.old) above.old }
-        ensures memory { IfErr result (λ error. error ≡ Error.OutOfMemory) }
+        ensures memory { OnlyOutOfMemory result }
     {
         if self.pos.col == 0 {
             return Ok(());
@@ -313,7 +314,7 @@ impl Grid {
         ensures sent { OnOk result (Sends L.leaves (length self.old.rows) self.old.width (mark_out mark attrs self.old) above.old leaving.old above.new leaving.new) }
         ensures err { OnErr result ((self.new ≡ self.old) × ((above.new ≡ above.old) × (leaving.new ≡ leaving.old))) }
         ensures grows { IsErr result → TakesMemory (mark_out mark attrs self.old) above.old }
-        ensures memory { IfErr result (λ error. error ≡ Error.OutOfMemory) }
+        ensures memory { OnlyOutOfMemory result }
     {
         let col = self.mark_col();
         let goes_on = self.row_wrapped(self.pos.row);
@@ -402,7 +403,7 @@ impl Grid {
         ensures sent { OnOk result (Sends L.leaves (length self.old.rows) self.old.width (if nat_lt 1 self.old.width then room_out 2 self.old else []) above.old leaving.old above.new leaving.new) }
         ensures err { OnErr result ((self.new ≡ self.old) × ((above.new ≡ above.old) × (leaving.new ≡ leaving.old))) }
         ensures grows { IsErr result → TakesMemory (if nat_lt 1 self.old.width then room_out 2 self.old else []) above.old }
-        ensures memory { IfErr result (λ error. error ≡ Error.OutOfMemory) }
+        ensures memory { OnlyOutOfMemory result }
     {
         if self.size.cols == 1 {
             return Ok(());

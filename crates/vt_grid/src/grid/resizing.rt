@@ -1,8 +1,9 @@
 //! Another size of a page, as xterm gives it: rows leave at the top, and come
 //! back there.
 
-ghost use Rattle.std.specs.Prelude.{◌≡◌, ◌^◌, ◌-◌, ◌<◌, IfErr, IsErr, OnErr, OnOk, length, min, take};
+ghost use Rattle.std.specs.Prelude.{◌≡◌, ◌^◌, ◌-◌, ◌<◌, IsErr, OnErr, OnOk, length, min, take};
 ghost use Rattle.std.specs.List.{FoldsTo};
+ghost use Rattle.vt_cells.specs.Refusals.{OnlyOutOfMemory};
 ghost use Rattle.vt_grid.specs.Page.{blank_page};
 ghost use Rattle.vt_grid.specs.Resize.{page_resized, resize_reports, row_resized, scrollback_resized};
 ghost use Rattle.vt_grid.specs.Resize as resize;
@@ -44,7 +45,7 @@ impl Grid {
         ensures reported { OnOk result (FoldsTo L.leaves leaving.old (resize_reports (length fresh.rows) self.old above.old) leaving.new) }
         ensures err { OnErr result ((self.new ≡ self.old) × ((above.new ≡ above.old) × (leaving.new ≡ leaving.old))) }
         ensures grows { IsErr result → TakesMemory (take (resize.leaving (length fresh.rows) self.old) self.old.rows) above.old }
-        ensures memory { IfErr result (λ error. error ≡ Error.OutOfMemory) }
+        ensures memory { OnlyOutOfMemory result }
     {
         self.fill(fresh.sheet, above, leaving)?;
         Ok(())
@@ -67,7 +68,7 @@ impl Grid {
         ensures reported { OnOk result (FoldsTo L.leaves leaving.old (resize_reports (length fresh.rows) self.old above.old) leaving.new) }
         ensures err { OnErr result ((self.new ≡ self.old) × ((above.new ≡ above.old) × (leaving.new ≡ leaving.old))) }
         ensures grows { IsErr result → TakesMemory (take (resize.leaving (length fresh.rows) self.old) self.old.rows) above.old }
-        ensures memory { IfErr result (λ error. error ≡ Error.OutOfMemory) }
+        ensures memory { OnlyOutOfMemory result }
     {
         let size = fresh.size();
         let below = self.size.rows - (self.pos.row + 1);

@@ -1,7 +1,8 @@
 //! Scrolling up, line feeds and wraps: the rows that leave the page at its top
 //! go to scrollback.
 
-ghost use Rattle.std.specs.Prelude.{◌≡◌, ◌+◌, ◌-◌, ◌&&◌, ◌==◌, ◌<◌, ◌≤◌, IfErr, IfSome, IsErr, None, OnErr, OnOk, Some, if◌then◌else◌, length, nat_lt, not};
+ghost use Rattle.std.specs.Prelude.{◌≡◌, ◌+◌, ◌-◌, ◌&&◌, ◌==◌, ◌<◌, ◌≤◌, IfSome, IsErr, None, OnErr, OnOk, Some, if◌then◌else◌, length, nat_lt, not};
+ghost use Rattle.vt_cells.specs.Refusals.{OnlyOutOfMemory};
 ghost use Rattle.vt_rows.specs.Cells.{ends_blank};
 ghost use Rattle.vt_grid.specs.Moves.{line_feed};
 ghost use Rattle.vt_grid.specs.Outgoing.{fed_out, scrolled_out};
@@ -34,7 +35,7 @@ impl Grid {
         ensures sent { OnOk result (Sends L.leaves (length self.old.rows) self.old.width (scrolled_out count self.old) above.old leaving.old above.new leaving.new) }
         ensures err { OnErr result ((self.new ≡ self.old) × ((above.new ≡ above.old) × (leaving.new ≡ leaving.old))) }
         ensures grows { IsErr result → TakesMemory (scrolled_out count self.old) above.old }
-        ensures memory { IfErr result (λ error. error ≡ Error.OutOfMemory) }
+        ensures memory { OnlyOutOfMemory result }
     {
         if self.scroll_top == 0 {
             self.sheet
@@ -64,7 +65,7 @@ impl Grid {
         ensures sent { OnOk result (Sends L.leaves (length self.old.rows) self.old.width (fed_out self.old) above.old leaving.old above.new leaving.new) }
         ensures err { OnErr result ((self.new ≡ self.old) × ((above.new ≡ above.old) × (leaving.new ≡ leaving.old))) }
         ensures grows { IsErr result → TakesMemory (fed_out self.old) above.old }
-        ensures memory { IfErr result (λ error. error ≡ Error.OutOfMemory) }
+        ensures memory { OnlyOutOfMemory result }
     {
         if self.pos.row == self.scroll_bottom {
             self.scroll_up(1, above, leaving)?;
@@ -97,7 +98,7 @@ impl Grid {
         ensures sent { OnOk result (Sends L.leaves (length self.old.rows) self.old.width (fed_out self.old) above.old leaving.old above.new leaving.new) }
         ensures err { OnErr result ((self.new ≡ self.old) × ((above.new ≡ above.old) × (leaving.new ≡ leaving.old))) }
         ensures grows { IsErr result → TakesMemory (fed_out self.old) above.old }
-        ensures memory { IfErr result (λ error. error ≡ Error.OutOfMemory) }
+        ensures memory { OnlyOutOfMemory result }
     {
         let left = left_row(self.pos.row, self.scroll_top, self.scroll_bottom);
         let goes_on = self.goes_on();

@@ -1,7 +1,8 @@
 //! Captures: texts of rows with SGR alone.
 
-ghost use Rattle.std.specs.Prelude.{◌≡◌, ◌+◌, ◌<◌, ◌≤◌, ◌↔◌, ◌++◌, IfErr, IfOk, IfSome, IsSome, OnErr, OnOk, length, slice_index_or, string_bytes};
+ghost use Rattle.std.specs.Prelude.{◌≡◌, ◌+◌, ◌<◌, ◌≤◌, ◌↔◌, ◌++◌, IfOk, IfSome, IsSome, OnErr, OnOk, length, slice_index_or, string_bytes};
 ghost use Rattle.std.specs.List.{slice_range};
+ghost use Rattle.vt_cells.specs.Refusals.{OnlyOutOfMemory};
 ghost use Rattle.vt_rows.specs.Basic.{unwritten};
 ghost use Rattle.vt_rows.specs.Row.{RowValue, IsRow};
 ghost use Rattle.vt_screen.specs.Capture.{IfGiven, IsBehindSome, all_rows, basic_texts, captured_rows, given_state, written_after_all};
@@ -22,7 +23,7 @@ impl Screen {
     pub fn contents_formatted_basic(&self) -> Result<String, Error>
         ensures text { IfOk result (λ text. string_bytes text ≡ basic_texts unwritten (visible_rows self.now)) }
         ensures controls { IfOk result (λ text. IsCaptureText (string_bytes text)) }
-        ensures memory { IfErr result (λ error. error ≡ Error.OutOfMemory) }
+        ensures memory { OnlyOutOfMemory result }
     {
         let mut text = String::new(self.alloc);
         match self.write_contents_formatted_basic(&mut text, BasicFormattedCaptureRange::Visible) {

@@ -2,6 +2,7 @@
 
 ghost use Rattle.std.specs.Prelude.{◌≡◌, ◌≤◌, ◌<◌, ◌+◌, ◌-◌, ◌++◌, ◌↔◌, IfErr, IfOk, IfSome, IsSome, OnOk, false, length, min, string_bytes, if◌then◌else◌, [], IsTrue, IsFalse, slice_index, string_len};
 ghost use Rattle.std.specs.List.{flat_map, range_with_len};
+ghost use Rattle.vt_cells.specs.Refusals.{OnlyOutOfMemory};
 ghost use Rattle.vt_rows.specs.Plain.{plain_text};
 ghost use Rattle.vt_screen.specs.Contents.{between_of, contents_of, gap_line, line_end, lines_of, part_of, row_texts, rows_left, without_line_ends};
 ghost use Rattle.vt_screen.specs.Screen.{visible_row, visible_rows};
@@ -23,7 +24,7 @@ impl Screen {
     /// Fails where memory for the text is refused.
     pub fn contents(&self) -> Result<String, Error>
         ensures text { IfOk result (λ text. string_bytes text ≡ contents_of self.now) }
-        ensures memory { IfErr result (λ error. error ≡ Error.OutOfMemory) }
+        ensures memory { OnlyOutOfMemory result }
     {
         let mut text = String::new(self.alloc);
         match self.write_lines(&mut text) {
@@ -54,7 +55,7 @@ impl Screen {
     ) -> Result<String, Error>
         requires { start_row < end_row → start_col ≤ self.now.page.width }
         ensures text { IfOk result (λ text. string_bytes text ≡ between_of start_row start_col end_row end_col self.now) }
-        ensures memory { IfErr result (λ error. error ≡ Error.OutOfMemory) }
+        ensures memory { OnlyOutOfMemory result }
     {
         let mut text = String::new(self.alloc);
         let start = Pos {
@@ -177,7 +178,7 @@ fn past_row(row: u16, rows: u16) -> u16
 /// The text of a row, in the columns from `start` up to `stop`.
 fn text_of(alloc: Global, row: &RowContents<'_>, start: usize, stop: usize) -> Result<String, Error>
     ensures text { IfOk result (λ text. string_bytes text ≡ plain_text start stop row.now.cells) }
-    ensures memory { IfErr result (λ error. error ≡ Error.OutOfMemory) }
+    ensures memory { OnlyOutOfMemory result }
 {
     let mut text = String::new(alloc);
     match plain::write_contents(&mut text, row.cells(), start, stop) {

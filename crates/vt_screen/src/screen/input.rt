@@ -1,7 +1,8 @@
 //! Texts that set a terminal's input modes.
 
-ghost use Rattle.std.specs.Prelude.{◌≡◌, ◌++◌, [], IfErr, IfOk, OnOk, string_bytes};
+ghost use Rattle.std.specs.Prelude.{◌≡◌, ◌++◌, [], IfOk, OnOk, string_bytes};
 ghost use Rattle.vt_cells.specs.InputModes.{application_cursor_text, bracketed_paste_text, keypad_text};
+ghost use Rattle.vt_cells.specs.Refusals.{OnlyOutOfMemory};
 ghost use Rattle.vt_screen.specs.InputTexts.{input_change, input_text, mouse_and_style_text, where_changed};
 ghost use Rattle.vt_screen.specs.States.{HasDefaultMouseAndStyle, SetsModes};
 
@@ -32,7 +33,7 @@ impl Screen {
     pub fn input_mode_formatted(&self) -> Result<String, Error>
         ensures text { IfOk result (λ text. string_bytes text ≡ input_text self.now.modes) }
         ensures sets { IfOk result (λ text. SetsModes HasDefaultMouseAndStyle self.now.modes (string_bytes text)) }
-        ensures memory { IfErr result (λ error. error ≡ Error.OutOfMemory) }
+        ensures memory { OnlyOutOfMemory result }
     {
         let mut text = String::new(self.alloc);
         match self.write_input_mode_formatted(&mut text) {
@@ -55,7 +56,7 @@ impl Screen {
         ensures sets { IfOk result (λ text. SetsModes (λ had. had ≡ prev.now.modes) self.now.modes (string_bytes text)) }
         ensures empty { IfOk result (λ text. string_bytes text ≡ [] → self.now.modes ≡ prev.now.modes) }
         ensures none { IfOk result (λ text. self.now.modes ≡ prev.now.modes → string_bytes text ≡ []) }
-        ensures memory { IfErr result (λ error. error ≡ Error.OutOfMemory) }
+        ensures memory { OnlyOutOfMemory result }
     {
         let mut text = String::new(self.alloc);
         match self.write_input_mode_diff(&mut text, prev) {

@@ -1,6 +1,7 @@
 //! The two pages, what is saved, and all made fresh.
 
-ghost use Rattle.std.specs.Prelude.{◌≡◌, IfErr, IsErr, IsSome, None, OnErr, OnOk};
+ghost use Rattle.std.specs.Prelude.{◌≡◌, IsErr, IsSome, None, OnErr, OnOk};
+ghost use Rattle.vt_cells.specs.Refusals.{OnlyOutOfMemory};
 ghost use Rattle.vt_screen.specs.Keeping.{exchanged, with_fresh_other, with_fresh_page, with_other};
 ghost use Rattle.vt_screen.specs.Pages.{entered};
 ghost use Rattle.vt_screen.specs.Screen.{IsScreen};
@@ -40,7 +41,7 @@ impl Screen {
         ensures ok { OnOk result (self.new ≡ stepped step.EnterAlternate self.old) }
         ensures err { OnErr result (self.new ≡ self.old) }
         ensures grows { IsErr result → Grows step.EnterAlternate self.old }
-        ensures memory { IfErr result (λ error. error ≡ Error.OutOfMemory) }
+        ensures memory { OnlyOutOfMemory result }
     {
         self.make_other()?;
         self.show_alternate();
@@ -56,7 +57,7 @@ impl Screen {
         ensures ok { OnOk result (self.new ≡ stepped step.EnterFresh self.old) }
         ensures err { OnErr result (self.new ≡ self.old) }
         ensures grows { IsErr result → Grows step.EnterFresh self.old }
-        ensures memory { IfErr result (λ error. error ≡ Error.OutOfMemory) }
+        ensures memory { OnlyOutOfMemory result }
     {
         self.make_other()?;
         self.decsc();
@@ -108,7 +109,7 @@ impl Screen {
         ensures ok { OnOk result (self.new ≡ with_other self.old) }
         ensures err { OnErr result (self.new ≡ self.old) }
         ensures grows { IsErr result → self.old.other ≡ None }
-        ensures memory { IfErr result (λ error. error ≡ Error.OutOfMemory) }
+        ensures memory { OnlyOutOfMemory result }
         ensures whole { IsScreen self.old }
     {
         if self.other.is_some() {

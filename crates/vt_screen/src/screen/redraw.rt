@@ -11,8 +11,9 @@
 //! just itself. All without U+FE0F are, and U+2764 U+FE0F on two columns or
 //! more.
 
-ghost use Rattle.std.specs.Prelude.{◌≡◌, ◌++◌, [], IfErr, IfOk, OnOk, string_bytes};
+ghost use Rattle.std.specs.Prelude.{◌≡◌, ◌++◌, [], IfOk, OnOk, string_bytes};
 ghost use Rattle.vt_cells.specs.Op.{bytes_of_all};
+ghost use Rattle.vt_cells.specs.Refusals.{OnlyOutOfMemory};
 ghost use Rattle.vt_grid.specs.Page.{SameSize};
 ghost use Rattle.vt_redraw.specs.Locality.{IsLocal, MayPlace};
 ghost use Rattle.vt_redraw.specs.Picture.{SamePictureSize};
@@ -50,7 +51,7 @@ impl Screen {
         ensures cursor { IfOk result (λ text. IsSteady (shown self.now) → Makes (IsReader (shown self.now)) (string_bytes text) (HasCursor (shown self.now))) }
         ensures rest { IfOk result (λ text. IsSteady (shown self.now) → Makes (IsReader (shown self.now)) (string_bytes text) KeepsRest) }
         ensures same { IfOk result (λ text. (other : ScreenValue) → IsScreen other → IsColored other → SamePictureSize (shown self.now) (shown other) → IsSteady (shown self.now) → IsSteady (shown other) → string_bytes text ≡ bytes_of_all (redraw (shown other)) → shown self.now ≡ shown other) }
-        ensures memory { IfErr result (λ error. error ≡ Error.OutOfMemory) }
+        ensures memory { OnlyOutOfMemory result }
     {
         let mut text = String::new(self.alloc);
         match self.write_contents_formatted(&mut text) {
@@ -92,7 +93,7 @@ impl Screen {
         ensures cursor { IfOk result (λ text. IsSteady (shown self.now) → Makes (IsReaderInAnyRegion (shown self.now)) (string_bytes text) (HasCursor (shown self.now))) }
         ensures rest { IfOk result (λ text. IsSteady (shown self.now) → Makes (IsReaderInAnyRegion (shown self.now)) (string_bytes text) KeepsRestButRegion) }
         ensures same { IfOk result (λ text. (other : ScreenValue) → IsScreen other → IsColored other → SamePictureSize (shown self.now) (shown other) → IsSteady (shown self.now) → IsSteady (shown other) → string_bytes text ≡ reset_text (shown other) → shown self.now ≡ shown other) }
-        ensures memory { IfErr result (λ error. error ≡ Error.OutOfMemory) }
+        ensures memory { OnlyOutOfMemory result }
     {
         let mut text = String::new(self.alloc);
         match self.write_contents_formatted_reset(&mut text) {
@@ -121,7 +122,7 @@ impl Screen {
         ensures empty { IfOk result (λ text. IsSteady (shown self.now) → string_bytes text ≡ [] → shown self.now ≡ shown prev.now) }
         ensures none { IfOk result (λ text. shown self.now ≡ shown prev.now → string_bytes text ≡ []) }
         ensures touches { IfOk result (λ text. IsSteady (shown self.now) → TouchesOnly (IsReaderOf (shown self.now) (shown prev.now)) (string_bytes text) (IsLocal (shown self.now) (shown prev.now))) }
-        ensures memory { IfErr result (λ error. error ≡ Error.OutOfMemory) }
+        ensures memory { OnlyOutOfMemory result }
     {
         let mut text = String::new(self.alloc);
         match self.write_contents_diff(&mut text, prev) {
@@ -145,7 +146,7 @@ impl Screen {
         ensures plain { IfOk result (λ text. IsSteady (shown self.now) → Makes (IsReaderOfRows (shown self.now)) (string_bytes text) StaysPlain) }
         ensures rest { IfOk result (λ text. IsSteady (shown self.now) → Makes (IsReaderOfRows (shown self.now)) (string_bytes text) KeepsRest) }
         ensures touches { IfOk result (λ text. IsSteady (shown self.now) → TouchesOnly (IsReaderOfRows (shown self.now)) (string_bytes text) (MayPlace (shown self.now))) }
-        ensures memory { IfErr result (λ error. error ≡ Error.OutOfMemory) }
+        ensures memory { OnlyOutOfMemory result }
     {
         let mut text = String::new(self.alloc);
         match self.write_cursor_state(&mut text) {
@@ -163,7 +164,7 @@ impl Screen {
     pub fn attributes_formatted(&self) -> Result<String, Error>
         ensures text { IfOk result (λ text. string_bytes text ≡ attributes_text self.now.attrs) }
         ensures sets { IfOk result (λ text. SetsAttrs self.now.attrs (string_bytes text)) }
-        ensures memory { IfErr result (λ error. error ≡ Error.OutOfMemory) }
+        ensures memory { OnlyOutOfMemory result }
     {
         let mut text = String::new(self.alloc);
         match write_attrs(&mut text, self.attrs()) {

@@ -1,7 +1,8 @@
 //! Another size of the screen.
 
 ghost use Rattle.std.specs.List.{FoldsTo};
-ghost use Rattle.std.specs.Prelude.{◌≡◌, ◌<◌, ◌++◌, IfErr, IfOk, IsErr, OnErr, OnOk, Some, false, option_map, true};
+ghost use Rattle.std.specs.Prelude.{◌≡◌, ◌<◌, ◌++◌, IfOk, IsErr, OnErr, OnOk, Some, false, option_map, true};
+ghost use Rattle.vt_cells.specs.Refusals.{OnlyOutOfMemory};
 ghost use Rattle.vt_grid.specs.Page.{blank_page};
 ghost use Rattle.vt_grid.specs.Resize.{page_resized};
 ghost use Rattle.vt_grid.specs.Scrollback.{no_scrollback};
@@ -29,7 +30,7 @@ impl Screen {
         ensures ok { OnOk result (self.new ≡ resized rows.value cols.value self.old) }
         ensures err { OnErr result (self.new ≡ self.old) }
         ensures grows { IsErr result → has_size rows.value cols.value self.old ≡ false }
-        ensures memory { IfErr result (λ error. error ≡ Error.OutOfMemory) }
+        ensures memory { OnlyOutOfMemory result }
     {
         self.set_size_with_cb(rows, cols, &mut ())?;
         Ok(())
@@ -52,7 +53,7 @@ impl Screen {
         ensures told { OnOk result (FoldsTo (Told CB.does) callbacks.old (calls_resized rows.value cols.value self.old) callbacks.new) }
         ensures err { OnErr result ((self.new ≡ self.old) × (callbacks.new ≡ callbacks.old)) }
         ensures grows { IsErr result → has_size rows.value cols.value self.old ≡ false }
-        ensures memory { IfErr result (λ error. error ≡ Error.OutOfMemory) }
+        ensures memory { OnlyOutOfMemory result }
     {
         let size = Size {
             rows: rows.get(),
@@ -83,7 +84,7 @@ impl Screen {
         ensures ok { OnOk result (self.new ≡ resized size.rows size.cols self.old) }
         ensures told { OnOk result (FoldsTo (Told CB.does) callbacks.old (calls_resized size.rows size.cols self.old) callbacks.new) }
         ensures err { OnErr result ((self.new ≡ self.old) × (callbacks.new ≡ callbacks.old)) }
-        ensures memory { IfErr result (λ error. error ≡ Error.OutOfMemory) }
+        ensures memory { OnlyOutOfMemory result }
     {
         if !self.alternate_screen() {
             return self.resize_below(size, callbacks);
@@ -102,7 +103,7 @@ impl Screen {
         ensures ok { OnOk result (self.new ≡ pages_resized size.rows size.cols self.old) }
         ensures told { OnOk result (FoldsTo (Told CB.does) callbacks.old (reports_of false size.rows (Some self.old.page) self.old.scrollback ++ reports_of true size.rows self.old.other (no_scrollback 0)) callbacks.new) }
         ensures err { OnErr result ((self.new ≡ self.old) × (callbacks.new ≡ callbacks.old)) }
-        ensures memory { IfErr result (λ error. error ≡ Error.OutOfMemory) }
+        ensures memory { OnlyOutOfMemory result }
     {
         let fresh = Grid::new(self.alloc, size)?;
         let other_fresh = fresh_page(&self.other, self.alloc, size)?;
@@ -129,7 +130,7 @@ fn fresh_page(page: &Option<Grid>, alloc: Global, size: Size) -> Result<Option<G
     requires rows { 0 < size.rows }
     requires cols { 0 < size.cols }
     ensures ok { IfOk result (λ fresh. fresh ≡ option_map (λ _. blank_page size.rows size.cols) page.now) }
-    ensures memory { IfErr result (λ error. error ≡ Error.OutOfMemory) }
+    ensures memory { OnlyOutOfMemory result }
 {
     match page {
         Some(_) => Ok(Some(Grid::new(alloc, size)?)),

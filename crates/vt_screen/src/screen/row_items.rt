@@ -1,6 +1,7 @@
 //! Texts that redraw the rows of the screen, one by one.
 
-ghost use Rattle.std.specs.Prelude.{◌≡◌, ◌+◌, ◌≤◌, ◌<◌, ◌↔◌, ◌++◌, ℕ, [], IfErr, IfOk, OnOk, false, length, string_bytes};
+ghost use Rattle.std.specs.Prelude.{◌≡◌, ◌+◌, ◌≤◌, ◌<◌, ◌↔◌, ◌++◌, ℕ, [], IfOk, OnOk, false, length, string_bytes};
+ghost use Rattle.vt_cells.specs.Refusals.{OnlyOutOfMemory};
 ghost use Rattle.vt_grid.specs.Page.{SameSize};
 ghost use Rattle.vt_redraw.specs.Items.{CutsNone};
 ghost use Rattle.vt_redraw.specs.Locality.{row_of_picture};
@@ -87,7 +88,7 @@ impl Screen {
 
     /// Says what every screen is; it does nothing.
     #[inline]
-    fn sound(&self)
+    pub(super) fn sound(&self)
         ensures whole { IsScreen self.now }
         ensures colored { IsColored self.now }
     {
@@ -114,7 +115,7 @@ impl Screen {
         requires order { start ≤ stop }
         requires stop { stop ≤ self.now.page.width }
         ensures text { IfOk result (λ text. string_bytes text ≡ formatted_text start stop (shown self.now) row) }
-        ensures memory { IfErr result (λ error. error ≡ Error.OutOfMemory) }
+        ensures memory { OnlyOutOfMemory result }
     {
         let mut text = String::new(self.alloc);
         match self.write_row_formatted(&mut text, row, start, stop) {
@@ -137,7 +138,7 @@ impl Screen {
         requires order { start ≤ stop }
         requires stop { stop ≤ self.now.page.width }
         ensures text { IfOk result (λ text. string_bytes text ≡ changed_text start stop (shown self.now) (shown prev.now) row) }
-        ensures memory { IfErr result (λ error. error ≡ Error.OutOfMemory) }
+        ensures memory { OnlyOutOfMemory result }
     {
         let mut text = String::new(self.alloc);
         match self.write_row_diff(&mut text, prev, row, start, stop) {

@@ -1,7 +1,8 @@
 //! Controls that may scroll rows off the page, and scrollback.
 
-ghost use Rattle.std.specs.Prelude.{◌≡◌, ◌≢◌, IfErr, IfSome, IsErr, OnErr, OnOk, false, length};
+ghost use Rattle.std.specs.Prelude.{◌≡◌, ◌≢◌, IfSome, IsErr, OnErr, OnOk, false, length};
 ghost use Rattle.vt_cells.specs.Glyph.{columns_of};
+ghost use Rattle.vt_cells.specs.Refusals.{OnlyOutOfMemory};
 ghost use Rattle.vt_grid.specs.Scrollback.{ViewTakesMemory};
 ghost use Rattle.vt_screen.specs.Run.{Refuses, Takes, state};
 ghost use Rattle.vt_screen.specs.Screen.{IsPrintable, above_page, scrolled_back};
@@ -28,7 +29,7 @@ impl Screen {
         requires { c ≢ 0xFFFD }
         ensures done { OnOk result (Takes CB.does (state callbacks.old self.old) (step.Print c) (state callbacks.new self.new)) }
         ensures refused { OnErr result (Refuses (state callbacks.old self.old) (step.Print c) (state callbacks.new self.new)) }
-        ensures memory { IfErr result (λ error. error ≡ Error.OutOfMemory) }
+        ensures memory { OnlyOutOfMemory result }
     {
         let width = columns(c);
         let last = self.last_after(c, width);
@@ -70,7 +71,7 @@ impl Screen {
     pub fn lf<CB: Callbacks>(&mut self, callbacks: &mut CB) -> Result<(), Error>
         ensures done { OnOk result (Takes CB.does (state callbacks.old self.old) step.LineFeed (state callbacks.new self.new)) }
         ensures refused { OnErr result (Refuses (state callbacks.old self.old) step.LineFeed (state callbacks.new self.new)) }
-        ensures memory { IfErr result (λ error. error ≡ Error.OutOfMemory) }
+        ensures memory { OnlyOutOfMemory result }
     {
         let mut reporter = Reporter {
             callbacks,
@@ -85,7 +86,7 @@ impl Screen {
     pub fn su<CB: Callbacks>(&mut self, count: u16, callbacks: &mut CB) -> Result<(), Error>
         ensures done { OnOk result (Takes CB.does (state callbacks.old self.old) (step.ScrollUp count) (state callbacks.new self.new)) }
         ensures refused { OnErr result (Refuses (state callbacks.old self.old) (step.ScrollUp count) (state callbacks.new self.new)) }
-        ensures memory { IfErr result (λ error. error ≡ Error.OutOfMemory) }
+        ensures memory { OnlyOutOfMemory result }
     {
         let mut reporter = Reporter {
             callbacks,
@@ -122,7 +123,7 @@ impl Screen {
         ensures ok { OnOk result (self.new ≡ scrolled_back rows self.old) }
         ensures err { OnErr result (self.new ≡ self.old) }
         ensures grows { IsErr result → (self.old.is_alternate ≡ false) × ViewTakesMemory (length self.old.page.rows) self.old.page.width rows self.old.scrollback }
-        ensures memory { IfErr result (λ error. error ≡ Error.OutOfMemory) }
+        ensures memory { OnlyOutOfMemory result }
     {
         if self.is_alternate {
             return Ok(());

@@ -3,7 +3,8 @@
 //! What is shown, which terminals are plain and which pictures are steady, is
 //! said beside the texts that redraw a screen.
 
-ghost use Rattle.std.specs.Prelude.{◌≡◌, ◌++◌, [], IfErr, IfOk, OnOk, string_bytes};
+ghost use Rattle.std.specs.Prelude.{◌≡◌, ◌++◌, [], IfOk, OnOk, string_bytes};
+ghost use Rattle.vt_cells.specs.Refusals.{OnlyOutOfMemory};
 ghost use Rattle.vt_grid.specs.Page.{SameSize};
 ghost use Rattle.vt_redraw.specs.Steady.{IsSteady};
 ghost use Rattle.vt_screen.specs.Screen.{IsColored, IsScreen};
@@ -44,7 +45,7 @@ impl Screen {
         ensures cursor { IfOk result (λ text. IsSteady (shown self.now) → Makes (IsStateReader self.now) (string_bytes text) (HasCursor (shown self.now))) }
         ensures modes { IfOk result (λ text. IsSteady (shown self.now) → Makes (IsStateReader self.now) (string_bytes text) (HasModes self.now.modes)) }
         ensures rest { IfOk result (λ text. IsSteady (shown self.now) → Makes (IsStateReader self.now) (string_bytes text) KeepsRestButModes) }
-        ensures memory { IfErr result (λ error. error ≡ Error.OutOfMemory) }
+        ensures memory { OnlyOutOfMemory result }
     {
         let mut text = String::new(self.alloc);
         match self.write_state_formatted(&mut text) {
@@ -80,7 +81,7 @@ impl Screen {
         ensures rest { IfOk result (λ text. IsSteady (shown self.now) → Makes (IsStateReaderOf self.now prev.now) (string_bytes text) KeepsRestButModes) }
         ensures empty { IfOk result (λ text. IsSteady (shown self.now) → string_bytes text ≡ [] → (shown self.now ≡ shown prev.now) × (self.now.modes ≡ prev.now.modes)) }
         ensures none { IfOk result (λ text. shown self.now ≡ shown prev.now → self.now.modes ≡ prev.now.modes → string_bytes text ≡ []) }
-        ensures memory { IfErr result (λ error. error ≡ Error.OutOfMemory) }
+        ensures memory { OnlyOutOfMemory result }
     {
         let mut text = String::new(self.alloc);
         match self.write_state_diff(&mut text, prev) {

@@ -1,6 +1,7 @@
 -- The prints that are left.
 use Rattle.std.proofs.Common.{◌-◌, replicate}
-use Rattle.vt_screen.specs.Steps.{Print, repeated}
+use Rattle.vt_screen.specs.Controls.{repeated}
+use Rattle.vt_screen.specs.Steps.{Print}
 use Rattle.vt100.proofs.Stepping.{Left}
 use Rattle.vt100.proofs.csi.repeat.Given as goal
 

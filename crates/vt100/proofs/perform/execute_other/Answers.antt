@@ -1,7 +1,7 @@
 -- The bell, and controls that are not known.
 use Rattle.std.proofs.Common.{arith}
 use Rattle.vt_screen.specs.Calls.{AudibleBell, UnhandledControl}
-use Rattle.vt_screen.specs.Steps.{control_steps}
+use Rattle.vt_screen.specs.Controls.{control_steps}
 use Rattle.vt100.proofs.Deciding.{control_low, control_high}
 use Rattle.vt100.proofs.Stepping.{told}
 use Rattle.vt100.proofs.perform.execute_other.Goals as goal

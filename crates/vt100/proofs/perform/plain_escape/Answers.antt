@@ -1,6 +1,6 @@
 -- The visual bell.
 use Rattle.vt_screen.specs.Calls.{VisualBell}
-use Rattle.vt_screen.specs.Steps.{escape_steps}
+use Rattle.vt_screen.specs.Controls.{escape_steps}
 use Rattle.vt100.proofs.Stepping.{told}
 use Rattle.vt100.proofs.perform.plain_escape.Goals as goal
 

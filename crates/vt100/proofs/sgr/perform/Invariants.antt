@@ -1,6 +1,6 @@
 -- The groups from here on are left.
 use Rattle.std.proofs.Common.{drop, map}
-use Rattle.vt_screen.specs.Steps.{sgr_from, sgr_steps}
+use Rattle.vt_screen.specs.Controls.{sgr_from, sgr_steps}
 use Rattle.vt100.proofs.Stepping.{Rest}
 use Rattle.vt100.proofs.sgr.perform.Given as goal
 

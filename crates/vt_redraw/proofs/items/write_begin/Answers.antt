@@ -1,6 +1,6 @@
 use Rattle.std.proofs.Common.{◌+◌, ◌++◌, drop, refl, ap, sym, ◌∙◌, arith}
 use Rattle.vt_cells.specs.Op.{bytes_of_all}
-use Rattle.vt_redraw.specs.Script.{doing, erase_run, pen_at, run}
+use Rattle.vt_redraw.specs.Script.{doing, erase_run, pen_at, blank_run}
 use Rattle.vt_cells.specs.Cell.{is_right_half}
 use Rattle.vt_redraw.proofs.CellSteps.{half_stands, half_erased}
 use Rattle.vt_redraw.proofs.items.write_begin.Goals as goal
@@ -32,6 +32,6 @@ returns g c =
     half_erased c.args.pos.row col n (n + 1) c.args.pen.now c.write_run.new.pen c.args.flag.now c.flag_past.result xs ys (text c.args.sink.now) (text c.write_run.new.sink) (omega arith) c.requires.range.inside
     (ap is_right_half (sym c.cell.ensures) ∙ (sym c.is_wide_continuation.ensures ∙ c.if-not-is_wide_continuation.false))
     (ap is_right_half (sym c.cell-2.ensures) ∙ (sym c.is_wide_continuation-2.ensures ∙ c.if-is_wide_continuation.false))
-    (c.run-count.ensures.value ∙ ap (λ a. run a (drop (col + 1) xs)) c.new-attrs.ensures) refl
+    (c.run-count.ensures.value ∙ ap (λ a. blank_run a (drop (col + 1) xs)) c.new-attrs.ensures) refl
     (c.in_ok-write_run.ensures.text ∙ ap (λ a. text c.args.sink.now ++ bytes_of_all (doing c.args.pen.now c.args.pos.row col a (erase_run (n + 1) (drop (col + (n + 1)) ys)))) c.new-attrs.ensures)
     (c.in_ok-write_run.ensures.pen ∙ ap (λ a. pen_at c.args.pos.row col a) c.new-attrs.ensures) c.flag_past.ensures

@@ -8,7 +8,7 @@ use Rattle.vt_rows.specs.Cells.{blanks}
 use Rattle.vt_rows.specs.Row.{RowValue}
 use Rattle.vt_redraw.specs.Items.{range_written}
 use Rattle.vt_redraw.specs.Keeping.{IsRange}
-use Rattle.vt_redraw.specs.Script.{Written, pen_at}
+use Rattle.vt_redraw.specs.Script.{Scripted, pen_at}
 use Rattle.vt_redraw.proofs.ItemSteps.{range_taken, range_wrote}
 use Rattle.vt_redraw.proofs.items.write_over_blanks.Goals as goal
 
@@ -29,7 +29,7 @@ returns g c =
     let over = ap (λ (z : RowValue). z.cells) c.blank-over.ensures ∙ ap (blanks default_attrs) c.cols.ensures in
     on_ok_weaker c.write_range.result
     (λ more. more
-    ∙ (ap (λ (w : Written). text c.args.sink.now ++ bytes_of_all w.ops)
+    ∙ (ap (λ (w : Scripted). text c.args.sink.now ++ bytes_of_all w.ops)
     (range_wrote r start stop (pen_at r start c.new.result) false c.up_to.result.cells xs c.blank-over.result.cells c.requires.order c.up_to.ensures.cells (ap (λ (a : Attrs). pen_at r start a) c.new.ensures))
     ∙ ap (λ (zs : List CellValue). text c.args.sink.now ++ bytes_of_all (range_written r start stop false xs zs).ops) over))
     c.write_range.ensures.text

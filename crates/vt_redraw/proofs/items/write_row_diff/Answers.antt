@@ -7,7 +7,7 @@ use Rattle.vt_grid.specs.Page.{row_or}
 use Rattle.vt_rows.specs.Row.{RowValue}
 use Rattle.vt_redraw.specs.Items.{begun, begun_over, item_of_difference, range_written}
 use Rattle.vt_redraw.specs.Keeping.{IsRange}
-use Rattle.vt_redraw.specs.Script.{Written, cells_written, pen_at}
+use Rattle.vt_redraw.specs.Script.{Scripted, cells_written, pen_at}
 use Rattle.vt_redraw.proofs.ItemSteps.{range_taken, range_wrote, part_item, whole_item}
 use Rattle.vt_redraw.proofs.items.write_row_diff.Goals as goal
 
@@ -29,7 +29,7 @@ returns-then-not-is_whole g c =
     let pen = pen_at r start c.new.result in
     let flag = c.wrapped-flag.result in
     let cut = c.up_to.result.cells in
-    let w : Written = cells_written r start pen flag 0 (begun (drop start cut)) (begun_over (drop start cut) (drop start y.cells)) in
+    let w : Scripted = cells_written r start pen flag 0 (begun (drop start cut)) (begun_over (drop start cut) (drop start y.cells)) in
     let e : w ≡ range_written r start stop y.wrapped x.cells y.cells =
     range_wrote r start stop pen flag cut x.cells y.cells c.requires.order c.up_to.ensures.cells (ap (λ (a : Attrs). pen_at r start a) c.new.ensures)
     ∙ ap (λ b. range_written r start stop b x.cells y.cells) c.wrapped-flag.ensures in
@@ -49,7 +49,7 @@ returns g c =
     let pen = pen_at r start c.new.result in
     let flag = c.wrapped-flag.result in
     let cut = c.up_to.result.cells in
-    let w : Written = cells_written r start pen flag 0 (begun (drop start cut)) (begun_over (drop start cut) (drop start y.cells)) in
+    let w : Scripted = cells_written r start pen flag 0 (begun (drop start cut)) (begun_over (drop start cut) (drop start y.cells)) in
     let e : w ≡ range_written r start stop y.wrapped x.cells y.cells =
     range_wrote r start stop pen flag cut x.cells y.cells c.requires.order c.up_to.ensures.cells (ap (λ (a : Attrs). pen_at r start a) c.new.ensures)
     ∙ ap (λ b. range_written r start stop b x.cells y.cells) c.wrapped-flag.ensures in

@@ -2,7 +2,7 @@
 use Rattle.std.proofs.Common.{◌≡◌, ◌<◌, ap, arith, get_or, length, rules, take, drop}
 use Rattle.std.proofs.lemmas.List.{length-take}
 use Rattle.vt_scan.specs.Keeping.{groups_from}
-use Rattle.vt_scan.specs.Parameters.{Table}
+use Rattle.vt_scan.specs.Parameters.{GroupTable}
 use Rattle.vt_scan.proofs.Rows.{Ascends-below, length-groups_from, next_rises}
 use Rattle.vt_scan.proofs.parameters.Parameters.lend.Goals as goal
 
@@ -22,5 +22,5 @@ slice_bounds-push-end c =
 pub returns-then-self-ge-MAX_FEW-clause-few : goal.returns-then-self-ge-MAX_FEW-clause-few
 returns-then-self-ge-MAX_FEW-clause-few c =
     let p = c.self.inside in
-    let all : groups_from 0 (take p.closed p.ends) p.len p.numbers ≡ c.args.self.now.groups = ap (λ (t : Table). t.groups) c.self.view_is in
+    let all : groups_from 0 (take p.closed p.ends) p.len p.numbers ≡ c.args.self.now.groups = ap (λ (t : GroupTable). t.groups) c.self.view_is in
     (λ f. cc, λ few. absurd (omega (arith, c.self.told, length-groups_from 0 (take p.closed p.ends) p.len p.numbers, ap length all, length-take p.closed p.ends, c.if-self-ge-MAX_FEW.true, few)))

@@ -1,0 +1,269 @@
+-- The steps of each event: which bytes are which control.
+use Rattle.std.specs.Prelude.{ℕ, ◌-◌, ◌==◌, ◌&&◌, ◌||◌, not, nat_lt, nat_le, Bool, true, false, List, [], ◌∷◌, ◌++◌, length, replicate, slice_index_or, slice_get, Option, Some, None, codes, if◌then◌else◌}
+use Rattle.std.specs.List.{list_all, list_any}
+use Rattle.vt_cells.specs.declared.modes.MouseProtocolMode.{MouseProtocolMode}
+use Rattle.vt_cells.specs.declared.modes.MouseProtocolMode.TheVariants as mouse
+use Rattle.vt_cells.specs.declared.modes.MouseProtocolEncoding.{MouseProtocolEncoding}
+use Rattle.vt_cells.specs.declared.modes.MouseProtocolEncoding.TheVariants as encoding
+use Rattle.vt_cells.specs.declared.modes.CursorStyle.{CursorStyle}
+use Rattle.vt_cells.specs.declared.modes.CursorStyle.TheVariants as style
+use Rattle.vt_scan.specs.Automaton.{Event, Character, Executed, EscDispatch, CsiDispatch, OscDispatch}
+use Rattle.vt_screen.specs.Calls.{CallValue, AudibleBell, VisualBell, Resize, SetWindowIconName, SetWindowTitle, CopyToClipboard, PasteFromClipboard, UnhandledChar, UnhandledControl, UnhandledEscape, UnhandledCsi, UnhandledOsc}
+use Rattle.vt_screen.specs.Sgr.{group_read}
+use Rattle.vt_screen.specs.Screen.{ScreenValue}
+use Rattle.vt_screen.specs.declared.sgr.Wanted.{Wanted}
+use Rattle.vt_screen.specs.declared.sgr.Wanted.TheVariants.{Any}
+use Rattle.vt_screen.specs.declared.sgr.Reading.{Reading}
+use Rattle.vt_screen.specs.declared.sgr.Reading.TheVariants.{Silent, Set, Unhandled}
+use Rattle.vt_screen.specs.Steps.{Print, CarriageReturn, LineFeed, ReverseIndex, MoveUp, MoveDown, MoveRight, MoveLeft, NextLine, PreviousLine, Tab, MoveTo, MoveToColumn, MoveToRow, SetRegion, UseOrigin, SaveCursor, RestoreCursor, EnterAlternate, EnterFresh, LeaveAlternate, LeaveRestoring, Reset, EraseBelow, EraseAbove, ErasePage, EraseScrollback, EraseRest, EraseStart, EraseRow, EraseChars, InsertChars, DeleteChars, InsertLines, DeleteLines, ScrollUp, ScrollDown, Render, HideCursor, UseApplicationKeypad, UseApplicationCursor, UseBracketedPaste, SetMouseMode, ClearMouseMode, SetMouseEncoding, ClearMouseEncoding, SetCursorStyle, Tell, Step}
+
+-- ---- numbers
+
+-- the first number of a group, 0 where there is none
+abbrev pub number_at : ℕ → List (List ℕ) → ℕ
+number_at i groups = slice_index_or (slice_index_or groups i []) 0 0
+
+-- the same, with a default for 0
+abbrev pub number_or : ℕ → ℕ → List (List ℕ) → ℕ
+number_or default i groups = if number_at i groups == 0 then default else number_at i groups
+
+abbrev pub mark_at : ℕ → List ℕ → Option ℕ
+mark_at i marks = slice_get marks i
+
+-- ---- the steps of each kind of event
+
+-- U+0080 to U+009F and U+FFFD are reported, all others are printed
+unfoldable pub character_steps : ℕ → List Step
+character_steps c =
+    if (c == 0xFFFD) || (nat_le 0x80 c && nat_le c 0x9F) then Tell (UnhandledChar c) ∷ [] else Print c ∷ []
+
+-- BEL, BS, HT, LF, VT, FF, CR; SO and SI do nothing
+unfoldable pub control_steps : ℕ → List Step
+control_steps b =
+    if b == 0x07 then Tell AudibleBell ∷ []
+    else if b == 0x08 then MoveLeft 1 ∷ []
+    else if b == 0x09 then Tab ∷ []
+    else if nat_le 0x0A b && nat_le b 0x0C then LineFeed ∷ []
+    else if b == 0x0D then CarriageReturn ∷ []
+    else if (b == 0x0E) || (b == 0x0F) then []
+    else Tell (UnhandledControl b) ∷ []
+
+-- DECSC, DECRC, DECKPAM, DECKPNM, RI, RIS, and xterm's visual bell
+unfoldable pub escape_steps : List ℕ → ℕ → List Step
+escape_steps [] b =
+    if b == 0x37 then SaveCursor ∷ []
+    else if b == 0x38 then RestoreCursor ∷ []
+    else if b == 0x3D then UseApplicationKeypad true ∷ []
+    else if b == 0x3E then UseApplicationKeypad false ∷ []
+    else if b == 0x4D then ReverseIndex ∷ []
+    else if b == 0x63 then Reset ∷ []
+    else if b == 0x67 then Tell VisualBell ∷ []
+    else Tell (UnhandledEscape None None b) ∷ []
+escape_steps (mark ∷ marks) b = Tell (UnhandledEscape (Some mark) (mark_at 0 marks) b) ∷ []
+
+-- SGR, each group with what the one before made of it
+abbrev pub reading_steps : List (List ℕ) → Reading → List Step
+reading_steps groups Silent = []
+reading_steps groups (Set setting) = Render setting ∷ []
+reading_steps groups Unhandled = Tell (UnhandledCsi None None groups 0x6D) ∷ []
+
+abbrev pub sgr_from : List (List ℕ) → Wanted → List (List ℕ) → List Step
+sgr_from groups wanted [] = []
+sgr_from groups wanted (group ∷ rest) =
+    let read = group_read wanted group in reading_steps groups read.reading ++ sgr_from groups read.wanted rest
+
+abbrev pub sgr_steps : List (List ℕ) → List Step
+sgr_steps groups = sgr_from groups Any groups
+
+-- ED and EL; a number that they don't have is reported
+unfoldable pub page_erasing : CallValue → ℕ → List Step
+page_erasing report n =
+    if n == 0 then EraseBelow ∷ []
+    else if n == 1 then EraseAbove ∷ []
+    else if n == 2 then ErasePage ∷ []
+    else if n == 3 then EraseScrollback ∷ []
+    else Tell report ∷ []
+
+unfoldable pub row_erasing : CallValue → ℕ → List Step
+row_erasing report n =
+    if n == 0 then EraseRest ∷ []
+    else if n == 1 then EraseStart ∷ []
+    else if n == 2 then EraseRow ∷ []
+    else Tell report ∷ []
+
+-- a size that a program asks for; the screen's own where a group is missing
+abbrev pub size_or : ℕ → ℕ → List (List ℕ) → ℕ
+size_or own i groups = if nat_lt i (length groups) then number_at i groups else own
+
+unfoldable pub window_steps : List (List ℕ) → ScreenValue → List Step
+window_steps groups screen =
+    if number_at 0 groups == 8
+    then Tell (Resize (size_or (length screen.page.rows) 1 groups) (size_or screen.page.width 2 groups)) ∷ []
+    else Tell (UnhandledCsi None None groups 0x74) ∷ []
+
+abbrev pub repeated : ℕ → Option ℕ → List Step
+repeated n (Some c) = replicate n (Print c)
+repeated n None = []
+
+-- the step of a control sequence with one count, at least 1
+unfoldable pub counted_step : ℕ → ℕ → Option Step
+counted_step b n =
+    if b == 0x40 then Some (InsertChars n)
+    else if b == 0x41 then Some (MoveUp n)
+    else if b == 0x42 then Some (MoveDown n)
+    else if b == 0x43 then Some (MoveRight n)
+    else if b == 0x44 then Some (MoveLeft n)
+    else if b == 0x45 then Some (NextLine n)
+    else if b == 0x46 then Some (PreviousLine n)
+    else if (b == 0x47) || (b == 0x60) then Some (MoveToColumn (n - 1))
+    else if b == 0x4C then Some (InsertLines n)
+    else if b == 0x4D then Some (DeleteLines n)
+    else if b == 0x50 then Some (DeleteChars n)
+    else if b == 0x54 then Some (ScrollDown n)
+    else if b == 0x58 then Some (EraseChars n)
+    else if b == 0x64 then Some (MoveToRow (n - 1))
+    else None
+
+-- other control sequences without a marker or an intermediate; rows and columns are counted from 1
+unfoldable pub other_steps : List (List ℕ) → ℕ → ScreenValue → List Step
+other_steps groups b screen =
+    if (b == 0x48) || (b == 0x66) then MoveTo (number_or 1 0 groups - 1) (number_or 1 1 groups - 1) ∷ []
+    else if b == 0x4A then page_erasing (UnhandledCsi None None groups b) (number_at 0 groups)
+    else if b == 0x4B then row_erasing (UnhandledCsi None None groups b) (number_at 0 groups)
+    else if b == 0x6D then sgr_steps groups
+    else if b == 0x72 then SetRegion (number_or 1 0 groups - 1) (number_or (length screen.page.rows) 1 groups - 1) ∷ []
+    else if b == 0x74 then window_steps groups screen
+    else Tell (UnhandledCsi None None groups b) ∷ []
+
+-- those that may scroll rows off the page
+unfoldable pub scrolling_steps : List (List ℕ) → ℕ → ScreenValue → List Step
+scrolling_steps groups b screen =
+    if b == 0x53 then ScrollUp (number_or 1 0 groups) ∷ []
+    else if b == 0x62 then repeated (number_or 1 0 groups) screen.last
+    else other_steps groups b screen
+
+abbrev pub one_or : Option Step → List Step → List Step
+one_or (Some step) others = step ∷ []
+one_or None others = others
+
+-- control sequences without a marker or an intermediate
+abbrev pub plain_steps : List (List ℕ) → ℕ → ScreenValue → List Step
+plain_steps groups b screen = one_or (counted_step b (number_or 1 0 groups)) (scrolling_steps groups b screen)
+
+-- DECSCUSR's numbers
+unfoldable pub style_of : ℕ → Option CursorStyle
+style_of n =
+    if n == 0 then Some style.Default
+    else if n == 1 then Some style.BlinkBlock
+    else if n == 2 then Some style.SteadyBlock
+    else if n == 3 then Some style.BlinkUnderline
+    else if n == 4 then Some style.SteadyUnderline
+    else if n == 5 then Some style.BlinkVerticalBar
+    else if n == 6 then Some style.SteadyVerticalBar
+    else None
+
+abbrev pub style_steps : CallValue → Option CursorStyle → List Step
+style_steps report (Some look) = SetCursorStyle look ∷ []
+style_steps report None = Tell report ∷ []
+
+abbrev pub mouse_step : Bool → MouseProtocolMode → Step
+mouse_step on mode = if on then SetMouseMode mode else ClearMouseMode mode
+
+abbrev pub encoding_step : Bool → MouseProtocolEncoding → Step
+encoding_step on form = if on then SetMouseEncoding form else ClearMouseEncoding form
+
+abbrev pub alternate_step : Bool → Step
+alternate_step on = if on then EnterAlternate else LeaveAlternate
+
+abbrev pub fresh_alternate_step : Bool → Step
+fresh_alternate_step on = if on then EnterFresh else LeaveRestoring
+
+-- a private mode of one number, or an unknown one
+unfoldable pub mode_step : Bool → CallValue → ℕ → List Step
+mode_step on report n =
+    if n == 1 then UseApplicationCursor on ∷ []
+    else if n == 6 then UseOrigin on ∷ []
+    else if n == 9 then mouse_step on mouse.Press ∷ []
+    else if n == 25 then HideCursor (not on) ∷ []
+    else if n == 47 then alternate_step on ∷ []
+    else if n == 1000 then mouse_step on mouse.PressRelease ∷ []
+    else if n == 1002 then mouse_step on mouse.ButtonMotion ∷ []
+    else if n == 1003 then mouse_step on mouse.AnyMotion ∷ []
+    else if n == 1005 then encoding_step on encoding.Utf8 ∷ []
+    else if n == 1006 then encoding_step on encoding.Sgr ∷ []
+    else if n == 1049 then fresh_alternate_step on ∷ []
+    else if n == 2004 then UseBracketedPaste on ∷ []
+    else Tell report ∷ []
+
+abbrev pub mode_steps : Bool → CallValue → List (List ℕ) → List Step
+mode_steps on report [] = []
+mode_steps on report ((n ∷ []) ∷ groups) = mode_step on report n ++ mode_steps on report groups
+mode_steps on report (_ ∷ groups) = Tell report ∷ mode_steps on report groups
+
+-- control sequences behind `?`
+unfoldable pub private_steps : Option ℕ → List (List ℕ) → ℕ → List Step
+private_steps second groups b =
+    let report = UnhandledCsi (Some 0x3F) second groups b in
+    if b == 0x4A then page_erasing report (number_at 0 groups)
+    else if b == 0x4B then row_erasing report (number_at 0 groups)
+    else if b == 0x68 then mode_steps true report groups
+    else if b == 0x6C then mode_steps false report groups
+    else Tell report ∷ []
+
+-- control sequences behind a space
+unfoldable pub space_steps : Option ℕ → List (List ℕ) → ℕ → List Step
+space_steps second groups b =
+    if b == 0x71 then style_steps (UnhandledCsi (Some 0x20) second groups b) (style_of (number_at 0 groups))
+    else Tell (UnhandledCsi None None groups b) ∷ []
+
+unfoldable pub marked_steps : ℕ → Option ℕ → List (List ℕ) → ℕ → List Step
+marked_steps mark second groups b =
+    if mark == 0x3F then private_steps second groups b
+    else if mark == 0x20 then space_steps second groups b
+    else Tell (UnhandledCsi (Some mark) second groups b) ∷ []
+
+abbrev pub csi_steps : List (List ℕ) → List ℕ → ℕ → ScreenValue → List Step
+csi_steps groups [] b screen = plain_steps groups b screen
+csi_steps groups (mark ∷ marks) b screen = marked_steps mark (mark_at 0 marks) groups b
+
+-- operating system commands: titles, and the clipboard (xterm's 0, 1, 2 and 52)
+abbrev pub is_clipboard_kind : List ℕ → Bool
+is_clipboard_kind kind = list_all (λ b. list_any (λ c. c == b) (codes "cpqs01234567")) kind
+
+abbrev pub is_base64 : ℕ → Bool
+is_base64 b =
+    (nat_le 0x41 b && nat_le b 0x5A) || ((nat_le 0x61 b && nat_le b 0x7A) || ((nat_le 0x30 b && nat_le b 0x39)
+    || ((b == 0x2B) || ((b == 0x2F) || (b == 0x3D)))))
+
+abbrev pub same_bytes : List ℕ → List ℕ → Bool
+same_bytes [] [] = true
+same_bytes (b ∷ bs) (c ∷ cs) = (b == c) && same_bytes bs cs
+same_bytes _ _ = false
+
+unfoldable pub named_steps : List ℕ → List ℕ → List Step
+named_steps name text =
+    if same_bytes name (codes "0") then Tell (SetWindowIconName text) ∷ Tell (SetWindowTitle text) ∷ []
+    else if same_bytes name (codes "1") then Tell (SetWindowIconName text) ∷ []
+    else if same_bytes name (codes "2") then Tell (SetWindowTitle text) ∷ []
+    else Tell (UnhandledOsc (name ∷ text ∷ [])) ∷ []
+
+unfoldable pub clipboard_steps : List ℕ → List ℕ → List ℕ → List Step
+clipboard_steps name kind text =
+    if same_bytes name (codes "52") && is_clipboard_kind kind
+    then (if same_bytes text (codes "?") then Tell (PasteFromClipboard kind) ∷ []
+    else if list_all is_base64 text then Tell (CopyToClipboard kind text) ∷ []
+    else Tell (UnhandledOsc (name ∷ kind ∷ text ∷ [])) ∷ [])
+    else Tell (UnhandledOsc (name ∷ kind ∷ text ∷ [])) ∷ []
+
+abbrev pub osc_steps : List (List ℕ) → List Step
+osc_steps (name ∷ text ∷ []) = named_steps name text
+osc_steps (name ∷ kind ∷ text ∷ []) = clipboard_steps name kind text
+osc_steps parts = Tell (UnhandledOsc parts) ∷ []
+
+-- the steps of an event; of the screen they see its size and its last character
+abbrev pub steps_of : Event → ScreenValue → List Step
+steps_of (Character c) screen = character_steps c
+steps_of (Executed b) screen = control_steps b
+steps_of (EscDispatch marks b) screen = escape_steps marks b
+steps_of (CsiDispatch groups marks b) screen = csi_steps groups marks b screen
+steps_of (OscDispatch parts) screen = osc_steps parts
