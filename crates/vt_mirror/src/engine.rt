@@ -16,8 +16,8 @@ const BUFFER_SIZE: usize = 8192;
 /// Reads the input to its end into a mirror of this size without scrollback
 /// that has one viewer, and writes the text of that viewer's update at the
 /// start, after every `every` bytes, and at the end. Each text is flushed, so
-/// that a terminal of this size that reads what is written shows the screen as
-/// it was at the last update.
+/// that a fresh terminal of this size that reads what is written shows the
+/// screen as it was at the last update.
 ///
 /// Any error of a read is `Read`, an interrupted one as well; any error of
 /// writing or flushing is `Write`. What was written before a fault stays.

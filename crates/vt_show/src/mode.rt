@@ -6,7 +6,7 @@ pub enum Mode {
     /// The text, without attributes.
     Plain,
 
-    /// The redraw, which shows the screen on any terminal of its size.
+    /// The redraw, which shows the screen on a fresh terminal of its size.
     Formatted,
 
     /// The text and its attributes, and nothing else.
