@@ -156,3 +156,22 @@ one_byte [] t one same = absurd (omega (arith, one))
 one_byte (x ∷ z ∷ s) t one same = absurd (omega (arith, one))
 one_byte (x ∷ []) [] one same = absurd (omega (arith, same))
 one_byte (x ∷ []) (y ∷ z ∷ t) one same = absurd (omega (arith, same))
+
+three_parts : (p q r : Bool) → ((p && q) && r) ≡ (p && (q && (r && true)))
+three_parts true true true = refl
+three_parts true true false = refl
+three_parts true false r = refl
+three_parts false q r = refl
+
+-- and of three
+pub three_bytes : (s t : List ℕ) → 3 ≡ length s → length s ≡ length t
+    → (((slice_index_or s 0 0 == slice_index_or t 0 0) && (slice_index_or s 1 0 == slice_index_or t 1 0)) && (slice_index_or s 2 0 == slice_index_or t 2 0)) ≡ bytes_eq s t
+three_bytes (a ∷ b ∷ c ∷ []) (x ∷ y ∷ z ∷ []) three same = three_parts (a == x) (b == y) (c == z)
+three_bytes [] t three same = absurd (omega (arith, three))
+three_bytes (a ∷ []) t three same = absurd (omega (arith, three))
+three_bytes (a ∷ b ∷ []) t three same = absurd (omega (arith, three))
+three_bytes (a ∷ b ∷ c ∷ d ∷ s) t three same = absurd (omega (arith, three))
+three_bytes (a ∷ b ∷ c ∷ []) [] three same = absurd (omega (arith, same))
+three_bytes (a ∷ b ∷ c ∷ []) (x ∷ []) three same = absurd (omega (arith, same))
+three_bytes (a ∷ b ∷ c ∷ []) (x ∷ y ∷ []) three same = absurd (omega (arith, same))
+three_bytes (a ∷ b ∷ c ∷ []) (x ∷ y ∷ z ∷ w ∷ t) three same = absurd (omega (arith, same))

@@ -113,6 +113,16 @@ impl Cell {
         }
     }
 
+    /// Makes the cell a copy of another one, in place.
+    #[inline]
+    pub fn set(&mut self, other: &Cell)
+        ensures { self.new ≡ other.now }
+    {
+        self.attrs = other.attrs;
+        self.contents = other.contents;
+        self.shape = other.shape;
+    }
+
     /// Makes the cell a blank with these attributes.
     #[inline]
     pub fn clear(&mut self, attrs: Attrs)
@@ -271,8 +281,8 @@ impl Cell {
         self.shape.is_same(&other.shape)
     }
 
-    /// Whether both have the same text, of one length. Texts of one byte are
-    /// compared without a call.
+    /// Whether both have the same text, of one length. Texts of one byte, and
+    /// of three as of most wide glyphs, are compared without a call.
     #[inline]
     fn has_text_of(&self, other: &Cell) -> bool
         requires { length (text_of self.now) ≡ length (text_of other.now) }
@@ -281,8 +291,22 @@ impl Cell {
         match self.text_len() {
             0 => true,
             1 => self.contents().as_bytes()[0] == other.contents().as_bytes()[0],
+            3 => self.has_three_bytes_of(other),
             _ => self.has_bytes_of(other),
         }
+    }
+
+    /// The same test, where both have three bytes.
+    #[inline]
+    #[tactic(auto, using(crate::proofs::SameCells::three_bytes))]
+    fn has_three_bytes_of(&self, other: &Cell) -> bool
+        requires three { 3 ≡ length (text_of self.now) }
+        requires same { length (text_of self.now) ≡ length (text_of other.now) }
+        ensures { result ≡ bytes_eq (text_of self.now) (text_of other.now) }
+    {
+        let own = self.contents().as_bytes();
+        let others = other.contents().as_bytes();
+        (own[0] == others[0]) & (own[1] == others[1]) & (own[2] == others[2])
     }
 
     /// The same test, of each byte.

@@ -17,3 +17,4 @@ pub mod Outside
 pub mod OnePieces
 pub mod CutRows
 pub mod CaptureExamples
+pub mod Copying

@@ -1,7 +1,6 @@
 //! Copies of cells.
 
-ghost use Rattle.std.specs.Prelude.{◌≡◌, ◌≤◌, ◌+◌, ◌++◌, IfOk, length, vec_capacity, vec_len};
-ghost use Rattle.vt_cells.specs.Refusals.{OnlyOutOfMemory};
+ghost use Rattle.std.specs.Prelude.{◌≡◌, ◌<◌, ◌≤◌, ◌+◌, ◌++◌, [], ◌∷◌, IfErr, IfOk, length, vec_capacity, vec_len};
 
 use std::alloc::Global;
 use vt_cells::{Cell, Error};
@@ -24,6 +23,19 @@ pub fn push_copies(cells: &mut Vec<Cell>, from: &[Cell])
     ensures { cells.new.items ≡ cells.old.items ++ from.now }
 {
     for k in 0..from.len() {
-        cells.push_reserved(from[k].copied());
+        push_copy(cells, &from[k]);
     }
+}
+
+/// Appends a copy of a cell, for which there is room. A blank is appended and
+/// then set, so that the copy is made where it lies.
+#[inline(always)]
+fn push_copy(cells: &mut Vec<Cell>, from: &Cell)
+    requires { vec_len cells.old < vec_capacity cells.old }
+    ensures items { cells.new.items ≡ cells.old.items ++ from.now ∷ [] }
+    ensures capacity { vec_capacity cells.new ≡ vec_capacity cells.old }
+{
+    let last = cells.len();
+    cells.push_reserved(Cell::new());
+    cells[last].set(from);
 }

@@ -1,5 +1,4 @@
 use Rattle.std.proofs.Common.{◌∙◌, ◌+◌, rules, sym, ap, arith}
-use Rattle.vt_cells.proofs.Pieces.{nothing_gathered}
 use Rattle.vt_cells.specs.PieceKeeping.{gathered}
 use Rattle.vt_redraw.specs.Keeping.{cells_from}
 use Rattle.vt_redraw.proofs.CellSteps.{leads_then, leads_text, passes_cell, passes_leads, passes_then, cells_end}
