@@ -1,6 +1,7 @@
 //! Copies of cells.
 
-ghost use Rattle.std.specs.Prelude.{◌≡◌, ◌<◌, ◌≤◌, ◌+◌, ◌++◌, [], ◌∷◌, IfErr, IfOk, length, vec_capacity, vec_len};
+ghost use Rattle.std.specs.Prelude.{◌≡◌, ◌<◌, ◌≤◌, ◌+◌, ◌++◌, [], ◌∷◌, IfOk, length, vec_capacity, vec_len};
+ghost use Rattle.vt_cells.specs.Refusals.{OnlyOutOfMemory};
 
 use std::alloc::Global;
 use vt_cells::{Cell, Error};
