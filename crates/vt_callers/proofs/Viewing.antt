@@ -1,5 +1,5 @@
 -- A viewer that joins late, by the law on all viewers.
-use Rattle.std.proofs.Common.{◌≡◌, ℕ, Global, List, [], ◌∷◌, ◌++◌, Some, None, refl, sym, ap, subst, ◌∙◌}
+use Rattle.std.proofs.Common.{◌≡◌, ℕ, Global, List, [], ◌∷◌, Some, None, refl, sym, ap, subst, ◌∙◌}
 use Rattle.std.proofs.lemmas.List.{append-nil}
 use Rattle.std.specs.Prelude.{Result, Ok, String, string_bytes}
 use Rattle.std.specs.List.{FoldsTo}
