@@ -1,0 +1,175 @@
+//! `example_recorder ROWS COLS [--colors]`: reads what a program wrote to its terminal, and writes a
+//! log of what it showed there: each row as it leaves the screen at its top, and at the end the rows
+//! that the screen shows then.
+//!
+//! Rows are written as they leave, so a long recording takes no more memory than a short one. A row
+//! that goes on in the next one is written with it as one line.
+#![tactic(auto)]
+
+ghost use Rattle.std.specs.Io.KnownBytes.{IsAtEnd};
+ghost use Rattle.std.specs.Prelude.{OnOk};
+
+use anyhow::{Result, bail};
+use std::alloc::Global;
+use std::io::{Read, Write};
+use std::num::NonZeroU16;
+use std::process::ExitCode;
+use std::{env, io};
+use vt100::capture::{
+    BasicFormattedCaptureRange, BasicFormattedCaptureState, RowContents, basic_formatted_to_plain,
+};
+use vt100::{Call, Callbacks, Parser, Screen};
+
+/// How many bytes are read at once.
+const BUFFER_SIZE: usize = 8192;
+
+/// What the words after the program's name ask for.
+#[derive(Clone, Copy)]
+struct Settings {
+    rows: NonZeroU16,
+    cols: NonZeroU16,
+    keeps_colors: bool,
+}
+
+/// The settings that these words ask for; `None` for wrong words.
+fn read_words(words: &[String]) -> Option<Settings> {
+    let (rows, cols, keeps_colors) = match words {
+        [rows, cols] => (rows, cols, false),
+        [rows, cols, option] if option.as_str() == "--colors" => (rows, cols, true),
+        _ => return None,
+    };
+    Some(Settings {
+        rows: rows.parse::<NonZeroU16>().ok()?,
+        cols: cols.parse::<NonZeroU16>().ok()?,
+        keeps_colors,
+    })
+}
+
+/// The part of the log that is still to be written.
+#[derive(Drop)]
+struct Log {
+    text: String,
+    /// What the text of the next row depends on: whether a line end comes first, and which
+    /// attributes were written last.
+    state: BasicFormattedCaptureState,
+    /// Whether memory for a row was refused.
+    has_gap: bool,
+}
+
+impl Log {
+    fn new(alloc: Global) -> Self {
+        Log {
+            text: String::new(alloc),
+            state: BasicFormattedCaptureState::new(),
+            has_gap: false,
+        }
+    }
+}
+
+/// Rows that leave the main page are logged. The alternate page is that of full-screen programs, which
+/// write their rows again and again.
+impl Callbacks for Log {
+    ghost use Rattle.std.specs.Prelude.{◌≡◌};
+
+    // The screen stays as it is.
+    ghost does = { λ _ _ before _ after. after ≡ before };
+
+    fn otherwise(&mut self, _screen: &mut Screen, _call: Call<'_>) {}
+
+    fn on_scroll(&mut self, row: RowContents<'_>, alternate: bool) {
+        if alternate {
+            return;
+        }
+        if row
+            .write_formatted_basic(&mut self.text, &mut self.state)
+            .is_err()
+        {
+            self.has_gap = true;
+        }
+    }
+}
+
+/// Writes a text of rows, as it is or without its colours.
+fn write_text<W: Write>(writer: &mut W, text: &str, keeps_colors: bool) -> Result<()> {
+    if keeps_colors {
+        writer.write_all(text.as_bytes())?;
+        return Ok(());
+    }
+    for piece in basic_formatted_to_plain(text) {
+        writer.write_all(piece.as_bytes())?;
+    }
+    Ok(())
+}
+
+/// Writes the rows that left since the last call.
+fn write_rows<W: Write>(log: &mut Log, writer: &mut W, keeps_colors: bool) -> Result<()> {
+    if log.has_gap {
+        bail!("out of memory");
+    }
+    write_text(writer, log.text.as_str(), keeps_colors)?;
+    writer.flush()?;
+    log.text.clear();
+    Ok(())
+}
+
+/// Writes the rows that the screen shows at the end, without the blank ones behind the last text.
+fn write_screen<W: Write>(
+    parser: &mut Parser<Log>,
+    writer: &mut W,
+    keeps_colors: bool,
+) -> Result<()> {
+    let (screen, log) = parser.screen_and_callbacks_mut();
+    screen.write_contents_formatted_basic(
+        &mut log.text,
+        BasicFormattedCaptureRange::Full(&mut log.state),
+    )?;
+    write_text(writer, log.text.trim_end_matches('\n'), keeps_colors)?;
+    let end = if keeps_colors { "\x1b[m\n" } else { "\n" };
+    writer.write_all(end.as_bytes())?;
+    writer.flush()?;
+    Ok(())
+}
+
+/// Reads the input to its end, and writes the log of it.
+fn record<R: Read, W: Write>(
+    parser: &mut Parser<Log>,
+    reader: &mut R,
+    writer: &mut W,
+    keeps_colors: bool,
+) -> Result<()>
+    ensures end { OnOk result (IsAtEnd (R.remaining reader.new)) }
+{
+    let mut buffer = [0; BUFFER_SIZE];
+    for _ in 0..u64::MAX {
+        let count = reader.read(&mut buffer)?;
+        if count == 0 {
+            write_screen(parser, writer, keeps_colors)?;
+            return Ok(());
+        }
+        parser.process(&buffer[..count])?;
+        write_rows(parser.callbacks_mut(), writer, keeps_colors)?;
+    }
+    bail!("no end of input")
+}
+
+/// Records standard input.
+fn run<R: AllocGlobal + Input + Print>(rt: &R, settings: Settings) -> Result<()> {
+    let log = Log::new(rt.alloc());
+    let mut parser = Parser::new_with_callbacks(rt.alloc(), settings.rows, settings.cols, 0, log)?;
+    record(
+        &mut parser,
+        &mut rt.reader(),
+        &mut io::writer(rt),
+        settings.keeps_colors,
+    )
+}
+
+fn main(rt: HostRuntime) -> Result<ExitCode> {
+    let words: Vec<String> = env::args(&rt)?.skip(1).collect(rt.alloc())?;
+    let Some(settings) = read_words(words.as_slice()) else {
+        eprintln!(rt; "usage: example_recorder ROWS COLS [--colors]")?;
+        return Ok(ExitCode::from(2));
+    };
+    run(&rt, settings)?;
+    Ok(ExitCode::SUCCESS)
+}

@@ -1,0 +1,99 @@
+//! `example_screen_test [demo]`: tests what a terminal shows of a program's output. Each case of a
+//! table has some output, the size of the terminal that it is written to, and texts that have to
+//! stand there at their places, with attributes.
+//!
+//! Prints `ok` and the name of each case that holds. For one that doesn't, what was expected is
+//! printed beside what was seen, and what is missing below. The status is 1 if there is one.
+#![tactic(auto)]
+
+mod cases;
+mod check;
+mod picture;
+
+use anyhow::{Context, Result};
+use cases::{CASES, Case, WRONG};
+use std::alloc::Global;
+use std::env;
+use std::num::NonZeroU16;
+use std::process::ExitCode;
+use vt100::{Parser, Screen};
+
+/// How many cases held, and how many didn't.
+#[derive(Clone, Copy)]
+struct Tally {
+    passed: u64,
+    failed: u64,
+}
+
+/// A terminal of a case's size.
+fn terminal(alloc: Global, case: &Case) -> Result<Parser> {
+    let rows = NonZeroU16::new(case.rows).context("a case without rows")?;
+    let columns = NonZeroU16::new(case.columns).context("a case without columns")?;
+    Ok(Parser::new(alloc, rows, columns, 0)?)
+}
+
+/// Tests a case, prints how that went, and counts it.
+fn test_case<R: AllocGlobal + Print>(rt: &R, case: &Case, tally: &mut Tally) -> Result<()> {
+    let mut parser = terminal(rt.alloc(), case)?;
+    parser.process(case.output.as_bytes())?;
+    judge(rt, case, parser.screen(), tally)
+}
+
+/// Prints whether a screen shows what a case expects, and counts it.
+fn judge<R: AllocGlobal + Print>(
+    rt: &R,
+    case: &Case,
+    seen: &Screen,
+    tally: &mut Tally,
+) -> Result<()> {
+    if check::holds(seen, case) {
+        tally.passed = tally.passed.saturating_add(1);
+        println!(rt; "ok {}", case.name)?;
+        return Ok(());
+    }
+    tally.failed = tally.failed.saturating_add(1);
+    println!(rt; "failed {}", case.name)?;
+    let mut expected = terminal(rt.alloc(), case)?;
+    picture::draw(rt.alloc(), &mut expected, case)?;
+    picture::print_both(rt, expected.screen(), seen)?;
+    check::print_misses(rt, seen, case)
+}
+
+/// Tests each case of a table.
+fn test_all<R: AllocGlobal + Print>(rt: &R, cases: &[Case], tally: &mut Tally) -> Result<()> {
+    for case in cases {
+        test_case(rt, case, tally)?;
+    }
+    Ok(())
+}
+
+/// Whether these words ask for the wrong case, too; `None` for wrong words.
+fn read_words(words: &[String]) -> Option<bool> {
+    match words {
+        [] => Some(false),
+        [word] if word.as_str() == "demo" => Some(true),
+        _ => None,
+    }
+}
+
+fn main(rt: HostRuntime) -> Result<ExitCode> {
+    let words: Vec<String> = env::args(&rt)?.skip(1).collect(rt.alloc())?;
+    let Some(is_demo) = read_words(words.as_slice()) else {
+        eprintln!(rt; "usage: example_screen_test [demo]")?;
+        return Ok(ExitCode::from(2));
+    };
+    let mut tally = Tally {
+        passed: 0,
+        failed: 0,
+    };
+    test_all(&rt, &CASES, &mut tally)?;
+    if is_demo {
+        test_all(&rt, &WRONG, &mut tally)?;
+    }
+    println!(rt; "{} passed, {} failed", tally.passed, tally.failed)?;
+    Ok(if tally.failed == 0 {
+        ExitCode::SUCCESS
+    } else {
+        ExitCode::FAILURE
+    })
+}

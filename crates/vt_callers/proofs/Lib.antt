@@ -1,0 +1,3 @@
+pub mod Remote
+pub mod Runs
+pub mod Viewing

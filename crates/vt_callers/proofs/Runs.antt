@@ -1,0 +1,22 @@
+-- A fresh parser.
+use Rattle.std.proofs.Common.{◌≡◌, ℕ, ◌<◌, ◌^◌, subst}
+use Rattle.std.proofs.lemmas.List.{length-replicate}
+use Rattle.vt_cells.specs.Attrs.{default_attrs}
+use Rattle.vt_rows.specs.Row.{blank_row}
+use Rattle.vt_scan.specs.Automaton.{start}
+use Rattle.vt_scan.specs.Scanner.{StandsFor}
+use Rattle.vt_screen.specs.Screen.{IsScreen, ScreenValue, fresh_screen}
+use Rattle.vt100.specs.Parser.{Parsing}
+use Rattle.vt100.specs.Streams.{IsFreshParser}
+
+pub fresh_parser : {S : Type 0} (rows cols capacity : ℕ) (p : Parsing S) → 0 < rows → 0 < cols → IsScreen p.screen → StandsFor p.scanner start → p.screen ≡ fresh_screen rows cols capacity → IsFreshParser rows cols capacity p
+fresh_parser rows cols capacity p tall wide sound begun shown =
+    let page = (subst (λ (s : ScreenValue). IsScreen s) shown sound).page in
+    record {
+      has_rows = tall;
+      few_rows = subst (λ (n : ℕ). n < 2 ^ 16) (length-replicate rows (blank_row default_attrs cols)) page.height;
+      has_columns = wide;
+      few_columns = page.columns;
+      begun = begun;
+      shown = shown;
+    }

@@ -1,0 +1,2 @@
+pub mod Remote
+pub mod Spots

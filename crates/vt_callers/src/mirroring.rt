@@ -1,0 +1,73 @@
+//! A mirror: a viewer that joins late shows what the mirror shows.
+
+ghost use Rattle.std.specs.Prelude.{IfOk, OnOk};
+ghost use Rattle.vt100.specs.Pieces.{IsPlainParser};
+ghost use Rattle.vt_callers.specs.Remote.{ShowsScreen};
+ghost use Rattle.vt_mirror.specs.Watching.{IsFresh, ReadsText, Takes, TakesSize};
+ghost use Rattle.vt_redraw.specs.Steady.{IsSteady};
+ghost use Rattle.vt_screen.specs.Shown.{shown};
+
+use std::num::NonZeroU16;
+use vt_mirror::{Mirror, Update, laws};
+use vt100::{Callbacks, Error, Parser};
+
+/// Has a mirror that nobody viewed before read an output, and a viewer join after it, whose terminal
+/// is given its first update. If that was plain, and what the mirror shows is steady, it shows the
+/// same then, whatever its size was. Answers the viewer's number.
+///
+/// Fails where memory is refused, or the mirror or the terminal failed before.
+pub fn show_late<CB: Callbacks>(
+    mirror: &mut Mirror,
+    output: &[u8],
+    terminal: &mut Parser<CB>,
+) -> Result<u64, Error>
+    ensures { IfOk result (λ viewer. IsFresh mirror.old → IsPlainParser terminal.old → IsSteady (shown mirror.new.parser.screen) → ShowsScreen mirror.new.parser.screen terminal.new) }
+{
+    laws::viewers::<CB>();
+    terminal.screen().size();
+    mirror.process(output)?;
+    let viewer = mirror.join()?;
+    let answer = mirror.update(viewer)?;
+    let Some(update) = answer else {
+        return Err(Error::NoNumber);
+    };
+    take_update(terminal, &update)?;
+    Ok(viewer)
+}
+
+/// Gives a terminal an update: its size first where it is a full one, and then its text.
+pub fn take_update<CB: Callbacks>(terminal: &mut Parser<CB>, update: &Update) -> Result<(), Error>
+    ensures { OnOk result (Takes update.now terminal.old terminal.new) }
+{
+    match update {
+        Update::Diff(text) => read_text(terminal, text.as_str()),
+        Update::Full { rows, cols, text } => {
+            take_size(terminal, *rows, *cols)?;
+            read_text(terminal, text.as_str())
+        }
+    }
+}
+
+/// Gives a terminal a size; no mirror has one of nothing.
+fn take_size<CB: Callbacks>(terminal: &mut Parser<CB>, rows: u16, cols: u16) -> Result<(), Error>
+    ensures { OnOk result (TakesSize rows cols terminal.old terminal.new) }
+{
+    let Some(rows) = NonZeroU16::new(rows) else {
+        return Err(Error::Failed);
+    };
+    let Some(cols) = NonZeroU16::new(cols) else {
+        return Err(Error::Failed);
+    };
+    terminal.set_size(rows, cols)?;
+    terminal.screen().size();
+    Ok(())
+}
+
+/// Has a terminal read a text, in one piece.
+fn read_text<CB: Callbacks>(terminal: &mut Parser<CB>, text: &str) -> Result<(), Error>
+    ensures { OnOk result (ReadsText text.now terminal.old terminal.new) }
+{
+    terminal.process(text.as_bytes())?;
+    terminal.screen().size();
+    Ok(())
+}

@@ -1,0 +1,50 @@
+//! A recorder: all that was shown as one text, rows as they left and then the screen.
+
+ghost use Rattle.std.specs.Prelude.{◌≡◌, ◌++◌, false, true, IfOk, string_bytes};
+ghost use Rattle.vt100.specs.Streams.{whole_text};
+ghost use Rattle.vt_scan.specs.Automaton.{start};
+ghost use Rattle.vt_screen.specs.Capture.{all_rows, basic_texts};
+ghost use Rattle.vt_screen.specs.Screen.{fresh_screen};
+ghost use Rattle.vt_screen.specs.Streamed.{HasNoRis};
+ghost use Rattle.vt_screen.specs.Telling.{screen_in};
+
+use std::alloc::Global;
+use std::num::NonZeroU16;
+use vt_notes::Recorder;
+use vt100::{Error, Parser};
+
+/// The text of all that an output writes on the main page of a terminal of this size: the rows that
+/// leave it at its top, and then those that it shows. It is the same for every capacity of scrollback.
+///
+/// Premises are that the output ends on the main page and has no RIS. Fails where memory is refused.
+pub fn record(
+    alloc: Global,
+    rows: NonZeroU16,
+    cols: NonZeroU16,
+    capacity: usize,
+    output: &[u8],
+) -> Result<String, Error>
+    ensures { IfOk result (λ text. HasNoRis start output.now → (screen_in start (fresh_screen rows.value cols.value capacity) output.now).is_alternate ≡ false → string_bytes text ≡ whole_text rows.value cols.value output.now) }
+{
+    vt100::laws::one_text::<Recorder>();
+    vt_notes::laws::recorded();
+    let recorder = Recorder::new(alloc);
+    let mut parser = Parser::new_with_callbacks(alloc, rows, cols, capacity, recorder)?;
+    parser.screen().size();
+    parser.process(output)?;
+    let text = finish(alloc, &mut parser)?;
+    Ok(text)
+}
+
+/// What a recorder has written, and behind it the rows that its parser keeps and shows.
+fn finish(alloc: Global, parser: &mut Parser<Recorder>) -> Result<String, Error>
+    ensures whole { IfOk result (λ text. parser.old.callbacks.is_whole ≡ true) }
+    ensures text { IfOk result (λ text. string_bytes text ≡ parser.old.callbacks.text ++ basic_texts parser.old.callbacks.state (all_rows parser.old.screen)) }
+{
+    let (screen, recorder) = parser.screen_and_callbacks_mut();
+    recorder.capture(screen)?;
+    match String::from_str(alloc, recorder.text()) {
+        Ok(text) => Ok(text),
+        Err(_) => Err(Error::OutOfMemory),
+    }
+}

@@ -1,0 +1,62 @@
+//! Tests of a program's screen: what stands where after its output was read.
+
+ghost use Rattle.std.specs.Prelude.{◌≡◌, ◌↔◌, true, IfOk};
+ghost use Rattle.vt_callers.specs.Spots.{HasText};
+ghost use Rattle.vt_scan.specs.Automaton.{start};
+ghost use Rattle.vt_screen.specs.Contents.{between_of, contents_of};
+ghost use Rattle.vt_screen.specs.Screen.{fresh_screen};
+ghost use Rattle.vt_screen.specs.Telling.{screen_in};
+
+use std::alloc::Global;
+use std::num::NonZeroU16;
+use vt100::{Error, Parser, Screen, laws};
+
+/// Whether the cell at a row and a column of what is shown has this text.
+pub fn cell_shows(screen: &Screen, row: u16, column: u16, text: &str) -> bool
+    ensures { result ≡ true ↔ HasText screen.now row column text.now }
+{
+    match screen.cell(row, column) {
+        Some(cell) => cell.contents() == text,
+        None => false,
+    }
+}
+
+/// Whether a row has this text, over all columns of the screen and without blanks at its end.
+///
+/// Fails where memory for the text is refused.
+pub fn row_shows(screen: &Screen, row: u16, text: &str) -> Result<bool, Error>
+    ensures { IfOk result (λ is. is ≡ true ↔ between_of row 0 row screen.now.page.width screen.now ≡ text.now) }
+{
+    let (_, columns) = screen.size();
+    let shown = screen.contents_between(row, 0, row, columns.get())?;
+    Ok(shown.as_str() == text)
+}
+
+/// Whether the text of all that is shown is this one.
+///
+/// Fails where memory for the text is refused.
+pub fn screen_shows(screen: &Screen, text: &str) -> Result<bool, Error>
+    ensures { IfOk result (λ is. is ≡ true ↔ contents_of screen.now ≡ text.now) }
+{
+    let shown = screen.contents()?;
+    Ok(shown.as_str() == text)
+}
+
+/// Whether a terminal of this size shows this text once it has read an output.
+///
+/// Fails where memory is refused.
+pub fn output_shows(
+    alloc: Global,
+    rows: NonZeroU16,
+    cols: NonZeroU16,
+    output: &[u8],
+    text: &str,
+) -> Result<bool, Error>
+    ensures { IfOk result (λ is. is ≡ true ↔ contents_of (screen_in start (fresh_screen rows.value cols.value 0) output.now) ≡ text.now) }
+{
+    laws::one_text::<()>();
+    let mut parser = Parser::new(alloc, rows, cols, 0)?;
+    parser.process(output)?;
+    let holds = screen_shows(parser.screen(), text)?;
+    Ok(holds)
+}
