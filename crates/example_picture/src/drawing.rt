@@ -39,10 +39,11 @@ pub fn svg(alloc: Global, screen: &Screen) -> Result<String, AllocError> {
         out,
         r#"<rect width="{width}" height="{height}" fill="{PAPER}"/>"#
     )?;
-    writeln!(
+    write!(
         out,
-        r#"<g transform="translate({MARGIN} {MARGIN})" font-family="{FONTS}" font-size="15" fill="{INK}" shape-rendering="crispEdges">"#
+        r#"<g transform="translate({MARGIN} {MARGIN})" font-family="{FONTS}" font-size="15""#
     )?;
+    writeln!(out, r#" fill="{INK}" shape-rendering="crispEdges">"#)?;
     for row in 0..rows.get() {
         write_papers(&mut out, spots_of(alloc, screen, row)?.as_slice(), row)?;
     }

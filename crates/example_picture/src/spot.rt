@@ -1,5 +1,7 @@
 //! What a row shows from column to column.
 
+ghost use Rattle.std.specs.Prelude.{◌≡◌, ◌+◌, ◌<◌, IfSome, None, true};
+
 use crate::color::{INK, PAPER, Rgb};
 use std::alloc::{AllocError, Global};
 use vt100::{Cell, CursorStyle, Screen};
@@ -55,7 +57,9 @@ impl Spot<'_> {
     }
 
     /// The column behind it.
-    pub fn end(&self) -> u32 {
+    pub fn end(&self) -> u32
+        ensures { result ≡ self.now.col + self.now.cols }
+    {
         u32::from(self.col) + u32::from(self.cols)
     }
 
@@ -109,7 +113,11 @@ impl Mark {
 
 /// The column that the cursor marks in a row, which is the last one where a wrap is pending; `None`
 /// in other rows, and where the cursor is hidden.
-pub fn cursor_col(screen: &Screen, row: u16) -> Option<u16> {
+pub fn cursor_col(screen: &Screen, row: u16) -> Option<u16>
+    ensures inside { IfSome result (λ col. col < screen.now.page.width) }
+    ensures hidden { screen.now.hidden ≡ true → result ≡ None }
+    ensures row { IfSome result (λ col. row ≡ screen.now.page.row) }
+{
     let (_, cols) = screen.size();
     let (cursor_row, cursor_col) = screen.cursor_position();
     if screen.hide_cursor() || cursor_row != row {
