@@ -53,3 +53,14 @@ collect_mark old new kind b fits other is same pushed text reads =
       table = same ∙ was.table ∙ ap table_of (sym (filter-no is_parameter text b is));
       marks = pushed (filter (λ x. not (is_parameter x)) text) was.marks ∙ ap (take 2) (sym (filter-yes (λ x. not (is_parameter x)) text b (ap not is)));
     })
+
+pub collect_parameter : (old new : Held) (kind : Kind) (b : ℕ) → Fits old.kind (Collect kind) → old.kind ≢ OscString → is_parameter b ≡ true
+    → new.marks ≡ old.marks → ((text : List ℕ) → old.table ≡ table_of text → new.table ≡ table_of (text ++ b ∷ []))
+    → (text : List ℕ) → Reads old old.kind text → Reads new kind (text ++ b ∷ [])
+collect_parameter old new kind b fits other is same pushed text reads =
+    let both = in_sequence old.kind kind fits other in
+    let was = sequence_from old.kind old text both.0 reads in
+    sequence_to kind new (text ++ b ∷ []) both.1 (record {
+      table = pushed (filter is_parameter text) was.table ∙ ap table_of (sym (filter-yes is_parameter text b is));
+      marks = same ∙ was.marks ∙ ap (take 2) (sym (filter-no (λ x. not (is_parameter x)) text b (ap not is)));
+    })

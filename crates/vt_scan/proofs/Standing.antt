@@ -1,13 +1,27 @@
 -- There is always a state that the scanner stands for.
-use Rattle.std.proofs.Common.{◌≡◌, ℕ, subst, sym, Result, Ok, Err, IfOk, OnErr}
+use Rattle.std.proofs.Common.{◌≡◌, ◌≢◌, ℕ, List, [], ◌∷◌, ◌++◌, refl, sym, subst}
 use Rattle.std.proofs.Math.Logic.{∥∥₁_map}
-use Rattle.vt_cells.specs.declared.error.Error.{Error}
-use Rattle.vt_scan.specs.Automaton.{State, step_in}
-use Rattle.vt_scan.specs.Scanner.{Held, StandsFor, Feeds}
-use Rattle.vt_scan.specs.declared.event.Events.{Events}
+use Rattle.vt_scan.specs.Automaton.{State, parameter_text, marks_of}
+use Rattle.vt_scan.specs.Parameters.{table_of}
+use Rattle.vt_scan.specs.Scanner.{Held, Reads, StandsFor}
+use Rattle.vt_scan.specs.declared.table.Kind.{Kind}
+use Rattle.vt_scan.specs.declared.table.Kind.TheVariants.{Ground, OscString}
 
-pub still_stands : (result : Result Events Error) (old new : Held) (b : ℕ) → IfOk result (Feeds old b new) → OnErr result (new ≡ old)
+-- what is held is the reading of a text
+pub stands_by : (held : Held) (kind : Kind) (text : List ℕ) → held.kind ≡ kind → Reads held kind text → ∥ ((state : State) × StandsFor held state) ∥₁
+stands_by held kind text is reads =
+    ∣ (record { kind = kind; collected = text }, record { kind = is; reads = subst (λ (k : Kind). Reads held k text) (sym is) reads }) ∣₁
+
+pub stands_plain : (held : Held) → held.kind ≡ Ground → ∥ ((state : State) × StandsFor held state) ∥₁
+stands_plain held is = stands_by held Ground held.unfinished is refl
+
+pub stands_in_command : (held : Held) → held.kind ≡ OscString → ∥ ((state : State) × StandsFor held state) ∥₁
+stands_in_command held is = stands_by held OscString held.text is refl
+
+-- one more byte is collected
+pub stands_on : (old new : Held) (kind : Kind) (b : ℕ) → new.kind ≡ kind → ((text : List ℕ) → Reads old old.kind text → Reads new kind (text ++ b ∷ []))
     → ∥ ((state : State) × StandsFor old state) ∥₁ → ∥ ((state : State) × StandsFor new state) ∥₁
-still_stands (Ok answer) old new b fed err stands =
-    ∥∥₁_map {B = (state : State) × StandsFor new state} stands (λ (s : (state : State) × StandsFor old state). ((step_in s.0.kind s.0.collected b).state, (fed s.0 s.1).stands))
-still_stands (Err e) old new b fed err stands = subst (λ (held : Held). ∥ ((state : State) × StandsFor held state) ∥₁) (sym err) stands
+stands_on old new kind b is reads stands =
+    ∥∥₁_map {B = (state : State) × StandsFor new state} stands (λ (s : (state : State) × StandsFor old state).
+    let text = s.0.collected ++ b ∷ [] in
+    (record { kind = kind; collected = text }, record { kind = is; reads = subst (λ (k : Kind). Reads new k text) (sym is) (reads s.0.collected s.1.reads) }))

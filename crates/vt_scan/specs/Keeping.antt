@@ -1,6 +1,7 @@
 -- Aids of proofs, which only contracts of private functions cite.
 use Rattle.std.specs.Prelude.{◌≡◌, ℕ, ◌-◌, ◌<◌, ◌⊎◌, Bool, true, false, List, [], ◌∷◌, ◌++◌, take, drop, Some, None}
 use Rattle.vt_scan.specs.Characters.{is_character, is_beginning, character_of}
+use Rattle.vt_scan.specs.Parameters.{GroupTable}
 use Rattle.vt_scan.specs.Scanner.{Held, Reads}
 use Rattle.vt_scan.specs.declared.event.Event.TheVariants as event
 use Rattle.vt_scan.specs.declared.event.Events.{Events}
@@ -14,6 +15,11 @@ use Rattle.vt_scan.specs.declared.unfinished.Bytes.{Bytes}
 use Rattle.vt_scan.specs.declared.unfinished.Bytes.TheVariants.{Zero, One, Two, Three}
 use Rattle.vt_scan.specs.declared.unfinished.Extended.{Extended}
 use Rattle.vt_scan.specs.declared.unfinished.Extended.TheVariants.{Further, Character, Broken}
+
+-- what the parts of a scanner hold
+abbrev pub held : Kind → List ℕ → GroupTable → List ℕ → List ℕ → Held
+held kind unfinished table marks text =
+    record { kind = kind; unfinished = unfinished; table = table; marks = marks; text = text }
 
 -- a kind in which numbers and marks are collected
 abbrev pub InSequence : Kind → Type 0

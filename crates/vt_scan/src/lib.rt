@@ -8,7 +8,6 @@ pub mod laws;
 pub mod marks;
 pub mod parameters;
 pub mod parts;
-mod registers;
 pub mod table;
 pub mod unfinished;
 

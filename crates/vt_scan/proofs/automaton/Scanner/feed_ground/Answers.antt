@@ -4,8 +4,9 @@ use Rattle.vt_scan.specs.Scanner.{Held, Follows}
 use Rattle.vt_scan.specs.Automaton.{step_in}
 use Rattle.vt_scan.specs.declared.table.Kind.TheVariants.{Ground}
 use Rattle.vt_scan.proofs.Feeding.{some_from, fed_further, fed_character, fed_broken}
-use Rattle.vt_scan.proofs.registers.Registers.feed_ground.Goals as goal
-use Rattle.vt_scan.proofs.registers.Registers.feed_ground.Goals.{In-Further, In-Character, In-Broken}
+use Rattle.vt_scan.proofs.Standing.{stands_plain}
+use Rattle.vt_scan.proofs.automaton.Scanner.feed_ground.Goals as goal
+use Rattle.vt_scan.proofs.automaton.Scanner.feed_ground.Goals.{In-Further, In-Character, In-Broken}
 
 pub returns-in-Further : goal.returns-in-Further
 returns-in-Further c =
@@ -23,3 +24,12 @@ returns-in-Broken c =
     (fed_broken c.self.inside.unfinished c.feed_fresh-in-Broken.new.self c.args.byte c.feed_fresh-in-Broken.result c.after.result c.extend.new.self
     (some_from c.self.inside.unfinished c.if-is_empty.ensures) c.in-Broken.ensures
     c.feed_fresh-in-Broken.ensures.follows c.feed_fresh-in-Broken.ensures.single c.after.ensures)
+
+pub invariant_of-self : goal.invariant_of-self
+invariant_of-self c = stands_plain _ (ap (λ (h : Held). h.kind) c.self.view_is ∙ c.requires)
+
+pub invariant_of-self-in-Character : goal.invariant_of-self-in-Character
+invariant_of-self-in-Character c = stands_plain _ (ap (λ (h : Held). h.kind) c.self.view_is ∙ c.requires)
+
+pub invariant_of-self-in-Broken : goal.invariant_of-self-in-Broken
+invariant_of-self-in-Broken c = stands_plain _ (ap (λ (h : Held). h.kind) c.self.view_is ∙ c.requires)

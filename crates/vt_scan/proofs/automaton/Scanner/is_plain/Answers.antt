@@ -1,7 +1,7 @@
 -- A printable byte leaves all as it is.
 use Rattle.std.proofs.Common.{refl, arith}
 use Rattle.vt_scan.proofs.Feeding.{plain_feeds}
-use Rattle.vt_scan.proofs.registers.Registers.is_plain.Goals as goal
+use Rattle.vt_scan.proofs.automaton.Scanner.is_plain.Goals as goal
 
 pub returns-then-is_printable-clause-feeds : goal.returns-then-is_printable-clause-feeds
 returns-then-is_printable-clause-feeds c = λ is.

@@ -2,7 +2,8 @@
 use Rattle.std.proofs.Common.{◌∙◌, ◌≢◌, ap, sym, arith}
 use Rattle.vt_scan.specs.Scanner.{Held}
 use Rattle.vt_scan.proofs.Feeding.{fresh_character, fresh_control, fresh_escape, fresh_begun, fresh_broken}
-use Rattle.vt_scan.proofs.registers.Registers.feed_fresh.Goals as goal
+use Rattle.vt_scan.proofs.Standing.{stands_plain}
+use Rattle.vt_scan.proofs.automaton.Scanner.feed_fresh.Goals as goal
 
 pub returns-then-begin-clause-follows : goal.returns-then-begin-clause-follows
 returns-then-begin-clause-follows c =
@@ -21,3 +22,9 @@ returns-in-32-to-127-clause-follows c =
 pub returns-else-begin-clause-follows : goal.returns-else-begin-clause-follows
 returns-else-begin-clause-follows c =
     fresh_broken _ c.args.byte c.one-in_default.result (ap (λ (h : Held). h.kind) c.self.view_is ∙ c.requires.kind) c.if-begin.ensures.keeps (omega arith) (sym c.if-begin.ensures.tells) c.one-in_default.ensures
+
+pub invariant_of-self : goal.invariant_of-self
+invariant_of-self c = stands_plain _ (ap (λ (h : Held). h.kind) c.self.view_is ∙ c.requires.kind)
+
+pub invariant_of-self-in_default : goal.invariant_of-self-in_default
+invariant_of-self-in_default c = stands_plain _ (ap (λ (h : Held). h.kind) c.self.view_is ∙ c.requires.kind)

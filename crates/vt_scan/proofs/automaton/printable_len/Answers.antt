@@ -1,7 +1,7 @@
 use Rattle.std.proofs.Common.{arith}
 use Rattle.std.proofs.lemmas.List.Elements.{All-more}
 use Rattle.vt_scan.specs.Scanner.{IsPrintableByte}
-use Rattle.vt_scan.proofs.registers.printable_len.Goals as goal
+use Rattle.vt_scan.proofs.automaton.printable_len.Goals as goal
 
 pub loop-len-preserved : goal.loop-len-preserved
 loop-len-preserved c = (
