@@ -4,9 +4,9 @@ use Rattle.std.proofs.Math.Seq.{get_or-append-add, take-append-add}
 use Rattle.std.proofs.lemmas.List.{append-nil, drop_more, length-append, length-take-le, take-append-drop}
 use Rattle.std.specs.List.{FoldsTo}
 use Rattle.vt_rows.proofs.Folds.{folds_then}
-use Rattle.vt_scan.specs.Automaton.{State, Step, step_in}
+use Rattle.vt_scan.specs.Automaton.{Event, State, Step, step_in}
 use Rattle.vt_scan.specs.Run.{run}
-use Rattle.vt_scan.specs.Scanner.{Feeds, Held, StandsFor, events_in}
+use Rattle.vt_scan.specs.Scanner.{Feeds, FeedsAll, Held, StandsFor, events_in}
 use Rattle.vt_scan.specs.Table.{class_of, turn_of}
 use Rattle.vt_scan.specs.declared.event.Event.TheVariants.{Character}
 use Rattle.vt_scan.specs.declared.event.Events.{Events}
@@ -115,3 +115,21 @@ ran_on does p q r bytes k n inside first second =
     let size : length front ≡ k = length-take-le k bytes inside in
     let more : take (k + n) bytes ≡ front ++ take n (drop k bytes) = sym (λ i. take (size i + n) (take-append-drop k bytes i)) ∙ take-append-add front (drop k bytes) n in
     subst (λ (all : List ℕ). Ran does p all r) (sym more) (ran_then does p q r front (take n (drop k bytes)) first second)
+
+-- ---- bytes whose events are known
+
+pub known_ran : {S : Type 0} (does : CallValue → S → ScreenValue → S → ScreenValue → Type 0) (p q : Parsing S) (bytes : List ℕ) (events : List Event)
+    → FeedsAll p.scanner bytes q.scanner events → FoldsTo (Performs does) (stage p) events (stage q) → Ran does p bytes q
+known_ran does p q bytes events fed folds = λ s stands.
+    let follows = fed s stands in
+    (follows.0, subst (λ (all : List Event). FoldsTo (Performs does) (stage p) all (stage q)) (sym follows.1) folds)
+
+pub known_stopped : {S : Type 0} (does : CallValue → S → ScreenValue → S → ScreenValue → Type 0) (p q : Parsing S) (after : Held) (bytes : List ℕ) (n : ℕ) (events : List Event)
+    → FeedsAll p.scanner (take n bytes) after events → StopsIn (Performs does) (Breaks does) (stage p) events (stage q) → StoppedWithin does p bytes q
+known_stopped does p q after bytes n events fed stops = λ s stands.
+    let front = take n bytes in
+    let rest = drop n bytes in
+    let here = subst (λ (all : List Event). StopsIn (Performs does) (Breaks does) (stage p) all (stage q)) (sym (fed s stands).1) stops in
+    let all = stops_first (Performs does) (Breaks does) (run s front).events (run (run s front).state rest).events (stage p) (stage q) here in
+    subst (λ (bs : List ℕ). StopsIn (Performs does) (Breaks does) (stage p) (run s bs).events (stage q)) (take-append-drop n bytes)
+    (rw (run-append s front rest) all)

@@ -33,8 +33,9 @@ pub fn process<CB: Callbacks>(
 }
 
 // Reads what comes first of these bytes: plain characters as one run, as far
-// as the cursor's row has room for them, or else one byte. Answers how many
-// bytes that were, unless memory is refused.
+// as the cursor's row has room for them, or what leads into a control
+// sequence, or else one character or byte. Answers how many bytes that were,
+// unless memory is refused.
 #[inline(always)]
 fn process_some<CB: Callbacks>(
     scanner: &mut Scanner,
@@ -49,11 +50,38 @@ fn process_some<CB: Callbacks>(
     ensures stopped { IsErr result → Stopped CB.does (parsing scanner.old screen.old callbacks.old) bytes.now (parsing scanner.new screen.new callbacks.new) }
     ensures memory { OnlyOutOfMemory result }
 {
-    let byte = bytes[0];
-    if scanner.is_plain(byte) {
+    if scanner.is_plain(bytes[0]) {
         return print_some(scanner, screen, callbacks, bytes);
     }
-    let events = scanner.feed(byte)?;
+    let leading = scanner.lead_in(bytes);
+    if leading > 0 {
+        return Ok(leading);
+    }
+    process_one(scanner, screen, callbacks, bytes)
+}
+
+// Reads what comes first of these bytes: a character of more than one byte
+// that is all here, or else one byte. Answers how many bytes that were, unless
+// memory is refused.
+#[inline(always)]
+fn process_one<CB: Callbacks>(
+    scanner: &mut Scanner,
+    screen: &mut Screen,
+    callbacks: &mut CB,
+    bytes: &[u8],
+) -> Result<usize, Error>
+    requires { 0 < length bytes.now }
+    ensures some { IfOk result (λ count. 0 < count) }
+    ensures inside { IfOk result (λ count. count ≤ length bytes.now) }
+    ensures ran { IfOk result (λ count. Ran CB.does (parsing scanner.old screen.old callbacks.old) (take count bytes.now) (parsing scanner.new screen.new callbacks.new)) }
+    ensures stopped { IsErr result → Stopped CB.does (parsing scanner.old screen.old callbacks.old) bytes.now (parsing scanner.new screen.new callbacks.new) }
+    ensures memory { OnlyOutOfMemory result }
+{
+    if let Some((character, count)) = scanner.whole_character(bytes) {
+        print(screen, callbacks, character)?;
+        return Ok(count);
+    }
+    let events = scanner.feed(bytes[0])?;
     perform_each(screen, callbacks, scanner, events)?;
     Ok(1)
 }

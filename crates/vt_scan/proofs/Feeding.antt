@@ -11,7 +11,7 @@ use Rattle.vt_scan.specs.Table.{class_of, turn_of}
 use Rattle.vt_scan.specs.Scanner.{Feeds, Held, Reads, StandsFor, Follows, event_of, events_in}
 use Rattle.vt_scan.specs.Keeping.{Begins, Extends, Fits, FitsEnding, answer_of}
 use Rattle.vt_scan.specs.declared.table.Kind.{Kind}
-use Rattle.vt_scan.specs.declared.table.Kind.TheVariants.{Ground, Escape, OscString}
+use Rattle.vt_scan.specs.declared.table.Kind.TheVariants.{Ground, Escape}
 use Rattle.vt_scan.specs.declared.table.Turn.TheVariants.{End}
 use Rattle.vt_scan.specs.declared.table.Ending as ending
 use Rattle.vt_scan.specs.declared.table.Ending.TheVariants as ends

@@ -3,6 +3,7 @@ pub mod Collecting
 pub mod Cutting
 pub mod Feeding
 pub mod Growing
+pub mod Leading
 pub mod Lists
 pub mod Readback
 pub mod Reading
@@ -12,5 +13,6 @@ pub mod Sequences
 pub mod Standing
 pub mod Stepping
 pub mod Tables
+pub mod Whole
 pub mod Written
 pub mod Scalars

@@ -50,17 +50,17 @@ read_escape b low high csi osc dcs sos pm apc =
 
 -- UTF-8, byte by byte
 
-read_last : (text : List ℕ) (a b code : ℕ) → is_character (a ∷ (text ++ b ∷ [])) ≡ true → character_of (a ∷ (text ++ b ∷ [])) ≡ code
+pub read_last : (text : List ℕ) (a b code : ℕ) → is_character (a ∷ (text ++ b ∷ [])) ≡ true → character_of (a ∷ (text ++ b ∷ [])) ≡ code
     → run (record { kind = Ground; collected = a ∷ text }) (b ∷ []) ≡ back_with (Character code ∷ [])
 read_last text a b code is means =
     run-known (record { kind = Ground; collected = a ∷ text }) b [] (gives Ground [] (Character (character_of (a ∷ (text ++ b ∷ []))) ∷ [])) (character_step-whole (a ∷ text) b is)
     ∙ ap (λ k. back_with (Character k ∷ [])) means
 
-read_next : (text : List ℕ) (a b : ℕ) (bytes : List ℕ) → is_character (a ∷ (text ++ b ∷ [])) ≡ false → is_beginning (a ∷ (text ++ b ∷ [])) ≡ true
+pub read_next : (text : List ℕ) (a b : ℕ) (bytes : List ℕ) → is_character (a ∷ (text ++ b ∷ [])) ≡ false → is_beginning (a ∷ (text ++ b ∷ [])) ≡ true
     → run (record { kind = Ground; collected = a ∷ text }) (b ∷ bytes) ≡ run (record { kind = Ground; collected = a ∷ (text ++ b ∷ []) }) bytes
 read_next text a b bytes other is = run-known (record { kind = Ground; collected = a ∷ text }) b bytes (gives Ground (a ∷ (text ++ b ∷ [])) []) (character_step-further (a ∷ text) b other is)
 
-read_first : (a : ℕ) (bytes : List ℕ) → 0x80 ≤ a → is_beginning (a ∷ []) ≡ true → run start (a ∷ bytes) ≡ run (record { kind = Ground; collected = a ∷ [] }) bytes
+pub read_first : (a : ℕ) (bytes : List ℕ) → 0x80 ≤ a → is_beginning (a ∷ []) ≡ true → run start (a ∷ bytes) ≡ run (record { kind = Ground; collected = a ∷ [] }) bytes
 read_first a bytes high is = run-known start a bytes (gives Ground (a ∷ []) []) (fresh_step-begun a high is)
 
 read_two : (c : ℕ) → 0x80 ≤ c → c < 0x800 → run start ((192 + c / 64) ∷ next c ∷ []) ≡ back_with (Character c ∷ [])

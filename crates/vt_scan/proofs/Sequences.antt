@@ -13,7 +13,7 @@ use Rattle.vt_scan.specs.declared.table.Class.TheVariants as class
 use Rattle.vt_scan.proofs.Stepping.{gives, either, class_of-text}
 use Rattle.vt_scan.proofs.Readback.{run-known, read_escape_start}
 
-class_of-parameter : (P : Class → Type 0) (b : ℕ) → 0x30 ≤ b → b ≤ 0x3B → P class.Parameter → P (class_of b)
+pub class_of-parameter : (P : Class → Type 0) (b : ℕ) → 0x30 ≤ b → b ≤ 0x3B → P class.Parameter → P (class_of b)
 class_of-parameter P b low high p =
     let t0 : nat_lt b 0x30 ≡ false = grind (arith, nat_tests) in
     let t1 : nat_lt b 0x3C ≡ true = grind (arith, nat_tests) in

@@ -1,9 +1,9 @@
 -- There is always a state that the scanner stands for.
-use Rattle.std.proofs.Common.{◌≡◌, ◌≢◌, ℕ, List, [], ◌∷◌, ◌++◌, refl, sym, subst}
+use Rattle.std.proofs.Common.{◌≡◌, ℕ, List, [], ◌∷◌, ◌++◌, refl, sym, subst}
 use Rattle.std.proofs.Math.Logic.{∥∥₁_map}
-use Rattle.vt_scan.specs.Automaton.{State, parameter_text, marks_of}
-use Rattle.vt_scan.specs.Parameters.{table_of}
-use Rattle.vt_scan.specs.Scanner.{Held, Reads, StandsFor}
+use Rattle.vt_scan.specs.Automaton.{State, step_in}
+use Rattle.vt_scan.specs.Scanner.{Feeds, Held, Reads, StandsFor}
+use Rattle.vt_scan.specs.declared.event.Events.{Events}
 use Rattle.vt_scan.specs.declared.table.Kind.{Kind}
 use Rattle.vt_scan.specs.declared.table.Kind.TheVariants.{Ground, OscString}
 
@@ -25,3 +25,10 @@ stands_on old new kind b is reads stands =
     ∥∥₁_map {B = (state : State) × StandsFor new state} stands (λ (s : (state : State) × StandsFor old state).
     let text = s.0.collected ++ b ∷ [] in
     (record { kind = kind; collected = text }, record { kind = is; reads = subst (λ (k : Kind). Reads new k text) (sym is) (reads s.0.collected s.1.reads) }))
+
+-- a byte is fed
+pub stands_fed : (old new : Held) (b : ℕ) (answer : Events) → Feeds old b new answer
+    → ∥ ((state : State) × StandsFor old state) ∥₁ → ∥ ((state : State) × StandsFor new state) ∥₁
+stands_fed old new b answer feeds stands =
+    ∥∥₁_map {B = (state : State) × StandsFor new state} stands
+    (λ (s : (state : State) × StandsFor old state). ((step_in s.0.kind s.0.collected b).state, (feeds s.0 s.1).stands))

@@ -1,11 +1,14 @@
 //! The scanner: from bytes to events.
 
-ghost use Rattle.std.specs.Prelude.{◌≡◌, ◌≢◌, ◌≤◌, ◌<◌, ◌↔◌, ℕ, List, [], ◌∷◌, ◌++◌, All};
-ghost use Rattle.std.specs.Prelude.{IfOk, IsErr, IsTrue, None, OnErr, OnOk, Some, false, length, slice_index_or, take};
+ghost use Rattle.std.specs.Prelude.{◌≡◌, ◌≢◌, ◌≤◌, ◌<◌, ◌==◌, ◌&&◌, ◌↔◌, ◌⊎◌, ℕ, List, [], ◌∷◌, ◌++◌, All, IfOk, IfSome};
+ghost use Rattle.std.specs.Prelude.{IsErr, IsSome, IsTrue, None, OnErr, OnOk, Some, false, length, slice_index_or, take};
+ghost use Rattle.std.specs.Prelude.{true};
 ghost use Rattle.vt_cells.specs.Refusals.{OnlyOutOfMemory};
-ghost use Rattle.vt_scan.specs.Automaton.{State, fresh_step, is_parameter, parts_of, start, step_in};
+ghost use Rattle.vt_scan.specs.Automaton.{Character, State, fresh_step, is_parameter, parts_of, start, step_in};
+ghost use Rattle.vt_scan.specs.Characters.{is_character};
 ghost use Rattle.vt_scan.specs.Keeping.{Begins, Fits, answer_of};
-ghost use Rattle.vt_scan.specs.Scanner.{Feeds, Follows, IsPrintableByte, Reads, ReadsItself, StandsFor};
+ghost use Rattle.vt_scan.specs.Scanner.{Feeds, FeedsAll, Follows, IsPrintableByte, Reads, ReadsItself, StandsFor};
+ghost use Rattle.vt_scan.specs.Scanner.{leads_in};
 ghost use Rattle.vt_scan.specs.Table.{class_of, turn_of};
 ghost use Rattle.vt_scan.specs.declared.event.Event.{Event};
 ghost use Rattle.vt_scan.specs.declared.table.Kind.{Kind};
@@ -17,7 +20,7 @@ use crate::marks::Marks;
 use crate::parameters::Parameters;
 use crate::parts::Parts;
 use crate::table::{Ending, Kind, Turn, turn_at};
-use crate::unfinished::{Extended, Unfinished};
+use crate::unfinished::{Extended, Unfinished, first_character};
 use std::alloc::Global;
 use std::marker::Model;
 use vt_cells::Error;
@@ -114,6 +117,40 @@ impl Scanner {
         }
     }
 
+    /// Reads what comes first of these bytes, as far as they lead into a
+    /// control sequence: ESC in plain text, `[`, and bytes of the parameter
+    /// text. None of them has an event or takes memory. Answers how many they
+    /// were; where it is all, the next bytes may go on from there.
+    #[inline]
+    pub fn lead_in(&mut self, bytes: &[u8]) -> usize
+        ensures inside { result ≤ length bytes.now }
+        ensures fed { FeedsAll self.old (take result bytes.now) self.new [] }
+        ensures longest { result < length bytes.now → leads_in self.new.kind self.new.unfinished (slice_index_or bytes.now result 0) ≡ false }
+    {
+        let mut count = 0;
+        while count < bytes.len() && self.takes_lead(bytes[count]) {
+            count += 1;
+        }
+        count
+    }
+
+    /// The character of more than one byte that these bytes begin with, and
+    /// how many bytes it takes, if nothing is unfinished and all its bytes are
+    /// here (Unicode 3.9, Table 3-7). Reading them gives that character and
+    /// leaves the scanner as it is, so that they need not be fed.
+    #[inline]
+    pub fn whole_character(&self, bytes: &[u8]) -> Option<(char, usize)>
+        ensures inside { IfSome result (λ found. (0 < found.1) × (found.1 ≤ length bytes.now)) }
+        ensures fed { IfSome result (λ found. FeedsAll self.now (take found.1 bytes.now) self.now (Character found.0 ∷ [])) }
+        ensures all { (n : ℕ) → self.now.kind ≡ Kind.Ground → self.now.unfinished ≡ [] → is_character (take n bytes.now) ≡ true → IsSome result }
+    {
+        if self.is_fresh() {
+            first_character(bytes)
+        } else {
+            None
+        }
+    }
+
     /// Says that the scanner stands for at least one state of the automaton,
     /// as every scanner does.
     pub fn stands(&self)
@@ -160,6 +197,67 @@ impl Scanner {
         ensures { result ≡ parts_of self.now.text }
     {
         Parts::of(&self.text)
+    }
+
+    // Reads one byte, if it leads into a control sequence.
+    #[inline(always)]
+    fn takes_lead(&mut self, byte: u8) -> bool
+        ensures tells { result ≡ leads_in self.old.kind self.old.unfinished byte }
+        ensures fed { IsTrue result → Feeds self.old byte self.new (record { first = None; second = None }) }
+        ensures kept { result ≡ false → self.new ≡ self.old }
+    {
+        match self.kind {
+            Kind::CsiEntry | Kind::CsiParam => self.takes_parameter(byte),
+            Kind::Escape => self.takes_bracket(byte),
+            Kind::Ground => self.takes_escape(byte),
+            _ => false,
+        }
+    }
+
+    // Reads a byte of the parameter text.
+    #[inline(always)]
+    fn takes_parameter(&mut self, byte: u8) -> bool
+        requires { (self.old.kind ≡ Kind.CsiEntry) ⊎ (self.old.kind ≡ Kind.CsiParam) }
+        ensures tells { result ≡ is_parameter byte }
+        ensures fed { IsTrue result → Feeds self.old byte self.new (record { first = None; second = None }) }
+        ensures kept { result ≡ false → self.new ≡ self.old }
+    {
+        let takes = is_parameter_byte(byte);
+        if takes {
+            self.kind = Kind::CsiParam;
+            self.parameters.push(byte);
+        }
+        takes
+    }
+
+    // Reads `[` after ESC.
+    #[inline]
+    fn takes_bracket(&mut self, byte: u8) -> bool
+        requires { self.old.kind ≡ Kind.Escape }
+        ensures tells { result ≡ (byte == 0x5B) }
+        ensures fed { IsTrue result → Feeds self.old byte self.new (record { first = None; second = None }) }
+        ensures kept { result ≡ false → self.new ≡ self.old }
+    {
+        let takes = byte == b'[';
+        if takes {
+            self.begin(Kind::CsiEntry);
+        }
+        takes
+    }
+
+    // Reads ESC in plain text, if no character is unfinished.
+    #[inline]
+    fn takes_escape(&mut self, byte: u8) -> bool
+        requires { self.old.kind ≡ Kind.Ground }
+        ensures tells { result ≡ ((byte == 0x1B) && (length self.old.unfinished == 0)) }
+        ensures fed { IsTrue result → Feeds self.old byte self.new (record { first = None; second = None }) }
+        ensures kept { result ≡ false → self.new ≡ self.old }
+    {
+        if byte != 0x1B || !self.unfinished.is_empty() {
+            return false;
+        }
+        self.begin(Kind::Escape);
+        true
     }
 
     // Whether the next byte begins something.

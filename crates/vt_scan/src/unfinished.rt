@@ -1,7 +1,7 @@
 //! The bytes of a character that isn't finished.
 #![tactic(auto, using(std::proofs::lemmas::Bool::Decides::nat_tests), unfolding(crate::specs::Characters::is_character, crate::specs::Characters::is_beginning))]
 
-ghost use Rattle.std.specs.Prelude.{◌≡◌, ◌≢◌, ℕ, ◌==◌, true, List, [], ◌∷◌, length, if◌then◌else◌};
+ghost use Rattle.std.specs.Prelude.{◌≡◌, ◌≢◌, ℕ, ◌<◌, ◌≤◌, ◌==◌, true, List, [], ◌∷◌, IfSome, IsSome, length, take, if◌then◌else◌};
 ghost use Rattle.vt_scan.specs.Characters.{character_of, continues, is_beginning, is_character, is_second};
 ghost use Rattle.vt_scan.specs.Keeping.{Extends, bytes_in, is_unfinished};
 
@@ -93,6 +93,32 @@ impl Unfinished {
         self.bytes = bytes;
         extended
     }
+}
+
+/// The character of more than one byte that these bytes begin with, and how
+/// many bytes it takes, if all of them are here.
+pub fn first_character(bytes: &[u8]) -> Option<(char, usize)>
+    ensures inside { IfSome result (λ found. (0 < found.1) × (found.1 ≤ length bytes.now)) }
+    ensures is { IfSome result (λ found. is_character (take found.1 bytes.now) ≡ true) }
+    ensures means { IfSome result (λ found. found.0 ≡ character_of (take found.1 bytes.now)) }
+    ensures all { (n : ℕ) → is_character (take n bytes.now) ≡ true → IsSome result }
+{
+    if bytes.len() < 2 || bytes[0] < 0xC2 || !may_be_second(bytes[0], bytes[1]) {
+        return None;
+    }
+    if bytes[0] < 0xE0 {
+        return Some((join_two(bytes[0], bytes[1]), 2));
+    }
+    if bytes.len() < 3 || !may_continue(bytes[2]) {
+        return None;
+    }
+    if bytes[0] < 0xF0 {
+        return Some((join_three(bytes[0], bytes[1], bytes[2]), 3));
+    }
+    if bytes.len() < 4 || bytes[0] > 0xF4 || !may_continue(bytes[3]) {
+        return None;
+    }
+    Some((join_four(bytes[0], bytes[1], bytes[2], bytes[3]), 4))
 }
 
 fn extend_bytes(bytes: Bytes, byte: u8) -> (Bytes, Extended)

@@ -1,7 +1,7 @@
 use Rattle.std.proofs.Common.{inr, refl}
 use Rattle.vt100.specs.Parser.{parsing}
 use Rattle.vt100.proofs.Running.{stopped_within}
-use Rattle.vt100.proofs.processing.process_some.Goals as goal
+use Rattle.vt100.proofs.processing.process_one.Goals as goal
 
 pub returns-in_err-perform_each-clause-stopped : goal.returns-in_err-perform_each-clause-stopped
 returns-in_err-perform_each-clause-stopped g c e =
