@@ -15,9 +15,8 @@ use Rattle.vt_rows.proofs.Pairs.{is_wide-marked}
 use Rattle.vt_rows.proofs.Rows.{IsRow-erased, length-erased}
 use Rattle.vt_rows.proofs.Steps.{at-set}
 use Rattle.vt_grid.specs.Page.{Page, IsPage, cursor_row, with_row}
-use Rattle.vt_grid.specs.Printing.{wrapped_page, glyph_put, mark_column, takes_mark, mark_put, carried, made_wide, width_followed, mark_printed}
-use Rattle.vt_grid.specs.Canvas.{carries}
-use Rattle.vt_grid.specs.Keeping.{IsSized, IsMarkPlace, lifted_page}
+use Rattle.vt_grid.specs.Printing.{carries, lifted_page, wrapped_page, glyph_put, mark_column, takes_mark, mark_put, carried, made_wide, width_followed, mark_printed}
+use Rattle.vt_grid.specs.Keeping.{IsSized, IsMarkPlace}
 use Rattle.vt_grid.proofs.Pages.{page_cursor_cells, IsRow-cursor_row}
 use Rattle.vt_grid.proofs.Marks.{cursor_row_put, mark_place}
 use Rattle.vt_grid.proofs.Sized.{sized}

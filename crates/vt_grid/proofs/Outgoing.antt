@@ -6,8 +6,7 @@ use Rattle.vt_cells.specs.Attrs.{Attrs}
 use Rattle.vt_rows.specs.Row.{RowValue}
 use Rattle.vt_grid.specs.Page.{Page}
 use Rattle.vt_grid.specs.Moves.{feeds_out}
-use Rattle.vt_grid.specs.Printing.{lacks_room}
-use Rattle.vt_grid.specs.Canvas.{carries, pushes}
+use Rattle.vt_grid.specs.Printing.{lacks_room, carries, pushes}
 use Rattle.vt_grid.specs.Outgoing.{fed_out, printed_out, left_by}
 use Rattle.vt_grid.specs.Keeping.{room_out, mark_out}
 

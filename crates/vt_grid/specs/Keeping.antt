@@ -3,11 +3,10 @@ use Rattle.std.specs.Prelude.{◌≡◌, ℕ, ◌+◌, ◌-◌, ◌<◌, nat_le,
 use Rattle.vt_cells.specs.Attrs.{Attrs}
 use Rattle.vt_cells.specs.declared.pos.Pos.{Pos}
 use Rattle.vt_cells.specs.Cell.{CellValue, is_wide, is_blank, is_right_half, widened, IsCell}
-use Rattle.vt_rows.specs.Cells.{at, erased}
+use Rattle.vt_rows.specs.Cells.{at}
 use Rattle.vt_rows.specs.Row.{RowValue, blank_row, resized_row}
 use Rattle.vt_grid.specs.Page.{Page, IsPage, cursor_row}
-use Rattle.vt_grid.specs.Printing.{with_cursor_cells, lacks_room}
-use Rattle.vt_grid.specs.Canvas.{carries}
+use Rattle.vt_grid.specs.Printing.{lacks_room, carries}
 use Rattle.vt_grid.specs.Outgoing.{fed_out, left_by}
 use Rattle.vt_grid.specs.Sheet.{SheetValue}
 
@@ -48,10 +47,6 @@ pub record IsSelected (page : Page) (k : ℕ) : Type 0 where
   pub place : IsMarkPlace (cursor_row page).cells page.column k
   pub drawn : is_blank (at (cursor_row page).cells k) ≡ false
   pub either : (wide : Bool) → IsCell (widened wide (at (cursor_row page).cells k))
-
--- the cell at column k of the cursor's row was taken out, and a blank left
-abbrev pub lifted_page : ℕ → Attrs → Page → Page
-lifted_page k attrs page = with_cursor_cells (erased k 1 attrs (cursor_row page).cells) page
 
 -- the rows that leave where room is made for this many columns
 abbrev pub room_out : ℕ → Page → List RowValue

@@ -2,12 +2,10 @@
 use Rattle.std.specs.Prelude.{ℕ, ◌+◌, ◌==◌, List, [], take, min, Option, Some, zero, if◌then◌else◌}
 use Rattle.vt_cells.specs.Attrs.{Attrs}
 use Rattle.vt_cells.specs.Glyph.{columns_of}
-use Rattle.vt_rows.specs.Cells.{erased}
 use Rattle.vt_rows.specs.Row.{RowValue}
-use Rattle.vt_grid.specs.Page.{Page, cursor_row}
+use Rattle.vt_grid.specs.Page.{Page}
 use Rattle.vt_grid.specs.Moves.{feeds_out}
-use Rattle.vt_grid.specs.Printing.{mark_column, with_cursor_cells}
-use Rattle.vt_grid.specs.Canvas.{pushes}
+use Rattle.vt_grid.specs.Printing.{mark_column, lifted_page, pushes}
 
 -- the region scrolls up by n rows, at most by all it has
 abbrev pub scrolled_out : ℕ → Page → List RowValue
@@ -19,7 +17,7 @@ fed_out page = if feeds_out page then take 1 page.rows else []
 
 -- what a character that goes on in the next row leaves behind: U+FE0F takes the glyph before it along
 abbrev pub left_by : Option ℕ → Attrs → Page → Page
-left_by (Some zero) attrs page = with_cursor_cells (erased (mark_column page) 1 attrs (cursor_row page).cells) page
+left_by (Some zero) attrs page = lifted_page (mark_column page) attrs page
 left_by _ attrs page = page
 
 -- a character is printed

@@ -1,13 +1,13 @@
 -- Printing a character: its width decides whether the cursor wraps first, and what becomes of its neighbours (VT510 manual, DECAWM set).
 use Rattle.std.specs.Prelude.{ℕ, ◌+◌, ◌-◌, ◌==◌, ◌&&◌, nat_lt, not, Bool, true, false, List, length, Option, Some, None, zero, suc, if◌then◌else◌}
 use Rattle.std.specs.Char.{encode_utf8}
-use Rattle.vt_cells.specs.Cell.{CellValue, text_of, is_wide, is_blank, is_right_half}
+use Rattle.vt_cells.specs.Cell.{CellValue, text_of, is_wide, is_blank, is_right_half, marked}
 use Rattle.vt_cells.specs.Glyph.{columns_of, is_selector, is_wide_text, has_room}
 use Rattle.vt_cells.specs.Attrs.{Attrs}
 use Rattle.vt_rows.specs.Cells.{at, ends_blank, erased, put_narrow, put_wide, marked_at, widened_at, narrowed_at}
 use Rattle.vt_rows.specs.Row.{with_cells}
 use Rattle.vt_grid.specs.Page.{Page, row_at, cursor_row, with_row}
-use Rattle.vt_grid.specs.Moves.{line_feed, at_bottom}
+use Rattle.vt_grid.specs.Moves.{line_feed, at_bottom, feeds_out}
 
 -- the cells of the cursor's row become others
 abbrev pub with_cursor_cells : List CellValue → Page → Page
@@ -58,14 +58,39 @@ mark_column page = if is_right_half (at (cursor_row page).cells (page.column - 1
 abbrev pub takes_mark : CellValue → Bool
 takes_mark cell = if is_blank cell then true else has_room (text_of cell)
 
+-- U+FE0F makes the narrow glyph at a pending wrap wide, so that it is carried to the next row
+unfoldable pub carries : ℕ → Page → Bool
+carries mark page =
+    let cell = at (cursor_row page).cells (mark_column page) in
+    (is_selector mark && (takes_mark cell && not (is_wide cell)))
+    && (is_wide_text (text_of (marked mark cell)) && (nat_lt 1 page.width && (page.column == page.width)))
+
+-- whether a character goes on in the next row, by the columns that it takes
+abbrev pub wraps_for : Option ℕ → ℕ → Page → Bool
+wraps_for None c page = false
+wraps_for (Some zero) c page = if page.column == 0 then false else carries c page
+wraps_for (Some (suc zero)) c page = lacks_room 1 page
+wraps_for (Some (suc (suc n))) c page = nat_lt 1 page.width && lacks_room 2 page
+
+abbrev pub wraps : ℕ → Page → Bool
+wraps c page = wraps_for (columns_of c) c page
+
+-- printing the character scrolls a row off the page
+abbrev pub pushes : ℕ → Page → Bool
+pushes c page = wraps c page && feeds_out page
+
+-- the glyph at column k was taken out, and a blank left
+abbrev pub lifted_page : ℕ → Attrs → Page → Page
+lifted_page k attrs page = with_cursor_cells (erased k 1 attrs (cursor_row page).cells) page
+
 -- a mark is put on the cell at column k, which keeps its width
 abbrev pub mark_put : ℕ → ℕ → Page → Page
 mark_put k mark page = with_cursor_cells (marked_at k mark (cursor_row page).cells) page
 
--- a glyph at a pending wrap that became wide: its cell is blanked, and it is put again in the next row
+-- a glyph at a pending wrap that became wide: it is taken out, and put again in the next row
 unfoldable pub carried : List ℕ → ℕ → Attrs → Page → Page
 carried text k attrs page =
-    glyph_put text true attrs (wrapped_page (with_cursor_cells (erased k 1 attrs (cursor_row page).cells) page))
+    glyph_put text true attrs (wrapped_page (lifted_page k attrs page))
 
 -- the glyph at column k, which got U+FE0F, becomes wide: in place where a column is left for its right half, else in the next row
 unfoldable pub made_wide : ℕ → Attrs → Page → Page

@@ -11,7 +11,7 @@ use Rattle.vt_grid.specs.Page.{Page, cursor_row, with_row, row_at}
 use Rattle.vt_grid.specs.Moves.{line_feed}
 use Rattle.vt_grid.specs.Erasing.{erased_chars, erased_rest, erased_columns}
 use Rattle.vt_grid.specs.Printing.{with_cursor_cells, glyph_put, room_made, lacks_room, wrapped_page}
-use Rattle.vt_grid.specs.Canvas.{Canvas, with_page}
+use Rattle.vt_grid.specs.Canvas.{Canvas}
 use Rattle.vt_cells.specs.Glyph.{first_columns}
 use Rattle.vt_redraw.specs.Script.{pen_at, erase_run}
 use Rattle.vt_redraw.specs.declared.pen.Pen.{Pen}
@@ -87,7 +87,7 @@ chars_erased base done below pre rest flag r c n attrs e l fits h =
     let s : (c == base.page.width) ≡ false = ne_eqb c base.page.width (λ same. omega arith) in
     let some : (suc n == 0) ≡ false = ne_eqb (suc n) 0 (λ same. omega arith) in
     let m : min (suc n) (base.page.width - c) ≡ suc n = omega arith in
-    rw (some, s, m) (ap (λ (page : Page). Some (with_page page start)) (erased_at base done below pre rest flag r c (suc n) attrs e l h))
+    rw (some, s, m) (ap (λ (page : Page). Some (record start { page = page })) (erased_at base done below pre rest flag r c (suc n) attrs e l h))
 
 pub rest_erased : (base : Canvas) (done below : List RowValue) (pre rest : List CellValue) (flag : Bool) (r c n : ℕ) (attrs : Attrs) → length done ≡ r → length pre ≡ c → c + suc n ≡ base.page.width → Paired pre →
     Draws (EraseRest ∷ []) (mid base done below (pre ++ rest) flag (pen_at r c attrs))
@@ -97,7 +97,7 @@ rest_erased base done below pre rest flag r c n attrs e l fits h =
     let start = mid base done below (pre ++ rest) flag (pen_at r c attrs) in
     let s : (c == base.page.width) ≡ false = ne_eqb c base.page.width (λ same. omega arith) in
     let m : base.page.width - c ≡ suc n = omega arith in
-    rw (s, m) (ap (λ (page : Page). Some (with_page page start)) (erased_at base done below pre rest flag r c (suc n) attrs e l h))
+    rw (s, m) (ap (λ (page : Page). Some (record start { page = page })) (erased_at base done below pre rest flag r c (suc n) attrs e l h))
 
 -- a run of blanks, with more columns behind it or to the end of the row
 pub run_erased : (base : Canvas) (done below : List RowValue) (pre rest more : List CellValue) (flag : Bool) (r c n : ℕ) (attrs : Attrs) → length done ≡ r → length pre ≡ c → c + (suc n + length more) ≡ base.page.width → Paired pre →

@@ -13,8 +13,8 @@ use Rattle.vt_rows.specs.Cells.{at, put_cells, column_of, marked_at, narrowed_at
 use Rattle.vt_rows.proofs.Columns.{put_columns, length-put_cells}
 use Rattle.vt_rows.proofs.Pairs.{is_right_half-marked, is_wide-marked}
 use Rattle.vt_grid.specs.Page.{Page}
-use Rattle.vt_grid.specs.Printing.{with_cursor_cells, mark_column, takes_mark, mark_put, made_wide, made_narrow, carried, width_followed, mark_printed, printed_by}
-use Rattle.vt_grid.specs.Canvas.{Canvas, with_page, and_then, drawn_char, drawn_text, carries, wraps_for}
+use Rattle.vt_grid.specs.Printing.{carries, wraps_for, with_cursor_cells, mark_column, takes_mark, mark_put, made_wide, made_narrow, carried, width_followed, mark_printed, printed_by}
+use Rattle.vt_grid.specs.Canvas.{Canvas, and_then, drawn_char, drawn_text}
 use Rattle.vt_redraw.specs.Script.{pen_at}
 use Rattle.vt_redraw.specs.Steady.{blank_line}
 use Rattle.vt_redraw.proofs.Flags.{kept}
@@ -116,12 +116,12 @@ is_right_half-widened wide right_half = refl
 
 -- the line with other cells and another column
 past_line : (width : ℕ) (attrs : Attrs) (cells new : List CellValue) (flag : Bool) (col to : ℕ) (page : Page) →
-    page ≡ (line width attrs new (kept flag new) to).page → IsPast width new to → Past width attrs (with_page page (line width attrs cells flag col))
+    page ≡ (line width attrs new (kept flag new) to).page → IsPast width new to → Past width attrs (record (line width attrs cells flag col) { page = page })
 past_line width attrs cells new flag col to page e past = record {
   cells = new;
   flag = kept flag new;
   col = to;
-  is = ap (λ (p : Page). with_page p (line width attrs cells flag col)) e;
+  is = ap (λ (p : Page). record (line width attrs cells flag col) { page = p }) e;
   past = past;
 }
 
@@ -131,13 +131,13 @@ carried_there s t w wt lt eq a b c d e h = grind (arith, a, b, c, d, e, h)
 -- the width follows a mark that was put at column k
 past_followed : (width : ℕ) (attrs : Attrs) (cells : List CellValue) (flag : Bool) (col k m : ℕ) → is_selector m ≡ true → takes_mark (at cells k) ≡ true → IsPast width cells col → IsBehind col k →
     ((is_selector m && (takes_mark (at cells k) && not (is_wide (at cells k)))) && (is_wide_text (text_of (marked m (at cells k))) && (nat_lt 1 width && (col == width)))) ≡ false →
-    Past width attrs (with_page (width_followed k attrs (line width attrs (marked_at k m cells) (kept flag (marked_at k m cells)) col).page) (line width attrs cells flag col))
+    Past width attrs (record (line width attrs cells flag col) { page = width_followed k attrs (line width attrs (marked_at k m cells) (kept flag (marked_at k m cells)) col).page })
 unfolding width_followed made_wide
 past_followed width attrs cells flag col k m selector takes past place never =
     let new = marked_at k m cells in
     let now = kept flag new in
     let page = (line width attrs new now col).page in
-    let Q = λ (p : Page). Past width attrs (with_page p (line width attrs cells flag col)) in
+    let Q = λ (p : Page). Past width attrs (record (line width attrs cells flag col) { page = p }) in
     let wide = is_wide_text (text_of (at new k)) && nat_lt 1 width in
     let some = place.some in
     let before = place.before in
@@ -152,7 +152,7 @@ past_followed width attrs cells flag col k m selector takes past place never =
       cells = narrower;
       flag = kept now narrower;
       col = col;
-      is = ap (λ (p : Page). with_page p (line width attrs cells flag col)) (edited_at (blank_line width attrs) [] [] new now (pen_at 0 col attrs) (narrowed_at k attrs) narrower refl refl);
+      is = ap (λ (p : Page). record (line width attrs cells flag col) { page = p }) (edited_at (blank_line width attrs) [] [] new now (pen_at 0 col attrs) (narrowed_at k attrs) narrower refl refl);
       past = past_put width new col k 1 col (glyph (0x20 ∷ []) false attrs) (widened false (at new k)) [] after place refl (omega arith) (omega arith) inside
           (λ two. is_right_half-widened false (at new k) ∙ (ap (λ (j : ℕ). is_right_half (at new j)) (place.second two) ∙ after.second two));
     } in
@@ -166,7 +166,7 @@ past_followed width attrs cells flag col k m selector takes past place never =
       cells = wider;
       flag = kept now wider;
       col = col + 1;
-      is = ap (λ (p : Page). with_page (record p { column = col + 1 }) (line width attrs cells flag col)) (edited_at (blank_line width attrs) [] [] new now (pen_at 0 col attrs) (widened_at k attrs) wider refl refl);
+      is = ap (λ (p : Page). record (line width attrs cells flag col) { page = record p { column = col + 1 } }) (edited_at (blank_line width attrs) [] [] new now (pen_at 0 col attrs) (widened_at k attrs) wider refl refl);
       past = past_put width new col k 2 (col + 1) (blank attrs) (widened true (at new k)) (right_half ∷ []) after place refl (omega arith) (omega arith) (omega arith) (λ two. let far = past.far in absurd (omega arith));
     })
     (λ (l : nat_lt col width ≡ false).
@@ -178,13 +178,13 @@ past_followed width attrs cells flag col k m selector takes past place never =
 
 -- a mark leaves the cursor past the glyph, unless a row scrolls off
 mark_past : (width : ℕ) (attrs : Attrs) (cells : List CellValue) (flag : Bool) (col m : ℕ) → IsPast width cells col → carries m (line width attrs cells flag col).page ≡ false →
-    Past width attrs (with_page (mark_printed m attrs (line width attrs cells flag col).page) (line width attrs cells flag col))
+    Past width attrs (record (line width attrs cells flag col) { page = mark_printed m attrs (line width attrs cells flag col).page })
 unfolding mark_printed carries
 mark_past width attrs cells flag col m past never =
     let page = (line width attrs cells flag col).page in
     let k = mark_column page in
     let new = marked_at k m cells in
-    let Q = λ (p : Page). Past width attrs (with_page p (line width attrs cells flag col)) in
+    let Q = λ (p : Page). Past width attrs (record (line width attrs cells flag col) { page = p }) in
     let place = behind_first width cells col past in
     let before = place.before in
     let inside = past.inside in
@@ -195,9 +195,9 @@ mark_past width attrs cells flag col m past never =
     (λ _. past_line width attrs cells new flag col col (mark_put k m page) put (past_set width cells col k (marked m (at cells k)) past place (is_right_half-marked m (at cells k)))))
     (λ _. record { cells = cells; flag = flag; col = col; is = refl; past = past })
 
-by_push : (width : ℕ) (attrs : Attrs) (page : Page) (canvas end : Canvas) (b : Bool) → (b ≡ false → Past width attrs (with_page page canvas)) → (if b && true then None else Some (with_page page canvas)) ≡ Some end → Past width attrs end
+by_push : (width : ℕ) (attrs : Attrs) (page : Page) (canvas end : Canvas) (b : Bool) → (b ≡ false → Past width attrs (record canvas { page = page })) → (if b && true then None else Some (record canvas { page = page })) ≡ Some end → Past width attrs end
 by_push width attrs page canvas end true f h = absurd (cc)
-by_push width attrs page canvas end false f h = subst (Past width attrs) (canvas_or_same (with_page page canvas) end h) (f refl)
+by_push width attrs page canvas end false f h = subst (Past width attrs) (canvas_or_same (record canvas { page = page }) end h) (f refl)
   where
     canvas_or : Canvas → Option Canvas → Canvas
     canvas_or other (Some c) = c
@@ -212,8 +212,8 @@ line_past width attrs cells flag col m end is_mark past h =
     let page = canvas.page in
     let far = past.far in
     let some : (col == 0) ≡ false = ne_eqb col 0 (λ same. omega arith) in
-    let by = λ (w : Option ℕ). if wraps_for w m page && true then None else Some (with_page (printed_by w m attrs page) canvas) in
-    let zero_columns : by (Some 0) ≡ (if carries m page && true then None else Some (with_page (mark_printed m attrs page) canvas)) = rw some refl in
+    let by = λ (w : Option ℕ). if wraps_for w m page && true then None else Some (record canvas { page = printed_by w m attrs page }) in
+    let zero_columns : by (Some 0) ≡ (if carries m page && true then None else Some (record canvas { page = mark_printed m attrs page })) = rw some refl in
     by_push width attrs (mark_printed m attrs page) canvas end (carries m page) (mark_past width attrs cells flag col m past)
     (sym zero_columns ∙ (sym (ap by is_mark.1) ∙ h))
 

@@ -17,7 +17,7 @@ use Rattle.vt_cells.proofs.Glyphs.{IsGlyphText-chars, selector_columns, encode_b
 use Rattle.vt_cells.specs.Attrs.{Attrs, default_attrs}
 use Rattle.vt_rows.specs.Cells.{blanks}
 use Rattle.vt_grid.specs.Page.{Page}
-use Rattle.vt_grid.specs.Canvas.{Canvas, with_page, and_then, drawn_text, drawn_all}
+use Rattle.vt_grid.specs.Canvas.{Canvas, and_then, drawn_text, drawn_all}
 use Rattle.vt_cells.specs.Glyph.{first_columns}
 use Rattle.vt_redraw.specs.Steady.{blank_line, has_selector, HasNoSelector, heart_text, IsSteady, IsSteadyCell, IsSteadyGlyph}
 use Rattle.vt_redraw.proofs.Spots.{Spot, glyph_put_here}
@@ -36,7 +36,7 @@ prints_steady n text wide attrs prints =
     let spot : Spot base [] [] default_blank default_blank (blanks default_attrs n) false 0 0 wide = record { row = refl; col = refl; fits = omega arith; front = tt; sound = λ t. absurd (cc) } in
     sym (and_then_nothing (drawn_text (chars text) base))
     ∙ (print_draws base [] [] [] default_blank default_blank (blanks default_attrs n) false 0 0 text wide attrs prints spot
-    ∙ sym (ap (λ (p : Page). Some (with_page p base)) (glyph_put_here base [] [] [] default_blank default_blank (blanks default_attrs n) false 0 0 text wide attrs spot)))
+    ∙ sym (ap (λ (p : Page). Some (record base { page = p })) (glyph_put_here base [] [] [] default_blank default_blank (blanks default_attrs n) false 0 0 text wide attrs spot)))
 
 first_not : (a b : Bool) → (a || b) ≡ false → a ≡ false
 first_not true b h = h

@@ -10,8 +10,8 @@ use Rattle.vt_cells.specs.Attrs.{Attrs}
 use Rattle.vt_rows.specs.Cells.{opened, put_cells, widened_at}
 use Rattle.vt_rows.specs.Row.{RowValue}
 use Rattle.vt_grid.specs.Page.{Page}
-use Rattle.vt_grid.specs.Printing.{glyph_put, lacks_room, room_made, wrapped_page, made_wide}
-use Rattle.vt_grid.specs.Canvas.{Canvas, with_page, and_then, drawn_char, drawn_text, drawn_all, carries}
+use Rattle.vt_grid.specs.Printing.{carries, glyph_put, lacks_room, room_made, wrapped_page, made_wide}
+use Rattle.vt_grid.specs.Canvas.{Canvas, and_then, drawn_char, drawn_text, drawn_all}
 use Rattle.vt_redraw.specs.Script.{pen_at}
 use Rattle.vt_grid.proofs.Drawing.{Draws}
 use Rattle.vt_redraw.specs.Script.{is_torn, flag_behind}
@@ -81,10 +81,10 @@ some_column false c = ne_eqb (c + 1) 0 (λ same. omega arith)
 pub mark_follows : (base : Canvas) (done below : List RowValue) (pre : List CellValue) (o y : CellValue) (ys : List CellValue) (flag : Bool) (r c : ℕ) (text : List ℕ) (wide : Bool) (attrs : Attrs) (m : ℕ) →
     IsMark m → has_room text ≡ true → Spot base done pre o y ys flag r c wide → (wide ≡ false → next base.page.width wide text m ≡ true → c + 2 ≤ base.page.width) →
     drawn_char m (put base done below pre ys flag r c text wide attrs)
-    ≡ Some (with_page
-    (if is_selector m then followed wide (is_wide_text (text ++ encode_utf8 m) && nat_lt 1 base.page.width) c attrs (put base done below pre ys flag r c (text ++ encode_utf8 m) wide attrs).page
-    else (put base done below pre ys flag r c (text ++ encode_utf8 m) wide attrs).page)
-    (put base done below pre ys flag r c text wide attrs))
+    ≡ Some (record (put base done below pre ys flag r c text wide attrs) {
+      page = if is_selector m then followed wide (is_wide_text (text ++ encode_utf8 m) && nat_lt 1 base.page.width) c attrs (put base done below pre ys flag r c (text ++ encode_utf8 m) wide attrs).page
+          else (put base done below pre ys flag r c (text ++ encode_utf8 m) wide attrs).page;
+    })
 mark_follows base done below pre o y ys flag r c text wide attrs m is_mark room at_spot place =
     let now = next base.page.width wide text m in
     let longer = text ++ encode_utf8 m in
@@ -121,7 +121,7 @@ mark_drawn base done below pre o y ys flag r c text wide attrs m is_mark room gr
     let page = λ (w : Bool). (put base done below pre ys flag r c longer w attrs).page in
     mark_follows base done below pre o y ys flag r c text wide attrs m is_mark room
     (wider_spot base done pre o y ys flag r c wide now (widths_grow wide now grows) at_spot) (λ _ t. room_for now c base.page.width at_spot.fits t)
-    ∙ ap (λ (p : Page). Some (with_page p canvas)) (settled page c attrs (is_selector m) (is_wide_text longer && nat_lt 1 base.page.width) wide grows
+    ∙ ap (λ (p : Page). Some (record canvas { page = p })) (settled page c attrs (is_selector m) (is_wide_text longer && nat_lt 1 base.page.width) wide grows
     (λ t. grown_wide base done below pre o y ys flag r c longer attrs (at_true now base done pre o y ys flag r c t at_spot)))
 
 -- ---- the whole text

@@ -8,9 +8,9 @@ use Rattle.vt_cells.specs.Attrs.{Attrs}
 use Rattle.vt_rows.specs.Cells.{opened}
 use Rattle.vt_rows.specs.Row.{RowValue}
 use Rattle.vt_grid.specs.Page.{Page}
-use Rattle.vt_grid.specs.Printing.{glyph_put, printed_by, printed}
+use Rattle.vt_grid.specs.Printing.{glyph_put, printed_by, printed, wraps_for}
 use Rattle.vt_grid.specs.Moves.{feeds_out}
-use Rattle.vt_grid.specs.Canvas.{Canvas, with_page, drawn_char, wraps_for}
+use Rattle.vt_grid.specs.Canvas.{Canvas, drawn_char}
 use Rattle.vt_redraw.specs.Script.{pen_at}
 use Rattle.vt_redraw.specs.Script.{is_nil, is_torn, flag_behind}
 use Rattle.vt_redraw.proofs.Halves.{Paired, drop_opened}
@@ -73,14 +73,14 @@ glyph_put_here base done below pre o y ys flag r c text wide attrs at =
 -- ---- a character that takes columns
 
 pub char_drawn : (c : ℕ) (w : Option ℕ) (canvas : Canvas) (page : Page) → columns_of c ≡ w → (wraps_for w c canvas.page && feeds_out canvas.page) ≡ false → printed_by w c canvas.attrs canvas.page ≡ page →
-    drawn_char c canvas ≡ Some (with_page page canvas)
+    drawn_char c canvas ≡ Some (record canvas { page = page })
 char_drawn c w canvas page e f h =
     let never : (wraps_for (columns_of c) c canvas.page && feeds_out canvas.page) ≡ false = ap (λ (z : Option ℕ). wraps_for z c canvas.page && feeds_out canvas.page) e ∙ f in
     let is : printed c canvas.attrs canvas.page ≡ page = ap (λ (z : Option ℕ). printed_by z c canvas.attrs canvas.page) e ∙ h in
     rw (never, is) refl
 
 pub char_drawn-mark : (c : ℕ) (canvas : Canvas) (page : Page) → columns_of c ≡ Some 0 → (wraps_for (Some 0) c canvas.page && feeds_out canvas.page) ≡ false → printed_by (Some 0) c canvas.attrs canvas.page ≡ page →
-    drawn_char c canvas ≡ Some (with_page page canvas)
+    drawn_char c canvas ≡ Some (record canvas { page = page })
 char_drawn-mark c canvas page e f h = char_drawn c (Some 0) canvas page e f h
 
 pub first_drawn : (base : Canvas) (done below : List RowValue) (pre : List CellValue) (o y : CellValue) (ys : List CellValue) (flag : Bool) (r c : ℕ) (first : ℕ) (wide : Bool) (attrs : Attrs) →

@@ -14,7 +14,7 @@ use Rattle.vt_rows.proofs.Columns.{length-opened}
 use Rattle.std.proofs.lemmas.List.{length-drop, length-replicate}
 use Rattle.vt_grid.specs.Page.{Page, row_at}
 use Rattle.vt_grid.specs.Printing.{made_narrow}
-use Rattle.vt_grid.specs.Canvas.{Canvas, with_page, and_then, drawn_char, drawn_text}
+use Rattle.vt_grid.specs.Canvas.{Canvas, and_then, drawn_char, drawn_text}
 use Rattle.vt_redraw.specs.Script.{pen_at}
 use Rattle.vt_redraw.specs.Steady.{blank_line, IsSteadyGlyph}
 use Rattle.vt_redraw.proofs.Halves.{put_at}
@@ -50,7 +50,7 @@ alone_not_past n text wide attrs p =
     by_width false e h far = omega arith
 
 -- a wide glyph made narrow
-narrowed : (n : ℕ) (text : List ℕ) (attrs : Attrs) → 2 ≤ suc n → Past (suc n) attrs (with_page (made_narrow 0 attrs (alone n text true attrs).page) (alone n text true attrs))
+narrowed : (n : ℕ) (text : List ℕ) (attrs : Attrs) → 2 ≤ suc n → Past (suc n) attrs (record (alone n text true attrs) { page = made_narrow 0 attrs (alone n text true attrs).page })
 narrowed n text attrs h =
     let canvas = alone n text true attrs in
     let row = with_glyph [] text true attrs (blanks default_attrs n) in
@@ -59,7 +59,7 @@ narrowed n text attrs h =
       cells = new;
       flag = kept false new;
       col = 2;
-      is = ap (λ (p : Page). with_page p canvas)
+      is = ap (λ (p : Page). record canvas { page = p })
           (edited_at (blank_line (suc n) attrs) [] [] row false (pen_at 0 2 attrs) (narrowed_at 0 attrs) new refl (put_at [] row (glyph text false attrs ∷ []) (glyph (0x20 ∷ []) false attrs) 0 1 refl tt));
       past = record {
         size = let l = length-opened (blank attrs) (drop 1 (blanks default_attrs n)) in let d = length-drop 1 (blanks default_attrs n) in let r = length-replicate n default_blank in omega arith;
@@ -85,13 +85,13 @@ next_fits width wide text m pos h =
 
 -- a wide glyph that a mark makes narrow
 mark_narrows : (n : ℕ) (text : List ℕ) (attrs : Attrs) (m : ℕ) → IsMark m → has_room text ≡ true → 2 ≤ suc n → next (suc n) true text m ≡ false →
-    drawn_char m (alone n text true attrs) ≡ Some (with_page (made_narrow 0 attrs (alone n (text ++ encode_utf8 m) true attrs).page) (alone n text true attrs))
+    drawn_char m (alone n text true attrs) ≡ Some (record (alone n text true attrs) { page = made_narrow 0 attrs (alone n (text ++ encode_utf8 m) true attrs).page })
 mark_narrows n text attrs m is_mark room h e =
     let canvas = alone n text true attrs in
     let longer = text ++ encode_utf8 m in
     let page = (alone n longer true attrs).page in
     mark_follows (blank_line (suc n) attrs) [] [] [] default_blank default_blank (blanks default_attrs n) false 0 0 text true attrs m is_mark room (line_spot n attrs true h) (λ t. absurd (cc))
-    ∙ ap (λ (p : Page). Some (with_page p canvas)) (by_test (is_selector m) (is_wide_text longer && nat_lt 1 (suc n)) page e)
+    ∙ ap (λ (p : Page). Some (record canvas { page = p })) (by_test (is_selector m) (is_wide_text longer && nat_lt 1 (suc n)) page e)
   where
     by_test : (s q : Bool) (page : Page) → (if s then q else true) ≡ false → (if s then followed true q 0 attrs page else page) ≡ made_narrow 0 attrs page
     by_test true false page k = refl
@@ -151,7 +151,7 @@ steady_prints n text wide attrs g le steady = by_columns (columns_of g.first) re
     goal : drawn_text (g.first ∷ g.marks) (blank_line (suc n) attrs) ≡ Some (alone n text wide attrs)
     goal =
         ap (λ (cs : List ℕ). drawn_text cs (blank_line (suc n) attrs)) (sym (IsGlyphText-chars text wide g))
-        ∙ (steady ∙ ap (λ (p : Page). Some (with_page p (blank_line (suc n) attrs)))
+        ∙ (steady ∙ ap (λ (p : Page). Some (record (blank_line (suc n) attrs) { page = p }))
         (glyph_put_here (blank_line (suc n) attrs) [] [] [] default_blank default_blank (blanks default_attrs n) false 0 0 text wide attrs (line_spot n attrs wide le)))
 
     from : (start : Bool) → columns_of g.first ≡ Some (first_columns start) → first_columns start ≤ suc n → Prints (suc n) text wide

@@ -9,8 +9,8 @@ use Rattle.vt_cells.specs.Attrs.{Attrs}
 use Rattle.vt_rows.specs.Cells.{at, marked_at}
 use Rattle.vt_rows.specs.Row.{RowValue}
 use Rattle.vt_grid.specs.Page.{Page, cursor_row}
-use Rattle.vt_grid.specs.Printing.{mark_column, takes_mark, mark_put, made_wide, made_narrow, width_followed, mark_printed}
-use Rattle.vt_grid.specs.Canvas.{Canvas, carries}
+use Rattle.vt_grid.specs.Printing.{carries, mark_column, takes_mark, mark_put, made_wide, made_narrow, width_followed, mark_printed}
+use Rattle.vt_grid.specs.Canvas.{Canvas}
 use Rattle.vt_redraw.specs.Script.{pen_at}
 use Rattle.vt_redraw.proofs.Flags.{kept}
 use Rattle.vt_redraw.proofs.Edits.{mid, glyph_cells, cursor_row_is, edited_at}

@@ -7,7 +7,7 @@ use Rattle.vt_cells.specs.Cell.{CellValue, blank, glyph, right_half}
 use Rattle.vt_cells.specs.Glyph.{is_selector}
 use Rattle.vt_grid.specs.Page.{blank_page}
 use Rattle.vt_grid.specs.Printing.{glyph_put}
-use Rattle.vt_grid.specs.Canvas.{Canvas, with_page, drawn_text}
+use Rattle.vt_grid.specs.Canvas.{Canvas, drawn_text}
 use Rattle.vt_redraw.specs.Picture.{Picture, IsPicture}
 
 -- a blank row, to be drawn on from its first column in these attributes
@@ -18,7 +18,7 @@ blank_line width attrs = record { page = blank_page 1 width; attrs = attrs; save
 abbrev pub IsSteadyGlyph : ℕ → List ℕ → Bool → Attrs → Type 0
 IsSteadyGlyph width text wide attrs =
     drawn_text (chars text) (blank_line width attrs)
-    ≡ Some (with_page (glyph_put text wide attrs (blank_page 1 width)) (blank_line width attrs))
+    ≡ Some (record (blank_line width attrs) { page = glyph_put text wide attrs (blank_page 1 width) })
 
 abbrev pub IsSteadyCell : ℕ → CellValue → Type 0
 IsSteadyCell width (glyph text wide attrs) = IsSteadyGlyph width text wide attrs

@@ -54,8 +54,9 @@ collect_mark old new kind b fits other is same pushed text reads =
       marks = pushed (filter (λ x. not (is_parameter x)) text) was.marks ∙ ap (take 2) (sym (filter-yes (λ x. not (is_parameter x)) text b (ap not is)));
     })
 
-pub collect_parameter : (old new : Held) (kind : Kind) (b : ℕ) → Fits old.kind (Collect kind) → old.kind ≢ OscString → is_parameter b ≡ true
-    → new.marks ≡ old.marks → ((text : List ℕ) → old.table ≡ table_of text → new.table ≡ table_of (text ++ b ∷ []))
+pub collect_parameter : (old new : Held) (kind : Kind) (b : ℕ) → Fits old.kind (Collect kind) → old.kind ≢ OscString
+    → is_parameter b ≡ true → new.marks ≡ old.marks
+    → ((text : List ℕ) → old.table ≡ table_of text → new.table ≡ table_of (text ++ b ∷ []))
     → (text : List ℕ) → Reads old old.kind text → Reads new kind (text ++ b ∷ [])
 collect_parameter old new kind b fits other is same pushed text reads =
     let both = in_sequence old.kind kind fits other in

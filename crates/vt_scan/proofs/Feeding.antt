@@ -1,5 +1,6 @@
 -- What is held after a byte stands for the state that follows.
-use Rattle.std.proofs.Common.{◌≡◌, ◌≢◌, ℕ, ◌==◌, ◌<◌, ◌≤◌, length, map, true, false, List, [], ◌∷◌, ◌++◌, Some, None, inl, refl, sym, subst, ◌∙◌, ap}
+use Rattle.std.proofs.Common.{◌≡◌, ◌≢◌, ℕ, ◌==◌, ◌<◌, ◌≤◌, length, map, true, false, List, [], ◌∷◌, ◌++◌}
+use Rattle.std.proofs.Common.{Some, None, inl, refl, sym, subst, ◌∙◌, ap}
 use Rattle.std.specs.Option.{option_to_list}
 use Rattle.std.proofs.lemmas.List.{append-nil}
 use Rattle.std.proofs.lemmas.Bool.{false≢true}
@@ -20,7 +21,9 @@ use Rattle.vt_scan.specs.declared.event.Event.TheVariants as given
 use Rattle.vt_scan.specs.declared.event.Events.{Events}
 use Rattle.vt_scan.specs.declared.unfinished.Extended.TheVariants.{Further, Character, Broken}
 use Rattle.vt_scan.proofs.Collecting.{sequence_from}
-use Rattle.vt_scan.proofs.Stepping.{step_in-table, gives, fresh_step-character, fresh_step-control, fresh_step-escape, fresh_step-begun, fresh_step-broken, character_step-whole, character_step-further, character_step-broken, step_in-character}
+use Rattle.vt_scan.proofs.Stepping.{gives, step_in-table}
+use Rattle.vt_scan.proofs.Stepping.{fresh_step-character, fresh_step-control, fresh_step-escape, fresh_step-begun}
+use Rattle.vt_scan.proofs.Stepping.{fresh_step-broken, character_step-whole, character_step-further, character_step-broken, step_in-character}
 
 abbrev pub no_event : Events
 no_event = record { first = None; second = None }
@@ -126,8 +129,9 @@ plain_feeds held b is none low high = λ s stands.
     (fresh_character held b b (one_event (given.Character b)) is none low high refl refl))
 
 -- what an ending of a sequence gives: nothing that its events are read from is cleared by what begins
-given_by : (old new : Held) (next : Kind) (end : ending.Ending) (text : List ℕ) (b : ℕ) → old.kind ≢ Ground → FitsEnding old.kind next end → Begins old new next
-    → Reads old old.kind text → events_in new (answer_of end b) ≡ automaton.given end text b
+given_by : (old new : Held) (next : Kind) (end : ending.Ending) (text : List ℕ) (b : ℕ) → old.kind ≢ Ground
+    → FitsEnding old.kind next end → Begins old new next → Reads old old.kind text
+    → events_in new (answer_of end b) ≡ automaton.given end text b
 given_by old new next ends.Nothing text b other fits begun reads = refl
 given_by old new next ends.Character text b other fits begun reads = absurd (other fits.0)
 given_by old new next ends.Executed text b other fits begun reads = refl
@@ -137,7 +141,8 @@ given_by old new next ends.EscDispatch text b other fits begun reads =
 given_by old new next ends.CsiDispatch text b other fits begun reads =
     let was = sequence_from old.kind old text fits.0 reads in
     ap (λ (t : GroupTable). automaton.CsiDispatch t.groups new.marks b ∷ []) (begun.table fits.1 ∙ was.table)
-    ∙ ap (λ marks. automaton.CsiDispatch (table_of (parameter_text text)).groups marks b ∷ []) (begun.marks fits.1 ∙ was.marks)
+    ∙ ap (λ marks. automaton.CsiDispatch (table_of (parameter_text text)).groups marks b ∷ [])
+    (begun.marks fits.1 ∙ was.marks)
 given_by old new next ends.OscDispatch text b other fits begun reads =
     let was : old.text ≡ text = subst (λ (k : Kind). Reads old k text) fits.0 reads in
     ap (λ t. automaton.OscDispatch (parts_of t) ∷ []) (begun.text fits.1 ∙ was)
@@ -146,11 +151,13 @@ given_by old new next ends.OscDispatchAndExecuted text b other fits begun reads 
     ap (λ t. automaton.OscDispatch (parts_of t) ∷ automaton.Executed b ∷ []) (begun.text (inl fits.1) ∙ was)
 
 -- a byte that ends a sequence, by the table
-pub fed_end : (old new : Held) (next : Kind) (end : ending.Ending) (b : ℕ) (answer : Events) → old.kind ≢ Ground → turn_of old.kind (class_of b) ≡ End next end
-    → Fits old.kind (End next end) → Begins old new next → answer ≡ answer_of end b → Feeds old b new answer
+pub fed_end : (old new : Held) (next : Kind) (end : ending.Ending) (b : ℕ) (answer : Events) → old.kind ≢ Ground
+    → turn_of old.kind (class_of b) ≡ End next end → Fits old.kind (End next end) → Begins old new next
+    → answer ≡ answer_of end b → Feeds old b new answer
 fed_end old new next end b answer other turn fits begun e = λ s stands.
     follows_as new answer (step_in s.kind s.collected b) (after s.kind s.collected b (End next end))
-    (step_in-table s.kind s.collected b (λ is. other (stands.kind ∙ is)) ∙ ap (after s.kind s.collected b) (ap (λ k. turn_of k (class_of b)) (sym stands.kind) ∙ turn))
+    (step_in-table s.kind s.collected b (λ is. other (stands.kind ∙ is))
+    ∙ ap (after s.kind s.collected b) (ap (λ k. turn_of k (class_of b)) (sym stands.kind) ∙ turn))
     (record {
       stands = record { kind = begun.kind; reads = subst (λ (k : Kind). Reads new k []) (sym begun.kind) begun.reads };
       means = ap (events_in new) e ∙ given_by old new next end s.collected b other fits begun stands.reads;

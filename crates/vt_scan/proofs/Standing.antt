@@ -7,10 +7,16 @@ use Rattle.vt_scan.specs.declared.event.Events.{Events}
 use Rattle.vt_scan.specs.declared.table.Kind.{Kind}
 use Rattle.vt_scan.specs.declared.table.Kind.TheVariants.{Ground, OscString}
 
+stands_at : (held : Held) (kind : Kind) (text : List ℕ) → held.kind ≡ kind → Reads held kind text
+    → StandsFor held (record { kind = kind; collected = text })
+stands_at held kind text is reads =
+    record { kind = is; reads = subst (λ (k : Kind). Reads held k text) (sym is) reads }
+
 -- what is held is the reading of a text
-pub stands_by : (held : Held) (kind : Kind) (text : List ℕ) → held.kind ≡ kind → Reads held kind text → ∥ ((state : State) × StandsFor held state) ∥₁
+pub stands_by : (held : Held) (kind : Kind) (text : List ℕ) → held.kind ≡ kind → Reads held kind text
+    → ∥ ((state : State) × StandsFor held state) ∥₁
 stands_by held kind text is reads =
-    ∣ (record { kind = kind; collected = text }, record { kind = is; reads = subst (λ (k : Kind). Reads held k text) (sym is) reads }) ∣₁
+    ∣ (record { kind = kind; collected = text }, stands_at held kind text is reads) ∣₁
 
 pub stands_plain : (held : Held) → held.kind ≡ Ground → ∥ ((state : State) × StandsFor held state) ∥₁
 stands_plain held is = stands_by held Ground held.unfinished is refl
@@ -19,12 +25,13 @@ pub stands_in_command : (held : Held) → held.kind ≡ OscString → ∥ ((stat
 stands_in_command held is = stands_by held OscString held.text is refl
 
 -- one more byte is collected
-pub stands_on : (old new : Held) (kind : Kind) (b : ℕ) → new.kind ≡ kind → ((text : List ℕ) → Reads old old.kind text → Reads new kind (text ++ b ∷ []))
+pub stands_on : (old new : Held) (kind : Kind) (b : ℕ) → new.kind ≡ kind
+    → ((text : List ℕ) → Reads old old.kind text → Reads new kind (text ++ b ∷ []))
     → ∥ ((state : State) × StandsFor old state) ∥₁ → ∥ ((state : State) × StandsFor new state) ∥₁
 stands_on old new kind b is reads stands =
     ∥∥₁_map {B = (state : State) × StandsFor new state} stands (λ (s : (state : State) × StandsFor old state).
     let text = s.0.collected ++ b ∷ [] in
-    (record { kind = kind; collected = text }, record { kind = is; reads = subst (λ (k : Kind). Reads new k text) (sym is) (reads s.0.collected s.1.reads) }))
+    (record { kind = kind; collected = text }, stands_at new kind text is (reads s.0.collected s.1.reads)))
 
 -- a byte is fed
 pub stands_fed : (old new : Held) (b : ℕ) (answer : Events) → Feeds old b new answer

@@ -94,7 +94,8 @@ impl Scanner {
     /// that it need not be fed.
     #[inline(always)]
     pub fn is_plain(&self, byte: u8) -> bool
-        ensures feeds { IsTrue result → Feeds self.now byte self.now (record { first = Some (Event.Character byte); second = None }) }
+        ensures feeds { IsTrue result
+            → Feeds self.now byte self.now (record { first = Some (Event.Character byte); second = None }) }
         ensures plain { IsTrue result ↔ ReadsItself self.now byte }
     {
         is_printable(byte) && self.is_fresh()
@@ -338,7 +339,8 @@ impl Scanner {
     fn collect(&mut self, kind: Kind, byte: u8) -> Result<(), Error>
         requires { Fits self.old.kind (Turn.Collect kind) }
         ensures kind { OnOk result (self.new.kind ≡ kind) }
-        ensures reads { IfOk result (λ _. (text : List ℕ) → Reads self.old self.old.kind text → Reads self.new kind (text ++ byte ∷ [])) }
+        ensures reads { IfOk result (λ _. (text : List ℕ) → Reads self.old self.old.kind text
+            → Reads self.new kind (text ++ byte ∷ [])) }
         ensures err { OnErr result (self.new ≡ self.old) }
         ensures only { OnlyOutOfMemory result }
         ensures text { IsErr result → kind ≡ Kind.OscString }

@@ -8,10 +8,9 @@ use Rattle.vt_cells.specs.Cell.{is_right_half}
 use Rattle.vt_cells.specs.Glyph.{columns_of}
 use Rattle.vt_rows.specs.Cells.{at}
 use Rattle.vt_rows.specs.Row.{RowValue, IsRow, blank_row, resized_row}
-use Rattle.vt_grid.specs.Canvas.{pushes}
 use Rattle.vt_grid.specs.Moves.{feeds_out}
 use Rattle.vt_grid.specs.Outgoing.{fed_out, scrolled_out, printed_out, left_by}
-use Rattle.vt_grid.specs.Printing.{mark_column}
+use Rattle.vt_grid.specs.Printing.{mark_column, pushes}
 use Rattle.vt_grid.proofs.Carries.{page_lifted}
 use Rattle.vt_grid.proofs.Scrolling.{IsScrollback-pushed, IsScrollback-viewed}
 use Rattle.vt_grid.specs.Page.{Page, IsPage, blank_page, cursor_row, row_or}

@@ -12,8 +12,7 @@ use Rattle.vt_rows.specs.Cells.{resized}
 use Rattle.vt_rows.specs.Row.{RowValue, blank_row, resized_row, trimmed, trimmed_row}
 use Rattle.vt_grid.specs.Page.{Page, row_or}
 use Rattle.vt_grid.specs.Moves.{feeds_out}
-use Rattle.vt_grid.specs.Printing.{mark_column}
-use Rattle.vt_grid.specs.Canvas.{pushes}
+use Rattle.vt_grid.specs.Printing.{mark_column, pushes}
 use Rattle.vt_grid.specs.Outgoing.{scrolled_out, fed_out, left_by, printed_out}
 use Rattle.vt_grid.specs.Scrollback.{Scrollback, no_scrollback, stacked, kept_after, grown_row, grown_in_view, pushed, reported, viewed, visible}
 use Rattle.vt_grid.specs.Resize.{leaving, returning, window, rows_resized, page_resized, out_of_view, scrollback_resized}

@@ -12,9 +12,10 @@ use Rattle.unicode_width.specs.Width.{char_width}
 use Rattle.vt_cells.specs.Attrs.{default_attrs, same_attrs, changed_attrs, Attrs}
 use Rattle.vt_cells.specs.Glyph.{columns_of}
 use Rattle.vt_cells.specs.Op.{Op, Hide, ClearAttrs, MoveTo, MoveRight, NextRow, LineFeed, Backspace, EraseBelow, EraseRest, EraseChars, SaveCursor, RestoreCursor, ChangeAttrs, Print, csi, counted, place, joined, change_numbers, change_text, FitsAttrs, bytes_of, bytes_of_all}
-use Rattle.vt_grid.specs.Canvas.{Canvas, and_then, drawn, drawn_all, drawn_text, pushes, fed, with_page as with_drawn}
+use Rattle.vt_grid.specs.Canvas.{Canvas, and_then, drawn, drawn_all, drawn_text, fed}
 use Rattle.vt_redraw.specs.Fits.{Fits, IsPrintable}
 use Rattle.vt_grid.specs.Moves.{carriage_return, line_feed, feeds_out}
+use Rattle.vt_grid.specs.Printing.{pushes}
 use Rattle.vt_scan.specs.Automaton.{Character, Executed, start, fresh_step}
 use Rattle.vt_scan.specs.Parameters.{table_of, groups_of, numbers_of, number_of}
 use Rattle.vt_scan.specs.Table.{class_of}
@@ -177,7 +178,7 @@ unfolding fresh_step class_of control_steps
 fed_read screen d h =
     event_read (0x0A ∷ []) (Executed 0x0A) screen (with_canvas d screen) refl refl
     (ap (and_then (quiet_steps []))
-    (unless (feeds_out screen.page) (with_drawn (line_feed screen.page) (canvas_of screen)) d (stepped steps.LineFeed screen) (λ (c : Canvas). with_canvas c screen) h refl))
+    (unless (feeds_out screen.page) (record (canvas_of screen) { page = line_feed screen.page }) d (stepped steps.LineFeed screen) (λ (c : Canvas). with_canvas c screen) h refl))
 
 returned_read : (screen : ScreenValue) (rest : List ℕ) → read (terminal start screen) (0x0D ∷ rest) ≡ read (terminal start (with_page (carriage_return screen.page) screen)) rest
 unfolding read_byte fresh_step class_of control_steps

@@ -9,12 +9,11 @@ use Rattle.std.proofs.lemmas.Str.{chars-encodes}
 use Rattle.vt_cells.specs.Attrs.{default_attrs, same_attrs, changed_attrs, Attrs}
 use Rattle.vt_cells.specs.Glyph.{columns_of}
 use Rattle.vt_cells.specs.Op.{Op, Hide, ClearAttrs, MoveTo, MoveRight, NextRow, LineFeed, Backspace, EraseBelow, EraseRest, EraseChars, SaveCursor, RestoreCursor, ChangeAttrs, Print, csi, counted, place, joined, change_numbers, change_text, FitsAttrs, bytes_of, bytes_of_all}
-use Rattle.vt_grid.specs.Canvas.{Canvas, and_then, drawn, drawn_all, drawn_char, drawn_text, wraps_for, pushes, fed, with_page as with_drawn}
+use Rattle.vt_grid.specs.Canvas.{Canvas, and_then, drawn, drawn_all, drawn_char, drawn_text, fed}
 use Rattle.vt_grid.specs.Page.{Page}
-use Rattle.vt_grid.specs.Canvas.{saved, restored}
 use Rattle.vt_grid.specs.Erasing.{erased_below, erased_rest, erased_chars}
-use Rattle.vt_grid.specs.Moves.{at_bottom, carriage_return, feeds_out, line_feed, moved_left, moved_right, moved_to}
-use Rattle.vt_grid.specs.Printing.{printed}
+use Rattle.vt_grid.specs.Moves.{at_bottom, carriage_return, cursor_restored, cursor_saved, feeds_out, line_feed, moved_left, moved_right, moved_to}
+use Rattle.vt_grid.specs.Printing.{printed, pushes, wraps}
 use Rattle.vt_redraw.specs.Fits.{Fits, IsPrintable}
 use Rattle.vt_redraw.specs.Touching.{CharTouches, TextTouches, OpTouches, Touches}
 use Rattle.vt_scan.specs.Automaton.{State, Event, Character, Executed, CsiDispatch, step_in, start, fresh_step}
@@ -176,7 +175,7 @@ feed_touches M page top h e = absurd (unscrolled page top h e)
 
 unfed : (canvas d : Canvas) → fed canvas ≡ Some d → feeds_out canvas.page ≡ false
 unfed canvas d h = by_case (feeds_out canvas.page) h where
-  by_case : (b : Bool) → (if b then None else Some (with_drawn (line_feed canvas.page) canvas)) ≡ Some d → b ≡ false
+  by_case : (b : Bool) → (if b then None else Some (record canvas { page = line_feed canvas.page })) ≡ Some d → b ≡ false
   by_case true e = absurd cc
   by_case false e = refl
 
@@ -200,7 +199,7 @@ print_touches M c screen p top quiet touched =
     let range = shown_range c p.shown in
     event_touches M (encode_utf8 c) (Character c) screen (read_written c p.scalar (grind (arith, range))) refl
     (subst (λ (list : List steps.Step). StepsTouch M list screen) (sym (prints c p))
-    ((touched, λ (on : wraps_for (columns_of c) c screen.page ≡ true). feed_touches M screen.page top (both_true (wraps_for (columns_of c) c screen.page) (feeds_out screen.page) quiet on)), λ next e. tt))
+    ((touched, λ (on : wraps c screen.page ≡ true). feed_touches M screen.page top (both_true (wraps c screen.page) (feeds_out screen.page) quiet on)), λ next e. tt))
 
 text_touches : (M : ℕ → ℕ → Type 0) (cs : List ℕ) (screen : ScreenValue) (d : Canvas) → AllByRecursion IsPrintable cs → screen.page.top ≡ 0 → drawn_text cs (canvas_of screen) ≡ Some d → TextTouches M cs (canvas_of screen) →
     ReadTouches M (terminal start screen) (encode_utf8_all cs)
@@ -272,34 +271,34 @@ text_top [] canvas d h = let same : canvas ≡ d = cc in ap (λ (z : Canvas). z.
 text_top (c ∷ cs) canvas d h =
     let (next, first, rest) = and_then-some (drawn_text cs) (drawn_char c canvas) d h in
     text_top cs next d rest ∙ one (pushes c canvas.page) next first where
-      one : (b : Bool) (next : Canvas) → (if b then None else Some (with_drawn (printed c canvas.attrs canvas.page) canvas)) ≡ Some next → next.page.top ≡ canvas.page.top
+      one : (b : Bool) (next : Canvas) → (if b then None else Some (record canvas { page = printed c canvas.attrs canvas.page })) ≡ Some next → next.page.top ≡ canvas.page.top
       one true next e = absurd cc
-      one false next e = let same : with_drawn (printed c canvas.attrs canvas.page) canvas ≡ next = cc in ap (λ (z : Canvas). z.page.top) (sym same) ∙ top_printed c canvas.attrs canvas.page
+      one false next e = let same : record canvas { page = printed c canvas.attrs canvas.page } ≡ next = cc in ap (λ (z : Canvas). z.page.top) (sym same) ∙ top_printed c canvas.attrs canvas.page
 
 same_top : (e d canvas : Canvas) → Some e ≡ Some d → e.page.top ≡ canvas.page.top → d.page.top ≡ canvas.page.top
 same_top e d canvas h p = let same : e ≡ d = cc in ap (λ (z : Canvas). z.page.top) (sym same) ∙ p
 
 fed_top : (canvas d : Canvas) → fed canvas ≡ Some d → d.page.top ≡ canvas.page.top
 fed_top canvas d h = by_case (feeds_out canvas.page) h where
-  by_case : (b : Bool) → (if b then None else Some (with_drawn (line_feed canvas.page) canvas)) ≡ Some d → d.page.top ≡ canvas.page.top
+  by_case : (b : Bool) → (if b then None else Some (record canvas { page = line_feed canvas.page })) ≡ Some d → d.page.top ≡ canvas.page.top
   by_case true e = absurd cc
-  by_case false e = same_top (with_drawn (line_feed canvas.page) canvas) d canvas e (top_fed canvas.page)
+  by_case false e = same_top (record canvas { page = line_feed canvas.page }) d canvas e (top_fed canvas.page)
 
 op_top : (op : Op) (canvas d : Canvas) → drawn op canvas ≡ Some d → d.page.top ≡ canvas.page.top
 op_top (Hide hidden) canvas d h = same_top (record canvas { hidden = hidden }) d canvas h refl
 op_top ClearAttrs canvas d h = same_top (record canvas { attrs = default_attrs }) d canvas h refl
-op_top (MoveTo row col) canvas d h = same_top (with_drawn (moved_to row col canvas.page) canvas) d canvas h refl
+op_top (MoveTo row col) canvas d h = same_top (record canvas { page = moved_to row col canvas.page }) d canvas h refl
 op_top (MoveRight zero) canvas d h = same_top canvas d canvas h refl
-op_top (MoveRight (suc n)) canvas d h = same_top (with_drawn (moved_right (suc n) canvas.page) canvas) d canvas h refl
-op_top NextRow canvas d h = fed_top (with_drawn (carriage_return canvas.page) canvas) d h
+op_top (MoveRight (suc n)) canvas d h = same_top (record canvas { page = moved_right (suc n) canvas.page }) d canvas h refl
+op_top NextRow canvas d h = fed_top (record canvas { page = carriage_return canvas.page }) d h
 op_top LineFeed canvas d h = fed_top canvas d h
-op_top Backspace canvas d h = same_top (with_drawn (moved_left 1 canvas.page) canvas) d canvas h refl
-op_top EraseBelow canvas d h = same_top (with_drawn (erased_below canvas.attrs canvas.page) canvas) d canvas h (top_below canvas.attrs canvas.page)
-op_top EraseRest canvas d h = same_top (with_drawn (erased_rest canvas.attrs canvas.page) canvas) d canvas h (top_rest canvas.attrs canvas.page)
+op_top Backspace canvas d h = same_top (record canvas { page = moved_left 1 canvas.page }) d canvas h refl
+op_top EraseBelow canvas d h = same_top (record canvas { page = erased_below canvas.attrs canvas.page }) d canvas h (top_below canvas.attrs canvas.page)
+op_top EraseRest canvas d h = same_top (record canvas { page = erased_rest canvas.attrs canvas.page }) d canvas h (top_rest canvas.attrs canvas.page)
 op_top (EraseChars zero) canvas d h = same_top canvas d canvas h refl
-op_top (EraseChars (suc n)) canvas d h = same_top (with_drawn (erased_chars (suc n) canvas.attrs canvas.page) canvas) d canvas h (top_chars (suc n) canvas.attrs canvas.page)
-op_top SaveCursor canvas d h = same_top (saved canvas) d canvas h refl
-op_top RestoreCursor canvas d h = same_top (restored canvas) d canvas h refl
+op_top (EraseChars (suc n)) canvas d h = same_top (record canvas { page = erased_chars (suc n) canvas.attrs canvas.page }) d canvas h (top_chars (suc n) canvas.attrs canvas.page)
+op_top SaveCursor canvas d h = same_top (record canvas { page = cursor_saved canvas.page; saved_attrs = canvas.attrs }) d canvas h refl
+op_top RestoreCursor canvas d h = same_top (record canvas { page = cursor_restored canvas.page; attrs = canvas.saved_attrs }) d canvas h refl
 op_top (ChangeAttrs was new) canvas d h = same_top (record canvas { attrs = changed_attrs was new canvas.attrs }) d canvas h refl
 op_top (Print text) canvas d h = text_top (chars text) canvas d h
 

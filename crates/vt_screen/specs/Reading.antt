@@ -1,7 +1,8 @@
 -- Reading a text that calls nobody, takes no memory and pushes no row off the page: what it makes of a screen.
 use Rattle.std.specs.Prelude.{◌==◌, ℕ, Bool, true, false, List, [], ◌∷◌, Option, Some, None, is_some, if◌then◌else◌}
-use Rattle.vt_grid.specs.Canvas.{and_then, pushes}
+use Rattle.vt_grid.specs.Canvas.{and_then}
 use Rattle.vt_grid.specs.Moves.{feeds_out}
+use Rattle.vt_grid.specs.Printing.{pushes}
 use Rattle.vt_screen.specs.Screen.{ScreenValue}
 use Rattle.vt_screen.specs.Controls.{steps_of}
 use Rattle.vt_screen.specs.Steps.{Step, Print, LineFeed, ScrollUp, EraseScrollback, EnterAlternate, EnterFresh, Tell, stepped}

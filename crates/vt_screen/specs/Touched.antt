@@ -2,9 +2,9 @@
 use Rattle.std.specs.Prelude.{◌≡◌, ℕ, ◌+◌, ◌-◌, ◌<◌, ◌≤◌, ◌==◌, ◌||◌, min, true, false, List, [], ◌∷◌, length, Some}
 use Rattle.vt_cells.specs.Glyph.{columns_of}
 use Rattle.vt_cells.specs.Attrs.{Attrs}
-use Rattle.vt_grid.specs.Canvas.{wraps_for}
 use Rattle.vt_grid.specs.Moves.{at_bottom}
 use Rattle.vt_grid.specs.Page.{Page}
+use Rattle.vt_grid.specs.Printing.{wraps}
 use Rattle.vt_redraw.specs.Touching.{Changes, CharTouches}
 use Rattle.vt_scan.specs.Automaton.{Event, start, step_in}
 use Rattle.vt_screen.specs.Reading.{Terminal, terminal, quiet_step, quiet_steps, read_byte}
@@ -27,7 +27,7 @@ FeedTouches May page = at_bottom page ≡ true → TouchesAll May page
 -- a character, and the line feed before it where it goes on in the next row
 abbrev pub PrintTouches : (ℕ → ℕ → Type 0) → ℕ → Attrs → Page → Type 0
 PrintTouches May c attrs page =
-    CharTouches May (columns_of c) c attrs page × (wraps_for (columns_of c) c page ≡ true → FeedTouches May page)
+    CharTouches May (columns_of c) c attrs page × (wraps c page ≡ true → FeedTouches May page)
 
 -- the cursor's row from the cursor on; nothing where a wrap is pending
 abbrev pub RestTouches : (ℕ → ℕ → Type 0) → Page → Type 0

@@ -6,11 +6,10 @@ ghost use Rattle.vt_cells.specs.Glyph.{IsGlyphText, columns_of, is_selector, is_
 ghost use Rattle.vt_cells.specs.Refusals.{OnlyOutOfMemory};
 ghost use Rattle.vt_rows.specs.Cells.{at, widened_at};
 ghost use Rattle.vt_rows.specs.Texts.{IsPrintableText};
-ghost use Rattle.vt_grid.specs.Canvas.{carries};
-ghost use Rattle.vt_grid.specs.Keeping.{IsSelected, lifted_page, mark_out, room_out};
+ghost use Rattle.vt_grid.specs.Keeping.{IsSelected, mark_out, room_out};
 ghost use Rattle.vt_grid.specs.Outgoing.{printed_out};
 ghost use Rattle.vt_grid.specs.Page.{IsPage, cursor_row, with_row};
-ghost use Rattle.vt_grid.specs.Printing.{glyph_put, made_narrow, mark_column, mark_printed, mark_put, printed, room_made, takes_mark, width_followed, with_cursor_cells};
+ghost use Rattle.vt_grid.specs.Printing.{carries, glyph_put, lifted_page, made_narrow, mark_column, mark_printed, mark_put, printed, room_made, takes_mark, width_followed, with_cursor_cells};
 ghost use Rattle.vt_grid.specs.Scrollback.{Sends, TakesMemory};
 ghost use Rattle.vt_grid.specs.Texts.{printed_text, text_put};
 
@@ -173,7 +172,7 @@ impl Grid {
 
     /// Whether U+FE0F makes the narrow glyph before a pending wrap wide, so
     /// that it goes on in the next row.
-    #[tactic(auto, unfolding(crate::specs::Canvas::carries))]
+    #[tactic(auto, unfolding(crate::specs::Printing::carries))]
     fn carries(&self, mark: char) -> bool
         requires mark { columns_of mark ≡ Some 0 }
         requires some { 0 < self.now.column }

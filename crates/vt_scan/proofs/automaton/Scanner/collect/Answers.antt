@@ -10,7 +10,8 @@ use Rattle.vt_scan.proofs.automaton.Scanner.collect.Goals as goal
 pub returns-clause-reads : goal.returns-clause-reads
 returns-clause-reads c =
     let other : c.self.inside.kind ≢ OscString = search rules in
-    collect_mark c.args.self.now _ c.args.kind c.args.byte c.requires (λ e. other (ap (λ (h : Held). h.kind) c.self.view_is ∙ e)) (sym c.if-is_parameter_byte.ensures)
+    collect_mark c.args.self.now _ c.args.kind c.args.byte c.requires
+    (λ e. other (ap (λ (h : Held). h.kind) c.self.view_is ∙ e)) (sym c.if-is_parameter_byte.ensures)
     (ap (λ (h : Held). h.table) c.self.view_is)
     (λ all e. c.push-2.ensures all (ap (λ (h : Held). h.marks) c.self.view_is ∙ e))
 
@@ -21,7 +22,8 @@ pub invariant_of-self-then-is_parameter_byte : goal.invariant_of-self-then-is_pa
 invariant_of-self-then-is_parameter_byte c =
     let other : c.self.inside.kind ≢ OscString = search rules in
     stands_on c.args.self.now _ c.args.kind c.args.byte refl
-    (collect_parameter c.args.self.now _ c.args.kind c.args.byte c.requires (λ e. other (ap (λ (h : Held). h.kind) c.self.view_is ∙ e)) (sym c.if-is_parameter_byte.ensures)
+    (collect_parameter c.args.self.now _ c.args.kind c.args.byte c.requires
+    (λ e. other (ap (λ (h : Held). h.kind) c.self.view_is ∙ e)) (sym c.if-is_parameter_byte.ensures)
     (ap (λ (h : Held). h.marks) c.self.view_is)
     (λ text e. c.push-then-is_parameter_byte.ensures text (ap (λ (h : Held). h.table) c.self.view_is ∙ e)))
     (subst (λ (held : Held). ∥ ((state : State) × StandsFor held state) ∥₁) c.self.view_is c.self.invariant)
@@ -30,7 +32,8 @@ pub invariant_of-self-2 : goal.invariant_of-self-2
 invariant_of-self-2 c =
     let other : c.self.inside.kind ≢ OscString = search rules in
     stands_on c.args.self.now _ c.args.kind c.args.byte refl
-    (collect_mark c.args.self.now _ c.args.kind c.args.byte c.requires (λ e. other (ap (λ (h : Held). h.kind) c.self.view_is ∙ e)) (sym c.if-is_parameter_byte.ensures)
+    (collect_mark c.args.self.now _ c.args.kind c.args.byte c.requires
+    (λ e. other (ap (λ (h : Held). h.kind) c.self.view_is ∙ e)) (sym c.if-is_parameter_byte.ensures)
     (ap (λ (h : Held). h.table) c.self.view_is)
     (λ all e. c.push-2.ensures all (ap (λ (h : Held). h.marks) c.self.view_is ∙ e)))
     (subst (λ (held : Held). ∥ ((state : State) × StandsFor held state) ∥₁) c.self.view_is c.self.invariant)

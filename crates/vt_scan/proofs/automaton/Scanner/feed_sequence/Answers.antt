@@ -13,4 +13,5 @@ returns-in-End-clause-fed c =
     let kind : c.self.inside.kind ≡ c.args.self.now.kind = ap (λ (h : Held). h.kind) c.self.view_is in
     fed_end c.args.self.now c.begin.new.self c.in-End.kind c.in-End.ending c.args.byte c.answer.result c.requires
     (ap (λ k. turn_of k (class_of c.args.byte)) (sym kind) ∙ sym c.in-End.ensures.turn)
-    (subst (λ (k : Kind). Fits k (End c.in-End.kind c.in-End.ending)) kind c.in-End.ensures.fits) c.begin.ensures c.answer.ensures
+    (subst (λ (k : Kind). Fits k (End c.in-End.kind c.in-End.ending)) kind c.in-End.ensures.fits)
+    c.begin.ensures c.answer.ensures
