@@ -1,5 +1,5 @@
 -- The steps of each event: which bytes are which control.
-use Rattle.std.specs.Prelude.{ℕ, ◌-◌, ◌==◌, ◌&&◌, ◌||◌, not, nat_lt, nat_le, Bool, true, false, List, [], ◌∷◌, ◌++◌, length, replicate, slice_index_or, slice_get, Option, Some, None, codes, if◌then◌else◌}
+use Rattle.std.specs.Prelude.{ℕ, ◌-◌, ◌==◌, ◌&&◌, ◌||◌, not, nat_lt, nat_le, Bool, true, false, List, [], ◌∷◌, ◌++◌, length, replicate, slice_index_or, slice_get, Option, Some, None, bytes_eq, codes, if◌then◌else◌}
 use Rattle.std.specs.List.{list_all, list_any}
 use Rattle.vt_cells.specs.declared.modes.MouseProtocolMode.{MouseProtocolMode}
 use Rattle.vt_cells.specs.declared.modes.MouseProtocolMode.TheVariants as mouse
@@ -244,24 +244,18 @@ is_base64 b =
     (nat_le 0x41 b && nat_le b 0x5A) || ((nat_le 0x61 b && nat_le b 0x7A) || ((nat_le 0x30 b && nat_le b 0x39)
     || ((b == 0x2B) || ((b == 0x2F) || (b == 0x3D)))))
 
-abbrev pub same_bytes : List ℕ → List ℕ → Bool
-same_bytes [] [] = true
-same_bytes (b ∷ bs) (c ∷ cs) = (b == c) && same_bytes bs cs
-same_bytes _ _ = false
-
 unfoldable pub named_steps : List ℕ → List ℕ → List Step
 named_steps name text =
-    if same_bytes name (codes "0") then Tell (SetWindowIconName text) ∷ Tell (SetWindowTitle text) ∷ []
-    else if same_bytes name (codes "1") then Tell (SetWindowIconName text) ∷ []
-    else if same_bytes name (codes "2") then Tell (SetWindowTitle text) ∷ []
+    if bytes_eq name (codes "0") then Tell (SetWindowIconName text) ∷ Tell (SetWindowTitle text) ∷ []
+    else if bytes_eq name (codes "1") then Tell (SetWindowIconName text) ∷ []
+    else if bytes_eq name (codes "2") then Tell (SetWindowTitle text) ∷ []
     else Tell (UnhandledOsc (name ∷ text ∷ [])) ∷ []
 
 unfoldable pub clipboard_steps : List ℕ → List ℕ → List ℕ → List Step
 clipboard_steps name kind text =
-    if same_bytes name (codes "52") && is_clipboard_kind kind
-    then (if same_bytes text (codes "?") then Tell (PasteFromClipboard kind) ∷ []
-    else if list_all is_base64 text then Tell (CopyToClipboard kind text) ∷ []
-    else Tell (UnhandledOsc (name ∷ kind ∷ text ∷ [])) ∷ [])
+    let is_known = bytes_eq name (codes "52") && is_clipboard_kind kind in
+    if is_known && bytes_eq text (codes "?") then Tell (PasteFromClipboard kind) ∷ []
+    else if is_known && list_all is_base64 text then Tell (CopyToClipboard kind text) ∷ []
     else Tell (UnhandledOsc (name ∷ kind ∷ text ∷ [])) ∷ []
 
 abbrev pub osc_steps : List (List ℕ) → List Step
