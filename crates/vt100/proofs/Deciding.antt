@@ -1,9 +1,10 @@
 -- Which steps there are, from the tests that the code makes.
 use Rattle.std.proofs.Common.{◌≡◌, ◌≢◌, ℕ, ◌<◌, ◌≤◌, ◌==◌, ◌&&◌, ◌||◌, nat_le, Bool, true, false, List, [], ◌∷◌, length, codes, refl, arith}
 use Rattle.std.proofs.lemmas.Bool.Decides.{nat_tests}
+use Rattle.std.specs.Str.{bytes_eq}
 use Rattle.vt_screen.specs.Calls.{CallValue, Resize, SetWindowIconName, SetWindowTitle, UnhandledChar, UnhandledControl, UnhandledEscape, UnhandledOsc}
 use Rattle.vt_screen.specs.Screen.{ScreenValue}
-use Rattle.vt_screen.specs.Controls.{character_steps, control_steps, escape_steps, mark_at, mode_steps, named_steps, number_at, osc_steps, size_or, window_steps, same_bytes}
+use Rattle.vt_screen.specs.Controls.{character_steps, control_steps, escape_steps, mark_at, mode_steps, named_steps, number_at, osc_steps, size_or, seen_of, window_steps}
 use Rattle.vt_screen.specs.Steps.{Tell, LineFeed, Print}
 
 pub reported_steps : (c : ℕ) → ((c == 0xFFFD) || (nat_le 0x80 c && nat_le c 0x9F)) ≡ true → character_steps c ≡ Tell (UnhandledChar c) ∷ []
@@ -31,7 +32,7 @@ unfolding escape_steps
 escape_marked [] b h = absurd (omega (arith, h))
 escape_marked (mark ∷ marks) b h = refl
 
-pub named_both : (name text : List ℕ) → same_bytes name (codes "0") ≡ true → named_steps name text ≡ Tell (SetWindowIconName text) ∷ Tell (SetWindowTitle text) ∷ []
+pub named_both : (name text : List ℕ) → bytes_eq name (codes "0") ≡ true → named_steps name text ≡ Tell (SetWindowIconName text) ∷ Tell (SetWindowTitle text) ∷ []
 unfolding named_steps
 named_both name text e = rw e refl
 
@@ -40,7 +41,7 @@ other_group on report [] h = refl
 other_group on report (x ∷ []) h = absurd (h refl)
 other_group on report (x ∷ y ∷ zs) h = refl
 
-pub sized : (groups : List (List ℕ)) (screen : ScreenValue) (height width rows cols : ℕ) → number_at 0 groups ≡ 8 → height ≡ length screen.page.rows → width ≡ screen.page.width → rows ≡ size_or height 1 groups → cols ≡ size_or width 2 groups → window_steps groups screen ≡ Tell (Resize rows cols) ∷ []
+pub sized : (groups : List (List ℕ)) (screen : ScreenValue) (height width rows cols : ℕ) → number_at 0 groups ≡ 8 → height ≡ length screen.page.rows → width ≡ screen.page.width → rows ≡ size_or height 1 groups → cols ≡ size_or width 2 groups → window_steps groups (seen_of screen) ≡ Tell (Resize rows cols) ∷ []
 unfolding window_steps
 sized groups screen height width rows cols asked h w r c = rw (asked, r, c, h, w) refl
 

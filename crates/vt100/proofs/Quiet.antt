@@ -18,7 +18,7 @@ use Rattle.vt_screen.specs.Calls.{CallValue}
 use Rattle.vt_screen.specs.Screen.{ScreenValue, above_page}
 use Rattle.vt_screen.specs.Run as act
 use Rattle.vt_screen.specs.Run.{Performs, Breaks, Hears, Refuses, StopsIn, Takes, state}
-use Rattle.vt_screen.specs.Controls.{steps_of}
+use Rattle.vt_screen.specs.Controls.{seen_of, steps_of}
 use Rattle.vt_screen.specs.Steps.{Step, Print, CarriageReturn, LineFeed, ReverseIndex, MoveUp, MoveDown, MoveLeft, NextLine, PreviousLine, Tab, MoveToColumn, MoveToRow, SetRegion, UseOrigin, EraseAbove, ErasePage, EraseScrollback, EraseStart, EraseRow, InsertChars, DeleteChars, InsertLines, DeleteLines, ScrollDown, ScrollUp, MoveRight, MoveTo, EraseBelow, EraseRest, EraseChars, Render, HideCursor, UseApplicationCursor, UseBracketedPaste, SetMouseMode, ClearMouseMode, SetMouseEncoding, ClearMouseEncoding, SetCursorStyle, SaveCursor, RestoreCursor, EnterAlternate, EnterFresh, LeaveAlternate, LeaveRestoring, Reset, UseApplicationKeypad, Tell, Grows, outgoing, stepped}
 use Rattle.vt_screen.specs.Reading.{Terminal, terminal, grows, quiet_step, quiet_steps, quiet_events, read, read_byte}
 use Rattle.vt_screen.proofs.Readback.{and_then-some}
@@ -130,8 +130,8 @@ quiet_folds does (x ∷ steps) held screen after b e t =
 quiet_performs : {S : Type 0} (does : CallValue → S → ScreenValue → S → ScreenValue → Type 0) (events : List Event) (held : S) (screen after : ScreenValue) (b : act.State S) → quiet_events events screen ≡ Some after → FoldsTo (Performs does) (state held screen) events b → b ≡ state held after
 quiet_performs does [] held screen after b e t = sym t ∙ ap (state held) (same_some screen after e)
 quiet_performs does (event ∷ events) held screen after b e t =
-    let mid = and_then-some (quiet_events events) (quiet_steps (steps_of event screen) screen) after e in
-    let there = quiet_folds does (steps_of event screen) held screen mid.0 t.0 mid.1 t.1 in
+    let mid = and_then-some (quiet_events events) (quiet_steps (steps_of event (seen_of screen)) screen) after e in
+    let there = quiet_folds does (steps_of event (seen_of screen)) held screen mid.0 t.0 mid.1 t.1 in
     quiet_performs does events held mid.0 after b mid.2 (subst (λ j. FoldsTo (Performs does) j events b) there t.2)
 
 -- ---- nothing is refused
@@ -209,11 +209,11 @@ quiet_stays does (x ∷ steps) held screen after b e t =
 quiet_unbroken : {S : Type 0} (does : CallValue → S → ScreenValue → S → ScreenValue → Type 0) (events : List Event) (held : S) (screen after : ScreenValue) (b : act.State S) → quiet_events events screen ≡ Some after → StopsIn (Performs does) (Breaks does) (state held screen) events b → ⊥
 quiet_unbroken does [] held screen after b e t = t
 quiet_unbroken does (event ∷ events) held screen after b e t =
-    let mid = and_then-some (quiet_events events) (quiet_steps (steps_of event screen) screen) after e in
+    let mid = and_then-some (quiet_events events) (quiet_steps (steps_of event (seen_of screen)) screen) after e in
     elim t [
-      | inl broken ↦ quiet_stays does (steps_of event screen) held screen mid.0 b mid.1 broken
+      | inl broken ↦ quiet_stays does (steps_of event (seen_of screen)) held screen mid.0 b mid.1 broken
       | inr (j, first, more) ↦
-          let there = quiet_folds does (steps_of event screen) held screen mid.0 j mid.1 first in
+          let there = quiet_folds does (steps_of event (seen_of screen)) held screen mid.0 j mid.1 first in
           quiet_unbroken does events held mid.0 after b mid.2 (subst (λ i. StopsIn (Performs does) (Breaks does) i events b) there more)
     ]
 

@@ -12,7 +12,7 @@ use Rattle.vt_screen.specs.Calls.{CallValue}
 use Rattle.vt_screen.specs.Run as act
 use Rattle.vt_screen.specs.Run.{Breaks, Performs, Refuses, StopsIn, Takes, state}
 use Rattle.vt_screen.specs.Screen.{ScreenValue, IsScreen}
-use Rattle.vt_screen.specs.Controls.{steps_of}
+use Rattle.vt_screen.specs.Controls.{seen_of, steps_of}
 use Rattle.vt_screen.specs.Steps.{Step}
 use Rattle.vt_screen.specs.Telling.{LeavesScreen}
 use Rattle.vt_screen.proofs.Sized.{IsSized, sized_screen}
@@ -26,7 +26,7 @@ module _ {S : Type 0} (does : CallValue → S → ScreenValue → S → ScreenVa
 
   sized_events : (events : List Event) (a b : act.State S) → IsSized height width a.screen → FoldsTo (Performs does) a events b → IsSized height width b.screen
   sized_events [] a b z e = subst (λ (s : act.State S). IsSized height width s.screen) e z
-  sized_events (event ∷ events) a b z t = sized_events events t.0 b (sized_steps (steps_of event a.screen) a t.0 z t.1) t.2
+  sized_events (event ∷ events) a b z t = sized_events events t.0 b (sized_steps (steps_of event (seen_of a.screen)) a t.0 z t.1) t.2
 
   sized_broken : (steps : List Step) (a b : act.State S) → IsSized height width a.screen → StopsIn (Takes does) Refuses a steps b → IsSized height width b.screen
   sized_broken [] a b z t = absurd t
@@ -38,8 +38,8 @@ module _ {S : Type 0} (does : CallValue → S → ScreenValue → S → ScreenVa
   sized_stopped : (events : List Event) (a b : act.State S) → IsSized height width a.screen → StopsIn (Performs does) (Breaks does) a events b → IsSized height width b.screen
   sized_stopped [] a b z t = absurd t
   sized_stopped (event ∷ events) a b z t = elim t [
-    | inl r ↦ sized_broken (steps_of event a.screen) a b z r
-    | inr (j, first, more) ↦ sized_stopped events j b (sized_steps (steps_of event a.screen) a j z first) more
+    | inl r ↦ sized_broken (steps_of event (seen_of a.screen)) a b z r
+    | inr (j, first, more) ↦ sized_stopped events j b (sized_steps (steps_of event (seen_of a.screen)) a j z first) more
   ]
 
 size_is : (a b : ScreenValue) → IsSized (length a.page.rows) a.page.width b → SameSize b.page a.page

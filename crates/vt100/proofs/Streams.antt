@@ -22,7 +22,7 @@ use Rattle.vt_screen.proofs.StepLists.{screen_in_then, sent_in_then}
 use Rattle.vt_screen.proofs.StreamedTexts.{after_then, streamed_is, texts_then}
 use Rattle.vt_screen.proofs.Streaming.{Held, Streamed, held_fresh, held_screen, streamed_then, view_streams}
 use Rattle.vt100.specs.Parser.{Parsing, Ran, stage}
-use Rattle.vt100.specs.Streams.{ParserCall, Process, SetScrollback, IsFreshParser, IsRecorder, Makes, bytes_of_calls, screen_by, told_by, whole_text}
+use Rattle.vt100.specs.Streams.{ParserCall, Process, SetScrollback, IsFreshParser, IsRecorder, MakesCall, bytes_of_calls, screen_by, told_by, whole_text}
 
 -- ---- what callbacks hear
 
@@ -35,7 +35,7 @@ pub record HasHeard {S : Type 0} (does : CallValue → S → ScreenValue → S �
   pub shown : q.screen ≡ screen_by scan screen calls
   pub heard : FoldsTo (Heard does) p.callbacks (told_by scan screen calls) q.callbacks
 
-pub calls_heard : {S : Type 0} (does : CallValue → S → ScreenValue → S → ScreenValue → Type 0) → LeavesScreen does → (calls : List ParserCall) (p q : Parsing S) (scan : State) → StandsFor p.scanner scan → FoldsTo (Makes does) p calls q
+pub calls_heard : {S : Type 0} (does : CallValue → S → ScreenValue → S → ScreenValue → Type 0) → LeavesScreen does → (calls : List ParserCall) (p q : Parsing S) (scan : State) → StandsFor p.scanner scan → FoldsTo (MakesCall does) p calls q
     → HasHeard does scan p.screen calls p q
 calls_heard {S} does leaves [] p q scan stands e = record { shown = sym (ap (λ (r : Parsing S). r.screen) e); heard = ap (λ (r : Parsing S). r.callbacks) e }
 calls_heard does leaves (Process bytes ∷ calls) p q scan stands t =
@@ -47,7 +47,7 @@ calls_heard does leaves (Process bytes ∷ calls) p q scan stands t =
     }
 calls_heard {S} does leaves (SetScrollback rows ∷ calls) p q scan stands t =
     let now : Parsing S = record p { screen = scrolled_back rows p.screen } in
-    let rest = calls_heard does leaves calls now q scan stands (subst (λ (r : Parsing S). FoldsTo (Makes does) r calls q) t.1 t.2) in
+    let rest = calls_heard does leaves calls now q scan stands (subst (λ (r : Parsing S). FoldsTo (MakesCall does) r calls q) t.1 t.2) in
     record { shown = rest.shown; heard = rest.heard }
 
 -- ---- what is told and kept
@@ -112,7 +112,7 @@ text_by rows cols capacity calls held none main =
     ∙ ap (λ (t : ScreenValue). basic_texts unwritten (sent_off_in start r bytes ++ t.page.rows)) k.same
 
 pub one_text : {S : Type 0} (does : CallValue → S → ScreenValue → S → ScreenValue → Type 0) → LeavesScreen does → (rows cols capacity : ℕ) (p q : Parsing S) (calls : List ParserCall) → IsFreshParser rows cols capacity p
-    → HasNoRis start (bytes_of_calls calls) → FoldsTo (Makes does) p calls q → q.screen.is_alternate ≡ false → streamed_text (told_by start p.screen calls) q.screen ≡ whole_text rows cols (bytes_of_calls calls)
+    → HasNoRis start (bytes_of_calls calls) → FoldsTo (MakesCall does) p calls q → q.screen.is_alternate ≡ false → streamed_text (told_by start p.screen calls) q.screen ≡ whole_text rows cols (bytes_of_calls calls)
 one_text does leaves rows cols capacity p q calls fresh none makes main =
     let s = fresh_screen rows cols capacity in
     let there : q.screen ≡ screen_by start s calls = (calls_heard does leaves calls p q start fresh.begun makes).shown ∙ ap (λ (t : ScreenValue). screen_by start t calls) fresh.shown in
@@ -151,7 +151,7 @@ has_recorded does text_of state_of is_whole r (call ∷ calls) old new t w =
     }
 
 pub recorded_text : {S : Type 0} (does : CallValue → S → ScreenValue → S → ScreenValue → Type 0) (text_of : S → List ℕ) (state_of : S → Written) (is_whole : S → Bool) → IsRecorder does text_of state_of is_whole → (rows cols capacity : ℕ) (p q : Parsing S) (calls : List ParserCall)
-    → IsFreshParser rows cols capacity p → text_of p.callbacks ≡ [] → state_of p.callbacks ≡ unwritten → HasNoRis start (bytes_of_calls calls) → FoldsTo (Makes does) p calls q → q.screen.is_alternate ≡ false → is_whole q.callbacks ≡ true
+    → IsFreshParser rows cols capacity p → text_of p.callbacks ≡ [] → state_of p.callbacks ≡ unwritten → HasNoRis start (bytes_of_calls calls) → FoldsTo (MakesCall does) p calls q → q.screen.is_alternate ≡ false → is_whole q.callbacks ≡ true
     → text_of q.callbacks ++ basic_texts (state_of q.callbacks) (all_rows q.screen) ≡ whole_text rows cols (bytes_of_calls calls)
 recorded_text does text_of state_of is_whole r rows cols capacity p q calls fresh empty begun none makes main w =
     let told = told_by start p.screen calls in

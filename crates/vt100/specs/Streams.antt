@@ -17,9 +17,9 @@ pub data ParserCall : Type 0 where
   SetScrollback : (rows : ℕ) → ParserCall
 
 -- what such a call does that answers Ok
-abbrev pub Makes : {S : Type 0} → (CallValue → S → ScreenValue → S → ScreenValue → Type 0) → Parsing S → ParserCall → Parsing S → Type 0
-Makes does old (Process bytes) new = Ran does old bytes new
-Makes does old (SetScrollback rows) new = new ≡ record old { screen = scrolled_back rows old.screen }
+abbrev pub MakesCall : {S : Type 0} → (CallValue → S → ScreenValue → S → ScreenValue → Type 0) → Parsing S → ParserCall → Parsing S → Type 0
+MakesCall does old (Process bytes) new = Ran does old bytes new
+MakesCall does old (SetScrollback rows) new = new ≡ record old { screen = scrolled_back rows old.screen }
 
 -- all bytes of these calls
 abbrev pub bytes_of_calls : List ParserCall → List ℕ

@@ -4,7 +4,7 @@ ghost use Rattle.std.specs.Prelude.{◌≡◌, ◌-◌, ◌<◌, IfOk, IsErr, No
 ghost use Rattle.vt_cells.specs.Refusals.{OnlyOutOfMemory};
 ghost use Rattle.vt100.specs.Keeping.{Does, MadeIf, Stops, report_of};
 ghost use Rattle.vt_screen.specs.Calls.{UnhandledCsi};
-ghost use Rattle.vt_screen.specs.Controls.{counted_step, csi_steps, marked_steps, number_at, number_or, other_steps, scrolling_steps, page_erasing, plain_steps, private_steps, repeated, row_erasing, size_or, space_steps, style_of, window_steps};
+ghost use Rattle.vt_screen.specs.Controls.{counted_step, csi_steps, marked_steps, number_at, number_or, other_steps, scrolling_steps, page_erasing, plain_steps, private_steps, repeated, row_erasing, size_or, space_steps, style_of, window_steps, seen_of};
 ghost use Rattle.vt_screen.specs.Steps.{stepped};
 ghost use Rattle.vt_screen.specs.Steps as step;
 
@@ -22,8 +22,8 @@ pub fn perform<CB: Callbacks>(
     marks: &[u8],
     byte: u8,
 ) -> Result<(), Error>
-    ensures done { IfOk result (λ _. Does CB.does callbacks.old screen.old (csi_steps (map (λ group. group.now) groups.now) marks.now byte screen.old) callbacks.new screen.new) }
-    ensures stopped { IsErr result → Stops CB.does callbacks.old screen.old (csi_steps (map (λ group. group.now) groups.now) marks.now byte screen.old) callbacks.new screen.new }
+    ensures done { IfOk result (λ _. Does CB.does callbacks.old screen.old (csi_steps (map (λ group. group.now) groups.now) marks.now byte (seen_of screen.old)) callbacks.new screen.new) }
+    ensures stopped { IsErr result → Stops CB.does callbacks.old screen.old (csi_steps (map (λ group. group.now) groups.now) marks.now byte (seen_of screen.old)) callbacks.new screen.new }
     ensures memory { OnlyOutOfMemory result }
 {
     let Some(mark) = numbers::mark_at(marks, 0) else {
@@ -46,8 +46,8 @@ fn plain<CB: Callbacks>(
     groups: &[&[u16]],
     byte: u8,
 ) -> Result<(), Error>
-    ensures done { IfOk result (λ _. Does CB.does callbacks.old screen.old (plain_steps (map (λ group. group.now) groups.now) byte screen.old) callbacks.new screen.new) }
-    ensures stopped { IsErr result → Stops CB.does callbacks.old screen.old (plain_steps (map (λ group. group.now) groups.now) byte screen.old) callbacks.new screen.new }
+    ensures done { IfOk result (λ _. Does CB.does callbacks.old screen.old (plain_steps (map (λ group. group.now) groups.now) byte (seen_of screen.old)) callbacks.new screen.new) }
+    ensures stopped { IsErr result → Stops CB.does callbacks.old screen.old (plain_steps (map (λ group. group.now) groups.now) byte (seen_of screen.old)) callbacks.new screen.new }
     ensures memory { OnlyOutOfMemory result }
 {
     if counted(screen, byte, numbers::number_or(1, groups, 0)) {
@@ -70,8 +70,8 @@ fn scrolling<CB: Callbacks>(
     sequence: Sequence<'_>,
 ) -> Result<(), Error>
     requires { report_of sequence ≡ UnhandledCsi None None (map (λ group. group.now) sequence.groups.now) sequence.byte }
-    ensures done { IfOk result (λ _. Does CB.does callbacks.old screen.old (scrolling_steps (map (λ group. group.now) sequence.entry.groups.now) sequence.entry.byte screen.old) callbacks.new screen.new) }
-    ensures stopped { IsErr result → Stops CB.does callbacks.old screen.old (scrolling_steps (map (λ group. group.now) sequence.entry.groups.now) sequence.entry.byte screen.old) callbacks.new screen.new }
+    ensures done { IfOk result (λ _. Does CB.does callbacks.old screen.old (scrolling_steps (map (λ group. group.now) sequence.entry.groups.now) sequence.entry.byte (seen_of screen.old)) callbacks.new screen.new) }
+    ensures stopped { IsErr result → Stops CB.does callbacks.old screen.old (scrolling_steps (map (λ group. group.now) sequence.entry.groups.now) sequence.entry.byte (seen_of screen.old)) callbacks.new screen.new }
     ensures memory { OnlyOutOfMemory result }
 {
     let count = numbers::number_or(1, sequence.groups, 0);
@@ -118,7 +118,7 @@ fn counted(screen: &mut Screen, byte: u8, count: u16) -> bool
 #[tactic(auto, using(std::proofs::lemmas::Bool::Decides::nat_tests, crate::proofs::Stepping::told, crate::proofs::Stepping::told_two, crate::proofs::Stepping::stepping), unfolding(vt_screen::specs::Controls::other_steps))]
 fn other<CB: Callbacks>(screen: &mut Screen, callbacks: &mut CB, sequence: Sequence<'_>)
     requires { report_of sequence ≡ UnhandledCsi None None (map (λ group. group.now) sequence.groups.now) sequence.byte }
-    ensures { Does CB.does callbacks.old screen.old (other_steps (map (λ group. group.now) sequence.entry.groups.now) sequence.entry.byte screen.old) callbacks.new screen.new }
+    ensures { Does CB.does callbacks.old screen.old (other_steps (map (λ group. group.now) sequence.entry.groups.now) sequence.entry.byte (seen_of screen.old)) callbacks.new screen.new }
 {
     match sequence.byte {
         b'H' | b'f' => move_to(screen, sequence.groups),
@@ -196,7 +196,7 @@ fn repeat<CB: Callbacks>(screen: &mut Screen, callbacks: &mut CB, count: u16) ->
 #[tactic(auto, using(std::proofs::lemmas::Bool::Decides::nat_tests, crate::proofs::Stepping::told, crate::proofs::Stepping::told_two, crate::proofs::Stepping::stepping), unfolding(vt_screen::specs::Controls::window_steps))]
 fn window<CB: Callbacks>(screen: &mut Screen, callbacks: &mut CB, sequence: Sequence<'_>)
     requires { report_of sequence ≡ UnhandledCsi None None (map (λ group. group.now) sequence.groups.now) 0x74 }
-    ensures { Does CB.does callbacks.old screen.old (window_steps (map (λ group. group.now) sequence.entry.groups.now) screen.old) callbacks.new screen.new }
+    ensures { Does CB.does callbacks.old screen.old (window_steps (map (λ group. group.now) sequence.entry.groups.now) (seen_of screen.old)) callbacks.new screen.new }
 {
     if numbers::number_at(sequence.groups, 0) != 8 {
         sequence.report(screen, callbacks);

@@ -1,9 +1,9 @@
 //! Operating system commands: titles and the clipboard.
 
-ghost use Rattle.std.specs.Prelude.{◌≡◌, [], ◌∷◌, map};
+ghost use Rattle.std.specs.Prelude.{◌≡◌, [], ◌∷◌, bytes_eq, map};
 ghost use Rattle.std.specs.List.{list_all};
 ghost use Rattle.vt100.specs.Keeping.{Does};
-ghost use Rattle.vt_screen.specs.Controls.{clipboard_steps, is_base64, is_clipboard_kind, same_bytes, named_steps, osc_steps};
+ghost use Rattle.vt_screen.specs.Controls.{clipboard_steps, is_base64, is_clipboard_kind, named_steps, osc_steps};
 
 use vt_screen::{Callbacks, Screen};
 
@@ -80,7 +80,7 @@ fn clipboard<CB: Callbacks>(
 }
 
 fn is_text(text: &[u8], word: &[u8]) -> bool
-    ensures { result ≡ same_bytes text.now word.now }
+    ensures { result ≡ bytes_eq text.now word.now }
 {
     text == word
 }

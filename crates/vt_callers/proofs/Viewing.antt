@@ -10,9 +10,9 @@ use Rattle.vt_screen.specs.Shown.{shown}
 use Rattle.vt100.specs.Parser.{Parsing}
 use Rattle.vt100.specs.Pieces as pieces
 use Rattle.vt100.specs.Pieces.{IsPlainParser, processing}
-use Rattle.vt_mirror.specs.Calls.{Asks, Joins, Processes}
+use Rattle.vt_mirror.specs.Calls.{Asks, JoinsMirror, Processes}
 use Rattle.vt_mirror.specs.Mirror.{MirrorValue}
-use Rattle.vt_mirror.specs.Watching.{Ask, Goes, IsFresh, IsLeft, IsNew, IsTakenBy, Join, MirrorCall, Process, ReadsText, Sees, ShowsSeen, Takes, TakesSize, Watching}
+use Rattle.vt_mirror.specs.Watching.{Ask, Goes, IsFresh, IsLeft, IsNew, IsTakenBy, Join, MirrorCall, Process, ReadsText, Sees, ShowsSeen, TakesUpdate, TakesSize, Watching}
 use Rattle.vt_mirror.specs.declared.update.Update.{Update}
 use Rattle.vt_mirror.specs.declared.update.Update.TheVariants.{Full}
 use Rattle.vt_callers.specs.Remote.{ShowsScreen}
@@ -21,12 +21,12 @@ use Rattle.vt_callers.specs.Remote.{ShowsScreen}
 pub read_at_once : {S : Type 0} (text : List ℕ) (answer : Result (Unit {0}) Error) (old new : Parsing S) → IsScreen new.screen → pieces.Processes old (processing text answer) new → ReadsText text old new
 read_at_once text answer old new sound processes = record { sound = sound; calls = processing text answer ∷ []; whole = append-nil text; reads = (new, processes, refl) }
 
-pub takes_full : {S : Type 0} (rows cols : ℕ) (text : String Global) (read : List ℕ) (old sized new : Parsing S) → TakesSize rows cols old sized → read ≡ string_bytes text → ReadsText read sized new → Takes (Full rows cols text) old new
+pub takes_full : {S : Type 0} (rows cols : ℕ) (text : String Global) (read : List ℕ) (old sized new : Parsing S) → TakesSize rows cols old sized → read ≡ string_bytes text → ReadsText read sized new → TakesUpdate (Full rows cols text) old new
 takes_full {S} rows cols text read old sized new takes same reads = (sized, takes, subst (λ (t : List ℕ). ReadsText t sized new) same reads)
 
 pub late_shows : {S : Type 0} → ((number : ℕ) (calls : List MirrorCall) (old new : Watching S) → IsFresh old.mirror → IsNew old → FoldsTo (Goes number) old calls new → ShowsSeen new) → (before read joined told : MirrorValue) (output : List ℕ)
     (answer : Result (Unit {0}) Error) (number : ℕ) (update : Update) (old new : Parsing S) → IsFresh before → IsScreen old.screen → IsPlainParser old → Processes before output answer read → joined.parser ≡ read.parser
-    → Joins read.viewers (Ok number) joined.viewers → Asks joined number (Ok (Some update)) told → Takes update old new → IsSteady (shown told.parser.screen) → ShowsScreen told.parser.screen new
+    → JoinsMirror read.viewers (Ok number) joined.viewers → Asks joined number (Ok (Some update)) told → TakesUpdate update old new → IsSteady (shown told.parser.screen) → ShowsScreen told.parser.screen new
 late_shows {S} law before read joined told output answer number update old new fresh sound plain processes same joins asks takes steady =
     let first : Watching S = record { mirror = before; viewer = old; seen = None } in
     let second : Watching S = record { mirror = read; viewer = old; seen = None } in

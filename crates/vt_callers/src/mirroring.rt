@@ -3,7 +3,7 @@
 ghost use Rattle.std.specs.Prelude.{IfOk, OnOk};
 ghost use Rattle.vt100.specs.Pieces.{IsPlainParser};
 ghost use Rattle.vt_callers.specs.Remote.{ShowsScreen};
-ghost use Rattle.vt_mirror.specs.Watching.{IsFresh, ReadsText, Takes, TakesSize};
+ghost use Rattle.vt_mirror.specs.Watching.{IsFresh, ReadsText, TakesUpdate, TakesSize};
 ghost use Rattle.vt_redraw.specs.Steady.{IsSteady};
 ghost use Rattle.vt_screen.specs.Shown.{shown};
 
@@ -37,7 +37,7 @@ pub fn show_late<CB: Callbacks>(
 
 /// Gives a terminal an update: its size first where it is a full one, and then its text.
 pub fn take_update<CB: Callbacks>(terminal: &mut Parser<CB>, update: &Update) -> Result<(), Error>
-    ensures { OnOk result (Takes update.now terminal.old terminal.new) }
+    ensures { OnOk result (TakesUpdate update.now terminal.old terminal.new) }
 {
     match update {
         Update::Diff(text) => read_text(terminal, text.as_str()),

@@ -5,7 +5,7 @@ use Rattle.vt_cells.specs.declared.error.Error.{Error}
 use Rattle.vt_grid.specs.Page.{Page, SameSize}
 use Rattle.vt_screen.specs.Screen.{ScreenValue}
 use Rattle.vt100.specs.Parser.{Parsing}
-use Rattle.vt_mirror.specs.Calls.{Joins, Leaves}
+use Rattle.vt_mirror.specs.Calls.{JoinsMirror, Leaves}
 use Rattle.vt_mirror.specs.Mirror.{IsMirror, MirrorValue}
 use Rattle.vt_mirror.specs.Viewers.{Puts, ViewersValue, note_of}
 use Rattle.vt_mirror.proofs.Bookkeeping.{by_number, none_some}
@@ -41,7 +41,7 @@ pub noted_same : (old new : MirrorValue) → new.parser ≡ old.parser → new.v
 noted_same old new same viewers m =
     noted_parser old new viewers (subst (λ (parser : Parsing (Unit {0})). SameSize parser.screen.page old.parser.screen.page) (sym same) (own_size old.parser.screen.page)) m
 
-pub noted_join : (old new : MirrorValue) (answer : Result ℕ Error) → new.parser ≡ old.parser → Joins old.viewers answer new.viewers → IsMirror old → IsMirror new
+pub noted_join : (old new : MirrorValue) (answer : Result ℕ Error) → new.parser ≡ old.parser → JoinsMirror old.viewers answer new.viewers → IsMirror old → IsMirror new
 noted_join old new (Ok viewer) same j m = noted_put old new viewer true None same j.puts (λ screen e. absurd (none_some screen e)) m
 noted_join old new (Err error) same j m = noted_same old new same j.refused m
 

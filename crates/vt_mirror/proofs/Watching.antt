@@ -16,10 +16,10 @@ use Rattle.vt_screen.proofs.Shown.{shown_height}
 use Rattle.vt100.specs.Parser.{Parsing}
 use Rattle.vt100.specs.Pieces.{HasRead, IsPlainParser}
 use Rattle.vt100.proofs.Pieces.{read_pieces}
-use Rattle.vt_mirror.specs.Calls.{Answers, Asks, IsUpdate, Joins, Leaves, Processes, Redraws, Resizes, Tells}
+use Rattle.vt_mirror.specs.Calls.{Answers, Asks, IsUpdate, JoinsMirror, Leaves, Processes, Redraws, Resizes, Tells}
 use Rattle.vt_mirror.specs.Mirror.{IsMirror, MirrorValue}
 use Rattle.vt_mirror.specs.Viewers.{Puts, ViewersValue, next_number, note_of}
-use Rattle.vt_mirror.specs.Watching.{Ask, CountUp, Does, Follows, Goes, IsFresh, IsLeft, IsNew, IsTakenBy, Join, Leave, MirrorCall, Process, ReadsText, Sees, SetSize, ShowsSeen, Takes, TakesSize, Watching, numbers_given}
+use Rattle.vt_mirror.specs.Watching.{Ask, CountUp, Does, Watches, Goes, IsFresh, IsLeft, IsNew, IsTakenBy, Join, Leave, MirrorCall, Process, ReadsText, Sees, SetSize, ShowsSeen, TakesUpdate, TakesSize, Watching, numbers_given}
 use Rattle.vt_mirror.specs.declared.update.Update.{Update}
 use Rattle.vt_mirror.specs.declared.update.Update.TheVariants.{Diff, Full}
 use Rattle.vt_mirror.proofs.Bookkeeping.{by_number, none_some}
@@ -74,7 +74,7 @@ before_resize number old new rows cols answer r = by_test (has_size rows cols ol
   by_test false e (Ok u) r = λ (screen : ScreenValue) noted. absurd (none_some screen (ap (λ (m : MirrorValue). note_of m.viewers number) (sym (r.other e)) ∙ noted))
   by_test false e (Err error) r = before_equal number old new r.refused.1
 
-before_join : (number : ℕ) (old new : MirrorValue) (answer : Result ℕ Error) → Joins old.viewers answer new.viewers → NotedBefore number old new
+before_join : (number : ℕ) (old new : MirrorValue) (answer : Result ℕ Error) → JoinsMirror old.viewers answer new.viewers → NotedBefore number old new
 before_join number old new (Ok viewer) j = before_none number viewer true old new j.puts
 before_join number old new (Err error) j = before_same number old new j.refused
 
@@ -132,13 +132,13 @@ reads_full self rows cols text p sized q tall wide steady r plain takes t =
     reads_redraw self (IsReader (shown self)) text sized q steady r s.0
     (record { sound = takes.sound; plain = s.0.screen; size = same_shown self sized.screen (record { width = sym (s.1 ∙ wide); height = sym (s.2 ∙ tall) }) }) t
 
-sound_after : {S : Type 0} (update : Update) (p q : Parsing S) → Takes update p q → IsScreen q.screen
+sound_after : {S : Type 0} (update : Update) (p q : Parsing S) → TakesUpdate update p q → IsScreen q.screen
 sound_after (Diff text) p q t = t.sound
 sound_after (Full rows cols text) p q t = t.2.sound
 
 -- by what is noted, which the viewer shows
 takes_update : {S : Type 0} (self : ScreenValue) (noted : Option ScreenValue) (update : Update) (p q : Parsing S) → ((prev : ScreenValue) → noted ≡ Some prev → SameSize self.page prev.page × (shown p.screen ≡ shown prev))
-    → IsUpdate self noted update → IsSteady (shown self) → IsScreen p.screen → IsPlainParser p → Takes update p q → Plainly self q
+    → IsUpdate self noted update → IsSteady (shown self) → IsScreen p.screen → IsPlainParser p → TakesUpdate update p q → Plainly self q
 takes_update self (Some prev) (Diff text) p q shows is steady sound plain t = let s = shows prev refl in reads_diff self prev (string_bytes text) p q s.0 steady is.1 sound plain s.1 t
 takes_update self None (Full rows cols text) p q shows is steady sound plain t = reads_full self rows cols (string_bytes text) p t.0 q is.0 is.1 steady is.3 plain t.1 t.2
 takes_update self (Some prev) (Full rows cols text) p q shows is steady sound plain t = absurd is
@@ -184,12 +184,12 @@ holds_taken {S} number asked update old new mirror t taken h =
     (λ own. holds_own number update old new mirror (subst (λ (n : ℕ). Tells old.mirror n update new.mirror) own t) (taken.own own) h)
     (λ other. holds_left number old new mirror (λ screen e. sym (t.puts.other_notes number (λ same. other (sym same))) ∙ e) (taken.others other) h)
 
-holds_ask : {S : Type 0} (number asked : ℕ) (answer : Result (Option Update) Error) (old new : Watching S) → IsMirror new.mirror → Asks old.mirror asked answer new.mirror → Follows number old (Ask asked answer) new → Holds number old → Holds number new
+holds_ask : {S : Type 0} (number asked : ℕ) (answer : Result (Option Update) Error) (old new : Watching S) → IsMirror new.mirror → Asks old.mirror asked answer new.mirror → Watches number old (Ask asked answer) new → Holds number old → Holds number new
 holds_ask number asked (Ok (Some update)) old new mirror a f h = holds_taken number asked update old new mirror a.answers f h
 holds_ask number asked (Ok None) old new mirror a f h = holds_left number old new mirror (before_equal number old.mirror new.mirror a.answers.1) f h
 holds_ask number asked (Err error) old new mirror a f h = holds_left number old new mirror (before_equal number old.mirror new.mirror a.refused.1) f h
 
-holds_call : {S : Type 0} (number : ℕ) (call : MirrorCall) (old new : Watching S) → IsMirror new.mirror → Does old.mirror call new.mirror → Follows number old call new → Holds number old → Holds number new
+holds_call : {S : Type 0} (number : ℕ) (call : MirrorCall) (old new : Watching S) → IsMirror new.mirror → Does old.mirror call new.mirror → Watches number old call new → Holds number old → Holds number new
 holds_call number (Process bytes answer) old new mirror d f h = holds_left number old new mirror (before_same number old.mirror new.mirror d.viewers) f h
 holds_call number (SetSize rows cols answer) old new mirror d f h = holds_left number old new mirror (before_resize number old.mirror new.mirror rows cols answer d) f h
 holds_call number (Join answer) old new mirror d f h = holds_left number old new mirror (before_join number old.mirror new.mirror answer d.1) f h

@@ -3,6 +3,6 @@ use Rattle.std.specs.Prelude.{ℕ, List, [], ◌∷◌}
 use Rattle.vt_show.specs.Arguments.{IsSize}
 
 -- exactly three words, each decimal digits with a value from 1 to 65535, that ask for these
-abbrev pub Asks : List (List ℕ) → (rows cols every : ℕ) → Type 0
-Asks (first ∷ second ∷ third ∷ []) rows cols every = IsSize first rows × IsSize second cols × IsSize third every
-Asks _ rows cols every = ⊥
+abbrev pub AsksToMirror : List (List ℕ) → (rows cols every : ℕ) → Type 0
+AsksToMirror (first ∷ second ∷ third ∷ []) rows cols every = IsSize first rows × IsSize second cols × IsSize third every
+AsksToMirror _ rows cols every = ⊥

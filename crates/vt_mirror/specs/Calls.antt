@@ -38,7 +38,7 @@ abbrev pub greatest : ℕ
 greatest = 2 ^ 64 - 1
 
 -- a new viewer gets the next number, and nothing is noted for it yet; behind the greatest number there is none; refused, all is as before
-pub record Joins (old : ViewersValue) (answer : Result ℕ Error) (new : ViewersValue) : Type 0 where
+pub record JoinsMirror (old : ViewersValue) (answer : Result ℕ Error) (new : ViewersValue) : Type 0 where
   pub number : IfOk answer (λ viewer. viewer ≡ next_number old.last)
   pub last : IfOk answer (λ viewer. new.last ≡ Some viewer)
   pub puts : IfOk answer (λ viewer. Puts old viewer true None new)

@@ -10,7 +10,7 @@ use Rattle.vt_screen.specs.Shown.{shown}
 use Rattle.vt100.specs.Parser.{Parsing}
 use Rattle.vt100.specs.Pieces as pieces
 use Rattle.vt100.specs.Pieces.{IsPlainParser, Processing, bytes_in}
-use Rattle.vt_mirror.specs.Calls.{Asks, Joins, Leaves, Processes, Resizes}
+use Rattle.vt_mirror.specs.Calls.{Asks, JoinsMirror, Leaves, Processes, Resizes}
 use Rattle.vt_mirror.specs.Mirror.{MirrorValue}
 use Rattle.vt_mirror.specs.declared.update.Update.{Update}
 use Rattle.vt_mirror.specs.declared.update.Update.TheVariants.{Diff, Full}
@@ -29,7 +29,7 @@ pub data MirrorCall : Type 0 where
 abbrev pub Does : MirrorValue → MirrorCall → MirrorValue → Type 0
 Does old (Process bytes answer) new = Processes old bytes answer new
 Does old (SetSize rows cols answer) new = Resizes old rows cols answer new
-Does old (Join answer) new = (new.parser ≡ old.parser) × Joins old.viewers answer new.viewers
+Does old (Join answer) new = (new.parser ≡ old.parser) × JoinsMirror old.viewers answer new.viewers
 Does old (Leave viewer answer) new = (new.parser ≡ old.parser) × Leaves old.viewers viewer answer new.viewers
 Does old (Ask viewer answer) new = Asks old viewer answer new
 
@@ -71,14 +71,14 @@ pub record ReadsText {S : Type 0} (text : List ℕ) (old new : Parsing S) : Type
   pub reads : FoldsTo pieces.Processes old calls new
 
 -- it takes an update: for a full one its size first, and then the text
-abbrev pub Takes : {S : Type 0} → Update → Parsing S → Parsing S → Type 0
-Takes {S} (Diff text) old new = ReadsText (string_bytes text) old new
-Takes {S} (Full rows cols text) old new = (sized : Parsing S) × TakesSize rows cols old sized × ReadsText (string_bytes text) sized new
+abbrev pub TakesUpdate : {S : Type 0} → Update → Parsing S → Parsing S → Type 0
+TakesUpdate {S} (Diff text) old new = ReadsText (string_bytes text) old new
+TakesUpdate {S} (Full rows cols text) old new = (sized : Parsing S) × TakesSize rows cols old sized × ReadsText (string_bytes text) sized new
 
 -- it takes an update, at which the mirror's screen was steady
 pub record Sees {S : Type 0} (update : Update) (old new : Watching S) : Type 0 where
   pub steady : IsSteady (shown old.mirror.parser.screen)
-  pub takes : Takes update old.viewer new.viewer
+  pub takes : TakesUpdate update old.viewer new.viewer
   pub seen : new.seen ≡ Some old.mirror.parser.screen
 
 -- it is told nothing
@@ -92,18 +92,18 @@ pub record IsTakenBy {S : Type 0} (number asked : ℕ) (update : Update) (old ne
   pub others : asked ≢ number → IsLeft old new
 
 -- what the viewer of a number does in a call
-abbrev pub Follows : {S : Type 0} → ℕ → Watching S → MirrorCall → Watching S → Type 0
-Follows {S} number old (Process bytes answer) new = IsLeft old new
-Follows {S} number old (SetSize rows cols answer) new = IsLeft old new
-Follows {S} number old (Join answer) new = IsLeft old new
-Follows {S} number old (Leave viewer answer) new = IsLeft old new
-Follows {S} number old (Ask viewer (Ok (Some update))) new = IsTakenBy number viewer update old new
-Follows {S} number old (Ask viewer (Ok None)) new = IsLeft old new
-Follows {S} number old (Ask viewer (Err error)) new = IsLeft old new
+abbrev pub Watches : {S : Type 0} → ℕ → Watching S → MirrorCall → Watching S → Type 0
+Watches {S} number old (Process bytes answer) new = IsLeft old new
+Watches {S} number old (SetSize rows cols answer) new = IsLeft old new
+Watches {S} number old (Join answer) new = IsLeft old new
+Watches {S} number old (Leave viewer answer) new = IsLeft old new
+Watches {S} number old (Ask viewer (Ok (Some update))) new = IsTakenBy number viewer update old new
+Watches {S} number old (Ask viewer (Ok None)) new = IsLeft old new
+Watches {S} number old (Ask viewer (Err error)) new = IsLeft old new
 
 -- a call of the mirror, and what its viewer does in it
 abbrev pub Goes : {S : Type 0} → ℕ → Watching S → MirrorCall → Watching S → Type 0
-Goes {S} number old call new = Does old.mirror call new.mirror × Follows number old call new
+Goes {S} number old call new = Does old.mirror call new.mirror × Watches number old call new
 
 -- a terminal that was never told anything: it is plain
 pub record IsNew {S : Type 0} (watching : Watching S) : Type 0 where

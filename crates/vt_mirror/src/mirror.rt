@@ -3,7 +3,7 @@
 ghost use Rattle.std.specs.Prelude.{◌≡◌, IfOk, None, []};
 ghost use Rattle.vt_cells.specs.Refusals.{OnlyOutOfMemory};
 ghost use Rattle.vt100.specs.Parser.{parsing};
-ghost use Rattle.vt_mirror.specs.Calls.{Asks, IsUpdate, Joins, Leaves, Processes, Resizes};
+ghost use Rattle.vt_mirror.specs.Calls.{Asks, IsUpdate, JoinsMirror, Leaves, Processes, Resizes};
 ghost use Rattle.vt_mirror.specs.Viewers.{note_of};
 ghost use Rattle.vt_scan.specs.Automaton.{start};
 ghost use Rattle.vt_scan.specs.Scanner.{StandsFor};
@@ -110,7 +110,7 @@ impl Mirror {
     /// memory is refused; then nothing has changed.
     pub fn join(&mut self) -> Result<u64, Error>
         ensures parser { self.new.parser ≡ self.old.parser }
-        ensures call { Joins self.old.viewers result self.new.viewers }
+        ensures call { JoinsMirror self.old.viewers result self.new.viewers }
     {
         self.viewers.join()
     }

@@ -2,7 +2,7 @@
 
 ghost use Rattle.std.specs.Prelude.{◌≡◌, ◌≢◌, IfNone, IfOk, IfSome, None, OnErr, OnOk, Some, [], option_copied, true};
 ghost use Rattle.vt_cells.specs.Refusals.{OnlyOutOfMemory};
-ghost use Rattle.vt_mirror.specs.Calls.{Joins, Leaves, greatest};
+ghost use Rattle.vt_mirror.specs.Calls.{JoinsMirror, Leaves, greatest};
 ghost use Rattle.vt_mirror.specs.Viewers.{Puts, is_viewer, next_number, note_of};
 
 use std::alloc::Global;
@@ -47,7 +47,7 @@ impl Viewers {
     /// A new viewer, with the next number.
     #[tactic(auto, using(crate::proofs::Bookkeeping::joined, crate::proofs::Bookkeeping::joined_viewers))]
     pub(crate) fn join(&mut self) -> Result<u64, Error>
-        ensures { Joins self.old result self.new }
+        ensures { JoinsMirror self.old result self.new }
     {
         let Some(viewer) = next_after(self.last) else {
             return Err(Error::NoNumber);

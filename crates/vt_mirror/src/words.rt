@@ -2,7 +2,7 @@
 
 ghost use Rattle.std.specs.Int.NonZero.{non_zero_u16_get};
 ghost use Rattle.std.specs.Prelude.{ℕ, map, IfNone, IfSome};
-ghost use Rattle.vt_mirror.specs.Arguments.{Asks};
+ghost use Rattle.vt_mirror.specs.Arguments.{AsksToMirror};
 
 use std::num::NonZeroU16;
 use vt_show::size;
@@ -17,9 +17,9 @@ use vt_show::size;
 /// ```
 pub fn arguments(words: &[&str]) -> Option<(NonZeroU16, NonZeroU16, NonZeroU16)>
     ensures some { IfSome result (λ a.
-        Asks (map (λ word. word.now) words.now) (non_zero_u16_get a.0) (non_zero_u16_get a.1) (non_zero_u16_get a.2)) }
+        AsksToMirror (map (λ word. word.now) words.now) (non_zero_u16_get a.0) (non_zero_u16_get a.1) (non_zero_u16_get a.2)) }
     ensures none { IfNone result ((rows cols every : ℕ) →
-        Asks (map (λ word. word.now) words.now) rows cols every → ⊥) }
+        AsksToMirror (map (λ word. word.now) words.now) rows cols every → ⊥) }
 {
     let [rows, cols, every] = words else {
         return None;

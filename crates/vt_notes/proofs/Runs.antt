@@ -11,7 +11,7 @@ use Rattle.vt_screen.specs.Calls.{CallValue, OnScroll}
 use Rattle.vt_screen.specs.Screen.{ScreenValue}
 use Rattle.vt_screen.specs.Run as act
 use Rattle.vt_screen.specs.Run.{Hears, Performs, Scrolls, Takes, state}
-use Rattle.vt_screen.specs.Controls.{steps_of}
+use Rattle.vt_screen.specs.Controls.{seen_of, steps_of}
 use Rattle.vt_screen.specs.Steps.{Step, Print, CarriageReturn, LineFeed, ReverseIndex, MoveUp, MoveDown, MoveRight, MoveLeft, NextLine, PreviousLine, Tab, MoveTo, MoveToColumn, MoveToRow, SetRegion, UseOrigin, EraseBelow, EraseAbove, ErasePage, EraseScrollback, EraseRest, EraseStart, EraseRow, EraseChars, InsertChars, DeleteChars, InsertLines, DeleteLines, ScrollUp, ScrollDown, Render, HideCursor, UseApplicationCursor, UseBracketedPaste, SetMouseMode, ClearMouseMode, SetMouseEncoding, ClearMouseEncoding, SetCursorStyle, SaveCursor, RestoreCursor, EnterAlternate, EnterFresh, LeaveAlternate, LeaveRestoring, Reset, UseApplicationKeypad, Tell, reports, scrolled, stepped}
 use Rattle.vt_screen.specs.Telling.{calls_of, calls_of_all, stepped_all, steps_of_all, steps_in, calls_in, screen_in}
 use Rattle.vt100.specs.Parser.{Parsing, Ran, pieces_joined, parsing, stage}
@@ -136,7 +136,7 @@ done_steps (x ∷ steps) a b t =
 same_steps : (events : List Event) (a b : act.State Noted) → FoldsTo (Performs NotesIt) a events b → FoldsTo (Takes NotesIt) a (steps_of_all events a.screen) b
 same_steps [] a b e = e
 same_steps (event ∷ events) a b t =
-    let steps = steps_of event a.screen in
+    let steps = steps_of event (seen_of a.screen) in
     let there = (done_steps steps a t.0 t.1).shown in
     let rest = subst (λ (screen : ScreenValue). FoldsTo (Takes NotesIt) t.0 (steps_of_all events screen) b) there (same_steps events t.0 b t.2) in
     folds_then (Takes NotesIt) steps (steps_of_all events (stepped_all steps a.screen)) a t.0 b t.1 rest

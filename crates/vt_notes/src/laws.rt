@@ -4,7 +4,7 @@
 ghost use Rattle.std.specs.List.{FoldsTo};
 ghost use Rattle.std.specs.Prelude.{◌≡◌, ℕ, List, ◌++◌, false, true};
 ghost use Rattle.vt100.specs.Parser.{Parsing, Ran};
-ghost use Rattle.vt100.specs.Streams.{IsFreshParser, IsRecorder, Makes, ParserCall, bytes_of_calls, whole_text};
+ghost use Rattle.vt100.specs.Streams.{IsFreshParser, IsRecorder, MakesCall, ParserCall, bytes_of_calls, whole_text};
 ghost use Rattle.vt_notes.specs.Noting.{Noted, NotesIt};
 ghost use Rattle.vt_notes.specs.Recording.{Recorded, Records, nothing_recorded};
 ghost use Rattle.vt_scan.specs.Automaton.{State, start};
@@ -26,5 +26,5 @@ pub fn runs()
 /// between: that of all rows which the bytes sent off the main page, and then of the page.
 pub fn recorded()
     ensures recorder { IsRecorder Records (λ recorded. recorded.text) (λ recorded. recorded.state) (λ recorded. recorded.is_whole) }
-    ensures text { (rows cols capacity : ℕ) (p q : Parsing Recorded) (calls : List ParserCall) → IsFreshParser rows cols capacity p → p.callbacks ≡ nothing_recorded → HasNoRis start (bytes_of_calls calls) → FoldsTo (Makes Records) p calls q → q.screen.is_alternate ≡ false → q.callbacks.is_whole ≡ true → q.callbacks.text ++ basic_texts q.callbacks.state (all_rows q.screen) ≡ whole_text rows cols (bytes_of_calls calls) }
+    ensures text { (rows cols capacity : ℕ) (p q : Parsing Recorded) (calls : List ParserCall) → IsFreshParser rows cols capacity p → p.callbacks ≡ nothing_recorded → HasNoRis start (bytes_of_calls calls) → FoldsTo (MakesCall Records) p calls q → q.screen.is_alternate ≡ false → q.callbacks.is_whole ≡ true → q.callbacks.text ++ basic_texts q.callbacks.state (all_rows q.screen) ≡ whole_text rows cols (bytes_of_calls calls) }
 {}

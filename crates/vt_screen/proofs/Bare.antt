@@ -4,11 +4,11 @@ use Rattle.std.specs.Prelude.{if◌then◌else◌}
 use Rattle.vt_rows.specs.Row.{RowValue}
 use Rattle.vt_grid.specs.Resize.{out_of_view}
 use Rattle.vt_grid.specs.Scrollback.{Scrollback, cleared, viewed}
-use Rattle.vt_scan.specs.Automaton.{State, Event, Character, Executed, EscDispatch, CsiDispatch, OscDispatch}
+use Rattle.vt_scan.specs.Automaton.{State, Event}
 use Rattle.vt_scan.specs.Run.{run}
 use Rattle.vt_screen.specs.Pages.{fresh_page, page_aside, entered, left, restored, saved}
 use Rattle.vt_screen.specs.Screen.{ScreenValue, scrolled_back}
-use Rattle.vt_screen.specs.Controls.{other_steps, scrolling_steps, steps_of, window_steps}
+use Rattle.vt_screen.specs.Controls.{seen_of, steps_of}
 use Rattle.vt_screen.specs.Steps.{Step, Print, CarriageReturn, LineFeed, ReverseIndex, MoveUp, MoveDown, MoveRight, MoveLeft, NextLine, PreviousLine, Tab, MoveTo, MoveToColumn, MoveToRow, SetRegion, UseOrigin, EraseBelow, EraseAbove, ErasePage, EraseScrollback, EraseRest, EraseStart, EraseRow, EraseChars, InsertChars, DeleteChars, InsertLines, DeleteLines, ScrollUp, ScrollDown, Render, HideCursor, UseApplicationCursor, UseBracketedPaste, SetMouseMode, ClearMouseMode, SetMouseEncoding, ClearMouseEncoding, SetCursorStyle, SaveCursor, RestoreCursor, EnterAlternate, EnterFresh, LeaveAlternate, LeaveRestoring, Reset, UseApplicationKeypad, Tell, scrolled, stepped}
 use Rattle.vt_screen.specs.Streamed.{bare, sent_off, sent_off_all, sent_off_in}
 use Rattle.vt_screen.specs.Telling.{screen_in, stepped_all, steps_in, steps_of_all}
@@ -155,24 +155,15 @@ both_sent_all (x ∷ steps) s t e = ap₂ (λ (xs ys : List RowValue). xs ++ ys)
 
 -- ---- events
 
-steps_bare : (event : Event) (s : ScreenValue) → steps_of event s ≡ steps_of event (bare s)
-unfolding scrolling_steps other_steps window_steps
-steps_bare (Character c) s = refl
-steps_bare (Executed b) s = refl
-steps_bare (EscDispatch marks b) s = refl
-steps_bare (CsiDispatch groups [] b) s = refl
-steps_bare (CsiDispatch groups (mark ∷ marks) b) s = refl
-steps_bare (OscDispatch parts) s = refl
-
-both_steps : (event : Event) (s t : ScreenValue) → SameBare s t → steps_of event s ≡ steps_of event t
-both_steps event s t e = steps_bare event s ∙ (ap (steps_of event) e ∙ sym (steps_bare event t))
+both_steps : (event : Event) (s t : ScreenValue) → SameBare s t → steps_of event (seen_of s) ≡ steps_of event (seen_of t)
+both_steps event s t e = ap (λ (u : ScreenValue). steps_of event (seen_of u)) e
 
 pub both_steps_all : (events : List Event) (s t : ScreenValue) → SameBare s t → steps_of_all events s ≡ steps_of_all events t
 both_steps_all [] s t e = refl
 both_steps_all (event ∷ events) s t e =
-    let steps = steps_of event s in
+    let steps = steps_of event (seen_of s) in
     ap₂ (λ (xs ys : List Step). xs ++ ys) (both_steps event s t e)
-    (both_steps_all events (stepped_all steps s) (stepped_all (steps_of event t) t)
+    (both_steps_all events (stepped_all steps s) (stepped_all (steps_of event (seen_of t)) t)
     (both_stepped steps s t e ∙ ap (λ (xs : List Step). bare (stepped_all xs t)) (both_steps event s t e)))
 
 -- ---- bytes

@@ -15,7 +15,7 @@ use Rattle.vt_screen.specs.Screen.{ScreenValue, IsPrintable}
 use Rattle.vt_screen.specs.Sgr.{group_read}
 use Rattle.vt_screen.specs.Streamed.{HasNoRis, ris, row_told, sent_off_in}
 use Rattle.vt_screen.specs.Telling.{calls_in, screen_in, stepped_all, steps_in, steps_of_all}
-use Rattle.vt_screen.specs.Controls.{alternate_step, character_steps, clipboard_steps, control_steps, counted_step, csi_steps, encoding_step, escape_steps, fresh_alternate_step, marked_steps, mark_at, mode_step, mode_steps, mouse_step, named_steps, number_or, one_or, osc_steps, other_steps, page_erasing, plain_steps, private_steps, reading_steps, repeated, row_erasing, scrolling_steps, sgr_from, space_steps, steps_of, style_steps, window_steps}
+use Rattle.vt_screen.specs.Controls.{alternate_step, character_steps, clipboard_steps, control_steps, counted_step, csi_steps, encoding_step, escape_steps, fresh_alternate_step, marked_steps, mark_at, mode_step, mode_steps, mouse_step, named_steps, number_or, one_or, osc_steps, other_steps, page_erasing, plain_steps, private_steps, reading_steps, repeated, row_erasing, scrolling_steps, Seen, seen_of, sgr_from, space_steps, steps_of, style_steps, window_steps}
 use Rattle.vt_screen.specs.Steps.{Step, Print, Reset, Tell}
 use Rattle.vt_screen.specs.declared.sgr.Reading.{Reading}
 use Rattle.vt_screen.specs.declared.sgr.Reading.TheVariants.{Silent, Set, Unhandled}
@@ -99,9 +99,9 @@ stream_row_erasing : (report : CallValue) (n : ℕ) → row_told report ≡ [] �
 unfolding row_erasing
 stream_row_erasing report n e = search (all_if, own) depth 20
 
-stream_window : (groups : List (List ℕ)) (s : ScreenValue) → AllStream (window_steps groups s)
+stream_window : (groups : List (List ℕ)) (seen : Seen) → AllStream (window_steps groups seen)
 unfolding window_steps
-stream_window groups s = search (all_if, own) depth 20
+stream_window groups seen = search (all_if, own) depth 20
 
 stream_repeated : (n : ℕ) (last : Option ℕ) → IfSome last IsPrintable → AllStream (repeated n last)
 stream_repeated n None k = none
@@ -110,13 +110,13 @@ stream_repeated n (Some c) k = by n where
   by zero = none
   by (suc n) = record { all = (k, (by n).all) }
 
-stream_other : (groups : List (List ℕ)) (b : ℕ) (s : ScreenValue) → AllStream (other_steps groups b s)
+stream_other : (groups : List (List ℕ)) (b : ℕ) (seen : Seen) → AllStream (other_steps groups b seen)
 unfolding other_steps
-stream_other groups b s = search (all_if, own, stream_page_erasing, stream_row_erasing, stream_sgr, stream_window) depth 20
+stream_other groups b seen = search (all_if, own, stream_page_erasing, stream_row_erasing, stream_sgr, stream_window) depth 20
 
-stream_scrolling : (groups : List (List ℕ)) (b : ℕ) (s : ScreenValue) → IfSome s.last IsPrintable → AllStream (scrolling_steps groups b s)
+stream_scrolling : (groups : List (List ℕ)) (b : ℕ) (seen : Seen) → IfSome seen.last IsPrintable → AllStream (scrolling_steps groups b seen)
 unfolding scrolling_steps
-stream_scrolling groups b s k = search (all_if, own, stream_other, stream_repeated) depth 20
+stream_scrolling groups b seen k = search (all_if, own, stream_other, stream_repeated) depth 20
 
 stream_counted : (b n : ℕ) → SomeStreams (counted_step b n)
 unfolding counted_step
@@ -126,8 +126,10 @@ stream_one_or : (step : Option Step) (others : List Step) → SomeStreams step �
 stream_one_or (Some step) others p q = own step p.some
 stream_one_or None others p q = q
 
-stream_plain : (groups : List (List ℕ)) (b : ℕ) (s : ScreenValue) → IfSome s.last IsPrintable → AllStream (plain_steps groups b s)
-stream_plain groups b s k = stream_one_or (counted_step b (number_or 1 0 groups)) (scrolling_steps groups b s) (stream_counted b (number_or 1 0 groups)) (stream_scrolling groups b s k)
+stream_plain : (groups : List (List ℕ)) (b : ℕ) (seen : Seen) → IfSome seen.last IsPrintable → AllStream (plain_steps groups b seen)
+stream_plain groups b seen k =
+    let n = number_or 1 0 groups in
+    stream_one_or (counted_step b n) (scrolling_steps groups b seen) (stream_counted b n) (stream_scrolling groups b seen k)
 
 -- ---- modes and other marked sequences
 
@@ -173,9 +175,9 @@ stream_marked : (mark : ℕ) (second : Option ℕ) (groups : List (List ℕ)) (b
 unfolding marked_steps
 stream_marked mark second groups b = search (all_if, own, stream_private, stream_space) depth 20
 
-stream_csi : (groups : List (List ℕ)) (marks : List ℕ) (b : ℕ) (s : ScreenValue) → IfSome s.last IsPrintable → AllStream (csi_steps groups marks b s)
-stream_csi groups [] b s k = stream_plain groups b s k
-stream_csi groups (mark ∷ marks) b s k = stream_marked mark (mark_at 0 marks) groups b
+stream_csi : (groups : List (List ℕ)) (marks : List ℕ) (b : ℕ) (seen : Seen) → IfSome seen.last IsPrintable → AllStream (csi_steps groups marks b seen)
+stream_csi groups [] b seen k = stream_plain groups b seen k
+stream_csi groups (mark ∷ marks) b seen k = stream_marked mark (mark_at 0 marks) groups b
 
 -- ---- operating system commands
 
@@ -194,20 +196,20 @@ stream_osc (name ∷ text ∷ []) = stream_named name text
 stream_osc (name ∷ kind ∷ text ∷ []) = stream_clipboard name kind text
 stream_osc (name ∷ kind ∷ text ∷ more ∷ parts) = (told _ refl)
 
-pub stream_event : (event : Event) (s : ScreenValue) → IsCoded event → event ≢ ris → IfSome s.last IsPrintable → AllStream (steps_of event s)
-stream_event (Character c) s coded other k = stream_character c coded
-stream_event (Executed b) s coded other k = stream_control b
-stream_event (EscDispatch marks b) s coded other k = stream_escape marks b other
-stream_event (CsiDispatch groups marks b) s coded other k = stream_csi groups marks b s k
-stream_event (OscDispatch parts) s coded other k = stream_osc parts
+pub stream_event : (event : Event) (seen : Seen) → IsCoded event → event ≢ ris → IfSome seen.last IsPrintable → AllStream (steps_of event seen)
+stream_event (Character c) seen coded other k = stream_character c coded
+stream_event (Executed b) seen coded other k = stream_control b
+stream_event (EscDispatch marks b) seen coded other k = stream_escape marks b other
+stream_event (CsiDispatch groups marks b) seen coded other k = stream_csi groups marks b seen k
+stream_event (OscDispatch parts) seen coded other k = stream_osc parts
 
 -- ---- events, one after the other
 
 pub stream_events : (events : List Event) (s : ScreenValue) → AreCoded events → AllByRecursion (λ event. event ≢ ris) events → Held s → AllStream (steps_of_all events s)
 stream_events [] s coded others k = none
 stream_events (event ∷ events) s coded others k =
-    let steps = steps_of event s in
-    let now = stream_event event s coded.0 others.0 k.last in
+    let steps = steps_of event (seen_of s) in
+    let now = stream_event event (seen_of s) coded.0 others.0 k.last in
     let there = steps_stream steps s now.all k in
     all_then steps (steps_of_all events (stepped_all steps s)) now (stream_events events (stepped_all steps s) coded.1 others.1 there.held)
 

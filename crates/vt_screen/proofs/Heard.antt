@@ -8,7 +8,7 @@ use Rattle.vt_screen.specs.Calls.{CallValue, OnScroll}
 use Rattle.vt_screen.specs.Screen.{ScreenValue}
 use Rattle.vt_screen.specs.Run as act
 use Rattle.vt_screen.specs.Run.{Hears, Performs, Scrolls, Takes, Told, state}
-use Rattle.vt_screen.specs.Controls.{steps_of}
+use Rattle.vt_screen.specs.Controls.{seen_of, steps_of}
 use Rattle.vt_screen.specs.Steps.{Step, Print, CarriageReturn, LineFeed, ReverseIndex, MoveUp, MoveDown, MoveRight, MoveLeft, NextLine, PreviousLine, Tab, MoveTo, MoveToColumn, MoveToRow, SetRegion, UseOrigin, EraseBelow, EraseAbove, ErasePage, EraseScrollback, EraseRest, EraseStart, EraseRow, EraseChars, InsertChars, DeleteChars, InsertLines, DeleteLines, ScrollUp, ScrollDown, Render, HideCursor, UseApplicationCursor, UseBracketedPaste, SetMouseMode, ClearMouseMode, SetMouseEncoding, ClearMouseEncoding, SetCursorStyle, SaveCursor, RestoreCursor, EnterAlternate, EnterFresh, LeaveAlternate, LeaveRestoring, Reset, UseApplicationKeypad, Tell, reports, scrolled, stepped}
 use Rattle.vt_screen.specs.Telling.{Heard, LeavesScreen, calls_of, calls_of_all, stepped_all, steps_of_all}
 use Rattle.vt_screen.proofs.Reporting.{told_rows}
@@ -102,7 +102,7 @@ heard_steps does leaves (x ∷ steps) a b t =
 steps_listed : {S : Type 0} (does : CallValue → S → ScreenValue → S → ScreenValue → Type 0) → LeavesScreen does → (events : List Event) (a b : act.State S) → FoldsTo (Performs does) a events b → FoldsTo (Takes does) a (steps_of_all events a.screen) b
 steps_listed does leaves [] a b e = e
 steps_listed does leaves (event ∷ events) a b t =
-    let steps = steps_of event a.screen in
+    let steps = steps_of event (seen_of a.screen) in
     let there = (heard_steps does leaves steps a t.0 t.1).shown in
     let rest = subst (λ (screen : ScreenValue). FoldsTo (Takes does) t.0 (steps_of_all events screen) b) there (steps_listed does leaves events t.0 b t.2) in
     folds_then (Takes does) steps (steps_of_all events (stepped_all steps a.screen)) a t.0 b t.1 rest

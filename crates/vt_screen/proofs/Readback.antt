@@ -23,7 +23,7 @@ use Rattle.vt_scan.specs.Texts.{place_groups}
 use Rattle.vt_scan.proofs.Readback.{read_written}
 use Rattle.vt_scan.proofs.Written.{alone, empty_groups, decimal_groups, joined_groups, place_groups_are, decimal_is_parameter, joined_is_parameter, place_is_parameter}
 use Rattle.vt_screen.specs.Screen.{ScreenValue, canvas_of, with_canvas, with_page}
-use Rattle.vt_screen.specs.Controls.{plain_steps, counted_step, scrolling_steps, other_steps, page_erasing, row_erasing, character_steps, control_steps, escape_steps, marked_steps, private_steps, mode_step, number_or}
+use Rattle.vt_screen.specs.Controls.{plain_steps, counted_step, scrolling_steps, other_steps, page_erasing, row_erasing, character_steps, control_steps, escape_steps, marked_steps, private_steps, mode_step, number_or, seen_of}
 use Rattle.vt_screen.specs.Steps.{stepped}
 use Rattle.vt_screen.specs.Steps as steps
 use Rattle.vt_screen.specs.Reading.{quiet_step, quiet_steps, terminal, read_byte, read}
@@ -61,7 +61,7 @@ hidden_read false screen = refl
 -- ---- control sequences
 
 -- without a number
-bare : (final : ℕ) (screen after : ScreenValue) → IsFinal final → quiet_steps (plain_steps ((0 ∷ []) ∷ []) final screen) screen ≡ Some after
+bare : (final : ℕ) (screen after : ScreenValue) → IsFinal final → quiet_steps (plain_steps ((0 ∷ []) ∷ []) final (seen_of screen)) screen ≡ Some after
     → read (terminal start screen) (csi [] final) ≡ Some (terminal start after)
 bare final screen after is_final quiet = csi_read [] final ((0 ∷ []) ∷ []) screen after tt is_final empty_groups quiet
 
@@ -83,7 +83,7 @@ count_read n rest h = let t : (n == 0) ≡ false = grind (arith, nat_tests) in r
 
 -- with a count: the step that the sequence is, with this count
 counted_read : (n final : ℕ) (step : ℕ → steps.Step) (screen : ScreenValue) → suc n < 2 ^ 16 → IsFinal final
-    → ((groups : List (List ℕ)) → quiet_steps (plain_steps groups final screen) screen ≡ Some (stepped (step (number_or 1 0 groups)) screen))
+    → ((groups : List (List ℕ)) → quiet_steps (plain_steps groups final (seen_of screen)) screen ≡ Some (stepped (step (number_or 1 0 groups)) screen))
     → read (terminal start screen) (counted (suc n) final) ≡ Some (terminal start (stepped (step (suc n)) screen))
 counted_read zero final step screen h is_final means = bare final screen (stepped (step 1) screen) is_final (means ((0 ∷ []) ∷ []))
 counted_read (suc n) final step screen h is_final means =
@@ -104,13 +104,13 @@ erased_chars_read n screen h = counted_read n 0x58 steps.EraseChars screen h (om
 ordinal_read : (n : ℕ) → (if (n + 1) == 0 then 1 else n + 1) - 1 ≡ n
 ordinal_read n = let t : ((n + 1) == 0) ≡ false = grind (arith, nat_tests) in rw t (omega arith)
 
-placed : (row col : ℕ) (screen : ScreenValue) → quiet_steps (plain_steps (((row + 1) ∷ []) ∷ ((col + 1) ∷ []) ∷ []) 0x48 screen) screen ≡ Some (stepped (steps.MoveTo row col) screen)
+placed : (row col : ℕ) (screen : ScreenValue) → quiet_steps (plain_steps (((row + 1) ∷ []) ∷ ((col + 1) ∷ []) ∷ []) 0x48 (seen_of screen)) screen ≡ Some (stepped (steps.MoveTo row col) screen)
 unfolding counted_step scrolling_steps other_steps
 placed row col screen =
     ap (λ (r : ℕ). Some (stepped (steps.MoveTo r ((if (col + 1) == 0 then 1 else col + 1) - 1)) screen)) (ordinal_read row)
     ∙ ap (λ (c : ℕ). Some (stepped (steps.MoveTo row c) screen)) (ordinal_read col)
 
-place_read : (row col : ℕ) (screen : ScreenValue) → quiet_steps (plain_steps (place_groups row col) 0x48 screen) screen ≡ Some (stepped (steps.MoveTo row col) screen)
+place_read : (row col : ℕ) (screen : ScreenValue) → quiet_steps (plain_steps (place_groups row col) 0x48 (seen_of screen)) screen ≡ Some (stepped (steps.MoveTo row col) screen)
 unfolding counted_step scrolling_steps other_steps
 place_read zero zero screen = refl
 place_read zero (suc col) screen = placed zero (suc col) screen

@@ -16,7 +16,7 @@ use Rattle.vt_scan.specs.declared.table.Class.TheVariants.{Bell, Cancel, Introdu
 use Rattle.vt_scan.proofs.Running.{behind}
 use Rattle.vt_scan.proofs.Sequences.{read_csi}
 use Rattle.vt_screen.specs.Screen.{ScreenValue}
-use Rattle.vt_screen.specs.Controls.{plain_steps, steps_of}
+use Rattle.vt_screen.specs.Controls.{plain_steps, seen_of, steps_of}
 use Rattle.vt_screen.specs.Reading.{quiet_steps, quiet_events, grows, Terminal, terminal, read_byte, read}
 
 -- ---- texts one after the other
@@ -36,7 +36,7 @@ reads_then t u v a b p q = reads_append t a b ∙ (ap (λ (r : Option Terminal).
 quiet_append : (a b : List Event) (screen : ScreenValue) → quiet_events (a ++ b) screen ≡ and_then (quiet_events b) (quiet_events a screen)
 quiet_append [] b screen = refl
 quiet_append (event ∷ a) b screen =
-    let first = quiet_steps (steps_of event screen) screen in
+    let first = quiet_steps (steps_of event (seen_of screen)) screen in
     and_then-same (quiet_events (a ++ b)) (λ (x : ScreenValue). and_then (quiet_events b) (quiet_events a x)) (quiet_append a b) first ∙ and_then-assoc (quiet_events a) (quiet_events b) first
 
 -- an operating system command, the one sequence whose text takes memory
@@ -109,7 +109,7 @@ run_read s (b ∷ bytes) screen calm =
 
 -- a text that gives one event
 pub event_read : (text : List ℕ) (event : Event) (screen after : ScreenValue) → run start text ≡ back_with (event ∷ []) → is_command event ≡ false
-    → quiet_steps (steps_of event screen) screen ≡ Some after → read (terminal start screen) text ≡ Some (terminal start after)
+    → quiet_steps (steps_of event (seen_of screen)) screen ≡ Some after → read (terminal start screen) text ≡ Some (terminal start after)
 event_read text event screen after gives other quiet =
     run_read start text screen (rw gives (record { plain = refl; events = (other, tt) }))
     ∙ ap (λ (step : Step). and_then (λ (x : ScreenValue). Some (terminal step.state x)) (quiet_events step.events screen)) gives
@@ -121,7 +121,7 @@ IsFinal b = (0x40 ≤ b) × (b ≤ 0x7E)
 
 -- a control sequence of parameters alone
 pub csi_read : (text : List ℕ) (final : ℕ) (groups : List (List ℕ)) (screen after : ScreenValue) → IsParameterText text → IsFinal final → (table_of text).groups ≡ groups
-    → quiet_steps (plain_steps groups final screen) screen ≡ Some after → read (terminal start screen) (csi text final) ≡ Some (terminal start after)
+    → quiet_steps (plain_steps groups final (seen_of screen)) screen ≡ Some after → read (terminal start screen) (csi text final) ≡ Some (terminal start after)
 csi_read text final groups screen after is is_final table quiet =
     event_read (csi text final) (CsiDispatch groups [] final) screen after
     (read_csi text final is is_final.0 is_final.1 ∙ ap (λ (gs : List (List ℕ)). back_with (CsiDispatch gs [] final ∷ [])) table) refl quiet

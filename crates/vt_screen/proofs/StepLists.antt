@@ -5,7 +5,7 @@ use Rattle.vt_scan.specs.Automaton.{State, Event, Step as Outcome}
 use Rattle.vt_scan.specs.Run.{run}
 use Rattle.vt_scan.proofs.Running.{run-append}
 use Rattle.vt_screen.specs.Screen.{ScreenValue}
-use Rattle.vt_screen.specs.Controls.{steps_of}
+use Rattle.vt_screen.specs.Controls.{seen_of, steps_of}
 use Rattle.vt_screen.specs.Steps.{Step, scrolled}
 use Rattle.vt_screen.specs.Streamed.{sent_off, sent_off_all, sent_off_in}
 use Rattle.vt_screen.specs.Telling.{screen_in, stepped_all, steps_in, steps_of_all}
@@ -23,7 +23,7 @@ sent_all_then (x ∷ xs) ys s =
 steps_then : (events more : List Event) (s : ScreenValue) → steps_of_all (events ++ more) s ≡ steps_of_all events s ++ steps_of_all more (stepped_all (steps_of_all events s) s)
 steps_then [] more s = refl
 steps_then (event ∷ events) more s =
-    let steps = steps_of event s in
+    let steps = steps_of event (seen_of s) in
     let there = stepped_all steps s in
     let rest = steps_of_all events there in
     ap (λ (xs : List Step). steps ++ xs) (steps_then events more there)

@@ -27,7 +27,7 @@ use Rattle.vt_scan.proofs.Written.{alone, empty_groups, decimal_groups, joined_g
 use Rattle.vt_screen.specs.Reading.{quiet_steps, quiet_events, Terminal, terminal, read_byte, read}
 use Rattle.vt_screen.specs.Screen.{ScreenValue, canvas_of, with_canvas, with_page}
 use Rattle.vt_screen.specs.Sgr.{group_read}
-use Rattle.vt_screen.specs.Controls.{private_steps, marked_steps, mode_step, plain_steps, counted_step, scrolling_steps, other_steps, page_erasing, row_erasing, character_steps, control_steps, escape_steps, number_or, steps_of, reading_steps, sgr_from}
+use Rattle.vt_screen.specs.Controls.{private_steps, marked_steps, mode_step, plain_steps, counted_step, scrolling_steps, other_steps, page_erasing, row_erasing, character_steps, control_steps, escape_steps, number_or, steps_of, reading_steps, sgr_from, seen_of}
 use Rattle.vt_screen.specs.Steps.{stepped}
 use Rattle.vt_screen.specs.Steps as steps
 use Rattle.vt_screen.specs.Touched.{FeedTouches, StepTouches, StepsTouch, EventsTouch, ReadTouches}
@@ -56,7 +56,7 @@ events_first M (event ∷ a) b screen p = (p.0, λ next e. events_first M a b ne
 events_later : (M : ℕ → ℕ → Type 0) (a b : List Event) (screen next : ScreenValue) → EventsTouch M (a ++ b) screen → quiet_events a screen ≡ Some next → EventsTouch M b next
 events_later M [] b screen next p e = let same : screen ≡ next = cc in subst (EventsTouch M b) same p
 events_later M (event ∷ a) b screen next p e =
-    let (middle, first, rest) = and_then-some (quiet_events a) (quiet_steps (steps_of event screen) screen) next e in
+    let (middle, first, rest) = and_then-some (quiet_events a) (quiet_steps (steps_of event (seen_of screen)) screen) next e in
     events_later M a b middle next (p.1 middle first) rest
 
 -- a calm run touches what its events touch
@@ -78,12 +78,12 @@ run_touches M s (b ∷ bytes) screen calm p =
 
 -- a text that gives one event
 event_touches : (M : ℕ → ℕ → Type 0) (text : List ℕ) (event : Event) (screen : ScreenValue) → run start text ≡ back_with (event ∷ []) → is_command event ≡ false →
-    StepsTouch M (steps_of event screen) screen → ReadTouches M (terminal start screen) text
+    StepsTouch M (steps_of event (seen_of screen)) screen → ReadTouches M (terminal start screen) text
 event_touches M text event screen gives other p =
     run_touches M start text screen (rw gives (record { plain = refl; events = (other, tt) })) (rw gives (p, λ next e. tt))
 
 csi_touches : (M : ℕ → ℕ → Type 0) (text : List ℕ) (final : ℕ) (groups : List (List ℕ)) (screen : ScreenValue) → IsParameterText text → IsFinal final → (table_of text).groups ≡ groups →
-    StepsTouch M (plain_steps groups final screen) screen → ReadTouches M (terminal start screen) (csi text final)
+    StepsTouch M (plain_steps groups final (seen_of screen)) screen → ReadTouches M (terminal start screen) (csi text final)
 csi_touches M text final groups screen is is_final table p =
     event_touches M (csi text final) (CsiDispatch groups [] final) screen
     (read_csi text final is is_final.0 is_final.1 ∙ ap (λ (gs : List (List ℕ)). back_with (CsiDispatch gs [] final ∷ [])) table) refl p
@@ -108,20 +108,20 @@ sgr_touches M all wanted (group ∷ rest) screen =
     reading_touches M all read.reading (sgr_from all read.wanted rest) (λ next. sgr_touches M all read.wanted rest next) screen
 
 -- SGR, CUP, CUF
-rendition_touches : (M : ℕ → ℕ → Type 0) (groups : List (List ℕ)) (screen : ScreenValue) → StepsTouch M (plain_steps groups 0x6D screen) screen
+rendition_touches : (M : ℕ → ℕ → Type 0) (groups : List (List ℕ)) (screen : ScreenValue) → StepsTouch M (plain_steps groups 0x6D (seen_of screen)) screen
 unfolding counted_step scrolling_steps other_steps
 rendition_touches M groups screen = sgr_touches M groups Any groups screen
 
-place_touches : (M : ℕ → ℕ → Type 0) (groups : List (List ℕ)) (screen : ScreenValue) → StepsTouch M (plain_steps groups 0x48 screen) screen
+place_touches : (M : ℕ → ℕ → Type 0) (groups : List (List ℕ)) (screen : ScreenValue) → StepsTouch M (plain_steps groups 0x48 (seen_of screen)) screen
 unfolding counted_step scrolling_steps other_steps
 place_touches M groups screen = (tt, λ next e. tt)
 
-right_touches : (M : ℕ → ℕ → Type 0) (groups : List (List ℕ)) (screen : ScreenValue) → StepsTouch M (plain_steps groups 0x43 screen) screen
+right_touches : (M : ℕ → ℕ → Type 0) (groups : List (List ℕ)) (screen : ScreenValue) → StepsTouch M (plain_steps groups 0x43 (seen_of screen)) screen
 unfolding counted_step
 right_touches M groups screen = (tt, λ next e. tt)
 
 -- a text with a count, whose steps touch no more than may be for each count
-counted_touches : (M : ℕ → ℕ → Type 0) (n final : ℕ) (screen : ScreenValue) → suc n < 2 ^ 16 → IsFinal final → ((groups : List (List ℕ)) → number_or 1 0 groups ≡ suc n → StepsTouch M (plain_steps groups final screen) screen) →
+counted_touches : (M : ℕ → ℕ → Type 0) (n final : ℕ) (screen : ScreenValue) → suc n < 2 ^ 16 → IsFinal final → ((groups : List (List ℕ)) → number_or 1 0 groups ≡ suc n → StepsTouch M (plain_steps groups final (seen_of screen)) screen) →
     ReadTouches M (terminal start screen) (counted (suc n) final)
 counted_touches M zero final screen h is_final p = csi_touches M [] final ((0 ∷ []) ∷ []) screen tt is_final empty_groups (p ((0 ∷ []) ∷ []) refl)
 counted_touches M (suc n) final screen h is_final p =
@@ -157,7 +157,7 @@ below_touches M screen p =
     csi_touches M [] 0x4A ((0 ∷ []) ∷ []) screen tt (omega arith, omega arith) empty_groups
     ((p.0, λ r c low high inside. p.1 r c (omega arith) high inside), λ next e. tt)
 
-chars_touch : (M : ℕ → ℕ → Type 0) (n : ℕ) (groups : List (List ℕ)) (screen : ScreenValue) → OpTouches M (EraseChars n) (canvas_of screen) → number_or 1 0 groups ≡ n → StepsTouch M (plain_steps groups 0x58 screen) screen
+chars_touch : (M : ℕ → ℕ → Type 0) (n : ℕ) (groups : List (List ℕ)) (screen : ScreenValue) → OpTouches M (EraseChars n) (canvas_of screen) → number_or 1 0 groups ≡ n → StepsTouch M (plain_steps groups 0x58 (seen_of screen)) screen
 unfolding counted_step
 chars_touch M n groups screen p e = (subst (λ (k : ℕ). StepTouches M (steps.EraseChars k) screen) (sym e) p, λ next f. tt)
 

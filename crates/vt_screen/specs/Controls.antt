@@ -1,5 +1,5 @@
 -- The steps of each event: which bytes are which control.
-use Rattle.std.specs.Prelude.{ℕ, ◌-◌, ◌==◌, ◌&&◌, ◌||◌, not, nat_lt, nat_le, Bool, true, false, List, [], ◌∷◌, ◌++◌, length, replicate, slice_index_or, slice_get, Option, Some, None, codes, if◌then◌else◌}
+use Rattle.std.specs.Prelude.{ℕ, ◌-◌, ◌==◌, ◌&&◌, ◌||◌, not, nat_lt, nat_le, Bool, true, false, List, [], ◌∷◌, ◌++◌, length, replicate, slice_index_or, slice_get, Option, Some, None, bytes_eq, codes, if◌then◌else◌}
 use Rattle.std.specs.List.{list_all, list_any}
 use Rattle.vt_cells.specs.declared.modes.MouseProtocolMode.{MouseProtocolMode}
 use Rattle.vt_cells.specs.declared.modes.MouseProtocolMode.TheVariants as mouse
@@ -16,6 +16,15 @@ use Rattle.vt_screen.specs.declared.sgr.Wanted.TheVariants.{Any}
 use Rattle.vt_screen.specs.declared.sgr.Reading.{Reading}
 use Rattle.vt_screen.specs.declared.sgr.Reading.TheVariants.{Silent, Set, Unhandled}
 use Rattle.vt_screen.specs.Steps.{Print, CarriageReturn, LineFeed, ReverseIndex, MoveUp, MoveDown, MoveRight, MoveLeft, NextLine, PreviousLine, Tab, MoveTo, MoveToColumn, MoveToRow, SetRegion, UseOrigin, SaveCursor, RestoreCursor, EnterAlternate, EnterFresh, LeaveAlternate, LeaveRestoring, Reset, EraseBelow, EraseAbove, ErasePage, EraseScrollback, EraseRest, EraseStart, EraseRow, EraseChars, InsertChars, DeleteChars, InsertLines, DeleteLines, ScrollUp, ScrollDown, Render, HideCursor, UseApplicationKeypad, UseApplicationCursor, UseBracketedPaste, SetMouseMode, ClearMouseMode, SetMouseEncoding, ClearMouseEncoding, SetCursorStyle, Tell, Step}
+
+-- what an event sees of a screen: its size, and the last character that was printed in columns of its own
+pub record Seen : Type 0 where
+  pub rows : ℕ
+  pub columns : ℕ
+  pub last : Option ℕ
+
+abbrev pub seen_of : ScreenValue → Seen
+seen_of screen = record { rows = length screen.page.rows; columns = screen.page.width; last = screen.last }
 
 -- ---- numbers
 
@@ -95,10 +104,10 @@ row_erasing report n =
 abbrev pub size_or : ℕ → ℕ → List (List ℕ) → ℕ
 size_or own i groups = if nat_lt i (length groups) then number_at i groups else own
 
-unfoldable pub window_steps : List (List ℕ) → ScreenValue → List Step
-window_steps groups screen =
+unfoldable pub window_steps : List (List ℕ) → Seen → List Step
+window_steps groups seen =
     if number_at 0 groups == 8
-    then Tell (Resize (size_or (length screen.page.rows) 1 groups) (size_or screen.page.width 2 groups)) ∷ []
+    then Tell (Resize (size_or seen.rows 1 groups) (size_or seen.columns 2 groups)) ∷ []
     else Tell (UnhandledCsi None None groups 0x74) ∷ []
 
 abbrev pub repeated : ℕ → Option ℕ → List Step
@@ -125,30 +134,30 @@ counted_step b n =
     else None
 
 -- other control sequences without a marker or an intermediate; rows and columns are counted from 1
-unfoldable pub other_steps : List (List ℕ) → ℕ → ScreenValue → List Step
-other_steps groups b screen =
+unfoldable pub other_steps : List (List ℕ) → ℕ → Seen → List Step
+other_steps groups b seen =
     if (b == 0x48) || (b == 0x66) then MoveTo (number_or 1 0 groups - 1) (number_or 1 1 groups - 1) ∷ []
     else if b == 0x4A then page_erasing (UnhandledCsi None None groups b) (number_at 0 groups)
     else if b == 0x4B then row_erasing (UnhandledCsi None None groups b) (number_at 0 groups)
     else if b == 0x6D then sgr_steps groups
-    else if b == 0x72 then SetRegion (number_or 1 0 groups - 1) (number_or (length screen.page.rows) 1 groups - 1) ∷ []
-    else if b == 0x74 then window_steps groups screen
+    else if b == 0x72 then SetRegion (number_or 1 0 groups - 1) (number_or seen.rows 1 groups - 1) ∷ []
+    else if b == 0x74 then window_steps groups seen
     else Tell (UnhandledCsi None None groups b) ∷ []
 
 -- those that may scroll rows off the page
-unfoldable pub scrolling_steps : List (List ℕ) → ℕ → ScreenValue → List Step
-scrolling_steps groups b screen =
+unfoldable pub scrolling_steps : List (List ℕ) → ℕ → Seen → List Step
+scrolling_steps groups b seen =
     if b == 0x53 then ScrollUp (number_or 1 0 groups) ∷ []
-    else if b == 0x62 then repeated (number_or 1 0 groups) screen.last
-    else other_steps groups b screen
+    else if b == 0x62 then repeated (number_or 1 0 groups) seen.last
+    else other_steps groups b seen
 
 abbrev pub one_or : Option Step → List Step → List Step
 one_or (Some step) others = step ∷ []
 one_or None others = others
 
 -- control sequences without a marker or an intermediate
-abbrev pub plain_steps : List (List ℕ) → ℕ → ScreenValue → List Step
-plain_steps groups b screen = one_or (counted_step b (number_or 1 0 groups)) (scrolling_steps groups b screen)
+abbrev pub plain_steps : List (List ℕ) → ℕ → Seen → List Step
+plain_steps groups b seen = one_or (counted_step b (number_or 1 0 groups)) (scrolling_steps groups b seen)
 
 -- DECSCUSR's numbers
 unfoldable pub style_of : ℕ → Option CursorStyle
@@ -222,9 +231,9 @@ marked_steps mark second groups b =
     else if mark == 0x20 then space_steps second groups b
     else Tell (UnhandledCsi (Some mark) second groups b) ∷ []
 
-abbrev pub csi_steps : List (List ℕ) → List ℕ → ℕ → ScreenValue → List Step
-csi_steps groups [] b screen = plain_steps groups b screen
-csi_steps groups (mark ∷ marks) b screen = marked_steps mark (mark_at 0 marks) groups b
+abbrev pub csi_steps : List (List ℕ) → List ℕ → ℕ → Seen → List Step
+csi_steps groups [] b seen = plain_steps groups b seen
+csi_steps groups (mark ∷ marks) b seen = marked_steps mark (mark_at 0 marks) groups b
 
 -- operating system commands: titles, and the clipboard (xterm's 0, 1, 2 and 52)
 abbrev pub is_clipboard_kind : List ℕ → Bool
@@ -235,24 +244,18 @@ is_base64 b =
     (nat_le 0x41 b && nat_le b 0x5A) || ((nat_le 0x61 b && nat_le b 0x7A) || ((nat_le 0x30 b && nat_le b 0x39)
     || ((b == 0x2B) || ((b == 0x2F) || (b == 0x3D)))))
 
-abbrev pub same_bytes : List ℕ → List ℕ → Bool
-same_bytes [] [] = true
-same_bytes (b ∷ bs) (c ∷ cs) = (b == c) && same_bytes bs cs
-same_bytes _ _ = false
-
 unfoldable pub named_steps : List ℕ → List ℕ → List Step
 named_steps name text =
-    if same_bytes name (codes "0") then Tell (SetWindowIconName text) ∷ Tell (SetWindowTitle text) ∷ []
-    else if same_bytes name (codes "1") then Tell (SetWindowIconName text) ∷ []
-    else if same_bytes name (codes "2") then Tell (SetWindowTitle text) ∷ []
+    if bytes_eq name (codes "0") then Tell (SetWindowIconName text) ∷ Tell (SetWindowTitle text) ∷ []
+    else if bytes_eq name (codes "1") then Tell (SetWindowIconName text) ∷ []
+    else if bytes_eq name (codes "2") then Tell (SetWindowTitle text) ∷ []
     else Tell (UnhandledOsc (name ∷ text ∷ [])) ∷ []
 
 unfoldable pub clipboard_steps : List ℕ → List ℕ → List ℕ → List Step
 clipboard_steps name kind text =
-    if same_bytes name (codes "52") && is_clipboard_kind kind
-    then (if same_bytes text (codes "?") then Tell (PasteFromClipboard kind) ∷ []
-    else if list_all is_base64 text then Tell (CopyToClipboard kind text) ∷ []
-    else Tell (UnhandledOsc (name ∷ kind ∷ text ∷ [])) ∷ [])
+    let is_known = bytes_eq name (codes "52") && is_clipboard_kind kind in
+    if is_known && bytes_eq text (codes "?") then Tell (PasteFromClipboard kind) ∷ []
+    else if is_known && list_all is_base64 text then Tell (CopyToClipboard kind text) ∷ []
     else Tell (UnhandledOsc (name ∷ kind ∷ text ∷ [])) ∷ []
 
 abbrev pub osc_steps : List (List ℕ) → List Step
@@ -260,10 +263,10 @@ osc_steps (name ∷ text ∷ []) = named_steps name text
 osc_steps (name ∷ kind ∷ text ∷ []) = clipboard_steps name kind text
 osc_steps parts = Tell (UnhandledOsc parts) ∷ []
 
--- the steps of an event; of the screen they see its size and its last character
-abbrev pub steps_of : Event → ScreenValue → List Step
-steps_of (Character c) screen = character_steps c
-steps_of (Executed b) screen = control_steps b
-steps_of (EscDispatch marks b) screen = escape_steps marks b
-steps_of (CsiDispatch groups marks b) screen = csi_steps groups marks b screen
-steps_of (OscDispatch parts) screen = osc_steps parts
+-- the steps of an event
+abbrev pub steps_of : Event → Seen → List Step
+steps_of (Character c) seen = character_steps c
+steps_of (Executed b) seen = control_steps b
+steps_of (EscDispatch marks b) seen = escape_steps marks b
+steps_of (CsiDispatch groups marks b) seen = csi_steps groups marks b seen
+steps_of (OscDispatch parts) seen = osc_steps parts

@@ -5,7 +5,7 @@ use Rattle.vt_rows.specs.Row.{RowValue}
 use Rattle.vt_scan.specs.Automaton.{Event}
 use Rattle.vt_screen.specs.Calls.{CallValue, OnScroll}
 use Rattle.vt_screen.specs.Screen.{ScreenValue}
-use Rattle.vt_screen.specs.Controls.{steps_of}
+use Rattle.vt_screen.specs.Controls.{seen_of, steps_of}
 use Rattle.vt_screen.specs.Steps.{Step, Print, LineFeed, ScrollUp, EraseScrollback, Tell, Grows, reports, scrolled, stepped}
 
 -- what steps act on: callbacks of any kind, and the screen
@@ -40,7 +40,7 @@ Takes does a step b = b ≡ state a.callbacks (stepped step a.screen)
 
 -- an event: its steps one after the other, as the event meets the screen
 abbrev pub Performs : {S : Type 0} → (CallValue → S → ScreenValue → S → ScreenValue → Type 0) → State S → Event → State S → Type 0
-Performs does a event b = FoldsTo (Takes does) a (steps_of event a.screen) b
+Performs does a event b = FoldsTo (Takes does) a (steps_of event (seen_of a.screen)) b
 
 -- ---- want of memory
 
@@ -55,4 +55,4 @@ StopsIn {P} takes refuses p (x ∷ xs) q = refuses p x q ⊎ ((middle : P) × ta
 
 -- an event whose steps stop at one that is refused
 abbrev pub Breaks : {S : Type 0} → (CallValue → S → ScreenValue → S → ScreenValue → Type 0) → State S → Event → State S → Type 0
-Breaks does a event b = StopsIn (Takes does) Refuses a (steps_of event a.screen) b
+Breaks does a event b = StopsIn (Takes does) Refuses a (steps_of event (seen_of a.screen)) b

@@ -1,9 +1,10 @@
 -- SGR, group by group (ECMA-48 and xterm's control sequences): a group sets an attribute, begins or goes on a long colour, or is not known.
-use Rattle.std.specs.Prelude.{ℕ, ◌-◌, ◌==◌, ◌&&◌, nat_lt, nat_le, Bool, true, false, List, [], ◌∷◌, if◌then◌else◌}
+use Rattle.std.specs.Prelude.{ℕ, ◌-◌, ◌==◌, ◌&&◌, nat_lt, Bool, true, false, List, [], ◌∷◌, if◌then◌else◌}
 use Rattle.vt_cells.specs.Attrs.{default_attrs, Attrs}
 use Rattle.vt_cells.specs.declared.attrs.Intensity.TheVariants.{Normal, Bold, Dim}
 use Rattle.vt_cells.specs.declared.color.Color.{Color}
 use Rattle.vt_cells.specs.declared.color.Color.TheVariants.{Default, Idx, Rgb}
+use Rattle.vt_scan.specs.Characters.{is_within}
 use Rattle.vt_screen.specs.declared.sgr.Setting.{Setting}
 use Rattle.vt_screen.specs.declared.sgr.Setting.TheVariants.{Reset, Foreground, Background, Strength, Italic, Underline, Inverse}
 use Rattle.vt_screen.specs.declared.sgr.Layer.{Layer}
@@ -33,9 +34,6 @@ silent wanted = record { reading = Silent; wanted = wanted }
 abbrev pub set : Setting → GroupRead
 set setting = record { reading = Set setting; wanted = Any }
 
-abbrev pub is_between : ℕ → ℕ → ℕ → Bool
-is_between low high n = nat_le low n && nat_le n high
-
 -- a group of one number where a setting is wanted
 unfoldable pub number_read : ℕ → GroupRead
 number_read n =
@@ -49,14 +47,14 @@ number_read n =
     else if n == 24 then set (Underline false)
     else if n == 7 then set (Inverse true)
     else if n == 27 then set (Inverse false)
-    else if is_between 30 37 n then set (Foreground (Idx (n - 30)))
+    else if is_within 30 37 n then set (Foreground (Idx (n - 30)))
     else if n == 38 then silent (Form Front)
     else if n == 39 then set (Foreground Default)
-    else if is_between 40 47 n then set (Background (Idx (n - 40)))
+    else if is_within 40 47 n then set (Background (Idx (n - 40)))
     else if n == 48 then silent (Form Back)
     else if n == 49 then set (Background Default)
-    else if is_between 90 97 n then set (Foreground (Idx (n - 82)))
-    else if is_between 100 107 n then set (Background (Idx (n - 92)))
+    else if is_within 90 97 n then set (Foreground (Idx (n - 82)))
+    else if is_within 100 107 n then set (Background (Idx (n - 92)))
     else record { reading = Unhandled; wanted = Any }
 
 -- a colour in one group: 2 and three parts, or 5 and an index

@@ -4,7 +4,7 @@ use Rattle.vt_scan.specs.Automaton.{State, Event}
 use Rattle.vt_scan.specs.Run.{run}
 use Rattle.vt_screen.specs.Calls.{CallValue, OnScroll}
 use Rattle.vt_screen.specs.Screen.{ScreenValue}
-use Rattle.vt_screen.specs.Controls.{steps_of}
+use Rattle.vt_screen.specs.Controls.{seen_of, steps_of}
 use Rattle.vt_screen.specs.Steps.{Step, Tell, reports, scrolled}
 
 -- callbacks that leave the screen alone
@@ -34,7 +34,7 @@ stepped_all (step ∷ steps) screen = stepped_all steps (scrolled step screen)
 abbrev pub steps_of_all : List Event → ScreenValue → List Step
 steps_of_all [] screen = []
 steps_of_all (event ∷ events) screen =
-    let steps = steps_of event screen in steps ++ steps_of_all events (stepped_all steps screen)
+    let steps = steps_of event (seen_of screen) in steps ++ steps_of_all events (stepped_all steps screen)
 
 -- the steps of a run over bytes
 abbrev pub steps_in : State → ScreenValue → List ℕ → List Step

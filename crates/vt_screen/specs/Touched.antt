@@ -9,7 +9,7 @@ use Rattle.vt_redraw.specs.Touching.{Changes, CharTouches}
 use Rattle.vt_scan.specs.Automaton.{Event, start, step_in}
 use Rattle.vt_screen.specs.Reading.{Terminal, terminal, quiet_step, quiet_steps, read_byte}
 use Rattle.vt_screen.specs.Screen.{ScreenValue}
-use Rattle.vt_screen.specs.Controls.{steps_of}
+use Rattle.vt_screen.specs.Controls.{seen_of, steps_of}
 use Rattle.vt_screen.specs.Steps.{Step, Print, LineFeed, ReverseIndex, EnterAlternate, EnterFresh, LeaveAlternate, LeaveRestoring, Reset, EraseBelow, EraseAbove, ErasePage, EraseRest, EraseStart, EraseRow, EraseChars, InsertChars, DeleteChars, InsertLines, DeleteLines, ScrollUp, ScrollDown}
 
 -- every position of the page is among these
@@ -72,8 +72,8 @@ StepsTouch May (step ∷ steps) screen = StepTouches May step screen × ((next :
 abbrev pub EventsTouch : (ℕ → ℕ → Type 0) → List Event → ScreenValue → Type 0
 EventsTouch May [] screen = Unit {0}
 EventsTouch May (event ∷ events) screen =
-    StepsTouch May (steps_of event screen) screen
-    × ((next : ScreenValue) → quiet_steps (steps_of event screen) screen ≡ Some next → EventsTouch May events next)
+    StepsTouch May (steps_of event (seen_of screen)) screen
+    × ((next : ScreenValue) → quiet_steps (steps_of event (seen_of screen)) screen ≡ Some next → EventsTouch May events next)
 
 -- all that reading the bytes quietly touches is among these positions
 abbrev pub ReadTouches : (ℕ → ℕ → Type 0) → Terminal → List ℕ → Type 0

@@ -15,7 +15,7 @@ use Rattle.std.specs.Io.KnownBytes.{Appends, Consumes, IsAtEnd}
 use Rattle.vt100.specs.Parser.{Parsing, Ran, parsing, quietly}
 use Rattle.vt100.proofs.Running.{ran_then}
 use Rattle.vt_show.specs.Keeping.{ReadSoFar}
-use Rattle.vt_show.specs.Shown.{Writes, text_of}
+use Rattle.vt_show.specs.Shown.{Writes, screen_text}
 
 pub read_none : (a : Option (List ℕ)) (p : Parsing (Unit {0})) → ReadSoFar a a p p
 read_none None p = tt
@@ -42,11 +42,11 @@ ok_ran (Err x) P e h = cc
 -- what was written is the text of the screen after the input
 pub wrote : (mode : Mode) (rows cols : ℕ) (known : Option (List ℕ)) (p q : Parsing (Unit {0})) (screen : ScreenValue) (written : List ℕ) (old new : Option (List ℕ)) (r : Result (Unit {0}) Fault)
     → StandsFor p.scanner start → p ≡ parsing p.scanner (fresh_screen rows cols 0) p.callbacks → IfSome known (λ input. Ran quietly p input q)
-    → screen ≡ q.screen → written ≡ text_of mode screen → OnOk r (Appends old new written) → OnOk r (IfSome known (λ input. Writes mode rows cols input old new))
+    → screen ≡ q.screen → written ≡ screen_text mode screen → OnOk r (Appends old new written) → OnOk r (IfSome known (λ input. Writes mode rows cols input old new))
 wrote mode rows cols known p q screen written old new (Err e) stands fresh ran shown text appends = tt
 wrote mode rows cols None p q screen written old new (Ok x) stands fresh ran shown text appends = tt
 wrote mode rows cols (Some input) p q screen written old new (Ok x) stands fresh ran shown text appends = record {
   screen = q.screen;
   shows = subst (λ (s : ScreenValue). FoldsTo (Performs quietly) (state tt s) (run start input).events (state tt q.screen)) (ap (λ (z : Parsing (Unit {0})). z.screen) fresh) (ran start stands).1;
-  appends = subst (λ (bytes : List ℕ). Appends old new bytes) (text ∙ ap (text_of mode) shown) appends;
+  appends = subst (λ (bytes : List ℕ). Appends old new bytes) (text ∙ ap (screen_text mode) shown) appends;
 }

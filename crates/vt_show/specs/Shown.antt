@@ -22,13 +22,13 @@ abbrev pub ShowsAfter : ℕ → ℕ → List ℕ → ScreenValue → Type 0
 ShowsAfter rows cols input screen =
     FoldsTo (Performs quietly) (state tt (fresh_screen rows cols 0)) (scan.run start input).events (state tt screen)
 
-abbrev pub text_of : Mode → ScreenValue → List ℕ
-text_of Plain screen = contents_of screen
-text_of Formatted screen = bytes_of_all (redraw (shown screen))
-text_of Basic screen = basic_texts unwritten (visible_rows screen)
+abbrev pub screen_text : Mode → ScreenValue → List ℕ
+screen_text Plain screen = contents_of screen
+screen_text Formatted screen = bytes_of_all (redraw (shown screen))
+screen_text Basic screen = basic_texts unwritten (visible_rows screen)
 
 -- what is written grew by the text for the input, and by nothing else
 pub record Writes (mode : Mode) (rows cols : ℕ) (input : List ℕ) (old new : Option (List ℕ)) : Type 0 where
   pub screen : ScreenValue
   pub shows : ShowsAfter rows cols input screen
-  pub appends : Appends old new (text_of mode screen)
+  pub appends : Appends old new (screen_text mode screen)

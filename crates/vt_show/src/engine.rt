@@ -4,7 +4,7 @@ ghost use Rattle.std.specs.Int.NonZero.{non_zero_u16_get};
 ghost use Rattle.std.specs.Io.KnownBytes.{Appends, IsAtEnd, Keeps};
 ghost use Rattle.std.specs.Prelude.{◌≡◌, ◌≢◌, true, IfOk, IfSome, IsErr, OnErr, OnOk, Err, string_bytes};
 ghost use Rattle.vt100.specs.Parser.{Ran, quietly};
-ghost use Rattle.vt_show.specs.Shown.{Writes, text_of};
+ghost use Rattle.vt_show.specs.Shown.{Writes, screen_text};
 ghost use Rattle.vt_show.specs.declared.faults.Fault.{Fault};
 
 use crate::faults::Fault;
@@ -71,7 +71,7 @@ fn read_all<R: Read>(parser: &mut Parser, reader: &mut R) -> Result<(), Fault>
 
 /// The text that the mode names.
 fn text(screen: &Screen, mode: Mode) -> Result<String, Fault>
-    ensures text { IfOk result (λ text. string_bytes text ≡ text_of mode screen.now) }
+    ensures text { IfOk result (λ text. string_bytes text ≡ screen_text mode screen.now) }
     ensures memory { IsErr result → result ≡ Err Fault.Memory }
 {
     let text = match mode {

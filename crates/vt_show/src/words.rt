@@ -2,7 +2,7 @@
 
 ghost use Rattle.std.specs.Int.NonZero.{non_zero_u16_get};
 ghost use Rattle.std.specs.Prelude.{◌≡◌, ◌==◌, ℕ, map, slice_index, IfErr, IfNone, IfSome};
-ghost use Rattle.vt_show.specs.Arguments.{Asks, IsSize, name_of};
+ghost use Rattle.vt_show.specs.Arguments.{AsksToShow, IsSize, name_of};
 ghost use Rattle.vt_show.specs.declared.faults.Fault.{Fault};
 ghost use Rattle.vt_show.specs.declared.mode.Mode.{Mode};
 
@@ -42,9 +42,9 @@ pub fn given_words<R: Env + AllocGlobal>(rt: &R) -> Result<Vec<String>, Option<F
 /// ```
 pub fn arguments(words: &[&str]) -> Option<(NonZeroU16, NonZeroU16, Mode)>
     ensures some { IfSome result (λ a.
-        Asks (map (λ word. word.now) words.now) (non_zero_u16_get a.0) (non_zero_u16_get a.1) a.2) }
+        AsksToShow (map (λ word. word.now) words.now) (non_zero_u16_get a.0) (non_zero_u16_get a.1) a.2) }
     ensures none { IfNone result ((rows cols : ℕ) (mode : Mode) →
-        Asks (map (λ word. word.now) words.now) rows cols mode → ⊥) }
+        AsksToShow (map (λ word. word.now) words.now) rows cols mode → ⊥) }
 {
     let [rows, cols, mode] = words else {
         return None;

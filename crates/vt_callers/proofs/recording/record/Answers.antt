@@ -7,7 +7,7 @@ use Rattle.vt_screen.specs.Screen.{IsScreen, ScreenValue, fresh_screen}
 use Rattle.vt_screen.specs.Streamed.{HasNoRis}
 use Rattle.vt_screen.specs.Telling.{screen_in}
 use Rattle.vt100.specs.Parser.{Parsing}
-use Rattle.vt100.specs.Streams.{Makes, ParserCall, Process, whole_text}
+use Rattle.vt100.specs.Streams.{MakesCall, ParserCall, Process, whole_text}
 use Rattle.vt_callers.proofs.Runs.{fresh_parser}
 use Rattle.vt_callers.proofs.recording.record.Goals as goal
 
@@ -19,7 +19,7 @@ returns c = λ none main.
     let p = c.in_ok-parser.parser in
     let q = c.process.new.self in
     let calls : List ParserCall = Process output ∷ [] in
-    let makes : FoldsTo (Makes Records) p calls q = (q, c.in_ok-process.ensures.ran, refl) in
+    let makes : FoldsTo (MakesCall Records) p calls q = (q, c.in_ok-process.ensures.ran, refl) in
     let begun = c.in_ok-parser.ensures.begun in
     let shown : p.screen ≡ fresh_screen rows cols c.args.capacity = ap (λ (r : Parsing Recorded). r.screen) c.in_ok-parser.ensures.shown in
     let sound : IsScreen p.screen = subst (λ (s : ScreenValue). IsScreen s) c.screen.ensures.value c.size.ensures.whole in
