@@ -27,7 +27,7 @@ page_carried mark attrs page m c p =
     let chosen = marked_selected k mark page m c.selector c.takes place p in
     let here = cell_marked k mark page place.inside p in
     let text : IsGlyphText (text_of x) true = glyph_text true x (sym (ap is_blank here) ∙ chosen.drawn) (sym (ap is_right_half here) ∙ chosen.place.shown)
-        (subst (λ (cell : CellValue). IsCell (widened true cell)) here (chosen.either true)) in
+    (subst (λ (cell : CellValue). IsCell (widened true cell)) here (chosen.either true)) in
     let left = lifted_page k attrs page in
     page_glyph_put (text_of x) true attrs (wrapped_page left) text (omega (arith, column_wrapped_page left, width_wrapped_page left, c.columns))
     (page_wrapped left (page_lifted k attrs page place.inside p))

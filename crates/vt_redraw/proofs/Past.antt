@@ -166,9 +166,9 @@ past_followed width attrs cells flag col k m selector takes past place never =
     (λ (t : wide ≡ true).
     let was : is_wide (at cells k) ≡ false = sym (is_wide-marked m (at cells k)) ∙ (ap is_wide (sym here) ∙ n) in
     let text : (is_wide_text (text_of (marked m (at cells k))) && nat_lt 1 width) ≡ true =
-        ap (λ (x : CellValue). is_wide_text (text_of x) && nat_lt 1 width) (sym here) ∙ t in
+    ap (λ (x : CellValue). is_wide_text (text_of x) && nat_lt 1 width) (sym here) ∙ t in
     let lt = room_left col width inside (carried_there (is_selector m) (takes_mark (at cells k)) (is_wide (at cells k))
-        (is_wide_text (text_of (marked m (at cells k)))) (nat_lt 1 width) (col == width) selector takes was text never) in
+    (is_wide_text (text_of (marked m (at cells k)))) (nat_lt 1 width) (col == width) selector takes was text never) in
     record {
       cells = wider;
       flag = kept now wider;
