@@ -20,7 +20,7 @@ use Rattle.vt_cells.proofs.Cells.{IsCell-space, IsCell-marked}
 use Rattle.vt_rows.proofs.Rows.{IsRow-marked_at, IsRow-widened_at, IsRow-narrowed_at}
 use Rattle.vt_grid.specs.Keeping.{IsMarkPlace, IsSelected}
 use Rattle.vt_grid.specs.Page.{Page, IsPage, cursor_row}
-use Rattle.vt_grid.specs.Printing.{with_cursor_cells, mark_column, takes_mark, mark_put, made_wide, made_narrow, width_followed, printed}
+use Rattle.vt_grid.specs.Printing.{with_cursor_cells, mark_column, takes_mark, mark_put, made_wide, made_narrow, width_followed}
 use Rattle.vt_grid.proofs.Pages.{page_at, page_if, page_cursor_cells, IsRow-cursor_row}
 
 -- ---- the cell before the cursor

@@ -6,13 +6,13 @@ use Rattle.std.proofs.lemmas.List.{append-nil}
 use Rattle.std.proofs.lemmas.Bool.{false≢true}
 use Rattle.vt_scan.specs.Characters.{is_beginning, character_of}
 use Rattle.vt_scan.specs.Automaton as automaton
-use Rattle.vt_scan.specs.Automaton.{State, Step, parameter_text, marks_of, parts_of, after, fresh_step, step_in}
+use Rattle.vt_scan.specs.Automaton.{Step, parameter_text, parts_of, after, fresh_step, step_in}
 use Rattle.vt_scan.specs.Parameters.{GroupTable, table_of}
 use Rattle.vt_scan.specs.Table.{class_of, turn_of}
 use Rattle.vt_scan.specs.Scanner.{Feeds, Held, Reads, StandsFor, Follows, event_of, events_in}
 use Rattle.vt_scan.specs.Keeping.{Begins, Extends, Fits, FitsEnding, answer_of}
 use Rattle.vt_scan.specs.declared.table.Kind.{Kind}
-use Rattle.vt_scan.specs.declared.table.Kind.TheVariants.{Ground, Escape, OscString}
+use Rattle.vt_scan.specs.declared.table.Kind.TheVariants.{Ground, Escape}
 use Rattle.vt_scan.specs.declared.table.Turn.TheVariants.{End}
 use Rattle.vt_scan.specs.declared.table.Ending as ending
 use Rattle.vt_scan.specs.declared.table.Ending.TheVariants as ends

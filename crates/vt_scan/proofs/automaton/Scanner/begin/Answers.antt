@@ -1,6 +1,5 @@
 -- The empty text is collected, in any kind.
-use Rattle.std.proofs.Common.{[], refl, sym, rules}
-use Rattle.vt_scan.specs.Scanner.{Reads}
+use Rattle.std.proofs.Common.{[], refl, rules}
 use Rattle.vt_scan.proofs.Standing.{stands_by, stands_plain, stands_in_command}
 use Rattle.vt_scan.proofs.automaton.Scanner.begin.Goals as goal
 
