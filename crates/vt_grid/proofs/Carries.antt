@@ -4,18 +4,18 @@ use Rattle.std.specs.Prelude.{if◌then◌else◌}
 use Rattle.std.proofs.lemmas.Bool.{cases_lt, cases_eq}
 use Rattle.std.proofs.lemmas.Bool.Decides.{nat_tests}
 use Rattle.std.proofs.lemmas.Grind.{get_or-set_at}
-use Rattle.std.proofs.lemmas.List.{take-set-le, drop-set-lt, drop-drop, set-set, set-get_or, length-set}
-use Rattle.vt_cells.specs.Cell.{CellValue, blank, default_blank, is_wide, is_blank, is_right_half, text_of, marked}
+use Rattle.std.proofs.lemmas.List.{set-set, set-get_or, length-set}
+use Rattle.vt_cells.specs.Cell.{CellValue, blank, default_blank, is_wide, is_right_half, text_of, marked}
 use Rattle.vt_cells.specs.Glyph.{is_selector, is_wide_text}
 use Rattle.vt_cells.specs.Attrs.{Attrs}
-use Rattle.vt_rows.specs.Cells.{at, IsPaired, ends_blank, blanks, erased, marked_at, put_cells, column_of}
+use Rattle.vt_rows.specs.Cells.{at, IsPaired, blanks, erased, marked_at, column_of}
 use Rattle.vt_rows.specs.Row.{RowValue, with_cells}
 use Rattle.vt_rows.proofs.Columns.{put_columns, same_columns}
 use Rattle.vt_rows.proofs.Pairs.{is_wide-marked}
 use Rattle.vt_rows.proofs.Rows.{IsRow-erased, length-erased}
 use Rattle.vt_rows.proofs.Steps.{at-set}
 use Rattle.vt_grid.specs.Page.{Page, IsPage, cursor_row, with_row}
-use Rattle.vt_grid.specs.Printing.{carries, lifted_page, wrapped_page, glyph_put, mark_column, takes_mark, mark_put, carried, made_wide, width_followed, mark_printed}
+use Rattle.vt_grid.specs.Printing.{carries, lifted_page, wrapped_page, glyph_put, mark_column, takes_mark, mark_put, carried, mark_printed}
 use Rattle.vt_grid.specs.Keeping.{IsSized, IsMarkPlace}
 use Rattle.vt_grid.proofs.Pages.{page_cursor_cells, IsRow-cursor_row}
 use Rattle.vt_grid.proofs.Marks.{cursor_row_put, mark_place}
@@ -45,24 +45,6 @@ unfolding carries
 carried_of mark page t = by_tests mark page _ _ _ _ refl refl refl refl t
 
 -- ---- its row
-
--- a cell that was taken out leaves the same, whatever it was
-erased_set : (k : ℕ) (x : CellValue) (attrs : Attrs) (cells : List CellValue) → erased k 1 attrs (set cells k x) ≡ erased k 1 attrs cells
-unfolding put_cells
-erased_set k x attrs cells =
-    let n : k < k + 1 = omega arith in
-    rw (take-set-le k cells k x (omega arith), drop-drop 1 k (set cells k x), drop-drop 1 k cells, drop-set-lt (k + 1) cells k x n) refl
-
--- the last column is blank then
-erased_ends : (k : ℕ) (attrs : Attrs) (cells : List CellValue) → k + 1 ≡ length cells → ends_blank (erased k 1 attrs cells) ≡ true
-erased_ends k attrs cells e =
-    let l = length-erased k 1 attrs cells (omega arith) in
-    let i : length (erased k 1 attrs cells) - 1 ≡ k = omega arith in
-    let t : nat_lt k k ≡ false = grind (arith, nat_tests) in
-    let u : nat_lt k (k + 1) ≡ true = grind (arith, nat_tests) in
-    let z : k - k ≡ 0 = omega arith in
-    let here : at (erased k 1 attrs cells) k ≡ blank attrs = put_columns k 1 default_blank (blanks attrs 1) cells k refl (omega arith) ∙ rw (t, u, z) refl in
-    ap (λ (j : ℕ). is_blank (at (erased k 1 attrs cells) j)) i ∙ ap is_blank here
 
 left_same : (k j : ℕ) (cells : List CellValue) → IsPaired cells → is_right_half (at cells k) ≡ false → ((j + 1 == k) && is_wide (at cells j)) ≡ false
 left_same k j cells p r = elim (cases_eq (j + 1) k) [
@@ -137,64 +119,17 @@ put_back_is k attrs page place narrow p =
     ap (λ (cs : List CellValue). with_row page.row (record { cells = cs; wrapped = (cursor_row page).wrapped }) (lifted_page k attrs page)) same
     ∙ (ap (λ (rows : List RowValue). record page { rows = rows }) (twice ∙ set-get_or page.rows page.row _))
 
-flag_falls : (a b c : Bool) → c ≡ true → ((a && not b) && not c) ≡ (a && not c)
-flag_falls true b true h = grind (arith, nat_tests)
-flag_falls false b true h = refl
-flag_falls a b false h = cc
-
-lifted_row : (k : ℕ) (x : CellValue) (attrs : Attrs) (row : RowValue) → k + 1 ≡ length row.cells →
-    with_cells (with_cells row (set row.cells k x)) (erased k 1 attrs (set row.cells k x)) ≡ with_cells row (erased k 1 attrs row.cells)
-lifted_row k x attrs row last =
-    let new = erased k 1 attrs row.cells in
-    ap (λ (cells : List CellValue). with_cells (with_cells row (set row.cells k x)) cells) (erased_set k x attrs row.cells)
-    ∙ ap (λ (b : Bool). record { cells = new; wrapped = b }) (flag_falls row.wrapped (ends_blank (set row.cells k x)) (ends_blank new) (erased_ends k attrs row.cells last))
-
--- taken out after the mark was put on it, the glyph leaves the same page
-lifted_marked : (k mark : ℕ) (attrs : Attrs) (page : Page) → k + 1 ≡ length (cursor_row page).cells → IsPage page → lifted_page k attrs (mark_put k mark page) ≡ lifted_page k attrs page
-lifted_marked k mark attrs page last p =
-    let cells = (cursor_row page).cells in
-    let x = marked mark (at cells k) in
-    let row = cursor_row_put (marked_at k mark cells) page p in
-    ap (λ (row : RowValue). with_row page.row (with_cells row (erased k 1 attrs row.cells)) (mark_put k mark page)) row
-    ∙ (ap (λ (rows : List RowValue). record page { rows = rows }) (set-set page.rows page.row (with_cells (cursor_row page) (marked_at k mark cells)) _)
-    ∙ ap (λ (row : RowValue). with_row page.row row page) (lifted_row k x attrs (cursor_row page) last))
-
 -- ---- the mark is printed so
 
-cell_marked : (k mark : ℕ) (page : Page) → k < length (cursor_row page).cells → IsPage page → at (cursor_row (mark_put k mark page)).cells k ≡ marked mark (at (cursor_row page).cells k)
+pub cell_marked : (k mark : ℕ) (page : Page) → k < length (cursor_row page).cells → IsPage page → at (cursor_row (mark_put k mark page)).cells k ≡ marked mark (at (cursor_row page).cells k)
 cell_marked k mark page h p =
     ap (λ (row : RowValue). at row.cells k) (cursor_row_put (marked_at k mark (cursor_row page).cells) page p) ∙ get_or-set_at (cursor_row page).cells k k (marked mark (at (cursor_row page).cells k)) default_blank refl h
 
-by_selector : (mark : ℕ) (attrs : Attrs) (page : Page) → IsCarried mark page → mark_printed mark attrs page ≡ width_followed (mark_column page) attrs (mark_put (mark_column page) mark page)
-unfolding mark_printed
-by_selector mark attrs page c = rw (c.takes, c.selector) refl
-
-by_width : (k : ℕ) (attrs : Attrs) (page : Page) → is_wide (at (cursor_row page).cells k) ≡ false → (is_wide_text (text_of (at (cursor_row page).cells k)) && nat_lt 1 page.width) ≡ true → width_followed k attrs page ≡ made_wide k attrs page
-unfolding width_followed
-by_width k attrs page n w = rw (n, w) refl
-
-by_wrap : (k : ℕ) (attrs : Attrs) (page : Page) → nat_lt page.column page.width ≡ false →
-    made_wide k attrs page ≡ glyph_put (text_of (at (cursor_row page).cells k)) true attrs (wrapped_page (lifted_page k attrs page))
-unfolding made_wide carried
-by_wrap k attrs page e = rw e refl
-
-pub carried_is : (mark : ℕ) (attrs : Attrs) (page : Page) → 0 < page.column → IsCarried mark page → IsPage page →
-    mark_printed mark attrs page ≡ glyph_put (text_of (marked mark (at (cursor_row page).cells (mark_column page)))) true attrs (wrapped_page (lifted_page (mark_column page) attrs page))
-carried_is mark attrs page pos c p =
-    let k = mark_column page in
-    let q = mark_put k mark page in
-    let place = mark_place page p pos in
-    let row = IsRow-cursor_row page p in
-    let before = place.narrow c.narrow in
-    let last : k + 1 ≡ length (cursor_row page).cells = omega (arith, before, c.pending, row.columns) in
-    let here = cell_marked k mark page place.inside p in
-    let narrow : is_wide (at (cursor_row q).cells k) ≡ false = ap is_wide here ∙ (is_wide-marked mark (at (cursor_row page).cells k) ∙ c.narrow) in
-    let columns : nat_lt 1 page.width ≡ true = let h = c.columns in grind (arith, nat_tests) in
-    let wide : (is_wide_text (text_of (at (cursor_row q).cells k)) && nat_lt 1 page.width) ≡ true = rw (here, c.wide, columns) refl in
-    let pending : nat_lt page.column page.width ≡ false = let h = c.pending in grind (arith, nat_tests) in
-    by_selector mark attrs page c ∙ (by_width k attrs q narrow wide ∙ (by_wrap k attrs q pending
-    ∙ (ap (λ (x : CellValue). glyph_put (text_of x) true attrs (wrapped_page (lifted_page k attrs q))) here
-    ∙ ap (λ (new : Page). glyph_put (text_of (marked mark (at (cursor_row page).cells k))) true attrs (wrapped_page new)) (lifted_marked k mark attrs page last p))))
+pub carried_is : (mark : ℕ) (attrs : Attrs) (page : Page) → carries mark page ≡ true →
+    mark_printed mark attrs page ≡ glyph_put (text_of (marked mark (at (cursor_row page).cells (mark_column page)))) true attrs
+    (wrapped_page (lifted_page (mark_column page) attrs page))
+unfolding mark_printed carried
+carried_is mark attrs page t = rw t refl
 
 -- ---- what the code of a carry needs
 

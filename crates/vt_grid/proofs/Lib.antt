@@ -3,6 +3,7 @@ pub mod Drawing
 pub mod Dispatch
 pub mod Carries
 pub mod Marks
+pub mod Printed
 pub mod PageExamples
 pub mod Outgoing
 pub mod Pages

@@ -1,30 +1,27 @@
 -- A mark and U+FE0F leave a page.
-use Rattle.std.proofs.Common.{◌≡◌, ◌≢◌, ℕ, zero, suc, ◌+◌, ◌-◌, ◌<◌, ◌≤◌, ◌==◌, ◌&&◌, nat_lt, Bool, true, false, List, [], ◌∷◌, ◌++◌, length, refl, inl, inr, sym, ap, subst, ◌∙◌, arith}
-use Rattle.std.specs.Prelude.{if◌then◌else◌, Option, Some, None}
-use Rattle.std.specs.Char.{encode_utf8, IsScalar}
+use Rattle.std.proofs.Common.{◌≡◌, ℕ, ◌+◌, ◌-◌, ◌<◌, ◌≤◌, ◌&&◌, nat_lt, Bool, true, false, List, [], ◌∷◌, ◌++◌, length, refl, inl, inr, sym, ap, subst, ◌∙◌, arith}
+use Rattle.std.specs.Prelude.{if◌then◌else◌}
+use Rattle.std.specs.Char.{encode_utf8}
 use Rattle.std.specs.List.{list_any}
-use Rattle.std.proofs.lemmas.Bool.{ltb-true, cases_lt}
-use Rattle.std.proofs.lemmas.Bool.Decides.{nat_tests}
+use Rattle.std.proofs.lemmas.Bool.{cases_lt}
 use Rattle.std.proofs.lemmas.Grind.{get_or-set_at}
 use Rattle.std.proofs.lemmas.List.{length-set}
 use Rattle.std.proofs.lemmas.List.Folds.{list_any-append}
 use Rattle.std.proofs.lemmas.List.Elements.{All-get_or}
 use Rattle.vt_cells.specs.Cell.{CellValue, blank, glyph, right_half, default_blank, is_wide, is_blank, is_right_half, text_of, marked, widened, redrawn, IsCell}
-use Rattle.vt_cells.specs.Glyph.{IsGlyphText, IsMark, is_selector, has_room, is_wide_text, columns_of}
+use Rattle.vt_cells.specs.Glyph.{IsGlyphText, IsMark, is_selector, has_room, is_wide_text}
 use Rattle.vt_cells.specs.Attrs.{Attrs}
-use Rattle.vt_cells.proofs.Glyphs.{IsGlyphText-first, longer}
-use Rattle.vt_cells.proofs.Widths.{columns_of-le}
-use Rattle.vt_rows.specs.Cells.{at, IsPaired, marked_at, widened_at, narrowed_at, erased}
+use Rattle.vt_cells.proofs.Glyphs.{longer}
+use Rattle.vt_rows.specs.Cells.{at, IsPaired, marked_at, widened_at, narrowed_at}
 use Rattle.vt_rows.specs.Row.{RowValue, with_cells}
 use Rattle.vt_rows.proofs.Columns.{at-past}
 use Rattle.vt_rows.proofs.Pairs.{is_right_half-marked, is_wide-marked, not_both}
 use Rattle.vt_cells.proofs.Cells.{IsCell-space, IsCell-marked}
-use Rattle.vt_rows.proofs.Rows.{IsRow-marked_at, IsRow-widened_at, IsRow-narrowed_at, IsRow-erased}
+use Rattle.vt_rows.proofs.Rows.{IsRow-marked_at, IsRow-widened_at, IsRow-narrowed_at}
 use Rattle.vt_grid.specs.Keeping.{IsMarkPlace, IsSelected}
 use Rattle.vt_grid.specs.Page.{Page, IsPage, cursor_row}
-use Rattle.vt_grid.specs.Printing.{with_cursor_cells, wrapped_page, glyph_put, room_made, mark_column, takes_mark, mark_put, carried, made_wide, made_narrow, width_followed, mark_printed, printed_by, printed}
+use Rattle.vt_grid.specs.Printing.{with_cursor_cells, mark_column, takes_mark, mark_put, made_wide, made_narrow, width_followed}
 use Rattle.vt_grid.proofs.Pages.{page_at, page_if, page_cursor_cells, IsRow-cursor_row}
-use Rattle.vt_grid.proofs.Prints.{page_wrapped, column_wrapped_page, width_wrapped_page, page_glyph_put, page_drawn}
 
 -- ---- the cell before the cursor
 
@@ -98,30 +95,11 @@ glyph_text wide (blank attrs) b r h = cc
 glyph_text wide (glyph text was attrs) b r h = h
 glyph_text wide right_half b r h = cc
 
-pub and_right : (a b : Bool) → (a && b) ≡ true → b ≡ true
-and_right true b h = h
-and_right false b h = cc
-
 -- a glyph in other attributes and wide
 pub lifted_cell : (attrs : Attrs) (x : CellValue) → IsCell (widened true x) → IsCell (widened true (redrawn attrs x))
 lifted_cell attrs (blank was) h = tt
 lifted_cell attrs (glyph text wide was) h = h
 lifted_cell attrs right_half h = tt
-
-pub page_erased_at : (k : ℕ) (attrs : Attrs) (page : Page) → IsSelected page k → IsPage page → IsPage (with_cursor_cells (erased k 1 attrs (cursor_row page).cells) page)
-page_erased_at k attrs page s p =
-    let row = IsRow-cursor_row page p in
-    let l = row.columns in
-    let inside = s.place.inside in
-    page_cursor_cells (erased k 1 attrs (cursor_row page).cells) page p (IsRow-erased page.width (cursor_row page) k 1 attrs (omega arith) row)
-
-pub page_carried : (k : ℕ) (attrs : Attrs) (page : Page) → IsSelected page k → 1 < page.width → IsPage page → IsPage (carried (text_of (at (cursor_row page).cells k)) k attrs page)
-unfolding carried
-page_carried k attrs page s h p =
-    let q = with_cursor_cells (erased k 1 attrs (cursor_row page).cells) page in
-    let w : (wrapped_page q).width ≡ page.width = width_wrapped_page q in
-    page_glyph_put (text_of (at (cursor_row page).cells k)) true attrs (wrapped_page q) (glyph_text true (at (cursor_row page).cells k) s.drawn s.place.shown (s.either true))
-    (omega (arith, column_wrapped_page q)) (page_wrapped q (page_erased_at k attrs page s p))
 
 pub page_widened : (k : ℕ) (attrs : Attrs) (page : Page) → IsSelected page k → k + 1 ≡ page.column → page.column < page.width → IsPage page →
     IsPage (record (with_cursor_cells (widened_at k attrs (cursor_row page).cells) page) { column = page.column + 1 })
@@ -130,13 +108,10 @@ page_widened k attrs page s before room p =
     let q = page_cursor_cells (widened_at k attrs cells) page p (IsRow-widened_at page.width (cursor_row page) k attrs (omega arith) s.drawn s.place.shown (s.either true) (IsRow-cursor_row page p)) in
     page_at page.row (page.column + 1) (with_cursor_cells (widened_at k attrs cells) page) q.cursor_row (omega arith) q
 
-pub page_made_wide : (k : ℕ) (attrs : Attrs) (page : Page) → IsSelected page k → is_wide (at (cursor_row page).cells k) ≡ false → 1 < page.width → IsPage page → IsPage (made_wide k attrs page)
+pub page_made_wide : (k : ℕ) (attrs : Attrs) (page : Page) → IsSelected page k → is_wide (at (cursor_row page).cells k) ≡ false
+    → page.column < page.width → IsPage page → IsPage (made_wide k attrs page)
 unfolding made_wide
-page_made_wide k attrs page s n h p =
-    let cells = (cursor_row page).cells in
-    page_if (nat_lt page.column page.width) (record (with_cursor_cells (widened_at k attrs cells) page) { column = page.column + 1 }) (carried (text_of (at cells k)) k attrs page)
-    (λ t. page_widened k attrs page s (s.place.narrow n) (ltb-true page.column page.width t) p)
-    (λ f. page_carried k attrs page s h p)
+page_made_wide k attrs page s n room p = page_widened k attrs page s (s.place.narrow n) room p
 
 pub page_made_narrow : (k : ℕ) (attrs : Attrs) (page : Page) → IsSelected page k → IsPage page → IsPage (made_narrow k attrs page)
 page_made_narrow k attrs page s p =
@@ -145,14 +120,17 @@ page_made_narrow k attrs page s p =
     let inside = s.place.inside in
     page_cursor_cells (narrowed_at k attrs (cursor_row page).cells) page p (IsRow-narrowed_at page.width (cursor_row page) k attrs (omega arith) s.place.shown (s.either false) row)
 
-pub page_width_followed : (k : ℕ) (attrs : Attrs) (page : Page) → IsSelected page k → IsPage page → IsPage (width_followed k attrs page)
+pub page_width_followed : (k : ℕ) (attrs : Attrs) (page : Page) → IsSelected page k
+    → (is_wide (at (cursor_row page).cells k) ≡ false → (is_wide_text (text_of (at (cursor_row page).cells k)) && nat_lt 1 page.width) ≡ true
+    → page.column < page.width)
+    → IsPage page → IsPage (width_followed k attrs page)
 unfolding width_followed
-page_width_followed k attrs page s p =
+page_width_followed k attrs page s room p =
     let cell = at (cursor_row page).cells k in
     let wide = is_wide_text (text_of cell) && nat_lt 1 page.width in
     page_if (is_wide cell) (if wide then page else made_narrow k attrs page) (if wide then made_wide k attrs page else page)
     (λ _. page_if wide page (made_narrow k attrs page) (λ _. p) (λ _. page_made_narrow k attrs page s p))
-    (λ n. page_if wide (made_wide k attrs page) page (λ t. page_made_wide k attrs page s n (ltb-true 1 page.width (and_right (is_wide_text (text_of cell)) (nat_lt 1 page.width) t)) p) (λ _. p))
+    (λ n. page_if wide (made_wide k attrs page) page (λ t. page_made_wide k attrs page s n (room n t) p) (λ _. p))
 
 -- ---- a mark is printed
 
@@ -182,28 +160,3 @@ marked_selected k mark page m s t place p =
       either = λ wide. subst (λ (cs : List CellValue). IsCell (widened wide (at cs k))) (sym e) (subst (λ (c : CellValue). IsCell (widened wide c)) (sym here)
           (selected_cell mark wide x m s t (All-get_or IsCell cells k default_blank place.inside row.sound)));
     }
-
-pub page_mark_printed : (mark : ℕ) (attrs : Attrs) (page : Page) → IsMark mark → 0 < page.column → IsPage page → IsPage (mark_printed mark attrs page)
-unfolding mark_printed
-page_mark_printed mark attrs page m pos p =
-    let k = mark_column page in
-    let place = mark_place page p pos in
-    let put = page_mark_put k mark page m place.inside p in
-    page_if (takes_mark (at (cursor_row page).cells k)) (if is_selector mark then width_followed k attrs (mark_put k mark page) else mark_put k mark page) page
-    (λ t. page_if (is_selector mark) (width_followed k attrs (mark_put k mark page)) (mark_put k mark page)
-    (λ s. page_width_followed k attrs (mark_put k mark page) (marked_selected k mark page m s t place p) put) (λ _. put))
-    (λ _. p)
-
--- ---- a character is printed
-
-pub page_printed : (c : ℕ) (attrs : Attrs) (page : Page) → IsScalar c → c ≢ 0xFFFD → IsPage page → IsPage (printed c attrs page)
-page_printed c attrs page scalar reported p = by_columns (columns_of c) refl where
-  by_columns : (w : Option ℕ) → columns_of c ≡ w → IsPage (printed_by w c attrs page)
-  by_columns None e = p
-  by_columns (Some zero) e = page_if (page.column == 0) page (mark_printed c attrs page) (λ _. p) (λ f. page_mark_printed c attrs page (scalar, e) (grind (arith, nat_tests)) p)
-  by_columns (Some (suc zero)) e = page_drawn (encode_utf8 c) false attrs page (IsGlyphText-first c false scalar reported e) (omega (arith, p.has_columns)) p
-  by_columns (Some (suc (suc n))) e =
-      let le = columns_of-le c (suc (suc n)) e in
-      let two : n ≡ 0 = omega arith in
-      page_if (nat_lt 1 page.width) (glyph_put (encode_utf8 c) true attrs (room_made 2 page)) page
-      (λ t. page_drawn (encode_utf8 c) true attrs page (IsGlyphText-first c true scalar reported (e ∙ ap (λ (m : ℕ). Some (suc (suc m))) two)) (omega (arith, ltb-true 1 page.width t)) p) (λ _. p)

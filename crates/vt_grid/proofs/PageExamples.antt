@@ -1,5 +1,6 @@
 -- The definitions of moves, erasing and printing, computed on small pages.
 use Rattle.std.proofs.Common.{◌≡◌, ℕ, Bool, true, false, List, [], ◌∷◌, refl}
+use Rattle.std.specs.Char.{encode_utf8}
 use Rattle.std.specs.Prelude.{Some}
 use Rattle.vt_cells.specs.Attrs.{default_attrs}
 use Rattle.vt_cells.specs.Cell.{CellValue, glyph, right_half, default_blank}
@@ -22,6 +23,10 @@ n c = glyph (c ∷ []) false default_attrs
 
 abbrev w : ℕ → CellValue
 w c = glyph (c ∷ []) true default_attrs
+
+-- with U+FE0F
+abbrev heart : CellValue
+heart = glyph (9 ∷ encode_utf8 0xFE0F) true default_attrs
 
 abbrev row : List CellValue → Bool → RowValue
 row cells wrapped = record { cells = cells; wrapped = wrapped }
@@ -76,13 +81,13 @@ too_wide = refl
 
 -- U+FE0F behind a heart makes it wide where a column is left
 heart_in_place : made_wide 0 default_attrs (letter 9 (blank_page 1 3)) ≡ shown (row (w 9 ∷ right_half ∷ default_blank ∷ []) false ∷ []) 0 2 3 (blank_page 1 3)
-unfolding room_made wrapped_page line_feed put_cells moved_rows made_wide carried
+unfolding room_made wrapped_page line_feed put_cells moved_rows made_wide
 heart_in_place = refl
 
 -- and carries it to the next row where none is
-heart_carried : made_wide 1 default_attrs (letter 9 (moved_to 1 1 (letter 1 (blank_page 2 2))))
-    ≡ shown (row (default_blank ∷ default_blank ∷ []) false ∷ row (w 9 ∷ right_half ∷ []) false ∷ []) 1 2 2 (blank_page 2 2)
-unfolding room_made wrapped_page line_feed put_cells moved_rows made_wide carried
+heart_carried : carried 0xFE0F default_attrs (letter 9 (moved_to 1 1 (letter 1 (blank_page 2 2))))
+    ≡ shown (row (default_blank ∷ default_blank ∷ []) false ∷ row (heart ∷ right_half ∷ []) false ∷ []) 1 2 2 (blank_page 2 2)
+unfolding room_made wrapped_page line_feed put_cells moved_rows carried
 heart_carried = refl
 
 -- a wide character made narrow leaves a space, and the cursor stays

@@ -87,17 +87,16 @@ lifted_page k attrs page = with_cursor_cells (erased k 1 attrs (cursor_row page)
 abbrev pub mark_put : ℕ → ℕ → Page → Page
 mark_put k mark page = with_cursor_cells (marked_at k mark (cursor_row page).cells) page
 
--- a glyph at a pending wrap that became wide: it is taken out, and put again in the next row
-unfoldable pub carried : List ℕ → ℕ → Attrs → Page → Page
-carried text k attrs page =
-    glyph_put text true attrs (wrapped_page (lifted_page k attrs page))
+-- the glyph at a pending wrap that U+FE0F makes wide: it is taken out, and put with the mark in the next row
+unfoldable pub carried : ℕ → Attrs → Page → Page
+carried mark attrs page =
+    let k = mark_column page in
+    glyph_put (text_of (marked mark (at (cursor_row page).cells k))) true attrs (wrapped_page (lifted_page k attrs page))
 
--- the glyph at column k, which got U+FE0F, becomes wide: in place where a column is left for its right half, else in the next row
+-- the glyph at column k, which got U+FE0F, becomes wide in place
 unfoldable pub made_wide : ℕ → Attrs → Page → Page
 made_wide k attrs page =
-    if nat_lt page.column page.width
-    then record (with_cursor_cells (widened_at k attrs (cursor_row page).cells) page) { column = page.column + 1 }
-    else carried (text_of (at (cursor_row page).cells k)) k attrs page
+    record (with_cursor_cells (widened_at k attrs (cursor_row page).cells) page) { column = page.column + 1 }
 
 -- the glyph at column k becomes narrow, and the cursor stays
 abbrev pub made_narrow : ℕ → Attrs → Page → Page
@@ -115,7 +114,8 @@ width_followed k attrs page =
 unfoldable pub mark_printed : ℕ → Attrs → Page → Page
 mark_printed mark attrs page =
     let k = mark_column page in
-    if takes_mark (at (cursor_row page).cells k)
+    if carries mark page then carried mark attrs page
+    else if takes_mark (at (cursor_row page).cells k)
     then (if is_selector mark then width_followed k attrs (mark_put k mark page) else mark_put k mark page)
     else page
 

@@ -2,7 +2,7 @@
 use Rattle.std.proofs.Common.{◌≡◌, ℕ, zero, suc, ◌+◌, ◌-◌, ◌<◌, ◌≤◌, ◌==◌, ◌&&◌, nat_lt, Bool, true, false, not, List, [], ◌∷◌, length, set, Option, Some, None, refl, sym, ap, ◌∙◌, subst, arith}
 use Rattle.std.specs.Prelude.{if◌then◌else◌}
 use Rattle.std.specs.List.{AllByRecursion}
-use Rattle.std.proofs.lemmas.Bool.{ne_eqb, cond_both, ltb-true}
+use Rattle.std.proofs.lemmas.Bool.{ne_eqb, cond_both, false≢true}
 use Rattle.std.proofs.lemmas.Bool.Decides.{nat_tests}
 use Rattle.std.proofs.lemmas.Grind.{get_or-set_at}
 use Rattle.std.proofs.lemmas.List.{get_or-set_other, length-set}
@@ -13,7 +13,7 @@ use Rattle.vt_rows.specs.Cells.{at, put_cells, column_of, marked_at, narrowed_at
 use Rattle.vt_rows.proofs.Columns.{put_columns, length-put_cells}
 use Rattle.vt_rows.proofs.Pairs.{is_right_half-marked, is_wide-marked}
 use Rattle.vt_grid.specs.Page.{Page}
-use Rattle.vt_grid.specs.Printing.{carries, wraps_for, with_cursor_cells, mark_column, takes_mark, mark_put, made_wide, made_narrow, carried, width_followed, mark_printed, printed_by}
+use Rattle.vt_grid.specs.Printing.{carries, wraps_for, mark_column, takes_mark, mark_put, made_wide, made_narrow, carried, width_followed, mark_printed, printed_by}
 use Rattle.vt_grid.specs.Canvas.{Canvas, and_then, drawn_char, drawn_text}
 use Rattle.vt_redraw.specs.Script.{pen_at}
 use Rattle.vt_redraw.specs.Steady.{blank_line}
@@ -125,8 +125,12 @@ past_line width attrs cells new flag col to page e past = record {
   past = past;
 }
 
-carried_there : (s t w wt lt eq : Bool) → s ≡ true → t ≡ true → w ≡ false → (wt && lt) ≡ true → eq ≡ true → ((s && (t && not w)) && (wt && (lt && eq))) ≡ false → ⊥
-carried_there s t w wt lt eq a b c d e h = grind (arith, a, b, c, d, e, h)
+carried_there : (s t w wt lt eq : Bool) → s ≡ true → t ≡ true → w ≡ false → (wt && lt) ≡ true
+    → ((s && (t && not w)) && (wt && (lt && eq))) ≡ false → eq ≡ false
+carried_there s t w wt lt eq a b c d h = grind (arith, a, b, c, d, h)
+
+room_left : (col width : ℕ) → col ≤ width → (col == width) ≡ false → col < width
+room_left col width h e = grind (arith, nat_tests)
 
 -- the width follows a mark that was put at column k
 past_followed : (width : ℕ) (attrs : Attrs) (cells : List CellValue) (flag : Bool) (col k m : ℕ) → is_selector m ≡ true → takes_mark (at cells k) ≡ true → IsPast width cells col → IsBehind col k →
@@ -159,9 +163,12 @@ past_followed width attrs cells flag col k m selector takes past place never =
     cond_both (is_wide (at new k)) (if wide then page else made_narrow k attrs page) (if wide then made_wide k attrs page else page) Q
     (λ _. cond_both wide page (made_narrow k attrs page) Q (λ _. same) (λ _. narrow))
     (λ (n : is_wide (at new k) ≡ false). cond_both wide (made_wide k attrs page) page Q
-    (λ (t : wide ≡ true). cond_both (nat_lt col width) (record (with_cursor_cells (widened_at k attrs new) page) { column = col + 1 }) (carried (text_of (at new k)) k attrs page) Q
-    (λ (l : nat_lt col width ≡ true).
-    let lt = ltb-true col width l in
+    (λ (t : wide ≡ true).
+    let was : is_wide (at cells k) ≡ false = sym (is_wide-marked m (at cells k)) ∙ (ap is_wide (sym here) ∙ n) in
+    let text : (is_wide_text (text_of (marked m (at cells k))) && nat_lt 1 width) ≡ true =
+    ap (λ (x : CellValue). is_wide_text (text_of x) && nat_lt 1 width) (sym here) ∙ t in
+    let lt = room_left col width inside (carried_there (is_selector m) (takes_mark (at cells k)) (is_wide (at cells k))
+    (is_wide_text (text_of (marked m (at cells k)))) (nat_lt 1 width) (col == width) selector takes was text never) in
     record {
       cells = wider;
       flag = kept now wider;
@@ -169,11 +176,6 @@ past_followed width attrs cells flag col k m selector takes past place never =
       is = ap (λ (p : Page). record (line width attrs cells flag col) { page = record p { column = col + 1 } }) (edited_at (blank_line width attrs) [] [] new now (pen_at 0 col attrs) (widened_at k attrs) wider refl refl);
       past = past_put width new col k 2 (col + 1) (blank attrs) (widened true (at new k)) (right_half ∷ []) after place refl (omega arith) (omega arith) (omega arith) (λ two. let far = past.far in absurd (omega arith));
     })
-    (λ (l : nat_lt col width ≡ false).
-    let full : (col == width) ≡ true = grind (arith, nat_tests) in
-    let was : is_wide (at cells k) ≡ false = sym (is_wide-marked m (at cells k)) ∙ (ap is_wide (sym here) ∙ n) in
-    let text : (is_wide_text (text_of (marked m (at cells k))) && nat_lt 1 width) ≡ true = ap (λ (x : CellValue). is_wide_text (text_of x) && nat_lt 1 width) (sym here) ∙ t in
-    absurd (carried_there (is_selector m) (takes_mark (at cells k)) (is_wide (at cells k)) (is_wide_text (text_of (marked m (at cells k)))) (nat_lt 1 width) (col == width) selector takes was text full never)))
     (λ _. same))
 
 -- a mark leaves the cursor past the glyph, unless a row scrolls off
@@ -189,11 +191,14 @@ mark_past width attrs cells flag col m past never =
     let before = place.before in
     let inside = past.inside in
     let put : mark_put k m page ≡ (line width attrs new (kept flag new) col).page = edited_at (blank_line width attrs) [] [] cells flag (pen_at 0 col attrs) (marked_at k m) new refl refl in
-    cond_both (takes_mark (at cells k)) (if is_selector m then width_followed k attrs (mark_put k m page) else mark_put k m page) page Q
+    let put_on : Page = if is_selector m then width_followed k attrs (mark_put k m page) else mark_put k m page in
+    cond_both (carries m page) (carried m attrs page) (if takes_mark (at cells k) then put_on else page) Q
+    (λ (y : carries m page ≡ true). absurd (false≢true (sym never ∙ y)))
+    (λ _. cond_both (takes_mark (at cells k)) put_on page Q
     (λ (t : takes_mark (at cells k) ≡ true). cond_both (is_selector m) (width_followed k attrs (mark_put k m page)) (mark_put k m page) Q
     (λ (s : is_selector m ≡ true). subst (λ (p : Page). Q (width_followed k attrs p)) (sym put) (past_followed width attrs cells flag col k m s t past place never))
     (λ _. past_line width attrs cells new flag col col (mark_put k m page) put (past_set width cells col k (marked m (at cells k)) past place (is_right_half-marked m (at cells k)))))
-    (λ _. record { cells = cells; flag = flag; col = col; is = refl; past = past })
+    (λ _. record { cells = cells; flag = flag; col = col; is = refl; past = past }))
 
 by_push : (width : ℕ) (attrs : Attrs) (page : Page) (canvas end : Canvas) (b : Bool) → (b ≡ false → Past width attrs (record canvas { page = page })) → (if b && true then None else Some (record canvas { page = page })) ≡ Some end → Past width attrs end
 by_push width attrs page canvas end true f h = absurd (cc)

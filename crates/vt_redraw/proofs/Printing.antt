@@ -39,7 +39,6 @@ grown_wide base done below pre o y ys flag r c text attrs at_spot =
     let row = with_glyph pre text false attrs ys in
     let new = with_glyph pre text true attrs ys in
     let flagged = flag_behind flag false (drop 1 ys) in
-    let lt : nat_lt (c + 1) base.page.width ≡ true = lt-ltb (c + 1) base.page.width (omega arith) in
     let col : c + 1 + 1 ≡ c + 2 = omega arith in
     let wider : widened_at c attrs row ≡ new =
     ap (λ (x : CellValue). put_cells c (blank attrs) (widened true x ∷ right_half ∷ []) 2 row) (glyph_at pre text false attrs (opened (orphan false attrs) ys) c at_spot.col)
@@ -47,10 +46,9 @@ grown_wide base done below pre o y ys flag r c text attrs at_spot =
     ∙ ap (λ (rest : List CellValue). pre ++ (glyph_cells text true attrs ++ opened (blank attrs) rest)) (drop_opened 0 (orphan false attrs) ys)) in
     let flags : kept flagged new ≡ flag_behind flag true (drop 1 ys) =
     ap (λ (f : Bool). kept f new) (no_tear flag (is_torn (drop 1 ys))) ∙ glyph_flag pre o y ys flag text true attrs at_spot.sound in
-    rw lt (
     ap (λ (q : Page). record q { column = c + 1 + 1 }) (edited_at base done below row flagged (pen_at r (c + 1) attrs) (widened_at c attrs) new at_spot.row wider)
     ∙ (ap (λ (f : Bool). (mid base done below new f (pen_at r (c + 1 + 1) attrs)).page) flags
-    ∙ ap (λ (k : ℕ). (mid base done below new (flag_behind flag true (drop 1 ys)) (pen_at r k attrs)).page) col))
+    ∙ ap (λ (k : ℕ). (mid base done below new (flag_behind flag true (drop 1 ys)) (pen_at r k attrs)).page) col)
 
 -- the width that a glyph of this width takes, where it isn't made narrow
 settled : (page : Bool → Page) (c : ℕ) (attrs : Attrs) (s q wide : Bool) → (wide ≡ true → (if s then q else wide) ≡ true) → ((if s then q else wide) ≡ true → made_wide c attrs (page false) ≡ page true) →
@@ -103,7 +101,7 @@ mark_follows base done below pre o y ys flag r c text wide attrs m is_mark room 
     char_drawn-mark m canvas (if is_selector m then followed wide (is_wide_text longer && nat_lt 1 base.page.width) c attrs made else made) is_mark.1
     (rw (some, never) refl)
     (rw some (
-    mark_printed_is base done below pre text wide attrs rest flagged r c m at_spot.row at_spot.col room made
+    mark_printed_is base done below pre text wide attrs rest flagged r c m at_spot.row at_spot.col room never made
     (ap (λ (f : Bool). (mid base done below (with_glyph pre longer wide attrs ys) f (pen_at r (c + first_columns wide) attrs)).page) again)))
 
 room_for : (n : Bool) (c width : ℕ) → c + first_columns n ≤ width → n ≡ true → c + 2 ≤ width

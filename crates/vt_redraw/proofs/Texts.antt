@@ -115,18 +115,18 @@ followed_is page k attrs text wide a e = ap (λ (cell : CellValue). followed (is
 
 -- a mark printed behind a glyph of this width, which has room for it
 pub mark_printed_is : (base : Canvas) (done below : List RowValue) (pre : List CellValue) (text : List ℕ) (wide : Bool) (attrs : Attrs) (rest : List CellValue) (flag : Bool) (r c m : ℕ) → length done ≡ r → length pre ≡ c → has_room text ≡ true →
-    (made : Page) → made ≡ marking base done below pre (text ++ encode_utf8 m) wide attrs rest (kept flag (pre ++ (glyph_cells (text ++ encode_utf8 m) wide attrs ++ rest))) r c →
+    carries m (marking base done below pre text wide attrs rest flag r c) ≡ false → (made : Page) → made ≡ marking base done below pre (text ++ encode_utf8 m) wide attrs rest (kept flag (pre ++ (glyph_cells (text ++ encode_utf8 m) wide attrs ++ rest))) r c →
     mark_printed m attrs (marking base done below pre text wide attrs rest flag r c)
     ≡ (if is_selector m then followed wide (is_wide_text (text ++ encode_utf8 m) && nat_lt 1 base.page.width) c attrs made else made)
 unfolding mark_printed
-mark_printed_is base done below pre text wide attrs rest flag r c m e l room made is =
+mark_printed_is base done below pre text wide attrs rest flag r c m e l room never made is =
     let page = marking base done below pre text wide attrs rest flag r c in
     let longer = text ++ encode_utf8 m in
     let new = marking base done below pre longer wide attrs rest (kept flag (pre ++ (glyph_cells longer wide attrs ++ rest))) r c in
     let follow = followed_is new c attrs longer wide attrs (marked_cell base done below pre longer wide attrs rest (kept flag (pre ++ (glyph_cells longer wide attrs ++ rest))) r c e l) in
-    ap (λ (k : ℕ). if takes_mark (at (cursor_row page).cells k) then (if is_selector m then width_followed k attrs (mark_put k m page) else mark_put k m page) else page) (mark_column_is base done below pre text wide attrs rest flag r c e l)
+    rw never (ap (λ (k : ℕ). if takes_mark (at (cursor_row page).cells k) then (if is_selector m then width_followed k attrs (mark_put k m page) else mark_put k m page) else page) (mark_column_is base done below pre text wide attrs rest flag r c e l)
     ∙ (ap (λ (x : CellValue). if takes_mark x then (if is_selector m then width_followed c attrs (mark_put c m page) else mark_put c m page) else page) (marked_cell base done below pre text wide attrs rest flag r c e l)
     ∙ (ap (λ (t : Bool). if t then (if is_selector m then width_followed c attrs (mark_put c m page) else mark_put c m page) else page) room
     ∙ (ap (λ (q : Page). if is_selector m then width_followed c attrs q else q) (put_marked base done below pre text wide attrs rest flag r c m e l room)
     ∙ (ap (λ (q : Page). if is_selector m then q else new) follow
-    ∙ ap (λ (q : Page). if is_selector m then followed wide (is_wide_text longer && nat_lt 1 base.page.width) c attrs q else q) (sym is)))))
+    ∙ ap (λ (q : Page). if is_selector m then followed wide (is_wide_text longer && nat_lt 1 base.page.width) c attrs q else q) (sym is))))))

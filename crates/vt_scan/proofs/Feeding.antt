@@ -6,7 +6,7 @@ use Rattle.std.proofs.lemmas.List.{append-nil}
 use Rattle.std.proofs.lemmas.Bool.{false≢true}
 use Rattle.vt_scan.specs.Characters.{is_beginning, character_of}
 use Rattle.vt_scan.specs.Automaton as automaton
-use Rattle.vt_scan.specs.Automaton.{State, Step, parameter_text, marks_of, parts_of, after, fresh_step, step_in}
+use Rattle.vt_scan.specs.Automaton.{Step, parameter_text, parts_of, after, fresh_step, step_in}
 use Rattle.vt_scan.specs.Parameters.{GroupTable, table_of}
 use Rattle.vt_scan.specs.Table.{class_of, turn_of}
 use Rattle.vt_scan.specs.Scanner.{Feeds, Held, Reads, StandsFor, Follows, event_of, events_in}

@@ -14,7 +14,7 @@ use Rattle.vt_rows.specs.Row.{RowValue, blank_row, with_cells}
 use Rattle.vt_grid.specs.Page.{Page, row_or, row_at, cursor_row, with_row, moved_rows, up_source, scrolled_up, blank_page}
 use Rattle.vt_grid.specs.Moves.{at_bottom, line_feed}
 use Rattle.vt_grid.specs.Erasing.{erased_columns, erased_chars, erased_rest, blanked_below, erased_below}
-use Rattle.vt_grid.specs.Printing.{with_cursor_cells, left_row, goes_down, flagged_left, wrapped_page, lacks_room, room_made, glyph_put, mark_column, takes_mark, mark_put, carried, made_wide, made_narrow, width_followed, mark_printed, printed, printed_by}
+use Rattle.vt_grid.specs.Printing.{carries, lifted_page, with_cursor_cells, left_row, goes_down, flagged_left, wrapped_page, lacks_room, room_made, glyph_put, mark_column, takes_mark, mark_put, carried, made_wide, made_narrow, width_followed, mark_printed, printed, printed_by}
 use Rattle.vt_grid.proofs.Pages.{length-moved_rows, row_or-moved_rows}
 use Rattle.vt_screen.specs.Keeping.{IsColoredCell, IsColoredRow, AreColored}
 
@@ -171,12 +171,12 @@ colored_mark_put k mark page all =
     let old = colored_cursor_row page all in
     colored_cursor_cells (marked_at k mark cells) page (All-set IsColoredCell cells k (marked mark (at cells k)) (colored_marked mark (at cells k) (colored_at cells k old)) old) all
 
-colored_carried : (text : List ℕ) (k : ℕ) (attrs : Attrs) (page : Page) → FitsAttrs attrs → AreColored page.rows → AreColored (carried text k attrs page).rows
+colored_carried : (mark : ℕ) (attrs : Attrs) (page : Page) → FitsAttrs attrs → AreColored page.rows → AreColored (carried mark attrs page).rows
 unfolding carried
-colored_carried text k attrs page h all =
-    let gone = with_cursor_cells (erased k 1 attrs (cursor_row page).cells) page in
-    colored_glyph_put text true attrs (wrapped_page gone) h
-    (colored_wrapped_page gone (colored_erased_columns k 1 attrs page h all))
+colored_carried mark attrs page h all =
+    let left = lifted_page (mark_column page) attrs page in
+    colored_glyph_put (text_of (marked mark (at (cursor_row page).cells (mark_column page)))) true attrs (wrapped_page left) h
+    (colored_wrapped_page left (colored_erased_columns (mark_column page) 1 attrs page h all))
 
 colored_made_wide : (k : ℕ) (attrs : Attrs) (page : Page) → FitsAttrs attrs → AreColored page.rows → AreColored (made_wide k attrs page).rows
 unfolding made_wide
@@ -184,9 +184,9 @@ colored_made_wide k attrs page h all =
     let cells = (cursor_row page).cells in
     let old = colored_cursor_row page all in
     let wide = widened true (at cells k) in
-    colored_if (nat_lt page.column page.width) (record (with_cursor_cells (widened_at k attrs cells) page) { column = page.column + 1 }) (carried (text_of (at cells k)) k attrs page)
-    (colored_cursor_cells (widened_at k attrs cells) page (colored_put_cells k 2 (blank attrs) (wide ∷ right_half ∷ []) cells h (colored_two wide (colored_widened true (at cells k) (colored_at cells k old))) old) all)
-    (colored_carried (text_of (at cells k)) k attrs page h all)
+    colored_cursor_cells (widened_at k attrs cells) page
+    (colored_put_cells k 2 (blank attrs) (wide ∷ right_half ∷ []) cells h
+    (colored_two wide (colored_widened true (at cells k) (colored_at cells k old))) old) all
 
 colored_made_narrow : (k : ℕ) (attrs : Attrs) (page : Page) → FitsAttrs attrs → AreColored page.rows → AreColored (made_narrow k attrs page).rows
 colored_made_narrow k attrs page h all =
@@ -210,8 +210,11 @@ colored_mark_printed mark attrs page h all =
     let k = mark_column page in
     let put = mark_put k mark page in
     let done = colored_mark_put k mark page all in
-    colored_if (takes_mark (at (cursor_row page).cells k)) (if is_selector mark then width_followed k attrs put else put) page
-    (colored_if (is_selector mark) (width_followed k attrs put) put (colored_width_followed k attrs put h done) done) all
+    let put_on : Page = if is_selector mark then width_followed k attrs put else put in
+    colored_if (carries mark page) (carried mark attrs page) (if takes_mark (at (cursor_row page).cells k) then put_on else page)
+    (colored_carried mark attrs page h all)
+    (colored_if (takes_mark (at (cursor_row page).cells k)) put_on page
+    (colored_if (is_selector mark) (width_followed k attrs put) put (colored_width_followed k attrs put h done) done) all)
 
 colored_printed_by : (columns : Option ℕ) (c : ℕ) (attrs : Attrs) (page : Page) → FitsAttrs attrs → AreColored page.rows → AreColored (printed_by columns c attrs page).rows
 colored_printed_by None c attrs page h all = all

@@ -1,11 +1,11 @@
 -- Steps leave the size of a screen, and its cursors on the page.
-use Rattle.std.proofs.Common.{◌≡◌, ℕ, zero, suc, ◌+◌, ◌-◌, ◌<◌, ◌==◌, ◌&&◌, nat_lt, min, max, not, Bool, true, false, List, length, refl, sym, ap, subst, ◌∙◌, arith, ◌++◌, take, drop, replicate}
+use Rattle.std.proofs.Common.{◌≡◌, ℕ, zero, suc, ◌+◌, ◌-◌, ◌<◌, ◌==◌, ◌&&◌, nat_lt, min, max, not, Bool, true, false, List, length, refl, ◌∙◌, arith, drop, replicate}
 use Rattle.std.specs.Prelude.{◌||◌, if◌then◌else◌, Option, Some, None}
 use Rattle.std.specs.Char.{encode_utf8}
 use Rattle.std.proofs.lemmas.Bool.Decides.{nat_tests}
 use Rattle.std.proofs.lemmas.List.{length-append, length-drop, length-replicate}
 use Rattle.vt_cells.specs.Attrs.{Attrs}
-use Rattle.vt_cells.specs.Cell.{text_of, is_wide}
+use Rattle.vt_cells.specs.Cell.{marked, text_of, is_wide}
 use Rattle.vt_cells.specs.Glyph.{columns_of, is_selector, is_wide_text}
 use Rattle.vt_rows.specs.Cells.{at, ends_blank, erased, widened_at}
 use Rattle.vt_rows.specs.Row.{blank_row}
@@ -13,9 +13,9 @@ use Rattle.vt_grid.specs.Page.{Page, SameSize, cursor_row, scrolled_up}
 use Rattle.vt_grid.specs.Moves.{carriage_return, moved_left, moved_right, moved_to, target_row, at_bottom, line_feed, cursor_saved, cursor_restored}
 use Rattle.vt_grid.specs.Regions.{in_region, last_row, moved_up, moved_down, next_line, previous_line, moved_to_column, moved_to_row, tabbed, region_set, origin_set}
 use Rattle.vt_grid.specs.Shifts.{rows_down, scrolled_down, reverse_index, lines_inserted, lines_deleted, chars_inserted, chars_deleted}
-use Rattle.vt_grid.specs.Erasing.{erased_columns, erased_chars, erased_rest, blanked_below, erased_below, erased_start, erased_row, blanked_above, erased_above, erased_page}
-use Rattle.vt_grid.specs.Printing.{with_cursor_cells, left_row, goes_down, flagged_left, wrapped_page, lacks_room, room_made, glyph_put, mark_column, takes_mark, mark_put, carried, made_wide, made_narrow, width_followed, mark_printed, printed, printed_by}
-use Rattle.vt_screen.proofs.Sizes.{same_cursor_cells, same_mark_put, same_itself, same_through, same_carriage_return, same_moved_left, same_moved_right, same_moved_to, same_moved_up, same_moved_down, same_next_line, same_previous_line, same_moved_to_column, same_moved_to_row, same_tabbed, same_region_set, same_origin_set, same_cursor_saved, same_cursor_restored, same_line_feed, same_scrolled_up, same_scrolled_down, same_reverse_index, same_lines_inserted, same_lines_deleted, same_chars_inserted, same_chars_deleted, same_erased_chars, same_erased_rest, same_erased_below, same_erased_start, same_erased_row, same_erased_page, same_printed}
+use Rattle.vt_grid.specs.Erasing.{erased_columns, erased_chars, erased_rest, erased_below, erased_start, erased_row, blanked_above, erased_above, erased_page}
+use Rattle.vt_grid.specs.Printing.{carries, lifted_page, with_cursor_cells, left_row, goes_down, flagged_left, wrapped_page, lacks_room, room_made, glyph_put, mark_column, takes_mark, mark_put, carried, made_wide, made_narrow, width_followed, mark_printed, printed, printed_by}
+use Rattle.vt_screen.proofs.Sizes.{same_cursor_cells, same_mark_put, same_through, same_carriage_return, same_moved_left, same_moved_right, same_moved_to, same_moved_up, same_moved_down, same_moved_to_column, same_moved_to_row, same_tabbed, same_scrolled_up, same_scrolled_down, same_lines_inserted, same_lines_deleted, same_chars_inserted, same_chars_deleted, same_erased_chars, same_erased_rest, same_erased_below, same_erased_start, same_erased_row, same_erased_page, same_printed}
 
 -- both cursors and the region's end are on the page
 pub record IsInside (page : Page) : Type 0 where
@@ -282,22 +282,23 @@ stays_over new mid page s same r = record {
   row = λ i. omega (arith, same.height, s.row (inside_rows mid page same r i));
 }
 
-stays_carried : (text : List ℕ) (k : ℕ) (attrs : Attrs) (page : Page) → Stays (carried text k attrs page) page
+stays_carried : (mark : ℕ) (attrs : Attrs) (page : Page) → Stays (carried mark attrs page) page
 unfolding carried
-stays_carried text k attrs page =
-    let gone = with_cursor_cells (erased k 1 attrs (cursor_row page).cells) page in
-    let below = wrapped_page gone in
-    stays_over (glyph_put text true attrs below) gone page
-    (stays_behind (glyph_put text true attrs below) below gone (rows_glyph_put text true attrs below) (stays_wrapped gone))
-    (same_cursor_cells (erased k 1 attrs (cursor_row page).cells) page) (record { row = refl; saved_row = refl; bottom = refl })
+stays_carried mark attrs page =
+    let text = text_of (marked mark (at (cursor_row page).cells (mark_column page))) in
+    let left = lifted_page (mark_column page) attrs page in
+    let below = wrapped_page left in
+    stays_over (glyph_put text true attrs below) left page
+    (stays_behind (glyph_put text true attrs below) below left (rows_glyph_put text true attrs below) (stays_wrapped left))
+    (same_cursor_cells (erased (mark_column page) 1 attrs (cursor_row page).cells) page)
+    (record { row = refl; saved_row = refl; bottom = refl })
 
 stays_made_wide : (k : ℕ) (attrs : Attrs) (page : Page) → Stays (made_wide k attrs page) page
 unfolding made_wide
 stays_made_wide k attrs page =
     let cells = (cursor_row page).cells in
-    stays_if (nat_lt page.column page.width) (record (with_cursor_cells (widened_at k attrs cells) page) { column = page.column + 1 }) (carried (text_of (at cells k)) k attrs page) page
-    (stays_put (record (with_cursor_cells (widened_at k attrs cells) page) { column = page.column + 1 }) page (record { row = refl; saved_row = refl; bottom = refl }))
-    (stays_carried (text_of (at cells k)) k attrs page)
+    stays_put (record (with_cursor_cells (widened_at k attrs cells) page) { column = page.column + 1 }) page
+    (record { row = refl; saved_row = refl; bottom = refl })
 
 stays_width_followed : (k : ℕ) (attrs : Attrs) (page : Page) → Stays (width_followed k attrs page) page
 unfolding width_followed
@@ -315,9 +316,14 @@ stays_mark_printed mark attrs page =
     let k = mark_column page in
     let put = mark_put k mark page in
     let rows : SameRows put page = record { row = refl; saved_row = refl; bottom = refl } in
-    stays_if (takes_mark (at (cursor_row page).cells k)) (if is_selector mark then width_followed k attrs put else put) page page
-    (stays_if (is_selector mark) (width_followed k attrs put) put page (stays_over (width_followed k attrs put) put page (stays_width_followed k attrs put) (same_mark_put k mark page) rows) (stays_put put page rows))
-    (stays page)
+    let put_on : Page = if is_selector mark then width_followed k attrs put else put in
+    stays_if (carries mark page) (carried mark attrs page) (if takes_mark (at (cursor_row page).cells k) then put_on else page) page
+    (stays_carried mark attrs page)
+    (stays_if (takes_mark (at (cursor_row page).cells k)) put_on page page
+    (stays_if (is_selector mark) (width_followed k attrs put) put page
+    (stays_over (width_followed k attrs put) put page (stays_width_followed k attrs put) (same_mark_put k mark page) rows)
+    (stays_put put page rows))
+    (stays page))
 
 stays_printed_by : (columns : Option ℕ) (c : ℕ) (attrs : Attrs) (page : Page) → Stays (printed_by columns c attrs page) page
 stays_printed_by None c attrs page = stays page

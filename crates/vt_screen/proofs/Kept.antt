@@ -9,7 +9,7 @@ use Rattle.vt_grid.specs.Moves.{carriage_return, moved_right, moved_to, line_fee
 use Rattle.vt_grid.specs.Erasing.{erased_below, erased_rest, erased_chars}
 use Rattle.vt_grid.specs.Printing.{printed}
 use Rattle.vt_grid.proofs.Pages.{page_blank, page_cursor_saved, page_cursor_restored, page_carriage_return, page_moved_right, page_moved_to, page_line_feed, page_erased_chars, page_erased_rest, page_erased_below}
-use Rattle.vt_grid.proofs.Marks.{page_printed}
+use Rattle.vt_grid.proofs.Printed.{page_printed}
 use Rattle.vt_grid.specs.Scrollback.{no_scrollback}
 use Rattle.vt_screen.specs.Keeping.{Aside, IsKept}
 use Rattle.vt_screen.specs.Screen.{IsPrintable}

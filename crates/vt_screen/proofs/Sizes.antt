@@ -4,7 +4,7 @@ use Rattle.std.specs.Prelude.{◌||◌, if◌then◌else◌, Option, Some, None}
 use Rattle.std.specs.Char.{encode_utf8}
 use Rattle.std.proofs.lemmas.List.{length-append, length-take, length-replicate, length-set}
 use Rattle.vt_cells.specs.Attrs.{Attrs}
-use Rattle.vt_cells.specs.Cell.{CellValue, text_of, is_wide}
+use Rattle.vt_cells.specs.Cell.{marked, CellValue, text_of, is_wide}
 use Rattle.vt_cells.specs.Glyph.{columns_of, is_selector, is_wide_text}
 use Rattle.vt_rows.specs.Cells.{at, ends_blank, erased, put_narrow, put_wide, marked_at, widened_at, narrowed_at}
 use Rattle.vt_rows.specs.Row.{RowValue, blank_row, with_cells, inserted_row, deleted_row}
@@ -13,7 +13,7 @@ use Rattle.vt_grid.specs.Moves.{carriage_return, moved_left, moved_right, moved_
 use Rattle.vt_grid.specs.Regions.{in_region, last_row, moved_up, moved_down, next_line, previous_line, moved_to_column, moved_to_row, tabbed, region_set, origin_set}
 use Rattle.vt_grid.specs.Shifts.{rows_down, scrolled_down, reverse_index, lines_inserted, lines_deleted, chars_inserted, chars_deleted}
 use Rattle.vt_grid.specs.Erasing.{erased_columns, erased_chars, erased_rest, blanked_below, erased_below, erased_start, erased_row, blanked_above, erased_above, erased_page}
-use Rattle.vt_grid.specs.Printing.{with_cursor_cells, left_row, goes_down, wrapped_page, lacks_room, room_made, glyph_put, mark_column, takes_mark, mark_put, carried, made_wide, made_narrow, width_followed, mark_printed, printed, printed_by}
+use Rattle.vt_grid.specs.Printing.{carries, lifted_page, with_cursor_cells, left_row, goes_down, wrapped_page, lacks_room, room_made, glyph_put, mark_column, takes_mark, mark_put, carried, made_wide, made_narrow, width_followed, mark_printed, printed, printed_by}
 use Rattle.vt_grid.specs.Page.{SameSize}
 use Rattle.vt_grid.proofs.Pages.{length-moved_rows}
 use Rattle.vt_grid.proofs.Prints.{width_line_feed, height_line_feed, width_wrapped_page, height_flagged_left}
@@ -199,20 +199,20 @@ same_glyph_put text true attrs page = record { width = refl; height = length-set
 pub same_mark_put : (k mark : ℕ) (page : Page) → SameSize (mark_put k mark page) page
 same_mark_put k mark page = same_cursor_cells (marked_at k mark (cursor_row page).cells) page
 
-same_carried : (text : List ℕ) (k : ℕ) (attrs : Attrs) (page : Page) → SameSize (carried text k attrs page) page
+same_carried : (mark : ℕ) (attrs : Attrs) (page : Page) → SameSize (carried mark attrs page) page
 unfolding carried
-same_carried text k attrs page =
-    let gone = with_cursor_cells (erased k 1 attrs (cursor_row page).cells) page in
-    let below = wrapped_page gone in
+same_carried mark attrs page =
+    let text = text_of (marked mark (at (cursor_row page).cells (mark_column page))) in
+    let left = lifted_page (mark_column page) attrs page in
+    let below = wrapped_page left in
     same_through (glyph_put text true attrs below) below page (same_glyph_put text true attrs below)
-    (same_through below gone page (same_wrapped_page gone) (same_erased_columns k 1 attrs page))
+    (same_through below left page (same_wrapped_page left) (same_erased_columns (mark_column page) 1 attrs page))
 
 same_made_wide : (k : ℕ) (attrs : Attrs) (page : Page) → SameSize (made_wide k attrs page) page
 unfolding made_wide
 same_made_wide k attrs page =
     let cells = (cursor_row page).cells in
-    same_if (nat_lt page.column page.width) (record (with_cursor_cells (widened_at k attrs cells) page) { column = page.column + 1 }) (carried (text_of (at cells k)) k attrs page) page
-    (record { width = refl; height = length-set page.rows page.row (with_cells (cursor_row page) (widened_at k attrs cells)) }) (same_carried (text_of (at cells k)) k attrs page)
+    record { width = refl; height = length-set page.rows page.row (with_cells (cursor_row page) (widened_at k attrs cells)) }
 
 same_made_narrow : (k : ℕ) (attrs : Attrs) (page : Page) → SameSize (made_narrow k attrs page) page
 same_made_narrow k attrs page = same_cursor_cells (narrowed_at k attrs (cursor_row page).cells) page
@@ -232,8 +232,12 @@ same_mark_printed mark attrs page =
     let k = mark_column page in
     let put = mark_put k mark page in
     let done = same_mark_put k mark page in
-    same_if (takes_mark (at (cursor_row page).cells k)) (if is_selector mark then width_followed k attrs put else put) page page
-    (same_if (is_selector mark) (width_followed k attrs put) put page (same_through (width_followed k attrs put) put page (same_width_followed k attrs put) done) done) (same_itself page)
+    let put_on : Page = if is_selector mark then width_followed k attrs put else put in
+    same_if (carries mark page) (carried mark attrs page) (if takes_mark (at (cursor_row page).cells k) then put_on else page) page
+    (same_carried mark attrs page)
+    (same_if (takes_mark (at (cursor_row page).cells k)) put_on page page
+    (same_if (is_selector mark) (width_followed k attrs put) put page
+    (same_through (width_followed k attrs put) put page (same_width_followed k attrs put) done) done) (same_itself page))
 
 same_put_behind : (n : ℕ) (text : List ℕ) (wide : Bool) (attrs : Attrs) (page : Page) → SameSize (glyph_put text wide attrs (room_made n page)) page
 same_put_behind n text wide attrs page =

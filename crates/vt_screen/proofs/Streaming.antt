@@ -16,7 +16,7 @@ use Rattle.vt_grid.specs.Outgoing.{printed_out, fed_out, scrolled_out}
 use Rattle.vt_grid.specs.Resize.{out_of_view}
 use Rattle.vt_grid.specs.Scrollback.{Scrollback, cleared, no_scrollback, pushed, reported, viewed}
 use Rattle.vt_grid.proofs.Blanking.{page_erased_start, page_erased_row, page_erased_above, page_erased_page}
-use Rattle.vt_grid.proofs.Marks.{page_printed}
+use Rattle.vt_grid.proofs.Printed.{page_printed}
 use Rattle.vt_grid.proofs.Pages.{page_blank, page_cursor_saved, page_cursor_restored, page_carriage_return, page_moved_left, page_moved_right, page_moved_to, page_line_feed, page_erased_chars, page_erased_rest, page_erased_below, page_scrolled_up}
 use Rattle.vt_grid.proofs.Regions.{page_moved_up, page_moved_down, page_next_line, page_previous_line, page_moved_to_column, page_moved_to_row, page_tabbed, page_region_set, page_origin_set}
 use Rattle.vt_grid.proofs.Shifting.{page_scrolled_down, page_reverse_index, page_lines_inserted, page_lines_deleted, page_chars_inserted, page_chars_deleted}

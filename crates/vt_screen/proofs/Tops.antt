@@ -1,14 +1,14 @@
 -- What is printed leaves the region's top where it is.
 use Rattle.std.proofs.Common.{◌≡◌, ℕ, zero, suc, ◌+◌, ◌-◌, min, ◌||◌, ◌==◌, ◌&&◌, nat_lt, not, Bool, true, false, List, Option, Some, None, refl, ◌∙◌}
 use Rattle.std.specs.Prelude.{if◌then◌else◌, length, encode_utf8}
-use Rattle.vt_cells.specs.Cell.{text_of, is_wide}
+use Rattle.vt_cells.specs.Cell.{marked, text_of, is_wide}
 use Rattle.vt_cells.specs.Glyph.{columns_of, is_selector, is_wide_text}
 use Rattle.vt_cells.specs.Attrs.{Attrs}
-use Rattle.vt_rows.specs.Cells.{at, ends_blank, erased, widened_at}
+use Rattle.vt_rows.specs.Cells.{at, ends_blank}
 use Rattle.vt_grid.specs.Erasing.{erased_below, erased_chars, erased_columns, erased_rest}
 use Rattle.vt_grid.specs.Page.{Page, cursor_row, scrolled_up}
 use Rattle.vt_grid.specs.Moves.{at_bottom, line_feed}
-use Rattle.vt_grid.specs.Printing.{with_cursor_cells, left_row, goes_down, flagged_left, wrapped_page, lacks_room, room_made, glyph_put, mark_column, takes_mark, mark_put, carried, made_wide, made_narrow, width_followed, mark_printed, printed_by, printed}
+use Rattle.vt_grid.specs.Printing.{carries, lifted_page, left_row, goes_down, flagged_left, wrapped_page, lacks_room, room_made, glyph_put, mark_column, takes_mark, mark_put, carried, made_wide, made_narrow, width_followed, mark_printed, printed_by, printed}
 
 -- the region's top is the same
 abbrev SameTop : Page → Page → Type 0
@@ -40,18 +40,15 @@ top_glyph_put : (text : List ℕ) (wide : Bool) (attrs : Attrs) (page : Page) �
 top_glyph_put text false attrs page = refl
 top_glyph_put text true attrs page = refl
 
-top_carried : (text : List ℕ) (k : ℕ) (attrs : Attrs) (page : Page) → SameTop (carried text k attrs page) page
+top_carried : (mark : ℕ) (attrs : Attrs) (page : Page) → SameTop (carried mark attrs page) page
 unfolding carried
-top_carried text k attrs page =
-    let gone = with_cursor_cells (erased k 1 attrs (cursor_row page).cells) page in
-    top_glyph_put text true attrs (wrapped_page gone) ∙ top_wrapped gone
+top_carried mark attrs page =
+    let left = lifted_page (mark_column page) attrs page in
+    top_glyph_put (text_of (marked mark (at (cursor_row page).cells (mark_column page)))) true attrs (wrapped_page left) ∙ top_wrapped left
 
 top_made_wide : (k : ℕ) (attrs : Attrs) (page : Page) → SameTop (made_wide k attrs page) page
 unfolding made_wide
-top_made_wide k attrs page =
-    let cells = (cursor_row page).cells in
-    top_if (nat_lt page.column page.width) (record (with_cursor_cells (widened_at k attrs cells) page) { column = page.column + 1 }) (carried (text_of (at cells k)) k attrs page) page
-    refl (top_carried (text_of (at cells k)) k attrs page)
+top_made_wide k attrs page = refl
 
 top_width_followed : (k : ℕ) (attrs : Attrs) (page : Page) → SameTop (width_followed k attrs page) page
 unfolding width_followed
@@ -67,8 +64,11 @@ unfolding mark_printed
 top_mark_printed mark attrs page =
     let k = mark_column page in
     let put = mark_put k mark page in
-    top_if (takes_mark (at (cursor_row page).cells k)) (if is_selector mark then width_followed k attrs put else put) page page
-    (top_if (is_selector mark) (width_followed k attrs put) put page (top_width_followed k attrs put) refl) refl
+    let put_on : Page = if is_selector mark then width_followed k attrs put else put in
+    top_if (carries mark page) (carried mark attrs page) (if takes_mark (at (cursor_row page).cells k) then put_on else page) page
+    (top_carried mark attrs page)
+    (top_if (takes_mark (at (cursor_row page).cells k)) put_on page page
+    (top_if (is_selector mark) (width_followed k attrs put) put page (top_width_followed k attrs put) refl) refl)
 
 top_printed_by : (columns : Option ℕ) (c : ℕ) (attrs : Attrs) (page : Page) → SameTop (printed_by columns c attrs page) page
 top_printed_by None c attrs page = refl

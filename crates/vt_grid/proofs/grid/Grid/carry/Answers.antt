@@ -61,6 +61,5 @@ put_wide_cell-requires-clause-room g c =
 pub returns-clause-page : goal.returns-clause-page
 returns-clause-page g c =
     let page = c.args.self.now in
-    let carried = carried_of c.args.mark page c.requires.carried in
-    let here = carried_is c.args.mark c.args.attrs page (omega (arith, carried.columns, carried.pending)) carried c.mark_col-col.ensures.page in
+    let here = carried_is c.args.mark c.args.attrs page c.requires.carried in
     c.put_wide_cell.ensures ∙ (rw (c.widened.ensures, c.in_default.ensures.page, c.lift-cell.ensures.value, c.lift-cell.ensures.lifted, c.mark_col-col.ensures.value) (sym here))

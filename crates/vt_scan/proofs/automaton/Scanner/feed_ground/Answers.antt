@@ -6,7 +6,6 @@ use Rattle.vt_scan.specs.declared.table.Kind.TheVariants.{Ground}
 use Rattle.vt_scan.proofs.Feeding.{some_from, fed_further, fed_character, fed_broken}
 use Rattle.vt_scan.proofs.Standing.{stands_plain}
 use Rattle.vt_scan.proofs.automaton.Scanner.feed_ground.Goals as goal
-use Rattle.vt_scan.proofs.automaton.Scanner.feed_ground.Goals.{In-Further, In-Character, In-Broken}
 
 pub returns-in-Further : goal.returns-in-Further
 returns-in-Further c =
