@@ -3,7 +3,6 @@ pub mod Stepping
 pub mod Deciding
 pub mod Plain
 pub mod Quiet
-pub mod Texts
 pub mod Remaining
 pub mod Dispatching
 pub mod Parting
