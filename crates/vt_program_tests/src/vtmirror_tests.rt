@@ -31,7 +31,7 @@ type Example = (u16, &'static str, &'static str);
 
 const BLANK: &str = "\x1b[?25h\x1b[m\x1b[H\x1b[J";
 
-// An update tells what is shown then; what was shown in between is not written.
+/// An update tells what is shown then; what was shown in between is not written.
 #[rattlefmt::skip]
 const RUNS: [Example; 8] = [
     (2, "abcd", "abcd"),
