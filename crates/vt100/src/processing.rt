@@ -32,9 +32,9 @@ pub fn process<CB: Callbacks>(
     Ok(())
 }
 
-/// Reads what comes first of these bytes: plain characters as one run, as far
-/// as the cursor's row has room for them, or else one byte. Answers how many
-/// bytes that were, unless memory is refused.
+// Reads what comes first of these bytes: plain characters as one run, as far
+// as the cursor's row has room for them, or else one byte. Answers how many
+// bytes that were, unless memory is refused.
 #[inline(always)]
 fn process_some<CB: Callbacks>(
     scanner: &mut Scanner,
@@ -58,9 +58,9 @@ fn process_some<CB: Callbacks>(
     Ok(1)
 }
 
-/// Prints what comes first of bytes that begin with a plain character: all
-/// plain ones that the cursor's row has room for, or at its end one, which may
-/// scroll. Answers how many were printed.
+// Prints what comes first of bytes that begin with a plain character: all
+// plain ones that the cursor's row has room for, or at its end one, which may
+// scroll. Answers how many were printed.
 #[inline]
 fn print_some<CB: Callbacks>(
     scanner: &Scanner,
@@ -86,7 +86,7 @@ fn print_some<CB: Callbacks>(
     Ok(count)
 }
 
-/// The events of one byte, up to a step whose memory is refused.
+// The events of one byte, up to a step whose memory is refused.
 #[inline(always)]
 #[tactic(auto, using(vt_rows::proofs::Folds::folds_then, crate::proofs::Running::stops_then, crate::proofs::Running::stops_first))]
 fn perform_each<CB: Callbacks>(
@@ -104,7 +104,7 @@ fn perform_each<CB: Callbacks>(
     Ok(())
 }
 
-/// An event, if there is one, up to a step whose memory is refused.
+// An event, if there is one, up to a step whose memory is refused.
 #[inline(always)]
 fn perform_some<CB: Callbacks>(
     screen: &mut Screen,

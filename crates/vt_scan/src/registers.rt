@@ -89,7 +89,7 @@ impl Registers {
         }
     }
 
-    /// Whether the next byte begins something.
+    // Whether the next byte begins something.
     #[inline(always)]
     fn is_fresh(&self) -> bool
         ensures { IsTrue result ↔ ((self.now.kind ≡ Kind.Ground) × (self.now.unfinished ≡ [])) }
@@ -118,7 +118,7 @@ impl Registers {
         }
     }
 
-    /// A byte where no character is unfinished.
+    // A byte where no character is unfinished.
     #[inline]
     fn feed_fresh(&mut self, byte: u8) -> Events
         requires kind { self.old.kind ≡ Kind.Ground }
@@ -163,7 +163,7 @@ impl Registers {
         }
     }
 
-    /// Collects a byte, in this kind from now on.
+    // Collects a byte, in this kind from now on.
     fn collect(&mut self, kind: Kind, byte: u8) -> Result<(), Error>
         requires { Fits self.old.kind (Turn.Collect kind) }
         ensures kind { OnOk result (self.new.kind ≡ kind) }
@@ -187,7 +187,7 @@ impl Registers {
         Ok(())
     }
 
-    /// Begins with nothing collected, in this kind. What it doesn't use stays.
+    // Begins with nothing collected, in this kind. What it doesn't use stays.
     fn begin(&mut self, kind: Kind)
         ensures { Begins self.old self.new kind }
     {
@@ -239,7 +239,7 @@ impl Registers {
     }
 }
 
-/// Whether the byte is a printable one of ASCII.
+// Whether the byte is a printable one of ASCII.
 #[inline(always)]
 fn is_printable(byte: u8) -> bool
     ensures { IsTrue result ↔ ((0x20 ≤ byte) × (byte < 0x7F)) }
@@ -247,7 +247,7 @@ fn is_printable(byte: u8) -> bool
     byte >= 0x20 && byte < 0x7F
 }
 
-/// How many of these bytes, from the first on, are printable ones of ASCII.
+// How many of these bytes, from the first on, are printable ones of ASCII.
 #[inline]
 fn printable_len(bytes: &[u8]) -> usize
     ensures inside { result ≤ length bytes.now }
@@ -261,7 +261,7 @@ fn printable_len(bytes: &[u8]) -> usize
     len
 }
 
-/// Whether the byte is one of the parameter text.
+// Whether the byte is one of the parameter text.
 #[inline]
 fn is_parameter_byte(byte: u8) -> bool
     ensures { result ≡ is_parameter byte }
@@ -269,7 +269,7 @@ fn is_parameter_byte(byte: u8) -> bool
     byte >= 0x30 && byte <= 0x3B
 }
 
-/// The events of an ending.
+// The events of an ending.
 #[inline]
 fn answer(ending: Ending, byte: u8) -> Events
     ensures { result ≡ answer_of ending byte }
