@@ -39,7 +39,7 @@ fn shows(parser: &Parser<Notes>, screen: &Screen, redraw: &str) -> Result<bool> 
     Ok(is_quiet && again.as_str() == redraw && has_same_picture(parser.screen(), screen))
 }
 
-// Whether two screens, none of whose scrollback is in view, have the same cells, flags and cursor.
+/// Whether two screens, none of whose scrollback is in view, have the same cells, flags and cursor.
 fn has_same_picture(one: &Screen, other: &Screen) -> bool {
     let (rows, cols) = other.size();
     for row in 0..rows.get() {

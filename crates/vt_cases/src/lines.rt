@@ -92,7 +92,7 @@ fn write_calls(alloc: Global, lines: &mut String, notes: &Notes) -> Result<(), A
     Ok(())
 }
 
-// How many cells a row has: a row of scrollback may have more or fewer than the screen has columns.
+/// How many cells a row has: a row of scrollback may have more or fewer than the screen has columns.
 fn row_length(screen: &Screen, row: u16) -> u16 {
     for col in 0..u16::MAX {
         if screen.cell(row, col).is_none() {
@@ -102,7 +102,7 @@ fn row_length(screen: &Screen, row: u16) -> u16 {
     u16::MAX
 }
 
-// A line for each cell that isn't a blank in default attributes.
+/// A line for each cell that isn't a blank in default attributes.
 fn write_row(lines: &mut String, screen: &Screen, row: u16) -> Result<(), AllocError> {
     for col in 0..u16::MAX {
         let Some(cell) = screen.cell(row, col) else {
@@ -134,7 +134,7 @@ fn is_default_blank(cell: &Cell, attrs: AttrsWord) -> bool {
     !shows && !colored && attrs.is_default()
 }
 
-// `n` for a blank and a narrow glyph, `w` for a wide one, `r` for a right half.
+/// `n` for a blank and a narrow glyph, `w` for a wide one, `r` for a right half.
 fn kind_of(cell: &Cell) -> char {
     if cell.is_wide_continuation() {
         'r'

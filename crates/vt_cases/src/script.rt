@@ -44,7 +44,7 @@ fn replay_steps<R: AllocGlobal + Print>(
     replay_from(rt, script, parser, &mut prev)
 }
 
-// `prev` is the screen of the step that looked at the parser last.
+/// `prev` is the screen of the step that looked at the parser last.
 fn replay_from<R: AllocGlobal + Print>(
     rt: &R,
     script: Script<'_>,
@@ -68,7 +68,7 @@ fn replay_from<R: AllocGlobal + Print>(
     Ok(same)
 }
 
-// The call that a step names.
+/// The call that a step names.
 fn take_step(alloc: Global, parser: &mut Parser<Notes>, call: &str) -> Result<()> {
     let (name, rest) = call.split_once(' ').unwrap_or((call, ""));
     match name {

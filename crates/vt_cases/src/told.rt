@@ -27,7 +27,7 @@ fn is_text(alloc: Global, text: &str, word: &str) -> Result<bool> {
     Ok(text.as_bytes() == expected.as_slice())
 }
 
-// The text that a word names.
+/// The text that a word names.
 fn text_of(screen: &Screen, prev: &Screen, word: &str) -> Result<String> {
     let text = match word {
         "contents" => screen.contents()?,
@@ -53,17 +53,17 @@ pub fn difference(screen: &Screen, prev: &Screen) -> Result<String> {
     Ok(screen.contents_diff(prev)?)
 }
 
-// The texts of rows, or want of memory for one.
+/// The texts of rows, or want of memory for one.
 type Texts = std::result::Result<Vec<String>, Error>;
 
-// Whether the rows have the texts of `START WIDTH BYTES ..`.
+/// Whether the rows have the texts of `START WIDTH BYTES ..`.
 fn are_rows_told(alloc: Global, screen: &Screen, line: &str) -> Result<bool> {
     let (start, width, words) = range_of(line)?;
     let texts: Texts = screen.rows(start, width).try_collect(alloc);
     are_texts(alloc, texts?, words)
 }
 
-// The same for the texts that draw them on blank rows.
+/// The same for the texts that draw them on blank rows.
 fn are_rows_formatted(alloc: Global, screen: &Screen, line: &str) -> Result<bool> {
     let (start, width, words) = range_of(line)?;
     let (_, cols) = screen.size();
@@ -74,7 +74,7 @@ fn are_rows_formatted(alloc: Global, screen: &Screen, line: &str) -> Result<bool
     are_texts(alloc, texts?, words)
 }
 
-// And for those that draw them on the rows of another screen of the same size.
+/// And for those that draw them on the rows of another screen of the same size.
 fn are_rows_changed(alloc: Global, screen: &Screen, prev: &Screen, line: &str) -> Result<bool> {
     let (start, width, words) = range_of(line)?;
     let (rows, cols) = screen.size();
@@ -89,14 +89,14 @@ fn are_rows_changed(alloc: Global, screen: &Screen, prev: &Screen, line: &str) -
     are_texts(alloc, texts?, words)
 }
 
-// Start and width of a range of columns, and the texts behind them.
+/// Start and width of a range of columns, and the texts behind them.
 fn range_of(line: &str) -> Result<(u16, u16, &str)> {
     let (start, rest) = line.split_once(' ').context("a range without a width")?;
     let (width, words) = rest.split_once(' ').context("a range without texts")?;
     Ok((start.parse::<u16>()?, width.parse::<u16>()?, words))
 }
 
-// Whether the texts are those of the words, one for each.
+/// Whether the texts are those of the words, one for each.
 fn are_texts(alloc: Global, texts: Vec<String>, words: &str) -> Result<bool> {
     let mut words = words.split(' ');
     for text in &texts {
@@ -108,7 +108,7 @@ fn are_texts(alloc: Global, texts: Vec<String>, words: &str) -> Result<bool> {
     Ok(words.next().is_none())
 }
 
-// Whether the range has the text of `ROW COL ROW COL BYTES`.
+/// Whether the range has the text of `ROW COL ROW COL BYTES`.
 fn is_range_told(alloc: Global, screen: &Screen, line: &str) -> Result<bool> {
     let mut words = line.split(' ');
     let start_row = number(words.next())?;

@@ -37,7 +37,7 @@ fn follow_leader(alloc: Global, leader: &mut Parser, pace: Pace, bytes: &[u8]) -
     follow_all(leader, &mut follower, pace, bytes)
 }
 
-// Lets the follower read on its alternate page, and looks at its main page and scrollback at the end.
+/// Lets the follower read on its alternate page, and looks at its main page and scrollback at the end.
 fn follow_all(
     leader: &mut Parser,
     follower: &mut Parser<Notes>,
@@ -55,7 +55,7 @@ fn follow_all(
     Ok(tally)
 }
 
-// Redraws the leader, and then reads its bytes and updates the follower until both differ.
+/// Redraws the leader, and then reads its bytes and updates the follower until both differ.
 fn follow_each(
     leader: &mut Parser,
     follower: &mut Parser<Notes>,
@@ -88,7 +88,7 @@ fn redraw(leader: &Screen, follower: &mut Parser<Notes>) -> Result<()> {
     Ok(follower.process(text.as_bytes())?)
 }
 
-// Has the leader read these bytes and the follower the difference, and answers how long that is.
+/// Has the leader read these bytes and the follower the difference, and answers how long that is.
 fn update(leader: &mut Parser, follower: &mut Parser<Notes>, piece: &[u8]) -> Result<usize> {
     let prev = leader.screen().clone()?;
     leader.process(piece)?;
@@ -106,7 +106,7 @@ fn difference(screen: &Screen, prev: &Screen) -> Result<String> {
     Ok(screen.contents_diff(prev)?)
 }
 
-// Whether a screen that shows its main page has the cells, flags and scrollback that it had before.
+/// Whether a screen that shows its main page has the cells, flags and scrollback that it had before.
 fn has_kept(screen: &mut Screen, before: &mut Screen) -> Result<bool> {
     let rows = screen.size().0.get();
     let kept = screen.scrollback_len();

@@ -70,7 +70,7 @@ pub fn follow(
     follow_all(alloc, &mut hall, pace, bytes)
 }
 
-// Reads piece by piece, with visits between them, and updates all viewers at the end.
+/// Reads piece by piece, with visits between them, and updates all viewers at the end.
 fn follow_all(alloc: Global, hall: &mut Hall, mut pace: Pace, bytes: &[u8]) -> Result<Visits> {
     let mut visits = Visits::default();
     let mut rest = bytes;
@@ -102,7 +102,7 @@ fn size_of(rows: u16, cols: u16) -> Result<(NonZeroU16, NonZeroU16)> {
     Ok((rows, cols))
 }
 
-// A terminal that is plain, and shows something else than the mirror.
+/// A terminal that is plain, and shows something else than the mirror.
 fn terminal(alloc: Global) -> Result<Parser> {
     let (rows, cols) = size_of(SIZE.0, SIZE.1)?;
     let mut terminal = Parser::new(alloc, rows, cols, KEPT)?;
@@ -145,7 +145,7 @@ impl Hall {
         Ok(())
     }
 
-    // The viewer at a seat leaves, and is none any more.
+    /// The viewer at a seat leaves, and is none any more.
     fn leave(&mut self, seat: usize, visits: &mut Visits) {
         if seat >= self.viewers.len() {
             return;
@@ -158,7 +158,7 @@ impl Hall {
         }
     }
 
-    // The viewer at a seat reads its update, and shows what the leader shows.
+    /// The viewer at a seat reads its update, and shows what the leader shows.
     fn update(&mut self, seat: usize, visits: &mut Visits) -> Result<()> {
         let Some(viewer) = self.viewers.get_mut(seat) else {
             return Ok(());

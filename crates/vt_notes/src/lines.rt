@@ -49,7 +49,7 @@ fn write_texts<T: AsSlice<u8>>(
     writeln!(lines, ")")
 }
 
-// A row's text in hexadecimal, a dot for none, and 1 for the alternate page.
+/// A row's text in hexadecimal, a dot for none, and 1 for the alternate page.
 fn write_scroll(lines: &mut String, text: &[u8], alternate: bool) -> Result<(), AllocError> {
     write!(lines, "scroll ")?;
     if text.is_empty() {

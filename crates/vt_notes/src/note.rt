@@ -100,7 +100,7 @@ impl Note {
     }
 }
 
-// Copies of lists that are lent.
+/// Copies of lists that are lent.
 fn owned<T: Copy>(alloc: Global, lists: &[&[T]]) -> Result<Vec<Vec<T>>, AllocError>
     ensures { IfOk result (λ copies. map (λ copy. copy.items) copies.items ≡ map (λ list. list.now) lists.now) }
 {

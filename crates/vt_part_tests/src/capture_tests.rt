@@ -23,7 +23,7 @@ const ON_BLUE: Parts = Parts {
     ..PLAIN
 };
 
-// Puts a character at a column, or a blank for one that takes no column.
+/// Puts a character at a column, or a blank for one that takes no column.
 fn put(cells: &mut [Cell], column: usize, c: char, attrs: Attrs)
     requires { IsPaired cells.old }
     ensures paired { IsPaired cells.new }
@@ -42,7 +42,7 @@ fn put(cells: &mut [Cell], column: usize, c: char, attrs: Attrs)
     }
 }
 
-// The cells of a row with characters at some of its columns.
+/// The cells of a row with characters at some of its columns.
 fn cells_of(
     alloc: Global,
     columns: usize,
@@ -59,7 +59,7 @@ fn cells_of(
     Ok(cells)
 }
 
-// The row of these cells. Where it shall go on it does if a glyph is in its last column.
+/// The row of these cells. Where it shall go on it does if a glyph is in its last column.
 fn row_of(cells: &[Cell], goes_on: bool) -> RowContents<'_>
     requires paired { IsPaired cells.now }
     requires sound { All IsCell cells.now }
@@ -67,7 +67,7 @@ fn row_of(cells: &[Cell], goes_on: bool) -> RowContents<'_>
     lent(cells, cells::flag_left(cells, goes_on))
 }
 
-// The basic text of rows one after the other.
+/// The basic text of rows one after the other.
 fn text_of(alloc: Global, rows: &[RowContents<'_>]) -> Result<String, Error> {
     let mut text = String::new(alloc);
     let mut state = BasicFormattedCaptureState::new();
@@ -77,7 +77,7 @@ fn text_of(alloc: Global, rows: &[RowContents<'_>]) -> Result<String, Error> {
     Ok(text)
 }
 
-// Whether the row begins with a right half: no row does that is lent.
+/// Whether the row begins with a right half: no row does that is lent.
 fn begins_torn(row: &RowContents<'_>) -> bool
     ensures { result ≡ false }
 {
@@ -97,7 +97,7 @@ fn lends_sound_rows(rt: HostRuntime) -> Result<(), Fail> {
     Ok(())
 }
 
-// How many columns a row has, the characters that are put there, and what it is written as.
+/// How many columns a row has, the characters that are put there, and what it is written as.
 const WRITTEN: [(usize, &[(usize, char, Parts)], &str); 7] = [
     (3, &[(0, 'a', RED), (2, 'b', PLAIN)], "\x1b[31ma \x1b[mb"),
     (4, &[(0, 'a', PLAIN), (2, '\0', ON_BLUE)], "a \x1b[44m "),
@@ -143,7 +143,7 @@ fn writes_blank_rows_as_line_ends(rt: HostRuntime) -> Result<(), Fail> {
     Ok(())
 }
 
-// Takes a few pieces of text, refuses the next, and takes all after it.
+/// Takes a few pieces of text, refuses the next, and takes all after it.
 #[derive(Drop)]
 struct Refusing {
     text: String,
@@ -170,7 +170,7 @@ impl Sink for Refusing {
     }
 }
 
-// The state after this row, the first one.
+/// The state after this row, the first one.
 fn state_after(alloc: Global, row: &RowContents<'_>) -> Result<BasicFormattedCaptureState, Fail> {
     let mut state = BasicFormattedCaptureState::new();
     let mut text = String::new(alloc);
@@ -178,10 +178,10 @@ fn state_after(alloc: Global, row: &RowContents<'_>) -> Result<BasicFormattedCap
     Ok(state)
 }
 
-// What a row is written as where none of its pieces is refused.
+/// What a row is written as where none of its pieces is refused.
 const WHOLE: &str = "\n\x1b[mb\x1b[31mc";
 
-// Writes this row where so many pieces are taken, and says whether it was taken whole.
+/// Writes this row where so many pieces are taken, and says whether it was taken whole.
 fn is_taken(
     rt: &impl Abort,
     alloc: Global,

@@ -3,7 +3,7 @@
 use std::test::Fail;
 use vt_cells::{Attrs, Cell, Color, Intensity, columns};
 
-// The cell in which a character and the marks after it come to stand.
+/// The cell in which a character and the marks after it come to stand.
 fn cell_of_text(text: &str) -> Cell {
     let mut cell = Cell::new();
     for c in text.chars() {
@@ -21,13 +21,13 @@ fn cell_of_text(text: &str) -> Cell {
     cell
 }
 
-// A letter with the nine marks that it takes, and with twelve.
+/// A letter with the nine marks that it takes, and with twelve.
 const NINE: &str = "e\u{301}\u{301}\u{301}\u{301}\u{301}\u{301}\u{301}\u{301}\u{301}";
 
 const TWELVE: &str =
     "e\u{301}\u{301}\u{301}\u{301}\u{301}\u{301}\u{301}\u{301}\u{301}\u{301}\u{301}\u{301}";
 
-// A text, what the cell holds of it, whether the cell is wide, and whether its text is.
+/// A text, what the cell holds of it, whether the cell is wide, and whether its text is.
 const KEPT: [(&str, &str, bool, bool); 8] = [
     ("", "", false, false),
     ("a", "a", false, false),
@@ -57,7 +57,7 @@ fn keeps_a_character_and_its_marks(rt: HostRuntime) {
     assert_eq!(rt; NINE.len(), 19);
 }
 
-// A heart that asks for the look of an emoji, and so is of either width.
+/// A heart that asks for the look of an emoji, and so is of either width.
 fn heart(wide: bool) -> Cell {
     match (columns('\u{2764}'), columns('\u{fe0f}')) {
         (Some(1), Some(0)) => {

@@ -72,7 +72,7 @@ fn feed_all(text: &mut String, scanner: &mut Scanner, bytes: &[u8]) -> Result<()
     Ok(())
 }
 
-// The events of these bytes, in two pieces.
+/// The events of these bytes, in two pieces.
 fn shown(alloc: Global, first: &[u8], second: &[u8]) -> Result<String, Fail> {
     let mut text = String::new(alloc);
     let mut scanner = Scanner::new(alloc);
@@ -81,7 +81,7 @@ fn shown(alloc: Global, first: &[u8], second: &[u8]) -> Result<String, Fail> {
     Ok(text)
 }
 
-// Bytes, and their events in order.
+/// Bytes, and their events in order.
 const EVENTS: [(&[u8], &str); 26] = [
     (b"a~\x7F", "61,7E,7F,"),
     (b"\x1B[1;2:3;m", "csi [ 1 ][ 2 3 ][ 0 ]m,"),
@@ -130,7 +130,7 @@ fn reads_at_every_cut(rt: HostRuntime) -> Result<(), Fail> {
     Ok(())
 }
 
-// `\e[`, so many times `0;`, and the rest.
+/// `\e[`, so many times `0;`, and the rest.
 fn many_numbers(alloc: Global, zeros: u8, rest: &[u8]) -> Result<Vec<u8>, Fail> {
     let mut bytes = Vec::new(alloc);
     bytes.extend_from_slice(b"\x1B[")?;
@@ -141,7 +141,7 @@ fn many_numbers(alloc: Global, zeros: u8, rest: &[u8]) -> Result<Vec<u8>, Fail> 
     Ok(bytes)
 }
 
-// A scanner after these bytes, which end in SGR.
+/// A scanner after these bytes, which end in SGR.
 fn after_sgr(rt: &impl Abort, alloc: Global, bytes: &[u8]) -> Result<Scanner, Fail> {
     let mut scanner = Scanner::new(alloc);
     let mut text = String::new(alloc);
@@ -150,7 +150,7 @@ fn after_sgr(rt: &impl Abort, alloc: Global, bytes: &[u8]) -> Result<Scanner, Fa
     Ok(scanner)
 }
 
-// Aborts where a scanner doesn't hold 32 groups, the last one of this number alone.
+/// Aborts where a scanner doesn't hold 32 groups, the last one of this number alone.
 fn expect_groups(rt: &impl Abort, scanner: &Scanner, last: u16) {
     let groups = scanner.groups();
     assert_eq!(rt; groups.as_slice().len(), 32);

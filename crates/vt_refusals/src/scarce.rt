@@ -132,7 +132,7 @@ fn make_all<R: AllocGlobal + Print>(
     Ok(())
 }
 
-// A capture into a text that has room, and a copy of a cell.
+/// A capture into a text that has room, and a copy of a cell.
 fn capture<R: Print>(rt: &R, screen: &Screen, text: &mut String) -> io::Result<()> {
     let mut state = BasicFormattedCaptureState::new();
     let range = BasicFormattedCaptureRange::Full(&mut state);

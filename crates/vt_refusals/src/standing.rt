@@ -78,7 +78,7 @@ fn of_steps(
     }
 }
 
-// What stands after a call that changes nothing where it is refused.
+/// What stands after a call that changes nothing where it is refused.
 fn of_call(
     alloc: Global,
     control: &Parser<Tally>,
@@ -90,7 +90,7 @@ fn of_call(
     Ok(Standing::Other)
 }
 
-// What stands of what is read: the fewest steps after which the control is like the parser.
+/// What stands of what is read: the fewest steps after which the control is like the parser.
 fn of_reading(
     alloc: Global,
     bytes: &[u8],
@@ -126,7 +126,7 @@ fn of_pieces(
     Ok(Standing::Other)
 }
 
-// What stands of what is read, each byte of which is a step.
+/// What stands of what is read, each byte of which is a step.
 fn of_bytes(
     alloc: Global,
     bytes: &[u8],

@@ -41,7 +41,7 @@ pub fn whole(alloc: Global, screen: &Screen) -> Result<String, Error> {
     Ok(text)
 }
 
-// Size, and how many rows of scrollback are in view, are kept and may be kept.
+/// Size, and how many rows of scrollback are in view, are kept and may be kept.
 fn write_counts(text: &mut String, screen: &Screen) -> Result<(), Error> {
     let (rows, cols) = screen.size();
     let (in_view, kept) = (screen.scrollback(), screen.scrollback_len());
@@ -52,14 +52,14 @@ fn write_counts(text: &mut String, screen: &Screen) -> Result<(), Error> {
     }
 }
 
-// All rows, as they stand.
+/// All rows, as they stand.
 fn write_rows(text: &mut String, screen: &Screen) -> Result<(), Error> {
     let mut state = BasicFormattedCaptureState::new();
     let range = BasicFormattedCaptureRange::Full(&mut state);
     screen.write_contents_formatted_basic(text, range)
 }
 
-// What a copy of the screen shows that has read something.
+/// What a copy of the screen shows that has read something.
 fn write_probed(
     alloc: Global,
     text: &mut String,
@@ -82,7 +82,7 @@ fn read_and_write(
     write_shown(text, parser.screen())
 }
 
-// A text that only screens have in common that show the same and have the same modes.
+/// A text that only screens have in common that show the same and have the same modes.
 fn write_shown(text: &mut String, screen: &Screen) -> Result<(), Error> {
     let shown = screen.state_formatted()?;
     push(text, shown.as_str())?;
@@ -96,7 +96,7 @@ fn push(text: &mut String, piece: &str) -> Result<(), Error> {
     }
 }
 
-// What is shown with each number of rows of scrollback in view.
+/// What is shown with each number of rows of scrollback in view.
 fn write_views(alloc: Global, text: &mut String, screen: &Screen) -> Result<(), Error> {
     let mut parser = with_copy(alloc, screen)?;
     write_each_view(text, parser.screen_mut())
@@ -110,7 +110,7 @@ fn write_each_view(text: &mut String, screen: &mut Screen) -> Result<(), Error> 
     Ok(())
 }
 
-// What the main page is with more rows.
+/// What the main page is with more rows.
 fn write_resized(alloc: Global, text: &mut String, screen: &Screen) -> Result<(), Error> {
     let mut parser = with_copy(alloc, screen)?;
     resize_and_write(text, &mut parser)
@@ -124,7 +124,7 @@ fn resize_and_write(text: &mut String, parser: &mut Parser) -> Result<(), Error>
     write_shown(text, parser.screen())
 }
 
-// A parser that goes on from a copy of a screen.
+/// A parser that goes on from a copy of a screen.
 fn with_copy(alloc: Global, screen: &Screen) -> Result<Parser, Error> {
     let mut parser = Parser::new(alloc, NonZeroU16::MIN, NonZeroU16::MIN, 0)?;
     copy_into(&mut parser, screen)?;

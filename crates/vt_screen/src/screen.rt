@@ -188,7 +188,8 @@ impl Screen {
         (pos.row, pos.col)
     }
 
-    /// Whether the alternate page is the active one.
+    /// Whether the alternate page is the active one (xterm's private modes 47
+    /// and 1049).
     pub fn alternate_screen(&self) -> bool
         ensures { result ≡ self.now.is_alternate }
     {
@@ -196,7 +197,7 @@ impl Screen {
     }
 
     /// The last character that was printed in columns of its own, which REP
-    /// repeats.
+    /// (ECMA-48) repeats; None before the first one and after RIS.
     pub fn last_char(&self) -> Option<char>
         ensures value { result ≡ self.now.last }
         ensures reported { result ≢ Some 0xFFFD }
@@ -232,35 +233,36 @@ impl Screen {
         self.modes.bracketed_paste
     }
 
-    /// Which mouse events are reported.
+    /// Which mouse events are reported (xterm's private modes 9, 1000, 1002 and
+    /// 1003).
     pub fn mouse_protocol_mode(&self) -> MouseProtocolMode
         ensures { result ≡ self.now.modes.mouse_mode }
     {
         self.modes.mouse_mode
     }
 
-    /// How mouse events are encoded.
+    /// How mouse events are encoded (xterm's private modes 1005 and 1006).
     pub fn mouse_protocol_encoding(&self) -> MouseProtocolEncoding
         ensures { result ≡ self.now.modes.mouse_encoding }
     {
         self.modes.mouse_encoding
     }
 
-    /// The look of the cursor.
+    /// The look of the cursor (DECSCUSR).
     pub fn cursor_style(&self) -> CursorStyle
         ensures { result ≡ self.now.modes.cursor_style }
     {
         self.modes.cursor_style
     }
 
-    /// The foreground colour that is drawn with.
+    /// The foreground colour that new text is drawn with (SGR of ECMA-48).
     pub fn fgcolor(&self) -> Color
         ensures { result ≡ self.now.attrs.fgcolor }
     {
         self.attrs.fgcolor()
     }
 
-    /// The background colour that is drawn with.
+    /// The background colour that new text is drawn with (SGR of ECMA-48).
     pub fn bgcolor(&self) -> Color
         ensures { result ≡ self.now.attrs.bgcolor }
     {

@@ -176,7 +176,7 @@ impl Wanted {
     }
 }
 
-// A group where a setting is wanted.
+/// A group where a setting is wanted.
 #[tactic(auto, unfolding(crate::specs::Sgr::setting_read))]
 fn read_setting(group: &[u16]) -> GroupRead
     ensures { result ≡ setting_read group.now }
@@ -191,7 +191,7 @@ fn read_setting(group: &[u16]) -> GroupRead
     }
 }
 
-// A group of one number where a setting is wanted.
+/// A group of one number where a setting is wanted.
 #[tactic(auto, using(std::proofs::lemmas::Bool::Decides::nat_tests), unfolding(crate::specs::Sgr::number_read))]
 fn read_number(number: u16) -> GroupRead
     ensures { result ≡ number_read number }
@@ -219,7 +219,7 @@ fn read_number(number: u16) -> GroupRead
     }
 }
 
-// A long colour in one group of three numbers.
+/// A long colour in one group of three numbers.
 fn read_three(layer: Layer, form: u16, index: u16) -> GroupRead
     ensures { result ≡ three_read layer form index }
 {
@@ -229,7 +229,7 @@ fn read_three(layer: Layer, form: u16, index: u16) -> GroupRead
     index_colored(layer, index)
 }
 
-// A long colour in one group of five numbers.
+/// A long colour in one group of five numbers.
 fn read_five(layer: Layer, form: u16, red: u16, green: u16, blue: u16) -> GroupRead
     ensures { result ≡ five_read layer form red green blue }
 {
@@ -259,7 +259,7 @@ fn rgb_colored(layer: Layer, red: u16, green: u16, blue: u16) -> GroupRead
     GroupRead::set(layer.colored(Color::Rgb(red as u8, green as u8, blue as u8)))
 }
 
-// The form of a long colour.
+/// The form of a long colour.
 #[tactic(auto, using(std::proofs::lemmas::Bool::Decides::nat_tests), unfolding(crate::specs::Sgr::form_read))]
 fn read_form(layer: Layer, group: &[u16]) -> GroupRead
     ensures { result ≡ form_read layer group.now }
@@ -274,7 +274,7 @@ fn read_form(layer: Layer, group: &[u16]) -> GroupRead
     }
 }
 
-// A part of a colour, or a colour's index: one number, up to 255.
+/// A part of a colour, or a colour's index: one number, up to 255.
 #[tactic(auto, using(std::proofs::lemmas::Bool::Decides::nat_tests))]
 fn part_of(group: &[u16]) -> Option<u8>
     ensures { MatchOption result ((next : ℕ → GroupRead) → part_read group.now next ≡ silent Wanted.Stopped) (λ part. (next : ℕ → GroupRead) → part_read group.now next ≡ next part) }

@@ -6,8 +6,6 @@
 mod engine;
 mod faults;
 mod mode;
-#[cfg(test)]
-mod tests;
 mod words;
 
 pub use engine::{run, write_text};

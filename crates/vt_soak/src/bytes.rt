@@ -135,7 +135,7 @@ fn push_word(bytes: &mut Vec<u8>, word: Option<&str>) -> Result<(), AllocError> 
     bytes.extend_from_slice(word.unwrap_or("").as_bytes())
 }
 
-// A control sequence: seldom with a marker or an intermediate, with up to three numbers.
+/// A control sequence: seldom with a marker or an intermediate, with up to three numbers.
 fn push_sequence(bytes: &mut Vec<u8>, dice: &mut Dice) -> Result<(), AllocError> {
     push_word(bytes, Some("\x1b["))?;
     if dice.is_one_in(8) {
@@ -153,7 +153,7 @@ fn push_sequence(bytes: &mut Vec<u8>, dice: &mut Dice) -> Result<(), AllocError>
     push_byte(bytes, dice.pick(ENDS))
 }
 
-// A number: none, one digit, or now and then more.
+/// A number: none, one digit, or now and then more.
 fn push_number(bytes: &mut Vec<u8>, dice: &mut Dice) -> Result<(), AllocError> {
     let digits = match dice.below(16) {
         0 => 0,
@@ -189,7 +189,7 @@ fn push_modes(bytes: &mut Vec<u8>, dice: &mut Dice) -> Result<(), AllocError> {
     push_byte(bytes, dice.pick(b"hl"))
 }
 
-// An escape sequence, or an operating system command or another string.
+/// An escape sequence, or an operating system command or another string.
 fn push_escape(bytes: &mut Vec<u8>, dice: &mut Dice) -> Result<(), AllocError> {
     push_byte(bytes, Some(0x1b))?;
     match dice.below(8) {

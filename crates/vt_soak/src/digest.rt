@@ -11,7 +11,7 @@ pub struct Digest {
 }
 
 impl Digest {
-    // Takes a number in (FNV-1a, with a whole number where that has a byte).
+    /// Takes a number in (FNV-1a, with a whole number where that has a byte).
     fn take(&mut self, number: u64) {
         self.sum = (self.sum ^ number).wrapping_mul(0x0100_0000_01b3);
     }

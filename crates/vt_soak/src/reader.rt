@@ -62,7 +62,7 @@ pub fn read_modes(
     Ok(None)
 }
 
-// Whether the terminal and both screens have one size, and it shows the one before.
+/// Whether the terminal and both screens have one size, and it shows the one before.
 fn is_at(reader: &Screen, screen: &Screen, prev: &Screen) -> bool {
     reader.size() == screen.size() && prev.size() == screen.size() && shows(reader, prev)
 }

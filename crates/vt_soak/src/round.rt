@@ -86,7 +86,7 @@ fn run_mirrored(
     Ok(())
 }
 
-// One step, and what differs after it.
+/// One step, and what differs after it.
 fn step(
     alloc: Global,
     dice: &mut Dice,
@@ -106,7 +106,7 @@ fn step(
     readers_part(dice, tally, mirror, painter, one.screen(), &prev)
 }
 
-// What differs in two terminals that read the same, or in one of them from what every screen has.
+/// What differs in two terminals that read the same, or in one of them from what every screen has.
 fn twins_part(
     alloc: Global,
     dice: &mut Dice,
@@ -130,7 +130,7 @@ fn twins_part(
     Ok(None)
 }
 
-// The basic text of all rows.
+/// The basic text of all rows.
 fn all_rows(alloc: Global, screen: &Screen) -> Result<String> {
     let mut text = String::new(alloc);
     let mut state = BasicFormattedCaptureState::new();
@@ -139,7 +139,7 @@ fn all_rows(alloc: Global, screen: &Screen) -> Result<String> {
     Ok(text)
 }
 
-// What differs in terminals that read texts of the screen, from what it shows.
+/// What differs in terminals that read texts of the screen, from what it shows.
 fn readers_part(
     dice: &mut Dice,
     tally: &mut Tally,

@@ -36,7 +36,7 @@ fn shows_row(reader: &Screen, screen: &Screen, row: u16) -> bool {
     shows_last(read, cell) && reader.row_wrapped(row) == goes_on
 }
 
-// Whether a cell in the last column is shown: half a wide glyph as a blank in its attributes.
+/// Whether a cell in the last column is shown: half a wide glyph as a blank in its attributes.
 fn shows_last(read: &Cell, cell: &Cell) -> bool {
     if cell.is_wide() {
         return !read.has_contents()

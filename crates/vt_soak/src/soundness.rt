@@ -37,7 +37,7 @@ fn are_rows_sound(screen: &Screen) -> bool {
     true
 }
 
-// How many cells a row has, if the halves of its wide glyphs stand together.
+/// How many cells a row has, if the halves of its wide glyphs stand together.
 fn sound_length(screen: &Screen, row: u16) -> Option<u16> {
     let mut is_due = false;
     for col in 0..u16::MAX {
@@ -52,7 +52,7 @@ fn sound_length(screen: &Screen, row: u16) -> Option<u16> {
     None
 }
 
-// A glyph has a text of 22 bytes at most, and a right half has none.
+/// A glyph has a text of 22 bytes at most, and a right half has none.
 fn is_sound_cell(cell: &Cell) -> bool {
     let length = cell.contents().len();
     let is_right_half = cell.is_wide_continuation();
@@ -62,7 +62,7 @@ fn is_sound_cell(cell: &Cell) -> bool {
         && !(cell.is_wide() && length == 0)
 }
 
-// Whether the last cell of a row isn't blank; of a page's own rows the last one never goes on.
+/// Whether the last cell of a row isn't blank; of a page's own rows the last one never goes on.
 fn may_go_on(screen: &Screen, row: u16, length: u16, is_kept: bool) -> bool {
     let (rows, _cols) = screen.size();
     let is_last = screen.scrollback() == 0 && row == rows.get().saturating_sub(1);

@@ -54,7 +54,7 @@ fn read(
     Ok(())
 }
 
-// The first terminal goes on with a copy of the screen of the other one.
+/// The first terminal goes on with a copy of the screen of the other one.
 fn copy(one: &mut Terminal, other: &Terminal) -> Result<()> {
     *one.screen_mut() = other.screen().clone()?;
     Ok(())
@@ -94,7 +94,7 @@ pub fn size(dice: &mut Dice) -> (NonZeroU16, NonZeroU16) {
     }
 }
 
-// A number from 1 to `most`.
+/// A number from 1 to `most`.
 fn number(dice: &mut Dice, most: u32) -> NonZeroU16 {
     let number = u16::try_from(dice.up_to(most)).unwrap_or(1);
     NonZeroU16::new(number).unwrap_or(NonZeroU16::MIN)

@@ -9,7 +9,7 @@ use std::test::Fail;
 use vt_notes::Notes;
 use vt100::Parser;
 
-// A sequence for each function.
+/// A sequence for each function.
 const CALLED: [(&[u8], Function); 12] = [
     (b"\x07", AudibleBell),
     (b"\x1bg", VisualBell),
@@ -25,7 +25,7 @@ const CALLED: [(&[u8], Function); 12] = [
     (b"\x1b]9;x\x07", UnhandledOsc),
 ];
 
-// Fails where these bytes call this function not once, or any other one.
+/// Fails where these bytes call this function not once, or any other one.
 fn expect_one_call(alloc: Global, bytes: &[u8], function: Function) -> Result<(), Fail> {
     let (rows, cols) = size_of((24, 80))?;
     let mut parser = Parser::new_with_callbacks(alloc, rows, cols, 0, Counter::default())?;
@@ -60,7 +60,7 @@ fn lends_screen_and_callbacks(rt: HostRuntime) -> Result<(), Fail> {
     change_screen_and_callbacks(rt.alloc(), &mut parser)
 }
 
-// Amid a title the screen gets another size, and the callbacks forget; then the title ends.
+/// Amid a title the screen gets another size, and the callbacks forget; then the title ends.
 fn change_screen_and_callbacks(alloc: Global, parser: &mut Parser<Notes>) -> Result<(), Fail> {
     let size = size_of((3, 2))?;
     let (screen, notes) = parser.screen_and_callbacks_mut();
@@ -84,7 +84,7 @@ fn lends_callbacks(rt: HostRuntime) -> Result<(), Fail> {
     forget(rt.alloc(), &mut parser)
 }
 
-// Amid a title the callbacks forget; then the title ends.
+/// Amid a title the callbacks forget; then the title ends.
 fn forget(alloc: Global, parser: &mut Parser<Notes>) -> Result<(), Fail> {
     *parser.callbacks_mut() = Notes::new(alloc);
     parser.process(b"itle\x07c")?;

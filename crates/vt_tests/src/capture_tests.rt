@@ -14,8 +14,8 @@ use vt100::capture::{
 };
 use vt100::{Error, Parser, Screen, Sink};
 
-// A size, a capacity of scrollback, what is done, and the captures then: of the rows that are shown,
-// and of all rows.
+/// A size, a capacity of scrollback, what is done, and the captures then: of the rows that are shown,
+/// and of all rows.
 #[rattlefmt::skip]
 const CAPTURES: [((u16, u16), usize, &[Step], &str, &str); 14] = [
     ((3, 4), 0, &[], "\n\n", "\n\n"),
@@ -53,7 +53,7 @@ fn captures(rt: HostRuntime) -> Result<(), Fail> {
     Ok(())
 }
 
-// The text of all rows behind those of the state.
+/// The text of all rows behind those of the state.
 fn all_rows(
     alloc: Global,
     screen: &Screen,
@@ -65,7 +65,7 @@ fn all_rows(
     Ok(text)
 }
 
-// A size, what is read, and the capture of the rows that left and of those that are left.
+/// A size, what is read, and the capture of the rows that left and of those that are left.
 #[rattlefmt::skip]
 const STREAMED: [((u16, u16), &str, &str); 8] = [
     ((2, 4), "a\r\nb\r\nc", "a\nb\nc"),
@@ -93,7 +93,7 @@ fn streamed_captures(rt: HostRuntime) -> Result<(), Fail> {
     Ok(())
 }
 
-// Fails where what is read is captured as another text.
+/// Fails where what is read is captured as another text.
 fn expect_streamed(
     alloc: Global,
     size: (u16, u16),
@@ -127,7 +127,7 @@ fn expect_capture(
     Ok(())
 }
 
-// A size, what is read, the rows of its capture at the columns of the screen, and its plain text.
+/// A size, what is read, the rows of its capture at the columns of the screen, and its plain text.
 #[rattlefmt::skip]
 const READ: [((u16, u16), &str, &[&str], &str); 4] = [
     ((2, 4), "abcdx", &["abcd", "x"], "abcdx"),
@@ -160,7 +160,7 @@ fn expect_rows<A: Abort>(rt: &A, capture: &str, width: u16, wanted: &[&str]) {
     assert_eq!(rt; rows.next(), None);
 }
 
-// Takes whole writes up to some bytes in all, and refuses any that would pass them.
+/// Takes whole writes up to some bytes in all, and refuses any that would pass them.
 #[derive(Drop)]
 struct Limited {
     text: String,
@@ -183,7 +183,7 @@ impl Sink for Limited {
     }
 }
 
-// What a sink of so many bytes has taken, where it takes not all.
+/// What a sink of so many bytes has taken, where it takes not all.
 fn refused(
     alloc: Global,
     screen: &Screen,

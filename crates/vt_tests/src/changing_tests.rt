@@ -7,7 +7,7 @@ use std::alloc::Global;
 use std::test::Fail;
 use vt100::{Parser, Screen};
 
-// Fails where a screen does not show this.
+/// Fails where a screen does not show this.
 fn expect_shown(alloc: Global, screen: &Screen, wanted: &str) -> Result<(), Fail> {
     let found = shown(alloc, screen)?;
     if found.as_str() != wanted {
@@ -23,7 +23,7 @@ fn expect_size(screen: &Screen, size: (u16, u16)) -> Result<(), Fail> {
     Ok(())
 }
 
-// What is read on two rows of four columns, the size after it, and what is seen.
+/// What is read on two rows of four columns, the size after it, and what is seen.
 const SIZED: [(&str, (u16, u16), &str); 7] = [
     ("ab\x1b[8;3;2tcd", (3, 2), "0:ac/ 1:d @1,1\n"),
     ("ab\x1b[8;0;2tcd", (2, 4), "0:abcd @0,4\n"),
@@ -78,7 +78,7 @@ fn resize(
     expect_shown(alloc, parser.screen(), wanted)
 }
 
-// What is read on two rows of four columns, the size after it, what is seen, and what is kept.
+/// What is read on two rows of four columns, the size after it, what is seen, and what is kept.
 const EXCHANGED: [(&str, (u16, u16), &str, &str); 3] = [
     ("ab\x07c", (1, 1), "0:c @0,1\n", "0:ab @0,2\n"),
     ("ab\x07c\x07d", (2, 4), "0:abd @0,3\n", "0:c @0,1\n"),
@@ -100,7 +100,7 @@ fn exchanges_the_screen(rt: HostRuntime) -> Result<(), Fail> {
     Ok(())
 }
 
-// A fresh screen of one row and one column.
+/// A fresh screen of one row and one column.
 fn small(alloc: Global) -> Result<Screen, Fail> {
     let (rows, cols) = size_of((1, 1))?;
     let parser = Parser::new(alloc, rows, cols, 0)?;
@@ -144,8 +144,8 @@ fn exchange(
     expect_shown(alloc, parser.callbacks().kept(), kept)
 }
 
-// What is read on two rows of four columns with room for ten rows of scrollback, what is seen then,
-// and what is seen once no row is in view.
+/// What is read on two rows of four columns with room for ten rows of scrollback, what is seen then,
+/// and what is seen once no row is in view.
 const LOOKED_BACK: [(&str, &str, &str); 2] = [
     (
         "a\r\nb\r\nc\x07x",

@@ -8,7 +8,7 @@ use std::test::Fail;
 use vt_notes::Notes;
 use vt100::{Parser, Screen};
 
-// How many rows scrollback has, shows and may keep.
+/// How many rows scrollback has, shows and may keep.
 pub(crate) fn counts(screen: &Screen) -> (usize, usize, usize) {
     (
         screen.scrollback_len(),
@@ -17,7 +17,7 @@ pub(crate) fn counts(screen: &Screen) -> (usize, usize, usize) {
     )
 }
 
-// Whether two screens are alike in all that can be asked of them.
+/// Whether two screens are alike in all that can be asked of them.
 fn are_alike(alloc: Global, one: &Screen, other: &Screen) -> Result<bool, Fail> {
     let (rows, cols) = one.size();
     if other.size() != (rows, cols) || counts(one) != counts(other) {
@@ -42,7 +42,7 @@ fn expect_alike(alloc: Global, one: &Screen, other: &Screen) -> Result<(), Fail>
     Err(Fail::new(format_args!("{one}is not like {other}")))
 }
 
-// Fails where two screens differ with some number of rows in view.
+/// Fails where two screens differ with some number of rows in view.
 fn expect_alike_in_view(alloc: Global, one: &mut Screen, other: &mut Screen) -> Result<(), Fail> {
     for rows in 0..=one.scrollback_len() {
         one.set_scrollback(rows)?;
@@ -52,14 +52,14 @@ fn expect_alike_in_view(alloc: Global, one: &mut Screen, other: &mut Screen) -> 
     Ok(())
 }
 
-// A parser with a copy of this screen.
+/// A parser with a copy of this screen.
 fn with_copy(alloc: Global, screen: &Screen) -> Result<Parser<Notes>, Fail> {
     let mut parser = read_keeping(alloc, (1, 1), 0, &[])?;
     *parser.screen_mut() = screen.clone()?;
     Ok(parser)
 }
 
-// Fails where what the second parser reads changes the first one's screen, or not its own.
+/// Fails where what the second parser reads changes the first one's screen, or not its own.
 fn expect_own_way(
     alloc: Global,
     one: &Parser<Notes>,
@@ -90,10 +90,10 @@ const CLONED: [((u16, u16), usize, &[Step]); 12] = [
     ((2, 4), 10, &[Text("a\r\nb\r\nc\x1b[?1049hxyz\x1b[?47l"), View(1)]),
 ];
 
-// What a screen reads after it was copied, or its copy.
+/// What a screen reads after it was copied, or its copy.
 const MORE: &[u8] = b"x\x1b[2b\x1b[?47hyz\x1b8q\x1b[?47l\r\nu\r\nv\r\nw\x1b[Hs\x1b8\x1b[7mt";
 
-// Fails where a copy of this parser's screen isn't like it, now and after it went on by itself.
+/// Fails where a copy of this parser's screen isn't like it, now and after it went on by itself.
 fn expect_copy(alloc: Global, parser: &mut Parser<Notes>) -> Result<(), Fail> {
     let mut other = with_copy(alloc, parser.screen())?;
     expect_like(alloc, parser, &mut other)
@@ -110,7 +110,7 @@ fn expect_like(
     expect_alike_in_view(alloc, parser.screen_mut(), other.screen_mut())
 }
 
-// Fails where these steps lead to a screen that isn't copied well.
+/// Fails where these steps lead to a screen that isn't copied well.
 fn expect_copied(
     alloc: Global,
     size: (u16, u16),

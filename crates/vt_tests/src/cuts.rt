@@ -54,8 +54,8 @@ fn expect_screen_read_back(alloc: Global, screen: &Screen, prev: &Screen) -> Res
     Change::State.expect_read(alloc, screen, prev, text.as_str())
 }
 
-// Whether each glyph that is shown, printed again on a blank row, gives just itself. Those without
-// U+FE0F do, and so does one that it made wide. Of a narrow one that has it nothing is said.
+/// Whether each glyph that is shown, printed again on a blank row, gives just itself. Those without
+/// U+FE0F do, and so does one that it made wide. Of a narrow one that has it nothing is said.
 fn is_surely_steady(screen: &Screen) -> bool {
     let (rows, cols) = screen.size();
     for row in 0..rows.get() {

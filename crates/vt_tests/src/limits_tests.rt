@@ -7,7 +7,7 @@ use std::test::Fail;
 use vt_notes::Note;
 use vt100::Screen;
 
-// The greatest numbers of rows that scrollback can be told to keep. For none of them there is memory.
+/// The greatest numbers of rows that scrollback can be told to keep. For none of them there is memory.
 const CAPACITIES: [usize; 4] = [
     usize::MAX,
     usize::MAX - 1,
@@ -15,7 +15,7 @@ const CAPACITIES: [usize; 4] = [
     usize::MAX / 2,
 ];
 
-// A size, what is done, and what is seen then, whichever of these is the capacity: each row is kept.
+/// A size, what is done, and what is seen then, whichever of these is the capacity: each row is kept.
 #[rattlefmt::skip]
 const KEPT: [((u16, u16), &[Step], &str); 8] = [
     ((2, 4), &[Text("a\r\nb\r\nc")], "0:b 1:c @1,1 kept 1\n"),
@@ -67,7 +67,7 @@ fn takes_a_title_of_a_mebibyte(rt: HostRuntime) -> Result<(), Fail> {
     Ok(())
 }
 
-// Whether this is one call, with a title of so many letters.
+/// Whether this is one call, with a title of so many letters.
 fn is_long_title(calls: &[Note]) -> bool {
     match calls {
         [Note::SetWindowTitle(title)] => {

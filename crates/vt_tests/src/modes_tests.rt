@@ -5,7 +5,7 @@ use crate::steps::Step::{Resize, Text, View};
 use std::alloc::Global;
 use std::test::Fail;
 
-// Modes after a text, on a screen of two rows and four columns.
+/// Modes after a text, on a screen of two rows and four columns.
 #[rattlefmt::skip]
 const MODES: [(&str, &str); 35] = [
     ("", "@0,0\n"),
@@ -68,13 +68,13 @@ fn ris_takes_back_each_mode(rt: HostRuntime) -> Result<(), Fail> {
     Ok(())
 }
 
-// What a screen shows after these pieces.
+/// What a screen shows after these pieces.
 fn shown_after(alloc: Global, pieces: &[&[u8]]) -> Result<String, Fail> {
     let parser = read_keeping(alloc, (2, 4), 0, pieces)?;
     shown(alloc, parser.screen())
 }
 
-// Texts that end in RIS, or go on after it.
+/// Texts that end in RIS, or go on after it.
 #[rattlefmt::skip]
 const RESET: [Example; 11] = [
     ((2, 4), 10, &[Text("a\r\nb\r\nc\x1bc")], "@0,0\n"),

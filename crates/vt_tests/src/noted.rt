@@ -25,7 +25,7 @@ fn notes_a_sequence_with_its_groups(rt: HostRuntime) -> Result<(), Fail> {
     Ok(())
 }
 
-// Whether this is one call, with this title.
+/// Whether this is one call, with this title.
 fn is_title(calls: &[Note], wanted: &[u8]) -> bool {
     match calls {
         [Note::SetWindowTitle(title)] => title.as_slice() == wanted,
@@ -33,7 +33,7 @@ fn is_title(calls: &[Note], wanted: &[u8]) -> bool {
     }
 }
 
-// Whether these are two calls, with this icon name and then with this title.
+/// Whether these are two calls, with this icon name and then with this title.
 fn is_name_and_title(calls: &[Note], wanted: &[u8]) -> bool {
     match calls {
         [Note::SetWindowIconName(name), Note::SetWindowTitle(title)] => {
@@ -43,7 +43,7 @@ fn is_name_and_title(calls: &[Note], wanted: &[u8]) -> bool {
     }
 }
 
-// Whether this is one call, with this marker, these groups of one number each, and this byte.
+/// Whether this is one call, with this marker, these groups of one number each, and this byte.
 fn is_sequence(calls: &[Note], marker: u8, numbers: &[u16], byte: char) -> bool {
     match calls {
         [Note::UnhandledCsi(first, second, groups, last)] => {
@@ -56,7 +56,7 @@ fn is_sequence(calls: &[Note], marker: u8, numbers: &[u16], byte: char) -> bool 
     }
 }
 
-// Whether the groups are these numbers, one each.
+/// Whether the groups are these numbers, one each.
 fn are_single(groups: &[Vec<u16>], numbers: &[u16]) -> bool {
     if groups.len() != numbers.len() {
         return false;

@@ -84,7 +84,7 @@ fn changes_pages_at_every_cut(rt: HostRuntime) -> Result<(), Fail> {
     expect_each(rt.alloc(), &PAGES)
 }
 
-// What is done in turn, and how many rows scrollback has, shows and may keep then.
+/// What is done in turn, and how many rows scrollback has, shows and may keep then.
 const COUNTED: [(Step, (usize, usize, usize)); 5] = [
     (View(1), (1, 1, 10)),
     (Text("\x1b[?47h"), (0, 0, 0)),

@@ -62,8 +62,8 @@ pub(crate) fn have_same_cells(one: &Screen, other: &Screen, rows: u16) -> bool {
     true
 }
 
-// The last row goes on in none that is shown: its flag counts only where scrollback is in view, and is
-// no part of the picture there.
+/// The last row goes on in none that is shown: its flag counts only where scrollback is in view, and is
+/// no part of the picture there.
 fn have_same_flags(one: &Screen, other: &Screen) -> bool {
     let (rows, _cols) = one.size();
     for row in 0..rows.get().saturating_sub(1) {

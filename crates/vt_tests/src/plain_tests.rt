@@ -8,7 +8,7 @@ use std::alloc::Global;
 use std::test::Fail;
 use vt100::{Error, Screen};
 
-// A size, a capacity of scrollback, what is done, and the text then.
+/// A size, a capacity of scrollback, what is done, and the text then.
 #[rattlefmt::skip]
 const CONTENTS: [((u16, u16), usize, &[Step], &str); 24] = [
     ((2, 4), 0, &[], ""),
@@ -84,7 +84,7 @@ fn expect_text(text: String, wanted: &str) -> Result<(), Fail> {
     }
 }
 
-// What is done, a range from one row and column to another, and its text.
+/// What is done, a range from one row and column to another, and its text.
 #[rattlefmt::skip]
 const RANGES: [(&str, (u16, u16), (u16, u16), &str); 8] = [
     ("abcdx", (0, 2), (1, 1), "cdx"),
@@ -126,7 +126,7 @@ fn expect_range(
     expect_text(range(parser.screen(), start, end)?, wanted)
 }
 
-// The text of a range of the screen; fails where it begins past the columns.
+/// The text of a range of the screen; fails where it begins past the columns.
 fn range(screen: &Screen, start: (u16, u16), end: (u16, u16)) -> Result<String, Fail> {
     let (_, cols) = screen.size();
     if start.0 < end.0 && start.1 > cols.get() {
@@ -135,7 +135,7 @@ fn range(screen: &Screen, start: (u16, u16), end: (u16, u16)) -> Result<String, 
     Ok(screen.contents_between(start.0, start.1, end.0, end.1)?)
 }
 
-// Two rows of scrollback with more columns than the screen, of which the newer one is in view.
+/// Two rows of scrollback with more columns than the screen, of which the newer one is in view.
 const LONGER: [Step; 3] = [Text("abcdef\r\nghi\r\nj"), Resize(2, 3), View(1)];
 
 #[test]

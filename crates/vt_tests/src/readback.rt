@@ -78,8 +78,8 @@ impl Asked {
         Ok(())
     }
 
-    // What a terminal reads before: where only the cursor is asked for, cells and flags; where any
-    // region will do, one of two rows, and origin mode.
+    /// What a terminal reads before: where only the cursor is asked for, cells and flags; where any
+    /// region will do, one of two rows, and origin mode.
     fn read_before(self, alloc: Global, screen: &Screen) -> Result<String, Error> {
         let mut text = String::new(alloc);
         match self {
@@ -94,7 +94,7 @@ impl Asked {
         Ok(text)
     }
 
-    // What a terminal has in common with the screen then; all else is as before.
+    /// What a terminal has in common with the screen then; all else is as before.
     fn taken(self) -> &'static [Part] {
         match self {
             Asked::Redraw | Asked::Reset | Asked::ResetOnAlternate => &PICTURE,
@@ -153,7 +153,7 @@ impl Change {
         Ok(())
     }
 
-    // What a terminal has in common with the screen then; all else is as before.
+    /// What a terminal has in common with the screen then; all else is as before.
     fn taken(self) -> &'static [Part] {
         match self {
             Change::Picture => &PICTURE,
@@ -163,7 +163,7 @@ impl Change {
     }
 }
 
-// Has a busy terminal read a text and then, in pieces, another one, and looks at it.
+/// Has a busy terminal read a text and then, in pieces, another one, and looks at it.
 fn expect_taken(
     alloc: Global,
     screen: &Screen,
@@ -193,8 +193,8 @@ fn expect_reads(
     expect_same_scrollback(reader.screen_mut(), &mut before, text)
 }
 
-// Fails where a terminal differs from the screen in one of these parts, or in another one from what it
-// was before.
+/// Fails where a terminal differs from the screen in one of these parts, or in another one from what it
+/// was before.
 fn expect_parts(
     reader: &Screen,
     screen: &Screen,
@@ -211,7 +211,7 @@ fn expect_parts(
     Ok(())
 }
 
-// Fails where a terminal's scrollback isn't what it was before.
+/// Fails where a terminal's scrollback isn't what it was before.
 fn expect_same_scrollback(
     reader: &mut Screen,
     before: &mut Screen,

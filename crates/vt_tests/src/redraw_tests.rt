@@ -66,7 +66,7 @@ const REDRAWN: [Example; 19] = [
     ((24, 80), 0, &[Text("\x1b[38;5;300m")], Attributes, "\x1b[m"),
 ];
 
-// The text that is wanted of an example.
+/// The text that is wanted of an example.
 fn wanted_text(alloc: Global, asked: Asked, text: &str) -> Result<String, Fail> {
     let mut wanted = String::new(alloc);
     match asked {
@@ -184,7 +184,7 @@ const IN_REGION: [InRegion; 5] = [
     ("", ["0:a @0,1\n", "0:a @0,1\n", "1:z @2,1\nscroll 62 0\n"]),
 ];
 
-// Fails where a terminal in one of these regions shows something else, its bytes whole or one by one.
+/// Fails where a terminal in one of these regions shows something else, its bytes whole or one by one.
 fn expect_each_redrawn(alloc: Global, screen: &Screen) -> Result<(), Fail> {
     for example in &IN_REGION {
         expect_redrawn(alloc, screen, example, Pieces::Two(usize::MAX))?;
@@ -217,7 +217,7 @@ fn expect_each_seen(
     expect_seen(alloc, reader, AT_ENDS, pieces, at_ends)
 }
 
-// Fails where something else is seen once these bytes are read.
+/// Fails where something else is seen once these bytes are read.
 fn expect_seen(
     alloc: Global,
     reader: &mut Parser<Notes>,
@@ -235,7 +235,7 @@ fn redraws_in_any_region(rt: HostRuntime) -> Result<(), Fail> {
     expect_each_redrawn(rt.alloc(), parser.screen())
 }
 
-// Each redraw of a screen begins with whether its cursor is shown, and clears the screen.
+/// Each redraw of a screen begins with whether its cursor is shown, and clears the screen.
 #[rattlefmt::skip]
 const WHOLE: [((u16, u16), &str, &str); 10] = [
     ((24, 80), "", "\x1b[?25h\x1b[m\x1b[H\x1b[J"),
@@ -256,7 +256,7 @@ const WHOLE: [((u16, u16), &str, &str); 10] = [
     ((2, 4), "\x1b[41m\x1b[1;4H", "\x1b[?25h\x1b[m\x1b[H\x1b[J\x1b[3C\x1b[41m"),
 ];
 
-// The redraw of a screen of this size that has read this text.
+/// The redraw of a screen of this size that has read this text.
 fn redrawn(alloc: Global, size: (u16, u16), text: &str) -> Result<String, Fail> {
     let parser = read(alloc, size, &[text.as_bytes()])?;
     redraw_of(parser.screen())

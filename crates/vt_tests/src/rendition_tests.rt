@@ -4,7 +4,7 @@ use crate::seen::expect_at_each_cut;
 use crate::steps::Step::Text;
 use std::test::Fail;
 
-// SGR sequences, and the attributes and calls after them.
+/// SGR sequences, and the attributes and calls after them.
 #[rattlefmt::skip]
 const RENDERED: [(&str, &str); 41] = [
     // Single numbers.

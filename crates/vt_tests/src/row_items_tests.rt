@@ -10,7 +10,7 @@ use std::test::Fail;
 use vt_notes::Notes;
 use vt100::{Error, Parser, Screen};
 
-// A size, a text, a first column and how many columns, and the texts of the rows there.
+/// A size, a text, a first column and how many columns, and the texts of the rows there.
 #[rattlefmt::skip]
 const FORMATTED: [((u16, u16), &str, (u16, u16), &[&str]); 9] = [
     ((2, 4), "abcdx", (0, 4), &["abcd", "x"]),
@@ -28,7 +28,7 @@ const FORMATTED: [((u16, u16), &str, (u16, u16), &[&str]); 9] = [
     ((1, 4), "ab中", (1, 2), &["b中"]),
 ];
 
-// The same with a text before, to whose rows the texts are the differences.
+/// The same with a text before, to whose rows the texts are the differences.
 #[rattlefmt::skip]
 const CHANGED: [((u16, u16), &str, &str, (u16, u16), &[&str]); 9] = [
     ((2, 4), "ab中x", "ab中x\x1b[1;4Hd", (0, 4), &["\x1b[2C\x1b[X\x1b[Cd", ""]),
@@ -67,7 +67,7 @@ fn rows_diff(rt: HostRuntime) -> Result<(), Fail> {
     Ok(())
 }
 
-// Fails where what a text changes is told by other texts, wherever it is cut.
+/// Fails where what a text changes is told by other texts, wherever it is cut.
 fn expect_changes(
     alloc: Global,
     prev: &Screen,
@@ -93,7 +93,7 @@ fn expect_change(
     expect_texts(changed(alloc, screen, prev, range)?, wanted)
 }
 
-// All texts of rows in a range, which has to begin at a column.
+/// All texts of rows in a range, which has to begin at a column.
 fn formatted(
     alloc: Global,
     screen: &Screen,
@@ -107,7 +107,7 @@ fn formatted(
     Ok(texts?)
 }
 
-// All differences of rows in a range, of screens that have to be of one size.
+/// All differences of rows in a range, of screens that have to be of one size.
 fn changed(
     alloc: Global,
     screen: &Screen,
@@ -135,7 +135,7 @@ fn expect_texts(texts: Vec<String>, wanted: &[&str]) -> Result<(), Fail> {
     Ok(())
 }
 
-// Rows that go on, wide glyphs and colours, and another screen of the same size.
+/// Rows that go on, wide glyphs and colours, and another screen of the same size.
 const ONE: &[u8] = b"ab\xe4\xb8\xadcd\x1b[31mxy\x1b[4;2H\x1b[44m\x1b[K";
 
 const OTHER: &[u8] = b"\x1b[32mfgh\xe4\xb8\xadij\x1b[1mklm\xe4\xb8\xadnopqr";
@@ -159,7 +159,7 @@ fn expect_change_read(alloc: Global, shown: &Screen) -> Result<(), Fail> {
     expect_read(alloc, shown, OTHER, texts)
 }
 
-// Fails where a terminal that has read these bytes, and then the texts of rows, has other cells.
+/// Fails where a terminal that has read these bytes, and then the texts of rows, has other cells.
 fn expect_read(
     alloc: Global,
     shown: &Screen,
@@ -182,7 +182,7 @@ fn read_rows(alloc: Global, reader: &mut Parser<Notes>, texts: Vec<String>) -> R
     Ok(())
 }
 
-// Has a terminal read the text of a row, from the first column on and in default attributes.
+/// Has a terminal read the text of a row, from the first column on and in default attributes.
 fn read_at(alloc: Global, reader: &mut Parser<Notes>, row: u16, text: &str) -> Result<(), Fail> {
     let mut bytes = String::new(alloc);
     write!(bytes, "\x1b[{row}H\x1b[m{text}")?;

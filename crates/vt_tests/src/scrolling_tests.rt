@@ -181,7 +181,7 @@ fn expect_wrapped_rows(rt: &impl Abort, calls: &[Note]) {
     assert!(rt; is_wrapped_row(&calls[1], "cd"));
 }
 
-// Whether this is the note of a row of two columns of the main page, with this text, that goes on in the next one.
+/// Whether this is the note of a row of two columns of the main page, with this text, that goes on in the next one.
 fn is_wrapped_row(call: &Note, text: &str) -> bool {
     match call {
         Note::OnScroll(row, false) => {
@@ -191,7 +191,7 @@ fn is_wrapped_row(call: &Note, text: &str) -> bool {
     }
 }
 
-// Rows that move down: the last row of the region doesn't go on.
+/// Rows that move down: the last row of the region doesn't go on.
 #[rattlefmt::skip]
 const MOVED_DOWN: [((u16, u16), &str, &str); 9] = [
     ((2, 2), "abc\x1b[H\x1b[L", "1:ab @0,0\n"),

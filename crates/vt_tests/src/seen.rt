@@ -37,7 +37,7 @@ pub(crate) fn expect_at_each_cut(
     expect_read_back_at_each_byte(alloc, size, capacity, steps)
 }
 
-// Fails where these steps, their bytes read like this, give something else.
+/// Fails where these steps, their bytes read like this, give something else.
 fn expect_after(
     alloc: Global,
     size: (u16, u16),
@@ -64,7 +64,7 @@ pub(crate) fn expect(
     Ok(())
 }
 
-// What a parser shows, as a line, and the lines of its calls.
+/// What a parser shows, as a line, and the lines of its calls.
 fn seen(alloc: Global, parser: &Parser<Notes>) -> Result<String, Fail> {
     let mut text = shown(alloc, parser.screen())?;
     text.push_str(parser.callbacks().lines(alloc)?.as_str())?;
@@ -218,7 +218,7 @@ fn write_modes(text: &mut String, screen: &Screen) -> Result<(), AllocError> {
     Ok(())
 }
 
-// Appends the words of what is on.
+/// Appends the words of what is on.
 fn write_words(text: &mut String, words: &[(bool, &str)]) -> Result<(), AllocError> {
     for (on, word) in words {
         if *on {

@@ -129,7 +129,7 @@ const SETTINGS: [&[&str]; 3] = [
     ],
 ];
 
-// Fails where a terminal doesn't follow from one setting to another, by any text of what differs.
+/// Fails where a terminal doesn't follow from one setting to another, by any text of what differs.
 fn expect_followed(alloc: Global, was: &str, new: &str) -> Result<(), Fail> {
     let parser = read_keeping(alloc, (1, 2), 0, &[was.as_bytes()])?;
     expect_followed_from(alloc, parser.screen(), new)

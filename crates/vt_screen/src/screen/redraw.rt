@@ -42,6 +42,11 @@ impl Screen {
     /// `same` only those.
     ///
     /// Fails where memory for the text is refused.
+    ///
+    /// ```text
+    /// // on a fresh screen
+    /// assert_eq!(screen.contents_formatted()?, "\x1b[?25h\x1b[m\x1b[H\x1b[J");
+    /// ```
     pub fn contents_formatted(&self) -> Result<String, Error>
         ensures colored { IsColored self.now }
         ensures text { IfOk result (λ text. string_bytes text ≡ bytes_of_all (redraw (shown self.now))) }
@@ -111,6 +116,11 @@ impl Screen {
     /// both show the same, and by `empty` only there.
     ///
     /// Fails where memory for the text is refused.
+    ///
+    /// ```text
+    /// // from a fresh screen to one that read `a`
+    /// assert_eq!(screen.contents_diff(&fresh)?, "a");
+    /// ```
     pub fn contents_diff(&self, prev: &Screen) -> Result<String, Error>
         requires { SameSize self.now.page prev.now.page }
         ensures text { IfOk result (λ text. string_bytes text ≡ bytes_of_all (difference (shown self.now) (shown prev.now))) }

@@ -1,69 +1,13 @@
-//! Runs on 2 rows and 4 columns, and what they write.
+//! Runs of the engine of `vtmirror` on 2 rows and 4 columns, and what they write.
 
+use crate::numbers::number;
+use crate::streams::{Broken, Closed, Slow, Unflushed};
 use std::alloc::Global;
 use std::io;
 use std::io::{Read, Write};
-use std::num::NonZeroU16;
 use std::test::Fail;
 use vt_mirror::run;
 use vt_show::Fault;
-
-/// Gives its bytes at reads of at most so many of them, and fails behind them.
-#[derive(Drop)]
-struct Broken<'a> {
-    bytes: &'a [u8],
-    at_once: usize,
-}
-
-impl Read for Broken<'_> {
-    fn read(&mut self, buf: &mut [u8]) -> io::Result<usize> {
-        if self.bytes.is_empty() {
-            return Err(io::Error::from(io::ErrorKind::Interrupted));
-        }
-        let size = buf.len().min(self.at_once);
-        self.bytes.read(&mut buf[..size])
-    }
-}
-
-/// Gives its bytes one at a read.
-#[derive(Drop)]
-struct Slow<'a>(&'a [u8]);
-
-impl Read for Slow<'_> {
-    fn read(&mut self, buf: &mut [u8]) -> io::Result<usize> {
-        let size = buf.len().min(1);
-        self.0.read(&mut buf[..size])
-    }
-}
-
-/// Refuses every write, and counts them.
-#[derive(Drop)]
-struct Closed(u32);
-
-impl Write for Closed {
-    fn write(&mut self, _buf: &[u8]) -> io::Result<usize> {
-        self.0 = self.0.saturating_add(1);
-        Err(io::Error::from(io::ErrorKind::BrokenPipe))
-    }
-
-    fn flush(&mut self) -> io::Result<()> {
-        Ok(())
-    }
-}
-
-/// Takes every write, and refuses to flush.
-#[derive(Drop)]
-struct Unflushed(Vec<u8>);
-
-impl Write for Unflushed {
-    fn write(&mut self, buf: &[u8]) -> io::Result<usize> {
-        self.0.write(buf)
-    }
-
-    fn flush(&mut self) -> io::Result<()> {
-        Err(io::Error::from(io::ErrorKind::Other))
-    }
-}
 
 fn run_every<R: Read, W: Write>(
     alloc: Global,
@@ -71,10 +15,14 @@ fn run_every<R: Read, W: Write>(
     writer: &mut W,
     every: u16,
 ) -> Result<Result<(), Fault>, Fail> {
-    let rows = NonZeroU16::new(2).ok_or("no rows")?;
-    let cols = NonZeroU16::new(4).ok_or("no columns")?;
-    let every = NonZeroU16::new(every).ok_or("no bytes")?;
-    Ok(run(alloc, reader, writer, rows, cols, every))
+    Ok(run(
+        alloc,
+        reader,
+        writer,
+        number(2)?,
+        number(4)?,
+        number(every)?,
+    ))
 }
 
 /// How many bytes are read between updates, an input, and what is written behind the first text, that
@@ -83,7 +31,7 @@ type Example = (u16, &'static str, &'static str);
 
 const BLANK: &str = "\x1b[?25h\x1b[m\x1b[H\x1b[J";
 
-// An update tells what is shown then; what was shown in between is not written.
+/// An update tells what is shown then; what was shown in between is not written.
 #[rattlefmt::skip]
 const RUNS: [Example; 8] = [
     (2, "abcd", "abcd"),
@@ -133,6 +81,7 @@ fn keeps_what_was_written_where_a_read_fails(rt: HostRuntime) -> Result<(), Fail
         let mut broken = Broken {
             bytes: b"abc",
             at_once: 2,
+            kind: io::ErrorKind::Interrupted,
         };
         let mut written = Vec::new(rt.alloc());
         let done = run_every(rt.alloc(), &mut broken, &mut written, every)?;

@@ -53,7 +53,7 @@ const ONE_AND_ANOTHER: [Call; 16] = [
     Call::Join(2),
 ];
 
-// Each viewer has what it was told itself; numbers go on.
+/// Each viewer has what it was told itself; numbers go on.
 #[rattlefmt::skip]
 const APART: [Call; 19] = [
     Call::Nobody(0),
@@ -77,7 +77,7 @@ const APART: [Call; 19] = [
     Call::Nobody(u64::MAX),
 ];
 
-// A resize is for all viewers, one to the size before it, too, and one that was told nothing yet.
+/// A resize is for all viewers, one to the size before it, too, and one that was told nothing yet.
 #[rattlefmt::skip]
 const RESIZED: [Call; 14] = [
     Call::Process("ab"),

@@ -1,0 +1,16 @@
+//! Tests of mirrors, and of what no clause says of the engines of `vtshow` and `vtmirror`: that runs
+//! succeed, what they write, and the words of the programs.
+#![tactic(auto)]
+
+#[cfg(test)]
+mod mirror_tests;
+#[cfg(test)]
+mod numbers;
+#[cfg(test)]
+mod streams;
+#[cfg(test)]
+mod vtmirror_tests;
+#[cfg(test)]
+mod vtshow_tests;
+#[cfg(test)]
+mod words_tests;

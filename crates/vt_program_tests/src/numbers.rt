@@ -1,0 +1,9 @@
+//! Numbers that tests write down.
+
+use std::num::NonZeroU16;
+use std::test::Fail;
+
+/// A number of rows, columns or bytes; 0 fails the test.
+pub(crate) fn number(n: u16) -> Result<NonZeroU16, Fail> {
+    Ok(NonZeroU16::new(n).ok_or("no number")?)
+}

@@ -1,0 +1,62 @@
+//! Readers and writers that give or take little, or fail.
+
+use std::io;
+use std::io::{Read, Write};
+
+/// Gives its bytes at reads of at most so many of them, and fails behind them with this kind of error.
+#[derive(Drop)]
+pub(crate) struct Broken<'a> {
+    pub(crate) bytes: &'a [u8],
+    pub(crate) at_once: usize,
+    pub(crate) kind: io::ErrorKind,
+}
+
+impl Read for Broken<'_> {
+    fn read(&mut self, buf: &mut [u8]) -> io::Result<usize> {
+        if self.bytes.is_empty() {
+            return Err(io::Error::from(self.kind));
+        }
+        let size = buf.len().min(self.at_once);
+        self.bytes.read(&mut buf[..size])
+    }
+}
+
+/// Gives its bytes one at a read.
+#[derive(Drop)]
+pub(crate) struct Slow<'a>(pub(crate) &'a [u8]);
+
+impl Read for Slow<'_> {
+    fn read(&mut self, buf: &mut [u8]) -> io::Result<usize> {
+        let size = buf.len().min(1);
+        self.0.read(&mut buf[..size])
+    }
+}
+
+/// Refuses every write, and counts them.
+#[derive(Drop)]
+pub(crate) struct Closed(pub(crate) u32);
+
+impl Write for Closed {
+    fn write(&mut self, _buf: &[u8]) -> io::Result<usize> {
+        self.0 = self.0.saturating_add(1);
+        Err(io::Error::from(io::ErrorKind::BrokenPipe))
+    }
+
+    fn flush(&mut self) -> io::Result<()> {
+        Ok(())
+    }
+}
+
+/// Takes every write, and refuses to flush.
+#[derive(Drop)]
+pub(crate) struct Unflushed(pub(crate) Vec<u8>);
+
+impl Write for Unflushed {
+    fn write(&mut self, buf: &[u8]) -> io::Result<usize> {
+        self.0.write(buf)
+    }
+
+    fn flush(&mut self) -> io::Result<()> {
+        Err(io::Error::from(io::ErrorKind::Other))
+    }
+}

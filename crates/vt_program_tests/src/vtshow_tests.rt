@@ -1,0 +1,95 @@
+//! Runs of the engine of `vtshow`, and what they write.
+
+use crate::numbers::number;
+use crate::streams::{Broken, Closed, Unflushed};
+use std::alloc::Global;
+use std::io;
+use std::io::{Read, Write};
+use std::test::Fail;
+use vt_show::{Fault, Mode, run};
+
+/// A size, a mode, an input, and what is written.
+type Example = ((u16, u16), Mode, &'static str, &'static str);
+
+#[rattlefmt::skip]
+const RUNS: [Example; 3] = [
+    ((4, 4), Mode::Plain, "abcd\x1b[31mx\r\n", "abcdx"),
+    ((4, 4), Mode::Basic, "abcd\x1b[31mx\r\n", "abcd\x1b[31mx\n\n"),
+    (
+        (24, 80),
+        Mode::Formatted,
+        "this text is \x1b[31mRED\x1b[m",
+        "\x1b[?25h\x1b[m\x1b[H\x1b[Jthis text is \x1b[31mRED\x1b[m",
+    ),
+];
+
+#[test]
+fn writes_the_screen(rt: HostRuntime) -> Result<(), Fail> {
+    for ((rows, cols), mode, input, wanted) in &RUNS {
+        let mut written = Vec::new(rt.alloc());
+        let done = run(
+            rt.alloc(),
+            &mut input.as_bytes(),
+            &mut written,
+            number(*rows)?,
+            number(*cols)?,
+            *mode,
+        );
+        assert_eq!(rt; done, Ok(()));
+        assert_eq!(rt; written.as_slice(), wanted.as_bytes());
+    }
+    Ok(())
+}
+
+/// A run on 2 rows and 4 columns.
+fn run_small<R: Read, W: Write>(
+    alloc: Global,
+    reader: &mut R,
+    writer: &mut W,
+) -> Result<Result<(), Fault>, Fail> {
+    Ok(run(
+        alloc,
+        reader,
+        writer,
+        number(2)?,
+        number(4)?,
+        Mode::Formatted,
+    ))
+}
+
+#[test]
+fn writes_nothing_where_a_read_fails(rt: HostRuntime) -> Result<(), Fail> {
+    for kind in [io::ErrorKind::Other, io::ErrorKind::Interrupted] {
+        let mut broken = Broken {
+            bytes: b"ab",
+            at_once: 2,
+            kind,
+        };
+        let mut written = Vec::new(rt.alloc());
+        let done = run_small(rt.alloc(), &mut broken, &mut written)?;
+        assert_eq!(rt; done, Err(Fault::Read));
+        assert_eq!(rt; written.len(), 0);
+    }
+    Ok(())
+}
+
+#[test]
+fn fails_where_a_write_is_refused(rt: HostRuntime) -> Result<(), Fail> {
+    let mut closed = Closed(0);
+    let done = run_small(rt.alloc(), &mut b"ab".as_slice(), &mut closed)?;
+    assert_eq!(rt; done, Err(Fault::Write));
+    assert_eq!(rt; closed.0, 1);
+    Ok(())
+}
+
+#[test]
+fn fails_where_a_flush_is_refused(rt: HostRuntime) -> Result<(), Fail> {
+    let mut unflushed = Unflushed(Vec::new(rt.alloc()));
+    let done = run_small(rt.alloc(), &mut b"ab".as_slice(), &mut unflushed)?;
+    assert_eq!(rt; done, Err(Fault::Write));
+    assert_eq!(rt;
+        unflushed.0.as_slice(),
+        b"\x1b[?25h\x1b[m\x1b[H\x1b[Jab".as_slice()
+    );
+    Ok(())
+}
