@@ -9,3 +9,5 @@ pub mod Parting
 pub mod Pieces
 pub mod Streams
 pub mod Sizes
+pub mod Sizing
+pub mod Fresh

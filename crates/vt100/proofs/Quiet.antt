@@ -22,7 +22,7 @@ use Rattle.vt_screen.specs.Controls.{seen_of, steps_of}
 use Rattle.vt_screen.specs.Steps.{Step, Print, CarriageReturn, LineFeed, ReverseIndex, MoveUp, MoveDown, MoveLeft, NextLine, PreviousLine, Tab, MoveToColumn, MoveToRow, SetRegion, UseOrigin, EraseAbove, ErasePage, EraseScrollback, EraseStart, EraseRow, InsertChars, DeleteChars, InsertLines, DeleteLines, ScrollDown, ScrollUp, MoveRight, MoveTo, EraseBelow, EraseRest, EraseChars, Render, HideCursor, UseApplicationCursor, UseBracketedPaste, SetMouseMode, ClearMouseMode, SetMouseEncoding, ClearMouseEncoding, SetCursorStyle, SaveCursor, RestoreCursor, EnterAlternate, EnterFresh, LeaveAlternate, LeaveRestoring, Reset, UseApplicationKeypad, Tell, Grows, outgoing, stepped}
 use Rattle.vt_screen.specs.Reading.{Terminal, terminal, grows, quiet_step, quiet_steps, quiet_events, read, read_byte}
 use Rattle.vt_screen.proofs.Readback.{and_then-some}
-use Rattle.vt100.specs.Parser.{Parsing, Ran, Stopped, Collects, stage}
+use Rattle.vt100.specs.Parser.{IsHarmless, Parsing, Ran, Stopped, Collects, stage}
 use Rattle.vt100.proofs.Running.{folds_parted}
 
 abbrev IsNone : {A : Type 0} → Option A → Type 0
@@ -308,3 +308,6 @@ never_refused {S} does p old q bytes s t scanner same stopped stands told =
       | inl before ↦ read_calmly bytes (terminal s old.screen) t before.count told before.inside (before.refused s ready)
       | inr within ↦ read_unbroken does bytes (terminal s old.screen) t old.callbacks (stage q) told (subst (λ (z : act.State S). StopsIn (Performs does) (Breaks does) z (run s bytes).events (stage q)) same (within s ready))
     ]
+
+pub quietly_harmless : {S : Type 0} (does : CallValue → S → ScreenValue → S → ScreenValue → Type 0) (p : Parsing S) (bytes : List ℕ) (s : State) (t : Terminal) → StandsFor p.scanner s → read (terminal s p.screen) bytes ≡ Some t → IsHarmless does p bytes
+quietly_harmless does p bytes s t stands told q stopped = never_refused does p p q bytes s t refl refl stopped stands told

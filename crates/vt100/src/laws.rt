@@ -2,18 +2,20 @@
 //! their clauses say what is proved.
 
 ghost use Rattle.std.specs.List.{AllByRecursion, FoldsTo};
-ghost use Rattle.std.specs.Prelude.{◌≡◌, ℕ, Bool, false, true, List, [], ◌∷◌, ◌++◌, Some};
-ghost use Rattle.vt100.specs.Parser.{Parsing, Ran, Stopped, pieces_joined, quietly};
+ghost use Rattle.std.specs.Prelude.{◌≡◌, ◌<◌, ℕ, Bool, false, true, List, [], ◌∷◌, ◌++◌, Some, length, map};
+ghost use Rattle.vt100.specs.Parser.{IsHarmless, Parsing, Ran, Stopped, parsing, pieces_joined, quietly};
 ghost use Rattle.vt100.specs.Pieces.{HasRead, IsFine, IsPlainParser, Processes, Processing, ShowsLast, bytes_in};
-ghost use Rattle.vt100.specs.Streams.{IsFreshParser, IsRecorder, MakesCall, ParserCall, bytes_of_calls, screen_by, told_by, whole_text};
+ghost use Rattle.vt100.specs.Streams.{IsFreshParser, IsRecorder, MakesCall, ParserCall, Process, bytes_of_calls};
+ghost use Rattle.vt100.specs.Streams.{screen_by, told_by, whole_text};
 ghost use Rattle.vt_grid.specs.Page.{SameSize};
 ghost use Rattle.vt_rows.specs.Basic.{Written, unwritten};
 ghost use Rattle.vt_scan.specs.Automaton.{State, start};
 ghost use Rattle.vt_scan.specs.Scanner.{StandsFor};
 ghost use Rattle.vt_screen.specs.Capture.{all_rows, basic_texts};
 ghost use Rattle.vt_screen.specs.Chain.{CanShowOn, chain_text, last_screen};
+ghost use Rattle.vt_screen.specs.Pages.{resized};
 ghost use Rattle.vt_screen.specs.Reading.{Terminal, read, terminal};
-ghost use Rattle.vt_screen.specs.Screen.{IsScreen, ScreenValue};
+ghost use Rattle.vt_screen.specs.Screen.{IsScreen, ScreenValue, fresh_screen};
 ghost use Rattle.vt_screen.specs.Streamed.{AreAlike, HasNoRis, HasWideFlags, rows_told, sent_off_in, streamed_text};
 ghost use Rattle.vt_screen.specs.Telling.{Heard, LeavesScreen, calls_in};
 
@@ -43,6 +45,78 @@ pub fn sizes<CB: Callbacks>()
     ensures ran { (p q : Parsing CB) (bytes : List ℕ) → LeavesScreen CB.does → IsScreen p.screen → ∥ ((state : State) × StandsFor p.scanner state) ∥₁ → Ran CB.does p bytes q → SameSize q.screen.page p.screen.page }
     ensures stopped { (p q : Parsing CB) (bytes : List ℕ) → LeavesScreen CB.does → IsScreen p.screen → ∥ ((state : State) × StandsFor p.scanner state) ∥₁ → Stopped CB.does p bytes q → SameSize q.screen.page p.screen.page }
     ensures nobody { LeavesScreen quietly }
+{}
+
+/// A new parser is a fresh one of the size and capacity that were asked for, and
+/// plain: it has not failed, is in the midst of nothing, its region is the whole
+/// page, origin mode is off, and no scrollback is in view. Its screen has that
+/// size.
+///
+/// The premises of `fresh` and `plain` hold of each parser that `Parser::new`,
+/// `Parser::default` and `Parser::new_with_callbacks` give, by their clauses
+/// `begun` and `shown` and the clause `whole` of `Screen::size`.
+pub fn fresh_parsers<CB: Callbacks>()
+    ensures fresh {
+        (rows cols capacity : ℕ) (p : Parsing CB) → IsScreen p.screen → StandsFor p.scanner start
+        → p ≡ parsing p.scanner (fresh_screen rows cols capacity) p.callbacks
+        → IsFreshParser rows cols capacity p
+    }
+    ensures plain {
+        (rows cols capacity : ℕ) (p : Parsing CB) → IsScreen p.screen → StandsFor p.scanner start
+        → p ≡ parsing p.scanner (fresh_screen rows cols capacity) p.callbacks → IsPlainParser p
+    }
+    ensures rows {
+        (rows cols capacity : ℕ) (p : Parsing CB) → IsFreshParser rows cols capacity p
+        → length p.screen.page.rows ≡ rows
+    }
+    ensures cols {
+        (rows cols capacity : ℕ) (p : Parsing CB) → IsFreshParser rows cols capacity p
+        → p.screen.page.width ≡ cols
+    }
+{}
+
+/// A parser that took another size has that size, and is plain if it was. The
+/// premise that it took the size is the clause `ok` of `Parser::set_size`.
+pub fn resized_parsers<CB: Callbacks>()
+    ensures plain {
+        (rows cols : ℕ) (p q : Parsing CB) → 0 < rows
+        → q ≡ record p { screen = resized rows cols p.screen; callbacks = q.callbacks }
+        → IsPlainParser p → IsPlainParser q
+    }
+    ensures rows {
+        (rows cols : ℕ) (p q : Parsing CB)
+        → q ≡ record p { screen = resized rows cols p.screen; callbacks = q.callbacks }
+        → length q.screen.page.rows ≡ rows
+    }
+    ensures cols {
+        (rows cols : ℕ) (p q : Parsing CB)
+        → q ≡ record p { screen = resized rows cols p.screen; callbacks = q.callbacks }
+        → q.screen.page.width ≡ cols
+    }
+{}
+
+/// What is read quietly as one text is so in every run over its bytes, whatever
+/// the callbacks: a parser that then has not failed has become what reading
+/// made of it (`ran`). So it has after calls of `process` whose slices joined
+/// are the text, where these are told as what they make (`made`). And no such
+/// run can be refused memory (`harmless`), so that `process` answers Ok.
+pub fn quiet_runs<CB: Callbacks>()
+    ensures ran {
+        (p q : Parsing CB) (bytes : List ℕ) (state : State) (after : Terminal)
+        → StandsFor p.scanner state → read (terminal state p.screen) bytes ≡ Some after
+        → Ran CB.does p bytes q → q.is_failed ≡ false → HasRead p after q
+    }
+    ensures made {
+        (p q : Parsing CB) (pieces : List (List ℕ)) (state : State) (after : Terminal)
+        → StandsFor p.scanner state
+        → read (terminal state p.screen) (pieces_joined pieces) ≡ Some after
+        → FoldsTo (MakesCall CB.does) p (map Process pieces) q → q.is_failed ≡ false → HasRead p after q
+    }
+    ensures harmless {
+        (p : Parsing CB) (bytes : List ℕ) (state : State) (after : Terminal)
+        → StandsFor p.scanner state → read (terminal state p.screen) bytes ≡ Some after
+        → IsHarmless CB.does p bytes
+    }
 {}
 
 /// What is read quietly as one text is read so by every parser, whatever its

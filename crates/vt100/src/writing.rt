@@ -5,7 +5,8 @@ ghost use Rattle.std.specs.Io.KnownBytes.{WriteAppends};
 ghost use Rattle.std.specs.IoError.{error_kind};
 ghost use Rattle.std.specs.Prelude.{◌≡◌, ◌↔◌, IfErr, IfOk, IsErr, None, Ok, false, length, true};
 ghost use Rattle.std.specs.declared.io.ErrorKind.TheVariants.{Other, OutOfMemory};
-ghost use Rattle.vt100.specs.Parser.{Ran, Stopped, quietly};
+ghost use Rattle.vt100.specs.Parser.{IsHarmless, Ran, Stopped, quietly};
+ghost use Rattle.vt100.specs.Pieces.{Processes, processing};
 
 use crate::parser::Parser;
 use std::io;
@@ -18,6 +19,10 @@ impl Write for Parser<()> {
     ///
     /// Its errors are of the kind `OutOfMemory` where memory is refused, and
     /// of the kind `Other` from then on.
+    ///
+    /// A text whose reading calls nobody and takes no memory is read as by a
+    /// call of `process` that answers Ok (`quiet`); then this one answers Ok,
+    /// too, by `harmless` and [`quiet_runs`](crate::laws::quiet_runs).
     fn write(&mut self, buf: &[u8]) -> io::Result<usize>
         ensures bound { WritesAtMost result buf.now }
         ensures bytes { WriteAppends None None result buf.now }
@@ -27,6 +32,10 @@ impl Write for Parser<()> {
         ensures stopped { self.old.is_failed ≡ false → IsErr result → Stopped quietly self.old buf.now self.new }
         ensures refused { self.old.is_failed ≡ false → IfErr result (λ error. error_kind error ≡ OutOfMemory) }
         ensures failed { self.old.is_failed ≡ true → self.new ≡ self.old }
+        ensures harmless {
+            self.old.is_failed ≡ false → IsHarmless quietly self.old buf.now → result ≡ Ok (length buf.now)
+        }
+        ensures quiet { Processes self.old (processing buf.now (Ok tt)) self.new }
         ensures after { self.old.is_failed ≡ true → IfErr result (λ error. error_kind error ≡ Other) }
     {
         match self.process(buf) {

@@ -1,5 +1,4 @@
 pub mod Bookkeeping
 pub mod Noted
 pub mod Processing
-pub mod Sizing
 pub mod Watching

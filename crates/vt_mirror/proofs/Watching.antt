@@ -24,7 +24,7 @@ use Rattle.vt_mirror.specs.declared.update.Update.{Update}
 use Rattle.vt_mirror.specs.declared.update.Update.TheVariants.{Diff, Full}
 use Rattle.vt_mirror.proofs.Bookkeeping.{by_number, none_some}
 use Rattle.vt_mirror.proofs.Noted.{noted_copy, noted_join, noted_leave, noted_none, noted_parser, noted_same}
-use Rattle.vt_mirror.proofs.Sizing.{resized_plain, resized_size}
+use Rattle.vt100.proofs.Sizing.{resized_plain, resized_size}
 
 -- ---- the mirror
 

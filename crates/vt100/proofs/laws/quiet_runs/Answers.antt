@@ -1,0 +1,8 @@
+use Rattle.vt100.proofs.Pieces.{made_read, ran_read}
+use Rattle.vt100.proofs.Quiet.{quietly_harmless}
+use Rattle.vt100.proofs.laws.quiet_runs.Goals as goal
+
+pub returns : goal.returns
+returns g c =
+    let does = g.CB.Callbacks.does in
+    record { ran = ran_read does; made = made_read does; harmless = quietly_harmless does }
