@@ -2,6 +2,7 @@ pub mod ReadbackSgr
 pub mod ReadbackTexts
 pub mod Readback
 pub mod Shown
+pub mod Seen
 pub mod Redrawing
 pub mod Became
 pub mod Telling

@@ -10,12 +10,12 @@ use Rattle.vt_grid.specs.Scrollback.{Scrollback, no_scrollback, visible, last_of
 use Rattle.vt_redraw.specs.Picture.{IsPicture, IsColoredPicture, cut_rows, picture_of, picture_over}
 use Rattle.vt_redraw.proofs.Cuts.{IsAnyRow, picture_over_is, picture_over_page}
 use Rattle.vt_screen.specs.Screen.{ScreenValue, IsScreen, IsColored, IsColoredRow, AreColored, above_page, canvas_of, visible_rows}
-use Rattle.vt_screen.specs.Shown.{IsPlain, shown}
+use Rattle.vt_screen.specs.Shown.{IsPlain, ShowsOwnPage, shown}
 use Rattle.vt_screen.proofs.ColoredMoves.{colored_moved}
 
 -- ---- the rows in view
 
-length_visible : (above : Scrollback) (rows : List RowValue) → length (visible above rows) ≡ length rows
+pub length_visible : (above : Scrollback) (rows : List RowValue) → length (visible above rows) ≡ length rows
 length_visible above rows =
     let old = last_of above.offset above.rows in
     let taken = length-take (length rows) (old ++ rows) in
@@ -77,8 +77,11 @@ shown_colored s is colored =
       cells = cut_colored s.page.width (visible_rows s) (recursion_from_All IsColoredRow (visible_rows s) rows);
     }
 
--- ---- a plain screen
+-- ---- a screen with no scrollback in view
+
+pub own_shown : (s : ScreenValue) → IsScreen s → ShowsOwnPage s → shown s ≡ picture_of (canvas_of s)
+own_shown s is none =
+    ap (λ (rows : List RowValue). picture_over rows (canvas_of s)) (none_above (above_page s) s.page.rows none) ∙ picture_over_page (canvas_of s) is.page
 
 pub plain_shown : (s : ScreenValue) → IsScreen s → IsPlain s → shown s ≡ picture_of (canvas_of s)
-plain_shown s is plain =
-    ap (λ (rows : List RowValue). picture_over rows (canvas_of s)) (none_above (above_page s) s.page.rows plain.offset) ∙ picture_over_page (canvas_of s) is.page
+plain_shown s is plain = own_shown s is plain.offset
