@@ -11,7 +11,9 @@ ghost use Rattle.vt_rows.specs.Cells.{at};
 ghost use Rattle.vt_scan.specs.Automaton.{State};
 ghost use Rattle.vt_screen.specs.Capture.{basic_texts};
 ghost use Rattle.vt_screen.specs.Contents.{between_of, contents_of};
-ghost use Rattle.vt_screen.specs.Screen.{IsScreen, ScreenValue, fresh_screen, visible_row, visible_rows};
+ghost use Rattle.vt_screen.specs.Pages.{resized};
+ghost use Rattle.vt_screen.specs.Screen.{IsScreen, ScreenValue, fresh_screen, scrolled_back, visible_row, visible_rows};
+ghost use Rattle.vt_screen.specs.Selectors.{HasNoSelectors, ReadsNoSelector};
 ghost use Rattle.vt_screen.specs.Shown.{ShowSamePage, ShowsNoSelector, ShowsOwnPage, shown};
 ghost use Rattle.vt_screen.specs.Streamed.{AreAlike, HasNoRis, HasWideFlags, bare, rows_told, sent_off_in};
 ghost use Rattle.vt_screen.specs.Telling.{calls_in, screen_in};
@@ -60,6 +62,22 @@ pub fn same_shown()
 /// shows a steady picture, whatever the widths of its characters are.
 pub fn plain_steady()
     ensures { (screen : ScreenValue) → IsScreen screen → ShowsNoSelector screen → IsSteady (shown screen) }
+{}
+
+/// Where no character that bytes read is U+FE0F, none comes into a cell: a
+/// screen that has none on either page and in scrollback, as a fresh one has
+/// none (`fresh`), has none after a run whose callbacks leave the screen alone
+/// (`ran`), in another size (`sized`) and scrolled back (`viewed`). What it
+/// shows has none then (`shown`), and is steady by `plain_steady`.
+pub fn no_selectors()
+    ensures fresh { (rows cols capacity : ℕ) → HasNoSelectors (fresh_screen rows cols capacity) }
+    ensures ran { (scan : State) (screen : ScreenValue) (bytes : List ℕ) → IsScreen screen →
+        HasNoSelectors screen → ReadsNoSelector scan bytes → HasNoSelectors (screen_in scan screen bytes) }
+    ensures sized { (rows cols : ℕ) (screen : ScreenValue) → IsScreen screen → HasNoSelectors screen →
+        HasNoSelectors (resized rows cols screen) }
+    ensures viewed { (rows : ℕ) (screen : ScreenValue) → IsScreen screen → HasNoSelectors screen →
+        HasNoSelectors (scrolled_back rows screen) }
+    ensures shown { (screen : ScreenValue) → HasNoSelectors screen → ShowsNoSelector screen }
 {}
 
 /// A fresh screen is captured as line ends alone, one less than its rows.
