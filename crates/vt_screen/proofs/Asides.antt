@@ -86,7 +86,11 @@ pub kept_sent : (height : ℕ) (gone : List RowValue) (page : Page) (last : Opti
     → IsKept page last (record aside { active = pushed height width gone aside.active })
 kept_sent height gone page last aside width sound colored k =
     kept_above page last aside (pushed height width gone aside.active) (nothing_pushed height width gone aside.active)
-    (λ a. record { sound = IsScrollback-pushed height width gone aside.active sound a.sound; colored = stable_pushed coloring height width gone aside.active colored a.colored }) k
+    (λ a. record {
+      sound = IsScrollback-pushed height width gone aside.active sound a.sound;
+      colored = stable_pushed coloring height width gone aside.active colored a.colored;
+    })
+    k
 
 pub above_none : (capacity : ℕ) → IsAbove (no_scrollback capacity)
 above_none capacity = record { sound = record { kept = omega arith; in_view = omega arith; sound = λ i d h. absurd (omega (arith, h)) }; colored = λ i d h. absurd (omega (arith, h)) }
@@ -99,7 +103,11 @@ kept_cleared page last aside k =
 pub kept_viewed : (height width n : ℕ) (page : Page) (last : Option ℕ) (aside : Aside) → IsKept page last aside → IsKept page last (record aside { active = viewed height width n aside.active })
 kept_viewed height width n page last aside k =
     kept_above page last aside (viewed height width n aside.active) (nothing_viewed height width n aside.active)
-    (λ a. record { sound = IsScrollback-viewed height width n aside.active a.sound; colored = stable_viewed coloring height width n aside.active a.colored }) k
+    (λ a. record {
+      sound = IsScrollback-viewed height width n aside.active a.sound;
+      colored = stable_viewed coloring height width n aside.active a.colored;
+    })
+    k
 
 pub kept_out_of_view : (page : Page) (last : Option ℕ) (aside : Aside) → IsKept page last aside → IsKept page last (record aside { active = out_of_view aside.active })
 kept_out_of_view page last aside k =
@@ -274,5 +282,8 @@ kept_resized height width page last aside idle a b c d main n k =
       entered = λ e. absurd (false≢true (sym main ∙ e));
       nothing = nothing_back aside.is_alternate (scrollback_resized height page aside.active) idle main n;
       above = main_back aside.is_alternate (scrollback_resized height page aside.active) idle main
-          (record { sound = scrollback_resized_is height page aside.active k.sound above.sound; colored = stable_scrollback_resized coloring height page aside.active k.colored above.colored });
+          (record {
+            sound = scrollback_resized_is height page aside.active k.sound above.sound;
+            colored = stable_scrollback_resized coloring height page aside.active k.colored above.colored;
+          });
     }

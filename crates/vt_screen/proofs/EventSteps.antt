@@ -1,4 +1,4 @@
--- What the steps of each event are: what they print, whether they start the screen anew, and that they tell of no row themselves.
+-- The steps of each event: what they print, whether they start the screen anew, and that they tell of no row.
 use Rattle.std.proofs.Common.{◌≡◌, ◌≢◌, ℕ, zero, suc, ◌==◌, Bool, true, false, List, [], ◌∷◌, ◌++◌, Option, Some, None, refl, ap, replicate, arith}
 use Rattle.std.specs.Prelude.{◌||◌, IfSome, if◌then◌else◌}
 use Rattle.std.specs.Char.{IsScalar}

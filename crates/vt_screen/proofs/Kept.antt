@@ -41,21 +41,30 @@ pub kept_to : (r c : ℕ) (page : Page) (last : Option ℕ) (aside : Aside) → 
 kept_to r c page last aside k = kept_page page (moved_to r c page) last aside (page_moved_to r c page k.sound) k.colored (same_moved_to r c page) k
 
 pub kept_fed : (page : Page) (last : Option ℕ) (aside : Aside) → IsKept page last aside → IsKept (line_feed page) last aside
-kept_fed page last aside k = kept_page page (line_feed page) last aside (page_line_feed page k.sound) (stable_line_feed coloring page k.colored) (same_line_feed page) k
+kept_fed page last aside k =
+    kept_page page (line_feed page) last aside (page_line_feed page k.sound) (stable_line_feed coloring page k.colored)
+    (same_line_feed page) k
 
 pub kept_erased_chars : (n : ℕ) (attrs : Attrs) (page : Page) (last : Option ℕ) (aside : Aside) → FitsAttrs attrs → IsKept page last aside → IsKept (erased_chars n attrs page) last aside
-kept_erased_chars n attrs page last aside h k = kept_page page (erased_chars n attrs page) last aside (page_erased_chars n attrs page k.sound) (stable_erased_chars coloring n attrs page h k.colored) (same_erased_chars n attrs page) k
+kept_erased_chars n attrs page last aside h k =
+    kept_page page (erased_chars n attrs page) last aside (page_erased_chars n attrs page k.sound)
+    (stable_erased_chars coloring n attrs page h k.colored) (same_erased_chars n attrs page) k
 
 pub kept_erased_rest : (attrs : Attrs) (page : Page) (last : Option ℕ) (aside : Aside) → FitsAttrs attrs → IsKept page last aside → IsKept (erased_rest attrs page) last aside
-kept_erased_rest attrs page last aside h k = kept_page page (erased_rest attrs page) last aside (page_erased_rest attrs page k.sound) (stable_erased_rest coloring attrs page h k.colored) (same_erased_rest attrs page) k
+kept_erased_rest attrs page last aside h k =
+    kept_page page (erased_rest attrs page) last aside (page_erased_rest attrs page k.sound)
+    (stable_erased_rest coloring attrs page h k.colored) (same_erased_rest attrs page) k
 
 pub kept_erased_below : (attrs : Attrs) (page : Page) (last : Option ℕ) (aside : Aside) → FitsAttrs attrs → IsKept page last aside → IsKept (erased_below attrs page) last aside
-kept_erased_below attrs page last aside h k = kept_page page (erased_below attrs page) last aside (page_erased_below attrs page k.sound) (stable_erased_below coloring attrs page h k.colored) (same_erased_below attrs page) k
+kept_erased_below attrs page last aside h k =
+    kept_page page (erased_below attrs page) last aside (page_erased_below attrs page k.sound)
+    (stable_erased_below coloring attrs page h k.colored) (same_erased_below attrs page) k
 
 pub kept_printed : (c : ℕ) (attrs : Attrs) (page : Page) (last new : Option ℕ) (aside : Aside) → IsScalar c → c ≢ 0xFFFD → IfSome new IsPrintable → FitsAttrs attrs → IsKept page last aside → IsKept (printed c attrs page) new aside
 kept_printed c attrs page last new aside scalar other printable h k =
     kept_last (printed c attrs page) last new aside printable
-    (kept_page page (printed c attrs page) last aside (page_printed c attrs page scalar other k.sound) (stable_printed coloring c attrs page tt h k.colored) (same_printed c attrs page) k)
+    (kept_page page (printed c attrs page) last aside (page_printed c attrs page scalar other k.sound)
+    (stable_printed coloring c attrs page tt h k.colored) (same_printed c attrs page) k)
 
 pub kept_saved : (page : Page) (last : Option ℕ) (aside : Aside) → IsKept page last aside → IsKept (cursor_saved page) last aside
 kept_saved page last aside k = kept_page page (cursor_saved page) last aside (page_cursor_saved page k.sound) k.colored (same_cursor_saved page) k

@@ -1,4 +1,4 @@
--- What is shown, cell by cell: without U+FE0F it is steady; and of two screens that show the same, getters answer the same.
+-- What is shown, cell by cell: without U+FE0F it is steady; of two screens that show the same, getters answer the same.
 use Rattle.std.proofs.Common.{◌≡◌, ℕ, zero, suc, ◌+◌, ◌-◌, ◌<◌, ◌==◌, ◌&&◌, nat_lt, not, false, min, List, [], ◌∷◌, ◌++◌, length, inl, inr, refl, sym, ap, ◌∙◌, arith}
 use Rattle.std.specs.Prelude.{if◌then◌else◌, All, chars}
 use Rattle.std.specs.List.{list_any, AllByRecursion, flat_map, range_with_len}
@@ -98,7 +98,8 @@ plain_steady s is none =
 pub shown_cell : (s : ScreenValue) (r col : ℕ) → IsScreen s → col + 1 < s.page.width
     → at (row_of_picture (shown s) r).cells col ≡ at (visible_row s r).cells col
 shown_cell s r col is lt =
-    cut_rows_inner s.page.width (visible_rows s) r col (recursion_from_All IsAnyRow (visible_rows s) (any_visible s is)) lt
+    cut_rows_inner s.page.width (visible_rows s) r col
+    (recursion_from_All IsAnyRow (visible_rows s) (any_visible s is)) lt
 
 -- the rows of the page, where no scrollback is in view
 pub shown_rows : (s : ScreenValue) → IsScreen s → ShowsOwnPage s → (shown s).rows ≡ visible_rows s
@@ -122,7 +123,8 @@ pub same_cell_shown : (a b : ScreenValue) (r col : ℕ) → IsScreen a → IsScr
 same_cell_shown a b r col is other same lt =
     let wide = (size_of_shown a b same).width in
     sym (shown_cell a r col is lt)
-    ∙ (ap (λ (p : Picture). at (row_of_picture p r).cells col) same ∙ shown_cell b r col other (omega (arith, lt, wide)))
+    ∙ (ap (λ (p : Picture). at (row_of_picture p r).cells col) same ∙ shown_cell b r col other
+    (omega (arith, lt, wide)))
 
 pub same_rows : (a b : ScreenValue) → ShowSamePage a b → visible_rows a ≡ visible_rows b
 same_rows a b s =
@@ -133,7 +135,8 @@ same_rows a b s =
 read_alike : {A : Type 0} (f : ℕ → List RowValue → A) (a b : ScreenValue) → ShowSamePage a b
     → f a.page.width (visible_rows a) ≡ f b.page.width (visible_rows b)
 read_alike f a b s =
-    ap (λ (width : ℕ). f width (visible_rows a)) (size_of_shown a b s.same).width ∙ ap (f b.page.width) (same_rows a b s)
+    ap (λ (width : ℕ). f width (visible_rows a)) (size_of_shown a b s.same).width ∙ ap (f b.page.width)
+    (same_rows a b s)
 
 pub same_row : (a b : ScreenValue) (r : ℕ) → ShowSamePage a b → visible_row a r ≡ visible_row b r
 same_row a b r s = read_alike (λ width rows. row_or width rows r) a b s

@@ -52,7 +52,9 @@ into_rows : (rows : List RowValue) → All (λ row. All IsCell row.cells) rows �
 into_rows rows is without k d lt = into_row (slice_index_or rows k d) (is k d lt) (without k d lt)
 
 from_rows : (rows : List RowValue) → ArePlain rows → RowsHaveNoSelector rows
-from_rows rows all = All-weaker (EachCell IsPlainCell) HasNone (λ row. All-weaker IsPlainCell CellHasNoSelector from_cell row.cells) rows all
+from_rows rows all =
+    All-weaker (EachCell IsPlainCell) HasNone
+    (λ row. All-weaker IsPlainCell CellHasNoSelector from_cell row.cells) rows all
 
 into_other : (page : Page) (o : Option Page) → IfSome o (λ other. IsPage other × SameSize other page)
     → IfSome o (λ other. RowsHaveNoSelector other.rows) → IfSome o (λ other. ArePlain other.rows)
@@ -137,7 +139,8 @@ at_none cells col all = elim (cases_lt col (length cells)) [
 
 pub shows_none : (s : ScreenValue) → HasNoSelectors s → ShowsNoSelector s
 shows_none s without r col inside lt =
-    let seen = rows_visible HasNone (above_page s) s.page.rows (above_by HasNone s.is_alternate s.scrollback without.above) without.rows in
+    let seen = rows_visible HasNone (above_page s) s.page.rows
+    (above_by HasNone s.is_alternate s.scrollback without.above) without.rows in
     let tall = length_visible (above_page s) s.page.rows in
     at_none (visible_row s r).cells col (seen r (blank_row default_attrs s.page.width) (omega (arith, inside, tall)))
 
@@ -191,8 +194,10 @@ resized_has_none rows cols s is without = by (has_size rows cols s) where
 
   stays : StaysPlain after
   stays = record {
-    rows = stable_page_resized selecting rows cols (above_page s) s.page (above_by (EachCell IsPlainCell) s.is_alternate s.scrollback k.above) k.rows;
-    other = other_resized rows cols (above_aside s) s.other (above_aside_none s.is_alternate s.scrollback k.above) k.other;
+    rows = stable_page_resized selecting rows cols (above_page s) s.page
+        (above_by (EachCell IsPlainCell) s.is_alternate s.scrollback k.above) k.rows;
+    other = other_resized rows cols (above_aside s) s.other
+        (above_aside_none s.is_alternate s.scrollback k.above) k.other;
     above = stable_scrollback_resized selecting rows (main_page s) s.scrollback
         (page_if s.is_alternate (page_aside s) s.page (plain_aside s k) k.rows) k.above;
     last = k.last;

@@ -58,7 +58,8 @@ plain_encoded c q = (IsUtf8-encode c q.0, ap (list_any is_selector) (one_charact
 plain_joined : (a b : List ℕ) → IsPlainText a → IsPlainText b → IsPlainText (a ++ b)
 plain_joined a b p q = (
   IsUtf8-append a b p.0 q.0,
-  ap (list_any is_selector) (chars-append a b p.0) ∙ (list_any-append is_selector (chars a) (chars b) ∙ rw (p.1, q.1) refl),
+  ap (list_any is_selector) (chars-append a b p.0) ∙
+      (list_any-append is_selector (chars a) (chars b) ∙ rw (p.1, q.1) refl),
 )
 
 plain_space : IsPlainText (0x20 ∷ [])
@@ -121,8 +122,12 @@ on_page page s rows k = record { rows = rows; other = k.other; above = k.above; 
 sends : (b : Bool) (s after : ScreenValue) (gone : List RowValue) → ArePlain gone
     → IsPlainScreen after.page after.other s.scrollback.rows after.last
     → after.scrollback ≡ s.scrollback
-    → StaysPlain (if b then after else record after { scrollback = pushed (length s.page.rows) s.page.width gone s.scrollback })
-sends true s after gone all k same = subst (λ (z : Scrollback). IsPlainScreen after.page after.other z.rows after.last) (sym same) k
+    → StaysPlain (if b then after else record after {
+      scrollback = pushed
+          (length s.page.rows) s.page.width gone s.scrollback;
+    })
+sends true s after gone all k same =
+    subst (λ (z : Scrollback). IsPlainScreen after.page after.other z.rows after.last) (sym same) k
 sends false s after gone all k same = record {
   rows = k.rows;
   other = k.other;
@@ -154,7 +159,9 @@ plain_aside s k = by s.other k.other where
 plain_entered : (s : ScreenValue) → StaysPlain s → StaysPlain (entered s)
 plain_entered s k = by s.is_alternate where
   by : (b : Bool)
-      → StaysPlain (if b then s else record s { page = page_aside s; other = Some s.page; is_alternate = true; scrollback = out_of_view s.scrollback })
+      → StaysPlain
+      (if b then s
+      else record s { page = page_aside s; other = Some s.page; is_alternate = true; scrollback = out_of_view s.scrollback })
   by true = k
   by false = record { rows = plain_aside s k; other = k.rows; above = k.above; last = k.last }
 
@@ -187,18 +194,32 @@ pub step_plain : (x : Step) (s : ScreenValue) → IsAmong IsPlainCharacter (Unit
     → StaysPlain (scrolled x s)
 unfolding moved_up moved_down
 step_plain (Print c) s i k =
-    sends s.is_alternate s (stepped (Print c) s) (printed_out c s.attrs s.page) (stable_printed_out selecting c s.attrs s.page tt k.rows)
-    (record { rows = stable_printed selecting c s.attrs s.page i tt k.rows; other = k.other; above = k.above; last = printed_last (becomes_last s (columns_of c)) c s.last i k.last })
+    sends s.is_alternate s (stepped (Print c) s) (printed_out c s.attrs s.page)
+    (stable_printed_out selecting c s.attrs s.page tt k.rows)
+    (record {
+      rows = stable_printed selecting c s.attrs s.page i tt k.rows;
+      other = k.other;
+      above = k.above;
+      last = printed_last (becomes_last s (columns_of c)) c s.last i k.last;
+    })
     refl
 step_plain LineFeed s i k =
     sends s.is_alternate s (stepped LineFeed s) (fed_out s.page) (stable_fed_out selecting s.page k.rows)
     (record { rows = stable_line_feed selecting s.page k.rows; other = k.other; above = k.above; last = k.last }) refl
 step_plain (ScrollUp count) s i k =
-    sends s.is_alternate s (stepped (ScrollUp count) s) (scrolled_out count s.page) (stable_scrolled_out selecting count s.page k.rows)
-    (record { rows = stable_scrolled_up selecting count s.page k.rows; other = k.other; above = k.above; last = k.last }) refl
+    sends s.is_alternate s (stepped (ScrollUp count) s) (scrolled_out count s.page)
+    (stable_scrolled_out selecting count s.page k.rows)
+    (record {
+      rows = stable_scrolled_up selecting count s.page k.rows;
+      other = k.other;
+      above = k.above;
+      last = k.last;
+    })
+    refl
 step_plain EraseScrollback s i k = gives_up s.is_alternate s k
 step_plain (Tell call) s i k = k
-step_plain Reset s i k = record { rows = plain_fresh s; other = plain_reset s s.other; above = All-nil (EachCell IsPlainCell); last = tt }
+step_plain Reset s i k =
+    record { rows = plain_fresh s; other = plain_reset s s.other; above = All-nil (EachCell IsPlainCell); last = tt }
 step_plain EnterAlternate s i k = plain_entered s k
 step_plain EnterFresh s i k = plain_entered_fresh s k
 step_plain LeaveAlternate s i k = plain_left s k

@@ -28,7 +28,8 @@ stable_rows_down : {P : CellValue → Type 0} {F : Attrs → Type 0} {Q : ℕ �
 stable_rows_down {P} {F} {Q} rule width top bottom n rows all =
     let turned = moved_rows width (down_source (length rows) top bottom n) rows in
     let there = stable_moved_rows rule width (down_source (length rows) top bottom n) rows all in
-    All-set (EachCell P) turned bottom (record (row_or width turned bottom) { wrapped = false }) (stable_row_or rule width turned bottom there) there
+    All-set (EachCell P) turned bottom (record (row_or width turned bottom) { wrapped = false })
+    (stable_row_or rule width turned bottom there) there
 
 pub stable_scrolled_down : {P : CellValue → Type 0} {F : Attrs → Type 0} {Q : ℕ → Type 0} → IsStable P F Q
     → (n : ℕ) (page : Page) → EachRow P page.rows → EachRow P (scrolled_down n page).rows
@@ -38,13 +39,15 @@ pub stable_reverse_index : {P : CellValue → Type 0} {F : Attrs → Type 0} {Q 
     → (page : Page) → EachRow P page.rows → EachRow P (reverse_index page).rows
 unfolding reverse_index
 stable_reverse_index {P} {F} {Q} rule page all =
-    stable_if rule ((page.row == page.top) || (page.row == 0)) (scrolled_down 1 page) (record page { row = page.row - 1 }) (stable_scrolled_down rule 1 page all) all
+    stable_if rule ((page.row == page.top) || (page.row == 0)) (scrolled_down 1 page)
+    (record page { row = page.row - 1 }) (stable_scrolled_down rule 1 page all) all
 
 pub stable_lines_inserted : {P : CellValue → Type 0} {F : Attrs → Type 0} {Q : ℕ → Type 0} → IsStable P F Q
     → (n : ℕ) (page : Page) → EachRow P page.rows → EachRow P (lines_inserted n page).rows
 unfolding lines_inserted
 stable_lines_inserted {P} {F} {Q} rule n page all =
-    stable_if rule (in_region page) (record page { rows = rows_down page.width page.row page.bottom n page.rows }) page (stable_rows_down rule page.width page.row page.bottom n page.rows all) all
+    stable_if rule (in_region page) (record page { rows = rows_down page.width page.row page.bottom n page.rows }) page
+    (stable_rows_down rule page.width page.row page.bottom n page.rows all) all
 
 pub stable_lines_deleted : {P : CellValue → Type 0} {F : Attrs → Type 0} {Q : ℕ → Type 0} → IsStable P F Q
     → (n : ℕ) (page : Page) → EachRow P page.rows → EachRow P (lines_deleted n page).rows
@@ -58,7 +61,8 @@ pub stable_region_set : {P : CellValue → Type 0} {F : Attrs → Type 0} {Q : �
 unfolding region_set
 stable_region_set {P} {F} {Q} rule top bottom page all =
     let low = min bottom (last_row page) in
-    stable_if rule (nat_lt top low) (record page { top = top; bottom = low; row = top; column = 0 }) (record page { top = 0; bottom = last_row page; row = 0; column = 0 }) all all
+    stable_if rule (nat_lt top low) (record page { top = top; bottom = low; row = top; column = 0 })
+    (record page { top = 0; bottom = last_row page; row = 0; column = 0 }) all all
 
 -- ---- columns
 
@@ -73,7 +77,8 @@ stable_moved_at {P} {F} {Q} rule n source cells k all =
     let x = at cells (source k) in
     let there = stable_at rule cells (source k) all in
     let alone = is_right_half x && not (source k == source (k - 1) + 1) in
-    cell_if rule (is_wide x && not (nat_lt (k + 1) n && (source (k + 1) == source k + 1))) (blank (attrs_of x)) (if alone then default_blank else x) (rule.torn x there)
+    cell_if rule (is_wide x && not (nat_lt (k + 1) n && (source (k + 1) == source k + 1))) (blank (attrs_of x))
+    (if alone then default_blank else x) (rule.torn x there)
     (cell_if rule alone default_blank x (bare rule) there)
 
 pub stable_moved : {P : CellValue → Type 0} {F : Attrs → Type 0} {Q : ℕ → Type 0} → IsStable P F Q
@@ -89,7 +94,8 @@ unfolding inserted
 stable_chars_inserted {P} {F} {Q} rule n page all =
     let cells = (cursor_row page).cells in
     stable_with_row rule page.row (inserted_row page.column n (cursor_row page)) page
-    (stable_moved rule (length cells) (insert_source (length cells) (insert_column page.column cells) n) cells (stable_cursor_row rule page all)) all
+    (stable_moved rule (length cells) (insert_source (length cells) (insert_column page.column cells) n) cells
+    (stable_cursor_row rule page all)) all
 
 pub stable_chars_deleted : {P : CellValue → Type 0} {F : Attrs → Type 0} {Q : ℕ → Type 0} → IsStable P F Q
     → (n : ℕ) (page : Page) → EachRow P page.rows → EachRow P (chars_deleted n page).rows
@@ -104,23 +110,29 @@ stable_chars_deleted {P} {F} {Q} rule n page all =
 pub stable_erased_start : {P : CellValue → Type 0} {F : Attrs → Type 0} {Q : ℕ → Type 0} → IsStable P F Q
     → (attrs : Attrs) (page : Page) → F attrs → EachRow P page.rows → EachRow P (erased_start attrs page).rows
 unfolding erased_start
-stable_erased_start {P} {F} {Q} rule attrs page h all = stable_erased_columns rule 0 (min (page.column + 1) page.width) attrs page h all
+stable_erased_start {P} {F} {Q} rule attrs page h all =
+    stable_erased_columns rule 0 (min (page.column + 1) page.width) attrs page h all
 
 pub stable_erased_row : {P : CellValue → Type 0} {F : Attrs → Type 0} {Q : ℕ → Type 0} → IsStable P F Q
     → (attrs : Attrs) (page : Page) → F attrs → EachRow P page.rows → EachRow P (erased_row attrs page).rows
-stable_erased_row {P} {F} {Q} rule attrs page h all = stable_with_row rule page.row (blank_row attrs page.width) page (stable_blank_row rule attrs page.width h) all
+stable_erased_row {P} {F} {Q} rule attrs page h all =
+    stable_with_row rule page.row (blank_row attrs page.width) page (stable_blank_row rule attrs page.width h) all
 
 stable_blanked_above : {P : CellValue → Type 0} {F : Attrs → Type 0} {Q : ℕ → Type 0} → IsStable P F Q
     → (attrs : Attrs) (page : Page) → F attrs → EachRow P page.rows → EachRow P (blanked_above attrs page).rows
 stable_blanked_above {P} {F} {Q} rule attrs page h all =
     All-append (EachCell P) (replicate page.row (blank_row attrs page.width)) (drop page.row page.rows)
-    (All-replicate (EachCell P) page.row (blank_row attrs page.width) (stable_blank_row rule attrs page.width h)) (All-drop (EachCell P) page.row page.rows all)
+    (All-replicate (EachCell P) page.row (blank_row attrs page.width) (stable_blank_row rule attrs page.width h))
+    (All-drop (EachCell P) page.row page.rows all)
 
 pub stable_erased_above : {P : CellValue → Type 0} {F : Attrs → Type 0} {Q : ℕ → Type 0} → IsStable P F Q
     → (attrs : Attrs) (page : Page) → F attrs → EachRow P page.rows → EachRow P (erased_above attrs page).rows
 unfolding erased_above
-stable_erased_above {P} {F} {Q} rule attrs page h all = stable_blanked_above rule attrs (erased_start attrs page) h (stable_erased_start rule attrs page h all)
+stable_erased_above {P} {F} {Q} rule attrs page h all =
+    stable_blanked_above rule attrs (erased_start attrs page) h (stable_erased_start rule attrs page h all)
 
 pub stable_erased_page : {P : CellValue → Type 0} {F : Attrs → Type 0} {Q : ℕ → Type 0} → IsStable P F Q
     → (attrs : Attrs) (page : Page) → F attrs → EachRow P page.rows → EachRow P (erased_page attrs page).rows
-stable_erased_page {P} {F} {Q} rule attrs page h all = All-replicate (EachCell P) (length page.rows) (blank_row attrs page.width) (stable_blank_row rule attrs page.width h)
+stable_erased_page {P} {F} {Q} rule attrs page h all =
+    All-replicate (EachCell P) (length page.rows) (blank_row attrs page.width)
+    (stable_blank_row rule attrs page.width h)

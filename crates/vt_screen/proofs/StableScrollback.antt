@@ -55,13 +55,15 @@ stable_resized_row {P} {F} {Q} rule width row h = stable_moved rule width (λ k.
 stable_mapped : {P : CellValue → Type 0} {F : Attrs → Type 0} {Q : ℕ → Type 0} → IsStable P F Q
     → (f : RowValue → RowValue) (rows : List RowValue) → ((row : RowValue) → (EachCell P) row → (EachCell P) (f row))
     → EachRow P rows → EachRow P (map f rows)
-stable_mapped {P} {F} {Q} rule f rows keeps all = All-map (EachCell P) f rows (All-weaker (EachCell P) (λ row. (EachCell P) (f row)) keeps rows all)
+stable_mapped {P} {F} {Q} rule f rows keeps all =
+    All-map (EachCell P) f rows (All-weaker (EachCell P) (λ row. (EachCell P) (f row)) keeps rows all)
 
 -- ---- scrollback
 
 stable_grown_row : {P : CellValue → Type 0} {F : Attrs → Type 0} {Q : ℕ → Type 0} → IsStable P F Q
     → (width : ℕ) (row : RowValue) → (EachCell P) row → (EachCell P) (grown_row width row)
-stable_grown_row {P} {F} {Q} rule width row h = row_if rule (nat_lt (length row.cells) width) (resized_row width row) row (stable_resized_row rule width row h) h
+stable_grown_row {P} {F} {Q} rule width row h =
+    row_if rule (nat_lt (length row.cells) width) (resized_row width row) row (stable_resized_row rule width row h) h
 
 stable_grown : {P : CellValue → Type 0} {F : Attrs → Type 0} {Q : ℕ → Type 0} → IsStable P F Q
     → (height width : ℕ) (above : Scrollback) → EachRow P above.rows → EachRow P (grown_in_view height width above).rows
@@ -70,9 +72,11 @@ stable_grown {P} {F} {Q} rule height width above all =
     let first = length above.rows - above.offset in
     let seen = take height (drop first above.rows) in
     let past = drop (first + height) above.rows in
-    All-append (EachCell P) (take first above.rows) (map (grown_row width) seen ++ past) (All-take (EachCell P) first above.rows all)
+    All-append (EachCell P) (take first above.rows) (map (grown_row width) seen ++ past)
+    (All-take (EachCell P) first above.rows all)
     (All-append (EachCell P) (map (grown_row width) seen) past
-    (stable_mapped rule (grown_row width) seen (stable_grown_row rule width) (All-take (EachCell P) height (drop first above.rows) (All-drop (EachCell P) first above.rows all)))
+    (stable_mapped rule (grown_row width) seen (stable_grown_row rule width)
+    (All-take (EachCell P) height (drop first above.rows) (All-drop (EachCell P) first above.rows all)))
     (All-drop (EachCell P) (first + height) above.rows all))
 
 stable_kept_after : {P : CellValue → Type 0} {F : Attrs → Type 0} {Q : ℕ → Type 0} → IsStable P F Q
@@ -81,24 +85,28 @@ stable_kept_after : {P : CellValue → Type 0} {F : Attrs → Type 0} {Q : ℕ �
 unfolding kept_after
 stable_kept_after {P} {F} {Q} rule gone above g all =
     All-drop (EachCell P) (length (stacked gone above) - above.capacity) (stacked gone above)
-    (All-append (EachCell P) above.rows (map trimmed_row gone) all (stable_mapped rule trimmed_row gone (stable_trimmed rule) g))
+    (All-append (EachCell P) above.rows (map trimmed_row gone) all
+    (stable_mapped rule trimmed_row gone (stable_trimmed rule) g))
 
 pub stable_pushed : {P : CellValue → Type 0} {F : Attrs → Type 0} {Q : ℕ → Type 0} → IsStable P F Q
     → (height width : ℕ) (gone : List RowValue) (above : Scrollback) → EachRow P gone → EachRow P above.rows
     → EachRow P (pushed height width gone above).rows
 stable_pushed {P} {F} {Q} rule height width [] above g all = all
-stable_pushed {P} {F} {Q} rule height width (row ∷ gone) above g all = stable_grown rule height width (kept_after (row ∷ gone) above) (stable_kept_after rule (row ∷ gone) above g all)
+stable_pushed {P} {F} {Q} rule height width (row ∷ gone) above g all =
+    stable_grown rule height width (kept_after (row ∷ gone) above) (stable_kept_after rule (row ∷ gone) above g all)
 
 pub stable_viewed : {P : CellValue → Type 0} {F : Attrs → Type 0} {Q : ℕ → Type 0} → IsStable P F Q
     → (height width n : ℕ) (above : Scrollback) → EachRow P above.rows → EachRow P (viewed height width n above).rows
 unfolding viewed
-stable_viewed {P} {F} {Q} rule height width n above all = stable_grown rule height width (record above { offset = min n (length above.rows) }) all
+stable_viewed {P} {F} {Q} rule height width n above all =
+    stable_grown rule height width (record above { offset = min n (length above.rows) }) all
 
 -- ---- the rows that leave
 
 pub stable_fed_out : {P : CellValue → Type 0} {F : Attrs → Type 0} {Q : ℕ → Type 0} → IsStable P F Q → (page : Page)
     → EachRow P page.rows → EachRow P (fed_out page)
-stable_fed_out {P} {F} {Q} rule page all = rows_where rule (feeds_out page) (take 1 page.rows) (All-take (EachCell P) 1 page.rows all)
+stable_fed_out {P} {F} {Q} rule page all =
+    rows_where rule (feeds_out page) (take 1 page.rows) (All-take (EachCell P) 1 page.rows all)
 
 pub stable_scrolled_out : {P : CellValue → Type 0} {F : Attrs → Type 0} {Q : ℕ → Type 0} → IsStable P F Q
     → (n : ℕ) (page : Page) → EachRow P page.rows → EachRow P (scrolled_out n page)
@@ -110,14 +118,16 @@ stable_left_by : {P : CellValue → Type 0} {F : Attrs → Type 0} {Q : ℕ → 
     → (columns : Option ℕ) (attrs : Attrs) (page : Page) → F attrs → EachRow P page.rows
     → EachRow P (left_by columns attrs page).rows
 stable_left_by {P} {F} {Q} rule None attrs page h all = all
-stable_left_by {P} {F} {Q} rule (Some zero) attrs page h all = stable_erased_columns rule (mark_column page) 1 attrs page h all
+stable_left_by {P} {F} {Q} rule (Some zero) attrs page h all =
+    stable_erased_columns rule (mark_column page) 1 attrs page h all
 stable_left_by {P} {F} {Q} rule (Some (suc n)) attrs page h all = all
 
 pub stable_printed_out : {P : CellValue → Type 0} {F : Attrs → Type 0} {Q : ℕ → Type 0} → IsStable P F Q
     → (c : ℕ) (attrs : Attrs) (page : Page) → F attrs → EachRow P page.rows → EachRow P (printed_out c attrs page)
 stable_printed_out {P} {F} {Q} rule c attrs page h all =
     let left = (left_by (columns_of c) attrs page).rows in
-    rows_where rule (pushes c page) (take 1 left) (All-take (EachCell P) 1 left (stable_left_by rule (columns_of c) attrs page h all))
+    rows_where rule (pushes c page) (take 1 left)
+    (All-take (EachCell P) 1 left (stable_left_by rule (columns_of c) attrs page h all))
 
 -- ---- another size
 
@@ -126,10 +136,13 @@ stable_window : {P : CellValue → Type 0} {F : Attrs → Type 0} {Q : ℕ → T
     → EachRow P (window width height down up above rows)
 unfolding window
 stable_window {P} {F} {Q} rule width height down up above rows a h =
-    let from = λ (k : ℕ). if nat_lt (length above + down + k) up then blank_row default_attrs width else row_or width (above ++ rows) (length above + down + k - up) in
+    let from = λ (k : ℕ). if nat_lt (length above + down + k) up then blank_row default_attrs width else row_or width
+    (above ++ rows) (length above + down + k - up) in
     let each : (k : ℕ) → (EachCell P) (from k) = λ k.
-    row_if rule (nat_lt (length above + down + k) up) (blank_row default_attrs width) (row_or width (above ++ rows) (length above + down + k - up)) (stable_blank_row rule default_attrs width rule.plain)
-    (stable_row_or rule width (above ++ rows) (length above + down + k - up) (All-append (EachCell P) above rows a h)) in
+    row_if rule (nat_lt (length above + down + k) up) (blank_row default_attrs width)
+    (row_or width (above ++ rows) (length above + down + k - up)) (stable_blank_row rule default_attrs width rule.plain)
+    (stable_row_or rule width (above ++ rows) (length above + down + k - up)
+    (All-append (EachCell P) above rows a h)) in
     All-map (EachCell P) from (range_with_len 0 height) (λ i d lt. each _)
 
 stable_rows_resized : {P : CellValue → Type 0} {F : Attrs → Type 0} {Q : ℕ → Type 0} → IsStable P F Q
@@ -137,7 +150,8 @@ stable_rows_resized : {P : CellValue → Type 0} {F : Attrs → Type 0} {Q : ℕ
 stable_rows_resized {P} {F} {Q} rule width rows all =
     let cut = map (resized_row width) rows in
     let there = stable_mapped rule (resized_row width) rows (stable_resized_row rule width) all in
-    All-set (EachCell P) cut (length rows - 1) (record (row_or width cut (length rows - 1)) { wrapped = false }) (stable_row_or rule width cut (length rows - 1) there) there
+    All-set (EachCell P) cut (length rows - 1) (record (row_or width cut (length rows - 1)) { wrapped = false })
+    (stable_row_or rule width cut (length rows - 1) there) there
 
 pub stable_page_resized : {P : CellValue → Type 0} {F : Attrs → Type 0} {Q : ℕ → Type 0} → IsStable P F Q
     → (height width : ℕ) (above : Scrollback) (page : Page) → EachRow P above.rows → EachRow P page.rows
@@ -146,7 +160,8 @@ unfolding page_resized
 stable_page_resized {P} {F} {Q} rule height width above page a all =
     let down = leaving height page in
     let up = returning height above page in
-    stable_rows_resized rule width (window page.width height down up above.rows page.rows) (stable_window rule page.width height down up above.rows page.rows a all)
+    stable_rows_resized rule width (window page.width height down up above.rows page.rows)
+    (stable_window rule page.width height down up above.rows page.rows a all)
 
 pub stable_scrollback_resized : {P : CellValue → Type 0} {F : Attrs → Type 0} {Q : ℕ → Type 0} → IsStable P F Q
     → (height : ℕ) (page : Page) (above : Scrollback) → EachRow P page.rows → EachRow P above.rows
@@ -156,7 +171,8 @@ stable_scrollback_resized {P} {F} {Q} rule height page above all a =
     let gone = take (leaving height page) page.rows in
     let after = pushed (length page.rows) page.width gone (out_of_view above) in
     All-take (EachCell P) (length after.rows - returning height above page) after.rows
-    (stable_pushed rule (length page.rows) page.width gone (out_of_view above) (All-take (EachCell P) (leaving height page) page.rows all) a)
+    (stable_pushed rule (length page.rows) page.width gone (out_of_view above)
+    (All-take (EachCell P) (leaving height page) page.rows all) a)
 
 -- ---- scrollback that keeps no row
 
@@ -188,7 +204,8 @@ grown_nothing height width above e =
 kept_nothing : (gone : List RowValue) (above : Scrollback) → above.capacity ≡ 0
     → length (kept_after gone above).rows ≡ 0
 unfolding kept_after
-kept_nothing gone above c = omega (arith, c, length-drop (length (stacked gone above) - above.capacity) (stacked gone above))
+kept_nothing gone above c =
+    omega (arith, c, length-drop (length (stacked gone above) - above.capacity) (stacked gone above))
 
 unseen : (height width : ℕ) (gone : List RowValue) (above : Scrollback) → above.offset ≡ 0
     → (grown_in_view height width (kept_after gone above)).offset ≡ 0
@@ -199,7 +216,11 @@ pub pushed_nothing : (height width : ℕ) (gone : List RowValue) (above : Scroll
     → above.rows ≡ [] → above.offset ≡ 0 →
     ((pushed height width gone above).rows ≡ []) × ((pushed height width gone above).offset ≡ 0)
 pushed_nothing height width [] above c r o = (r, o)
-pushed_nothing height width (row ∷ gone) above c r o = (grown_nothing height width (kept_after (row ∷ gone) above) (kept_nothing (row ∷ gone) above c), unseen height width (row ∷ gone) above o)
+pushed_nothing height width (row ∷ gone) above c r o = (
+  grown_nothing height width (kept_after (row ∷ gone) above)
+      (kept_nothing (row ∷ gone) above c),
+  unseen height width (row ∷ gone) above o,
+)
 
 pub reported_nothing : (gone : List RowValue) (above : Scrollback) → above.capacity ≡ 0 → above.rows ≡ []
     → reported gone above ≡ reported gone (no_scrollback 0)

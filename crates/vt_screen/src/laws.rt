@@ -43,7 +43,8 @@ pub fn shown_is()
 pub fn same_shown()
     ensures size { (screen other : ScreenValue) → shown screen ≡ shown other → SameSize screen.page other.page }
     ensures row { (screen other : ScreenValue) → shown screen ≡ shown other → screen.page.row ≡ other.page.row }
-    ensures column { (screen other : ScreenValue) → shown screen ≡ shown other → screen.page.column ≡ other.page.column }
+    ensures column { (screen other : ScreenValue) → shown screen ≡ shown other →
+        screen.page.column ≡ other.page.column }
     ensures attrs { (screen other : ScreenValue) → shown screen ≡ shown other → screen.attrs ≡ other.attrs }
     ensures hidden { (screen other : ScreenValue) → shown screen ≡ shown other → screen.hidden ≡ other.hidden }
     ensures inner { (screen other : ScreenValue) (row col : ℕ) → IsScreen screen → IsScreen other →
@@ -52,7 +53,8 @@ pub fn same_shown()
     ensures rows { (screen other : ScreenValue) → ShowSamePage screen other → visible_rows screen ≡ visible_rows other }
     ensures cells { (screen other : ScreenValue) (row : ℕ) → ShowSamePage screen other →
         visible_row screen row ≡ visible_row other row }
-    ensures contents { (screen other : ScreenValue) → ShowSamePage screen other → contents_of screen ≡ contents_of other }
+    ensures contents { (screen other : ScreenValue) → ShowSamePage screen other →
+        contents_of screen ≡ contents_of other }
     ensures between { (start_row start_col end_row end_col : ℕ) (screen other : ScreenValue) →
         ShowSamePage screen other →
         between_of start_row start_col end_row end_col screen ≡ between_of start_row start_col end_row end_col other }

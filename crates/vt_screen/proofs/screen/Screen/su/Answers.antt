@@ -16,7 +16,8 @@ pub invariant_of-self-2 : goal.invariant_of-self-2
 invariant_of-self-2 g c =
     let k = c.self.invariant in
     rw (c.in_ok-scroll_up.ensures.page, c.in_ok-scroll_up.ensures.sent.0)
-    (kept_sent _ _ _ _ _ c.self.inside.grid.width (rows_scrolled_out c.args.count c.self.inside.grid k.sound) (stable_scrolled_out coloring c.args.count c.self.inside.grid k.colored)
+    (kept_sent _ _ _ _ _ c.self.inside.grid.width (rows_scrolled_out c.args.count c.self.inside.grid k.sound)
+    (stable_scrolled_out coloring c.args.count c.self.inside.grid k.colored)
     (kept_scrolled_up c.args.count c.self.inside.grid c.self.inside.last _ k))
 
 pub returns-clause-done : goal.returns-clause-done
