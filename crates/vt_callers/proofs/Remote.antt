@@ -8,7 +8,7 @@ use Rattle.vt_scan.specs.Automaton.{start}
 use Rattle.vt_screen.specs.Reading.{terminal}
 use Rattle.vt_screen.specs.Screen.{IsScreen, ScreenValue}
 use Rattle.vt_screen.specs.Shown.{IsPlain, IsReadBy, IsReader, IsReaderOf, Makes, ShowsPlainly, shown}
-use Rattle.vt_screen.proofs.Viewing.{same_shown}
+use Rattle.vt_screen.proofs.Shown.{shown_height}
 use Rattle.vt100.specs.Parser.{Parsing}
 use Rattle.vt100.specs.Pieces.{IsPlainParser, Processes, processing}
 use Rattle.vt_callers.specs.Remote.{ShowsScreen}
@@ -29,6 +29,9 @@ pub redrawn : {S : Type 0} (self : ScreenValue) (text : List ℕ) (answer : Resu
     → IsScreen old.screen → IsPlainParser old → SamePictureSize (shown self) (shown old.screen) → Processes old (processing text answer) new → ShowsScreen self new
 redrawn self text answer old new quiet shows sound plain size processes =
     reads self (IsReader (shown self)) text answer old new quiet shows plain (record { sound = sound; plain = plain.screen; size = size }) processes
+
+same_shown : (self other : ScreenValue) → SameSize self.page other.page → SamePictureSize (shown self) (shown other)
+same_shown self other s = record { width = s.width; height = shown_height self ∙ (s.height ∙ sym (shown_height other)) }
 
 pub differing : {S : Type 0} (self prev : ScreenValue) (text : List ℕ) (answer : Result (Unit {0}) Error) (old new : Parsing S) → IsReadBy (IsReaderOf (shown self) (shown prev)) text
     → Makes (IsReaderOf (shown self) (shown prev)) text (ShowsPlainly (shown self)) → SameSize self.page prev.page → IsScreen old.screen → ShowsScreen prev old → Processes old (processing text answer) new → ShowsScreen self new
