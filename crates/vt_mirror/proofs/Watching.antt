@@ -12,7 +12,7 @@ use Rattle.vt_screen.specs.Pages.{has_size, resized}
 use Rattle.vt_screen.specs.Reading.{Terminal, read, terminal}
 use Rattle.vt_screen.specs.Screen.{IsScreen, ScreenValue}
 use Rattle.vt_screen.specs.Shown.{IsPlain, IsReader, IsReaderOf, shown}
-use Rattle.vt_screen.proofs.Shown.{shown_height}
+use Rattle.vt_screen.proofs.Viewing.{same_shown}
 use Rattle.vt100.specs.Parser.{Parsing}
 use Rattle.vt100.specs.Pieces.{HasRead, IsPlainParser}
 use Rattle.vt100.proofs.Pieces.{read_pieces}
@@ -98,9 +98,6 @@ reads_redraw self Reader text p q steady r plain reader t =
       plain = record { is_failed = all.is_failed; scanner = all.scanner; screen = subst IsPlain (sym all.screen) made.0 };
       shows = ap shown all.screen ∙ made.1;
     }
-
-same_shown : (self other : ScreenValue) → SameSize self.page other.page → SamePictureSize (shown self) (shown other)
-same_shown self other s = record { width = s.width; height = shown_height self ∙ (s.height ∙ sym (shown_height other)) }
 
 reads_diff : {S : Type 0} (self prev : ScreenValue) (text : List ℕ) (p q : Parsing S) → SameSize self.page prev.page → IsSteady (shown self) → Redraws self (IsReaderOf (shown self) (shown prev)) text
     → IsScreen p.screen → IsPlainParser p → shown p.screen ≡ shown prev → ReadsText text p q → Plainly self q

@@ -15,7 +15,7 @@ use Rattle.vt_grid.proofs.Carries.{page_lifted}
 use Rattle.vt_grid.proofs.Scrolling.{IsScrollback-pushed, IsScrollback-viewed}
 use Rattle.vt_grid.specs.Page.{Page, IsPage, blank_page, cursor_row, row_or}
 use Rattle.vt_grid.proofs.Pages.{page_blank, IsRow-cursor_row}
-use Rattle.vt_screen.proofs.Colored.{colored_blank}
+use Rattle.vt_screen.proofs.Stable.{stable_blank}
 use Rattle.vt_grid.specs.Scrollback.{Scrollback, cleared, no_scrollback, grown_in_view, pushed, viewed, visible, reported, TakesMemory}
 use Rattle.std.proofs.lemmas.Bool.{false≢true}
 use Rattle.vt_grid.specs.Resize.{leaving, out_of_view, page_resized, returning, scrollback_resized, window}
@@ -24,7 +24,8 @@ use Rattle.vt_grid.specs.Page.{SameSize}
 use Rattle.vt_screen.specs.Screen.{IsPrintable}
 use Rattle.vt_screen.specs.Keeping.{AreColored, Aside, IsAbove, IsKept, IsNothing, IsOther, main_scrollback, alternate_scrollback}
 use Rattle.vt_screen.proofs.Sizes.{same_back, same_through}
-use Rattle.vt_screen.proofs.ColoredScrollback.{colored_page_resized, colored_pushed, colored_scrollback_resized, colored_viewed, pushed_capacity, grown_nothing, pushed_nothing, reported_nothing, visible_nothing}
+use Rattle.vt_screen.proofs.StableScrollback.{stable_page_resized, stable_pushed, stable_scrollback_resized, stable_viewed, pushed_capacity, grown_nothing, pushed_nothing, reported_nothing, visible_nothing}
+use Rattle.vt_screen.proofs.Coloring.{coloring}
 
 -- ---- the active page changes
 
@@ -84,7 +85,11 @@ pub kept_sent : (height : ℕ) (gone : List RowValue) (page : Page) (last : Opti
     → IsKept page last (record aside { active = pushed height width gone aside.active })
 kept_sent height gone page last aside width sound colored k =
     kept_above page last aside (pushed height width gone aside.active) (nothing_pushed height width gone aside.active)
-    (λ a. record { sound = IsScrollback-pushed height width gone aside.active sound a.sound; colored = colored_pushed height width gone aside.active colored a.colored }) k
+    (λ a. record {
+      sound = IsScrollback-pushed height width gone aside.active sound a.sound;
+      colored = stable_pushed coloring height width gone aside.active colored a.colored;
+    })
+    k
 
 pub above_none : (capacity : ℕ) → IsAbove (no_scrollback capacity)
 above_none capacity = record { sound = record { kept = omega arith; in_view = omega arith; sound = λ i d h. absurd (omega (arith, h)) }; colored = λ i d h. absurd (omega (arith, h)) }
@@ -97,7 +102,11 @@ kept_cleared page last aside k =
 pub kept_viewed : (height width n : ℕ) (page : Page) (last : Option ℕ) (aside : Aside) → IsKept page last aside → IsKept page last (record aside { active = viewed height width n aside.active })
 kept_viewed height width n page last aside k =
     kept_above page last aside (viewed height width n aside.active) (nothing_viewed height width n aside.active)
-    (λ a. record { sound = IsScrollback-viewed height width n aside.active a.sound; colored = colored_viewed height width n aside.active a.colored }) k
+    (λ a. record {
+      sound = IsScrollback-viewed height width n aside.active a.sound;
+      colored = stable_viewed coloring height width n aside.active a.colored;
+    })
+    k
 
 pub kept_out_of_view : (page : Page) (last : Option ℕ) (aside : Aside) → IsKept page last aside → IsKept page last (record aside { active = out_of_view aside.active })
 kept_out_of_view page last aside k =
@@ -166,7 +175,7 @@ kept_exchanged page other last aside e k =
 other_fresh : (page : Page) (height width : ℕ) → height ≡ length page.rows → width ≡ page.width → IsPage page → IsOther page (blank_page height width)
 other_fresh page height width h w p = record {
   sound = page_blank height width (omega (arith, h, p.cursor_row)) (rw h p.height) (rw w p.has_columns) (rw w p.columns);
-  colored = colored_blank height width;
+  colored = stable_blank coloring height width;
   same = record { width = w; height = length-replicate height (blank_row default_attrs width) ∙ h };
 }
 
@@ -244,7 +253,7 @@ other_resized : (height width : ℕ) (above : Scrollback) (page : Page) (other :
 other_resized height width above page None a b c d k = k
 other_resized height width above page (Some p) a b c d k = record {
   sound = page_page_resized height width (no_scrollback 0) p k.sound (above_none 0).sound a b c d;
-  colored = colored_page_resized height width (no_scrollback 0) p (above_none 0).colored k.colored;
+  colored = stable_page_resized coloring height width (no_scrollback 0) p (above_none 0).colored k.colored;
   same = same_resized height width (no_scrollback 0) above p page;
 }
 
@@ -266,11 +275,14 @@ kept_resized height width page last aside idle a b c d main n k =
     let above = main_if aside.is_alternate aside.active aside.idle main k.above in
     record {
       sound = page_page_resized height width aside.active page k.sound above.sound a b c d;
-      colored = colored_page_resized height width aside.active page above.colored k.colored;
+      colored = stable_page_resized coloring height width aside.active page above.colored k.colored;
       printable = k.printable;
       other = other_resized height width aside.active page aside.other a b c d k.other;
       entered = λ e. absurd (false≢true (sym main ∙ e));
       nothing = nothing_back aside.is_alternate (scrollback_resized height page aside.active) idle main n;
       above = main_back aside.is_alternate (scrollback_resized height page aside.active) idle main
-          (record { sound = scrollback_resized_is height page aside.active k.sound above.sound; colored = colored_scrollback_resized height page aside.active k.colored above.colored });
+          (record {
+            sound = scrollback_resized_is height page aside.active k.sound above.sound;
+            colored = stable_scrollback_resized coloring height page aside.active k.colored above.colored;
+          });
     }

@@ -1,4 +1,4 @@
--- The steps of each event but RIS are steps that stream: none starts the screen anew, what they print can be printed, and they tell of no row themselves.
+-- The steps of each event: what they print, whether they start the screen anew, and that they tell of no row.
 use Rattle.std.proofs.Common.{◌≡◌, ◌≢◌, ℕ, zero, suc, ◌==◌, Bool, true, false, List, [], ◌∷◌, ◌++◌, Option, Some, None, refl, ap, replicate, arith}
 use Rattle.std.specs.Prelude.{◌||◌, IfSome, if◌then◌else◌}
 use Rattle.std.specs.Char.{IsScalar}
@@ -20,40 +20,49 @@ use Rattle.vt_screen.specs.Steps.{Step, Print, Reset, Tell}
 use Rattle.vt_screen.specs.declared.sgr.Reading.{Reading}
 use Rattle.vt_screen.specs.declared.sgr.Reading.TheVariants.{Silent, Set, Unhandled}
 use Rattle.vt_screen.specs.declared.sgr.Wanted.{Wanted}
-use Rattle.vt_screen.proofs.Streaming.{Held, IsStreamed, Streamed, steps_stream}
+use Rattle.vt_screen.proofs.Streaming.{Held, IsAmong, Streamed, steps_stream}
 
--- all of these steps stream
-pub record AllStream (steps : List Step) : Type 0 where
-  pub all : AllByRecursion IsStreamed steps
+-- all of these steps are so
+pub record AllAmong (Q : ℕ → Type 0) (R : Type 0) (steps : List Step) : Type 0 where
+  pub all : AllByRecursion (IsAmong Q R) steps
 
-record SomeStreams (step : Option Step) : Type 0 where
-  some : IfSome step IsStreamed
+record SomeAmong (Q : ℕ → Type 0) (R : Type 0) (step : Option Step) : Type 0 where
+  some : IfSome step (IsAmong Q R)
 
-none : AllStream []
+-- what an event prints is so, and it starts the screen anew only where that is allowed
+pub record Allows (Q : ℕ → Type 0) (R : Type 0) (event : Event) : Type 0 where
+  pub prints : (c : ℕ) → event ≡ Character c → IsPrintable c → Q c
+  pub resets : event ≡ ris → R
+
+pub none : {Q : ℕ → Type 0} {R : Type 0} → AllAmong Q R []
 none = record { all = tt }
 
-own : (x : Step) → IsStreamed x → AllStream (x ∷ [])
+own : {Q : ℕ → Type 0} {R : Type 0} → (x : Step) → IsAmong Q R x → AllAmong Q R (x ∷ [])
 own x i = record { all = (i, tt) }
 
-told : (call : CallValue) → row_told call ≡ [] → AllStream (Tell call ∷ [])
+told : {Q : ℕ → Type 0} {R : Type 0} → (call : CallValue) → row_told call ≡ [] → AllAmong Q R (Tell call ∷ [])
 told call e = record { all = (e, tt) }
 
-all_if : (b : Bool) (xs ys : List Step) → AllStream xs → AllStream ys → AllStream (if b then xs else ys)
+all_if : {Q : ℕ → Type 0} {R : Type 0} → (b : Bool) (xs ys : List Step) → AllAmong Q R xs → AllAmong Q R ys
+    → AllAmong Q R (if b then xs else ys)
 all_if true xs ys p q = p
 all_if false xs ys p q = q
 
-all_where : (b : Bool) (xs ys : List Step) → (b ≡ true → AllStream xs) → (b ≡ false → AllStream ys) → AllStream (if b then xs else ys)
+all_where : {Q : ℕ → Type 0} {R : Type 0} → (b : Bool) (xs ys : List Step) → (b ≡ true → AllAmong Q R xs)
+    → (b ≡ false → AllAmong Q R ys) → AllAmong Q R (if b then xs else ys)
 all_where true xs ys f g = f refl
 all_where false xs ys f g = g refl
 
-may : (x : Step) → IsStreamed x → SomeStreams (Some x)
+may : {Q : ℕ → Type 0} {R : Type 0} → (x : Step) → IsAmong Q R x → SomeAmong Q R (Some x)
 may x i = record { some = i }
 
-some_if : (b : Bool) (x y : Option Step) → SomeStreams x → SomeStreams y → SomeStreams (if b then x else y)
+some_if : {Q : ℕ → Type 0} {R : Type 0} → (b : Bool) (x y : Option Step) → SomeAmong Q R x → SomeAmong Q R y
+    → SomeAmong Q R (if b then x else y)
 some_if true x y p q = p
 some_if false x y p q = q
 
-all_then : (xs ys : List Step) → AllStream xs → AllStream ys → AllStream (xs ++ ys)
+pub all_then : {Q : ℕ → Type 0} {R : Type 0} → (xs ys : List Step) → AllAmong Q R xs → AllAmong Q R ys
+    → AllAmong Q R (xs ++ ys)
 all_then [] ys p q = q
 all_then (x ∷ xs) ys p q = record { all = (p.all.0, (all_then xs ys (record { all = p.all.1 }) q).all) }
 
@@ -62,157 +71,184 @@ all_then (x ∷ xs) ys p q = record { all = (p.all.0, (all_then xs ys (record { 
 printable : (c : ℕ) (b : Bool) → IsScalar c → ((c == 0xFFFD) || b) ≡ false → IsPrintable c
 printable c b scalar e = (scalar, λ same. grind (arith))
 
-stream_character : (c : ℕ) → IsScalar c → AllStream (character_steps c)
+stream_character : {Q : ℕ → Type 0} {R : Type 0} → (c : ℕ) → IsScalar c → (IsPrintable c → Q c)
+    → AllAmong Q R (character_steps c)
 unfolding character_steps
-stream_character c scalar = search (all_where, own, printable) depth 8
+stream_character c scalar prints = search (all_where, own, printable, prints) depth 8
 
-stream_control : (b : ℕ) → AllStream (control_steps b)
+stream_control : {Q : ℕ → Type 0} {R : Type 0} → (b : ℕ) → AllAmong Q R (control_steps b)
 unfolding control_steps
 stream_control b = search (all_if, own, none) depth 20
 
-not_ris : (b : ℕ) → EscDispatch [] b ≢ ris → (b == 0x63) ≡ true → AllStream (Reset ∷ [])
-not_ris b other is = absurd (other (ap (EscDispatch []) (eqb-true b 0x63 is)))
+starts_anew : {Q : ℕ → Type 0} {R : Type 0} → (b : ℕ) → (EscDispatch [] b ≡ ris → R) → (b == 0x63) ≡ true
+    → AllAmong Q R (Reset ∷ [])
+starts_anew b resets is = own Reset (resets (ap (EscDispatch []) (eqb-true b 0x63 is)))
 
-stream_escape : (marks : List ℕ) (b : ℕ) → EscDispatch marks b ≢ ris → AllStream (escape_steps marks b)
+stream_escape : {Q : ℕ → Type 0} {R : Type 0} → (marks : List ℕ) (b : ℕ) → (EscDispatch marks b ≡ ris → R)
+    → AllAmong Q R (escape_steps marks b)
 unfolding escape_steps
-stream_escape [] b other = search (all_where, own, not_ris) depth 20
-stream_escape (mark ∷ marks) b other = (told _ refl)
+stream_escape [] b resets = search (all_where, own, starts_anew) depth 20
+stream_escape (mark ∷ marks) b resets = (told _ refl)
 
 -- ---- control sequences
 
-stream_reading : (groups : List (List ℕ)) (reading : Reading) → AllStream (reading_steps groups reading)
+stream_reading : {Q : ℕ → Type 0} {R : Type 0} → (groups : List (List ℕ)) (reading : Reading)
+    → AllAmong Q R (reading_steps groups reading)
 stream_reading groups Silent = none
 stream_reading groups (Set setting) = (own _ tt)
 stream_reading groups Unhandled = (told _ refl)
 
-stream_sgr : (groups : List (List ℕ)) (wanted : Wanted) (rest : List (List ℕ)) → AllStream (sgr_from groups wanted rest)
+stream_sgr : {Q : ℕ → Type 0} {R : Type 0} → (groups : List (List ℕ)) (wanted : Wanted) (rest : List (List ℕ))
+    → AllAmong Q R (sgr_from groups wanted rest)
 stream_sgr groups wanted [] = none
 stream_sgr groups wanted (group ∷ rest) =
     let read = group_read wanted group in
     all_then (reading_steps groups read.reading) (sgr_from groups read.wanted rest) (stream_reading groups read.reading) (stream_sgr groups read.wanted rest)
 
-stream_page_erasing : (report : CallValue) (n : ℕ) → row_told report ≡ [] → AllStream (page_erasing report n)
+stream_page_erasing : {Q : ℕ → Type 0} {R : Type 0} → (report : CallValue) (n : ℕ) → row_told report ≡ []
+    → AllAmong Q R (page_erasing report n)
 unfolding page_erasing
 stream_page_erasing report n e = search (all_if, own) depth 20
 
-stream_row_erasing : (report : CallValue) (n : ℕ) → row_told report ≡ [] → AllStream (row_erasing report n)
+stream_row_erasing : {Q : ℕ → Type 0} {R : Type 0} → (report : CallValue) (n : ℕ) → row_told report ≡ []
+    → AllAmong Q R (row_erasing report n)
 unfolding row_erasing
 stream_row_erasing report n e = search (all_if, own) depth 20
 
-stream_window : (groups : List (List ℕ)) (seen : Seen) → AllStream (window_steps groups seen)
+stream_window : {Q : ℕ → Type 0} {R : Type 0} → (groups : List (List ℕ)) (seen : Seen)
+    → AllAmong Q R (window_steps groups seen)
 unfolding window_steps
 stream_window groups seen = search (all_if, own) depth 20
 
-stream_repeated : (n : ℕ) (last : Option ℕ) → IfSome last IsPrintable → AllStream (repeated n last)
+stream_repeated : {Q : ℕ → Type 0} {R : Type 0} → (n : ℕ) (last : Option ℕ) → IfSome last Q
+    → AllAmong Q R (repeated n last)
 stream_repeated n None k = none
-stream_repeated n (Some c) k = by n where
-  by : (n : ℕ) → AllStream (replicate n (Print c))
+stream_repeated {Q} {R} n (Some c) k = by n where
+  by : (n : ℕ) → AllAmong Q R (replicate n (Print c))
   by zero = none
   by (suc n) = record { all = (k, (by n).all) }
 
-stream_other : (groups : List (List ℕ)) (b : ℕ) (seen : Seen) → AllStream (other_steps groups b seen)
+stream_other : {Q : ℕ → Type 0} {R : Type 0} → (groups : List (List ℕ)) (b : ℕ) (seen : Seen)
+    → AllAmong Q R (other_steps groups b seen)
 unfolding other_steps
 stream_other groups b seen = search (all_if, own, stream_page_erasing, stream_row_erasing, stream_sgr, stream_window) depth 20
 
-stream_scrolling : (groups : List (List ℕ)) (b : ℕ) (seen : Seen) → IfSome seen.last IsPrintable → AllStream (scrolling_steps groups b seen)
+stream_scrolling : {Q : ℕ → Type 0} {R : Type 0} → (groups : List (List ℕ)) (b : ℕ) (seen : Seen)
+    → IfSome seen.last Q → AllAmong Q R (scrolling_steps groups b seen)
 unfolding scrolling_steps
 stream_scrolling groups b seen k = search (all_if, own, stream_other, stream_repeated) depth 20
 
-stream_counted : (b n : ℕ) → SomeStreams (counted_step b n)
+stream_counted : {Q : ℕ → Type 0} {R : Type 0} → (b n : ℕ) → SomeAmong Q R (counted_step b n)
 unfolding counted_step
 stream_counted b n = search (some_if, may) depth 20
 
-stream_one_or : (step : Option Step) (others : List Step) → SomeStreams step → AllStream others → AllStream (one_or step others)
+stream_one_or : {Q : ℕ → Type 0} {R : Type 0} → (step : Option Step) (others : List Step) → SomeAmong Q R step
+    → AllAmong Q R others → AllAmong Q R (one_or step others)
 stream_one_or (Some step) others p q = own step p.some
 stream_one_or None others p q = q
 
-stream_plain : (groups : List (List ℕ)) (b : ℕ) (seen : Seen) → IfSome seen.last IsPrintable → AllStream (plain_steps groups b seen)
+stream_plain : {Q : ℕ → Type 0} {R : Type 0} → (groups : List (List ℕ)) (b : ℕ) (seen : Seen) → IfSome seen.last Q
+    → AllAmong Q R (plain_steps groups b seen)
 stream_plain groups b seen k =
     let n = number_or 1 0 groups in
     stream_one_or (counted_step b n) (scrolling_steps groups b seen) (stream_counted b n) (stream_scrolling groups b seen k)
 
 -- ---- modes and other marked sequences
 
-stream_style : (report : CallValue) (look : Option CursorStyle) → row_told report ≡ [] → AllStream (style_steps report look)
+stream_style : {Q : ℕ → Type 0} {R : Type 0} → (report : CallValue) (look : Option CursorStyle) → row_told report ≡ []
+    → AllAmong Q R (style_steps report look)
 stream_style report (Some look) e = (own _ tt)
 stream_style report None e = (told _ e)
 
-stream_mouse : (on : Bool) (mode : MouseProtocolMode) → AllStream (mouse_step on mode ∷ [])
+stream_mouse : {Q : ℕ → Type 0} {R : Type 0} → (on : Bool) (mode : MouseProtocolMode)
+    → AllAmong Q R (mouse_step on mode ∷ [])
 stream_mouse true mode = (own _ tt)
 stream_mouse false mode = (own _ tt)
 
-stream_encoding : (on : Bool) (form : MouseProtocolEncoding) → AllStream (encoding_step on form ∷ [])
+stream_encoding : {Q : ℕ → Type 0} {R : Type 0} → (on : Bool) (form : MouseProtocolEncoding)
+    → AllAmong Q R (encoding_step on form ∷ [])
 stream_encoding true form = (own _ tt)
 stream_encoding false form = (own _ tt)
 
-stream_alternate : (on : Bool) → AllStream (alternate_step on ∷ [])
+stream_alternate : {Q : ℕ → Type 0} {R : Type 0} → (on : Bool) → AllAmong Q R (alternate_step on ∷ [])
 stream_alternate true = (own _ tt)
 stream_alternate false = (own _ tt)
 
-stream_fresh : (on : Bool) → AllStream (fresh_alternate_step on ∷ [])
+stream_fresh : {Q : ℕ → Type 0} {R : Type 0} → (on : Bool) → AllAmong Q R (fresh_alternate_step on ∷ [])
 stream_fresh true = (own _ tt)
 stream_fresh false = (own _ tt)
 
-stream_mode : (on : Bool) (report : CallValue) (n : ℕ) → row_told report ≡ [] → AllStream (mode_step on report n)
+stream_mode : {Q : ℕ → Type 0} {R : Type 0} → (on : Bool) (report : CallValue) (n : ℕ) → row_told report ≡ []
+    → AllAmong Q R (mode_step on report n)
 unfolding mode_step
 stream_mode on report n e = search (all_if, own, stream_alternate, stream_encoding, stream_fresh, stream_mouse) depth 20
 
-stream_modes : (on : Bool) (report : CallValue) (groups : List (List ℕ)) → row_told report ≡ [] → AllStream (mode_steps on report groups)
+stream_modes : {Q : ℕ → Type 0} {R : Type 0} → (on : Bool) (report : CallValue) (groups : List (List ℕ))
+    → row_told report ≡ [] → AllAmong Q R (mode_steps on report groups)
 stream_modes on report [] e = none
 stream_modes on report ([] ∷ groups) e = record { all = (e, (stream_modes on report groups e).all) }
 stream_modes on report ((n ∷ []) ∷ groups) e = all_then (mode_step on report n) (mode_steps on report groups) (stream_mode on report n e) (stream_modes on report groups e)
 stream_modes on report ((n ∷ m ∷ more) ∷ groups) e = record { all = (e, (stream_modes on report groups e).all) }
 
-stream_private : (second : Option ℕ) (groups : List (List ℕ)) (b : ℕ) → AllStream (private_steps second groups b)
+stream_private : {Q : ℕ → Type 0} {R : Type 0} → (second : Option ℕ) (groups : List (List ℕ)) (b : ℕ)
+    → AllAmong Q R (private_steps second groups b)
 unfolding private_steps
 stream_private second groups b = search (all_if, own, stream_modes, stream_page_erasing, stream_row_erasing) depth 20
 
-stream_space : (second : Option ℕ) (groups : List (List ℕ)) (b : ℕ) → AllStream (space_steps second groups b)
+stream_space : {Q : ℕ → Type 0} {R : Type 0} → (second : Option ℕ) (groups : List (List ℕ)) (b : ℕ)
+    → AllAmong Q R (space_steps second groups b)
 unfolding space_steps
 stream_space second groups b = search (all_if, own, stream_style) depth 20
 
-stream_marked : (mark : ℕ) (second : Option ℕ) (groups : List (List ℕ)) (b : ℕ) → AllStream (marked_steps mark second groups b)
+stream_marked : {Q : ℕ → Type 0} {R : Type 0} → (mark : ℕ) (second : Option ℕ) (groups : List (List ℕ)) (b : ℕ)
+    → AllAmong Q R (marked_steps mark second groups b)
 unfolding marked_steps
 stream_marked mark second groups b = search (all_if, own, stream_private, stream_space) depth 20
 
-stream_csi : (groups : List (List ℕ)) (marks : List ℕ) (b : ℕ) (seen : Seen) → IfSome seen.last IsPrintable → AllStream (csi_steps groups marks b seen)
+stream_csi : {Q : ℕ → Type 0} {R : Type 0} → (groups : List (List ℕ)) (marks : List ℕ) (b : ℕ) (seen : Seen)
+    → IfSome seen.last Q → AllAmong Q R (csi_steps groups marks b seen)
 stream_csi groups [] b seen k = stream_plain groups b seen k
 stream_csi groups (mark ∷ marks) b seen k = stream_marked mark (mark_at 0 marks) groups b
 
 -- ---- operating system commands
 
-stream_named : (name text : List ℕ) → AllStream (named_steps name text)
+stream_named : {Q : ℕ → Type 0} {R : Type 0} → (name text : List ℕ) → AllAmong Q R (named_steps name text)
 unfolding named_steps
 stream_named name text = search (all_if, own) depth 20
 
-stream_clipboard : (name kind text : List ℕ) → AllStream (clipboard_steps name kind text)
+stream_clipboard : {Q : ℕ → Type 0} {R : Type 0} → (name kind text : List ℕ)
+    → AllAmong Q R (clipboard_steps name kind text)
 unfolding clipboard_steps
 stream_clipboard name kind text = search (all_if, own) depth 20
 
-stream_osc : (parts : List (List ℕ)) → AllStream (osc_steps parts)
+stream_osc : {Q : ℕ → Type 0} {R : Type 0} → (parts : List (List ℕ)) → AllAmong Q R (osc_steps parts)
 stream_osc [] = (told _ refl)
 stream_osc (name ∷ []) = (told _ refl)
 stream_osc (name ∷ text ∷ []) = stream_named name text
 stream_osc (name ∷ kind ∷ text ∷ []) = stream_clipboard name kind text
 stream_osc (name ∷ kind ∷ text ∷ more ∷ parts) = (told _ refl)
 
-pub stream_event : (event : Event) (seen : Seen) → IsCoded event → event ≢ ris → IfSome seen.last IsPrintable → AllStream (steps_of event seen)
-stream_event (Character c) seen coded other k = stream_character c coded
-stream_event (Executed b) seen coded other k = stream_control b
-stream_event (EscDispatch marks b) seen coded other k = stream_escape marks b other
-stream_event (CsiDispatch groups marks b) seen coded other k = stream_csi groups marks b seen k
-stream_event (OscDispatch parts) seen coded other k = stream_osc parts
+pub stream_event : {Q : ℕ → Type 0} {R : Type 0} → (event : Event) (seen : Seen) → IsCoded event → Allows Q R event
+    → IfSome seen.last Q → AllAmong Q R (steps_of event seen)
+stream_event (Character c) seen coded allows k = stream_character c coded (allows.prints c refl)
+stream_event (Executed b) seen coded allows k = stream_control b
+stream_event (EscDispatch marks b) seen coded allows k = stream_escape marks b allows.resets
+stream_event (CsiDispatch groups marks b) seen coded allows k = stream_csi groups marks b seen k
+stream_event (OscDispatch parts) seen coded allows k = stream_osc parts
 
 -- ---- events, one after the other
 
-pub stream_events : (events : List Event) (s : ScreenValue) → AreCoded events → AllByRecursion (λ event. event ≢ ris) events → Held s → AllStream (steps_of_all events s)
+pub stream_events : (events : List Event) (s : ScreenValue) → AreCoded events
+    → AllByRecursion (λ event. event ≢ ris) events → Held s → AllAmong IsPrintable ⊥ (steps_of_all events s)
 stream_events [] s coded others k = none
 stream_events (event ∷ events) s coded others k =
     let steps = steps_of event (seen_of s) in
-    let now = stream_event event (seen_of s) coded.0 others.0 k.last in
+    let now : AllAmong IsPrintable ⊥ steps =
+    stream_event event (seen_of s) coded.0 (record { prints = λ c e is. is; resets = others.0 }) k.last in
     let there = steps_stream steps s now.all k in
     all_then steps (steps_of_all events (stepped_all steps s)) now (stream_events events (stepped_all steps s) coded.1 others.1 there.held)
 
 -- a run over bytes
-pub run_streams : (scan : State) (s : ScreenValue) (bytes : List ℕ) → HasNoRis scan bytes → Held s → Streamed (calls_in scan s bytes) (sent_off_in scan s bytes) s (screen_in scan s bytes)
+pub run_streams : (scan : State) (s : ScreenValue) (bytes : List ℕ) → HasNoRis scan bytes → Held s
+    → Streamed (calls_in scan s bytes) (sent_off_in scan s bytes) s (screen_in scan s bytes)
 run_streams scan s bytes others k = steps_stream (steps_in scan s bytes) s (stream_events (run scan bytes).events s (coded_run scan bytes) others k).all k

@@ -15,14 +15,15 @@ use Rattle.vt_screen.specs.Keeping.{Aside, IsKept}
 use Rattle.vt_screen.specs.Screen.{IsPrintable}
 use Rattle.vt_screen.proofs.Asides.{above_none, kept_last, kept_page}
 use Rattle.vt_screen.proofs.Sizes.{same_carriage_return, same_cursor_saved, same_cursor_restored, same_moved_right, same_moved_to, same_line_feed, same_erased_chars, same_erased_rest, same_erased_below, same_printed}
-use Rattle.vt_screen.proofs.Colored.{colored_blank, colored_line_feed, colored_erased_chars, colored_erased_rest, colored_erased_below, colored_printed}
+use Rattle.vt_screen.proofs.Stable.{stable_blank, stable_line_feed, stable_erased_chars, stable_erased_rest, stable_erased_below, stable_printed}
+use Rattle.vt_screen.proofs.Coloring.{coloring}
 
 -- a fresh screen
 pub kept_blank : (height width capacity : ℕ) → 0 < height → height < 2 ^ 16 → 0 < width → width < 2 ^ 16
     → IsKept (blank_page height width) None (record { other = None; is_alternate = false; active = no_scrollback capacity; idle = no_scrollback 0 })
 kept_blank height width capacity a b c d = record {
   sound = page_blank height width a b c d;
-  colored = colored_blank height width;
+  colored = stable_blank coloring height width;
   printable = tt;
   other = tt;
   entered = λ e. cc;
@@ -40,21 +41,30 @@ pub kept_to : (r c : ℕ) (page : Page) (last : Option ℕ) (aside : Aside) → 
 kept_to r c page last aside k = kept_page page (moved_to r c page) last aside (page_moved_to r c page k.sound) k.colored (same_moved_to r c page) k
 
 pub kept_fed : (page : Page) (last : Option ℕ) (aside : Aside) → IsKept page last aside → IsKept (line_feed page) last aside
-kept_fed page last aside k = kept_page page (line_feed page) last aside (page_line_feed page k.sound) (colored_line_feed page k.colored) (same_line_feed page) k
+kept_fed page last aside k =
+    kept_page page (line_feed page) last aside (page_line_feed page k.sound) (stable_line_feed coloring page k.colored)
+    (same_line_feed page) k
 
 pub kept_erased_chars : (n : ℕ) (attrs : Attrs) (page : Page) (last : Option ℕ) (aside : Aside) → FitsAttrs attrs → IsKept page last aside → IsKept (erased_chars n attrs page) last aside
-kept_erased_chars n attrs page last aside h k = kept_page page (erased_chars n attrs page) last aside (page_erased_chars n attrs page k.sound) (colored_erased_chars n attrs page h k.colored) (same_erased_chars n attrs page) k
+kept_erased_chars n attrs page last aside h k =
+    kept_page page (erased_chars n attrs page) last aside (page_erased_chars n attrs page k.sound)
+    (stable_erased_chars coloring n attrs page h k.colored) (same_erased_chars n attrs page) k
 
 pub kept_erased_rest : (attrs : Attrs) (page : Page) (last : Option ℕ) (aside : Aside) → FitsAttrs attrs → IsKept page last aside → IsKept (erased_rest attrs page) last aside
-kept_erased_rest attrs page last aside h k = kept_page page (erased_rest attrs page) last aside (page_erased_rest attrs page k.sound) (colored_erased_rest attrs page h k.colored) (same_erased_rest attrs page) k
+kept_erased_rest attrs page last aside h k =
+    kept_page page (erased_rest attrs page) last aside (page_erased_rest attrs page k.sound)
+    (stable_erased_rest coloring attrs page h k.colored) (same_erased_rest attrs page) k
 
 pub kept_erased_below : (attrs : Attrs) (page : Page) (last : Option ℕ) (aside : Aside) → FitsAttrs attrs → IsKept page last aside → IsKept (erased_below attrs page) last aside
-kept_erased_below attrs page last aside h k = kept_page page (erased_below attrs page) last aside (page_erased_below attrs page k.sound) (colored_erased_below attrs page h k.colored) (same_erased_below attrs page) k
+kept_erased_below attrs page last aside h k =
+    kept_page page (erased_below attrs page) last aside (page_erased_below attrs page k.sound)
+    (stable_erased_below coloring attrs page h k.colored) (same_erased_below attrs page) k
 
 pub kept_printed : (c : ℕ) (attrs : Attrs) (page : Page) (last new : Option ℕ) (aside : Aside) → IsScalar c → c ≢ 0xFFFD → IfSome new IsPrintable → FitsAttrs attrs → IsKept page last aside → IsKept (printed c attrs page) new aside
 kept_printed c attrs page last new aside scalar other printable h k =
     kept_last (printed c attrs page) last new aside printable
-    (kept_page page (printed c attrs page) last aside (page_printed c attrs page scalar other k.sound) (colored_printed c attrs page h k.colored) (same_printed c attrs page) k)
+    (kept_page page (printed c attrs page) last aside (page_printed c attrs page scalar other k.sound)
+    (stable_printed coloring c attrs page tt h k.colored) (same_printed c attrs page) k)
 
 pub kept_saved : (page : Page) (last : Option ℕ) (aside : Aside) → IsKept page last aside → IsKept (cursor_saved page) last aside
 kept_saved page last aside k = kept_page page (cursor_saved page) last aside (page_cursor_saved page k.sound) k.colored (same_cursor_saved page) k

@@ -2,6 +2,7 @@ pub mod ReadbackSgr
 pub mod ReadbackTexts
 pub mod Readback
 pub mod Shown
+pub mod Seen
 pub mod Redrawing
 pub mod Became
 pub mod Telling
@@ -12,13 +13,14 @@ pub mod Attributes
 pub mod CursorRead
 pub mod InputRead
 pub mod StateRead
-pub mod Colored
-pub mod ColoredMoves
+pub mod Stable
+pub mod StableMoves
+mod Coloring
 pub mod Sizes
 pub mod Inside
 pub mod Sized
 pub mod SizedRuns
-pub mod ColoredScrollback
+pub mod StableScrollback
 pub mod Asides
 mod Exchanging
 mod Resized
@@ -39,6 +41,8 @@ pub mod Alike
 pub mod AlikeScrollback
 pub mod Streaming
 pub mod EventSteps
+mod Selectors
+mod SelectorRuns
 pub mod Bare
 pub mod StreamedTexts
 pub mod Heard

@@ -10,19 +10,21 @@ use Rattle.vt_grid.specs.Scrollback.{Scrollback, no_scrollback, visible, last_of
 use Rattle.vt_redraw.specs.Picture.{IsPicture, IsColoredPicture, cut_rows, picture_of, picture_over}
 use Rattle.vt_redraw.proofs.Cuts.{IsAnyRow, picture_over_is, picture_over_page}
 use Rattle.vt_screen.specs.Screen.{ScreenValue, IsScreen, IsColored, IsColoredRow, AreColored, above_page, canvas_of, visible_rows}
-use Rattle.vt_screen.specs.Shown.{IsPlain, shown}
-use Rattle.vt_screen.proofs.ColoredMoves.{colored_moved}
+use Rattle.vt_screen.specs.Shown.{IsPlain, ShowsOwnPage, shown}
+use Rattle.vt_screen.proofs.StableMoves.{stable_moved}
+use Rattle.vt_screen.proofs.Coloring.{coloring}
 
 -- ---- the rows in view
 
-length_visible : (above : Scrollback) (rows : List RowValue) → length (visible above rows) ≡ length rows
+pub length_visible : (above : Scrollback) (rows : List RowValue) → length (visible above rows) ≡ length rows
 length_visible above rows =
     let old = last_of above.offset above.rows in
     let taken = length-take (length rows) (old ++ rows) in
     let joined = length-append old rows in
     omega arith
 
-rows_visible : (P : RowValue → Type 0) (above : Scrollback) (rows : List RowValue) → All P above.rows → All P rows → All P (visible above rows)
+pub rows_visible : (P : RowValue → Type 0) (above : Scrollback)
+    (rows : List RowValue) → All P above.rows → All P rows → All P (visible above rows)
 rows_visible P above rows p q =
     All-take P (length rows) (last_of above.offset above.rows ++ rows) (All-append P (last_of above.offset above.rows) rows (All-drop P (length above.rows - above.offset) above.rows p) q)
 
@@ -31,7 +33,8 @@ none_above above rows none =
     let past : length above.rows ≤ length above.rows - above.offset = omega arith in
     ap (λ (old : List RowValue). take (length rows) (old ++ rows)) (drop_all (length above.rows - above.offset) above.rows past) ∙ take_all (length rows) rows (omega arith)
 
-above_by : (P : RowValue → Type 0) (b : Bool) (above : Scrollback) → All P above.rows → All P (if b then no_scrollback 0 else above).rows
+pub above_by : (P : RowValue → Type 0) (b : Bool) (above : Scrollback) → All P above.rows → All P
+    (if b then no_scrollback 0 else above).rows
 above_by P true above p = All-nil P
 above_by P false above p = p
 
@@ -53,9 +56,11 @@ cut_colored : (width : ℕ) (rows : List RowValue) → AllByRecursion IsColoredR
 unfolding resized
 cut_colored width [] h = All-nil IsColoredRow
 cut_colored width (x ∷ []) h =
-    All-cons IsColoredRow (record { cells = resized width x.cells; wrapped = false }) [] (colored_moved width (λ k. k) x.cells h.0) (All-nil IsColoredRow)
+    All-cons IsColoredRow (record { cells = resized width x.cells; wrapped = false }) []
+    (stable_moved coloring width (λ k. k) x.cells h.0) (All-nil IsColoredRow)
 cut_colored width (x ∷ y ∷ rows) h =
-    All-cons IsColoredRow (with_cells x (resized width x.cells)) (cut_rows width (y ∷ rows)) (colored_moved width (λ k. k) x.cells h.0) (cut_colored width (y ∷ rows) h.1)
+    All-cons IsColoredRow (with_cells x (resized width x.cells)) (cut_rows width (y ∷ rows))
+    (stable_moved coloring width (λ k. k) x.cells h.0) (cut_colored width (y ∷ rows) h.1)
 
 length_cut : (width : ℕ) (rows : List RowValue) → length (cut_rows width rows) ≡ length rows
 length_cut width [] = refl
@@ -77,8 +82,12 @@ shown_colored s is colored =
       cells = cut_colored s.page.width (visible_rows s) (recursion_from_All IsColoredRow (visible_rows s) rows);
     }
 
--- ---- a plain screen
+-- ---- a screen with no scrollback in view
+
+pub own_shown : (s : ScreenValue) → IsScreen s → ShowsOwnPage s → shown s ≡ picture_of (canvas_of s)
+own_shown s is none =
+    ap (λ (rows : List RowValue). picture_over rows (canvas_of s)) (none_above (above_page s) s.page.rows none)
+    ∙ picture_over_page (canvas_of s) is.page
 
 pub plain_shown : (s : ScreenValue) → IsScreen s → IsPlain s → shown s ≡ picture_of (canvas_of s)
-plain_shown s is plain =
-    ap (λ (rows : List RowValue). picture_over rows (canvas_of s)) (none_above (above_page s) s.page.rows plain.offset) ∙ picture_over_page (canvas_of s) is.page
+plain_shown s is plain = own_shown s is plain.offset

@@ -31,12 +31,16 @@ use Rattle.vt_screen.proofs.AlikeScrollback.{AreSound, alike_pushed, alike_then,
 use Rattle.vt_screen.proofs.Asides.{rows_fed_out, rows_printed_out, rows_scrolled_out}
 use Rattle.vt_screen.proofs.Sizes.{same_back, same_itself, same_through, same_carriage_return, same_cursor_saved, same_cursor_restored, same_moved_right, same_moved_to, same_line_feed, same_erased_chars, same_erased_rest, same_erased_below, same_printed, same_chars_deleted, same_chars_inserted, same_erased_above, same_erased_page, same_erased_row, same_erased_start, same_lines_deleted, same_lines_inserted, same_moved_down, same_moved_left, same_moved_to_column, same_moved_to_row, same_moved_up, same_next_line, same_origin_set, same_previous_line, same_region_set, same_reverse_index, same_scrolled_down, same_scrolled_up, same_tabbed}
 
--- what the steps of events are, but RIS
+-- what the steps of events are, by what they print and whether they may start the screen anew
+abbrev pub IsAmong : (ℕ → Type 0) → Type 0 → Step → Type 0
+IsAmong Q R (Print c) = Q c
+IsAmong Q R Reset = R
+IsAmong Q R (Tell call) = row_told call ≡ []
+IsAmong Q R _ = Unit {0}
+
+-- all but RIS
 abbrev pub IsStreamed : Step → Type 0
-IsStreamed (Print c) = IsPrintable c
-IsStreamed Reset = ⊥
-IsStreamed (Tell call) = row_told call ≡ []
-IsStreamed _ = Unit {0}
+IsStreamed step = IsAmong IsPrintable ⊥ step
 
 -- ---- what stands at each step
 

@@ -16,6 +16,7 @@ pub mod Chain
 pub mod Reports
 pub mod Keeping
 pub mod Telling
+pub mod Selectors
 pub mod Contents
 pub mod RowItems
 pub mod InputTexts

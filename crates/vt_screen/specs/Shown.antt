@@ -1,16 +1,29 @@
 -- What a screen shows, and what a text makes of the terminals that read it.
-use Rattle.std.specs.Prelude.{◌≡◌, ℕ, List, [], ◌∷◌, Option, Some}
+use Rattle.std.specs.Prelude.{◌≡◌, ℕ, ◌<◌, false, List, [], ◌∷◌, length, Option, Some, chars}
+use Rattle.std.specs.List.{list_any}
 use Rattle.vt_cells.specs.Attrs.{default_attrs, Attrs}
+use Rattle.vt_cells.specs.Cell.{text_of}
+use Rattle.vt_cells.specs.Glyph.{is_selector}
 use Rattle.vt_cells.specs.Op.{ClearAttrs, ChangeAttrs, bytes_of_all}
+use Rattle.vt_rows.specs.Cells.{at}
 use Rattle.vt_grid.specs.Page.{IsPlainPage}
 use Rattle.vt_redraw.specs.Picture.{Picture, SamePictureSize, Saved, picture_over, with_picture, with_saved}
 use Rattle.vt_scan.specs.Automaton.{start}
 use Rattle.vt_screen.specs.Reading.{read, terminal}
-use Rattle.vt_screen.specs.Screen.{ScreenValue, IsScreen, above_page, canvas_of, visible_rows, with_canvas}
+use Rattle.vt_screen.specs.Screen.{ScreenValue, IsScreen, above_page, canvas_of, visible_row, visible_rows, with_canvas}
 
 -- the rows in view, cut to the screen's width, with its cursor, its attributes and whether the cursor is hidden
 abbrev pub shown : ScreenValue → Picture
 shown screen = picture_over (visible_rows screen) (canvas_of screen)
+
+-- no scrollback is in view, so that the rows that are shown are those of the active page
+abbrev pub ShowsOwnPage : ScreenValue → Type 0
+ShowsOwnPage screen = (above_page screen).offset ≡ 0
+
+-- in each row that is shown, over the columns of the screen, no character of a cell's text is U+FE0F
+abbrev pub ShowsNoSelector : ScreenValue → Type 0
+ShowsNoSelector screen = (r col : ℕ) → r < length screen.page.rows → col < screen.page.width
+    → list_any is_selector (chars (text_of (at (visible_row screen r).cells col))) ≡ false
 
 -- the region is the whole page, origin mode is off, and no scrollback is in view
 pub record IsPlain (screen : ScreenValue) : Type 0 where
@@ -20,6 +33,14 @@ pub record IsPlain (screen : ScreenValue) : Type 0 where
 -- a screen that shows a picture; but for what was saved and the last character, the rest as it was
 abbrev pub showing : Picture → Saved → Option ℕ → ScreenValue → ScreenValue
 showing picture saved last reader = record (with_canvas (with_saved saved (with_picture picture (canvas_of reader))) reader) { last = last }
+
+-- two screens show the same, and no scrollback is in view of either
+pub record ShowSamePage (screen other : ScreenValue) : Type 0 where
+  pub sound : IsScreen screen
+  pub other_sound : IsScreen other
+  pub own : ShowsOwnPage screen
+  pub other_own : ShowsOwnPage other
+  pub same : shown screen ≡ shown other
 
 -- ---- the terminals that read a text
 

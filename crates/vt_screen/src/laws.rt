@@ -1,20 +1,85 @@
 //! What holds of what screens show. These functions do nothing: their clauses
 //! are what a proof may cite.
 
-ghost use Rattle.std.specs.Prelude.{◌≡◌, ℕ, List, suc, ◌++◌, length, replicate};
-ghost use Rattle.vt_redraw.specs.Picture.{IsPicture};
+ghost use Rattle.std.specs.Prelude.{◌≡◌, ◌+◌, ◌<◌, ◌↔◌, ℕ, List, suc, ◌++◌, length, replicate};
+ghost use Rattle.vt_grid.specs.Page.{SameSize};
+ghost use Rattle.vt_redraw.specs.Locality.{row_of_picture};
+ghost use Rattle.vt_redraw.specs.Picture.{IsPicture, SamePictureSize};
+ghost use Rattle.vt_redraw.specs.Steady.{IsSteady};
 ghost use Rattle.vt_rows.specs.Basic.{unwritten};
+ghost use Rattle.vt_rows.specs.Cells.{at};
 ghost use Rattle.vt_scan.specs.Automaton.{State};
 ghost use Rattle.vt_screen.specs.Capture.{basic_texts};
-ghost use Rattle.vt_screen.specs.Screen.{IsScreen, ScreenValue, fresh_screen, visible_rows};
-ghost use Rattle.vt_screen.specs.Shown.{shown};
+ghost use Rattle.vt_screen.specs.Contents.{between_of, contents_of};
+ghost use Rattle.vt_screen.specs.Pages.{resized};
+ghost use Rattle.vt_screen.specs.Screen.{IsScreen, ScreenValue, fresh_screen, scrolled_back, visible_row, visible_rows};
+ghost use Rattle.vt_screen.specs.Selectors.{HasNoSelectors, ReadsNoSelector};
+ghost use Rattle.vt_screen.specs.Shown.{ShowSamePage, ShowsNoSelector, ShowsOwnPage, shown};
 ghost use Rattle.vt_screen.specs.Streamed.{AreAlike, HasNoRis, HasWideFlags, bare, rows_told, sent_off_in};
 ghost use Rattle.vt_screen.specs.Telling.{calls_in, screen_in};
 
-/// What a screen shows is a picture of the screen's size.
+/// What a screen shows is a picture of the screen's size, and screens are of one
+/// size exactly where their pictures are (`sizes`).
+///
+/// With no scrollback in view its rows are those that getters read (`own`). Rows
+/// of scrollback are cut to the screen's columns; also then all cells but those
+/// of the last column are the ones that getters read (`inner`): in that column a
+/// wide glyph that is cut in two shows as a blank.
 pub fn shown_is()
     ensures picture { (screen : ScreenValue) → IsScreen screen → IsPicture (shown screen) }
     ensures rows { (screen : ScreenValue) → length (shown screen).rows ≡ length screen.page.rows }
+    ensures sizes { (screen other : ScreenValue) →
+        SameSize screen.page other.page ↔ SamePictureSize (shown screen) (shown other) }
+    ensures own { (screen : ScreenValue) → IsScreen screen → ShowsOwnPage screen →
+        (shown screen).rows ≡ visible_rows screen }
+    ensures inner { (screen : ScreenValue) (row col : ℕ) → IsScreen screen → col + 1 < screen.page.width →
+        at (row_of_picture (shown screen) row).cells col ≡ at (visible_row screen row).cells col }
+{}
+
+/// Of two screens that show the same, getters answer the same: size, cursor,
+/// attributes, hiding of the cursor, and the cells left of the last column; and
+/// with no scrollback in view of either, all rows that are shown, with their
+/// cells and flags, and the texts of the screen and of each range.
+pub fn same_shown()
+    ensures size { (screen other : ScreenValue) → shown screen ≡ shown other → SameSize screen.page other.page }
+    ensures row { (screen other : ScreenValue) → shown screen ≡ shown other → screen.page.row ≡ other.page.row }
+    ensures column { (screen other : ScreenValue) → shown screen ≡ shown other →
+        screen.page.column ≡ other.page.column }
+    ensures attrs { (screen other : ScreenValue) → shown screen ≡ shown other → screen.attrs ≡ other.attrs }
+    ensures hidden { (screen other : ScreenValue) → shown screen ≡ shown other → screen.hidden ≡ other.hidden }
+    ensures inner { (screen other : ScreenValue) (row col : ℕ) → IsScreen screen → IsScreen other →
+        shown screen ≡ shown other → col + 1 < screen.page.width →
+        at (visible_row screen row).cells col ≡ at (visible_row other row).cells col }
+    ensures rows { (screen other : ScreenValue) → ShowSamePage screen other → visible_rows screen ≡ visible_rows other }
+    ensures cells { (screen other : ScreenValue) (row : ℕ) → ShowSamePage screen other →
+        visible_row screen row ≡ visible_row other row }
+    ensures contents { (screen other : ScreenValue) → ShowSamePage screen other →
+        contents_of screen ≡ contents_of other }
+    ensures between { (start_row start_col end_row end_col : ℕ) (screen other : ScreenValue) →
+        ShowSamePage screen other →
+        between_of start_row start_col end_row end_col screen ≡ between_of start_row start_col end_row end_col other }
+{}
+
+/// A screen without U+FE0F in any cell that getters read of its rows and columns
+/// shows a steady picture, whatever the widths of its characters are.
+pub fn plain_steady()
+    ensures { (screen : ScreenValue) → IsScreen screen → ShowsNoSelector screen → IsSteady (shown screen) }
+{}
+
+/// Where no character that bytes read is U+FE0F, none comes into a cell: a
+/// screen that has none on either page and in scrollback, as a fresh one has
+/// none (`fresh`), has none after a run whose callbacks leave the screen alone
+/// (`ran`), in another size (`sized`) and scrolled back (`viewed`). What it
+/// shows has none then (`shown`), and is steady by `plain_steady`.
+pub fn no_selectors()
+    ensures fresh { (rows cols capacity : ℕ) → HasNoSelectors (fresh_screen rows cols capacity) }
+    ensures ran { (scan : State) (screen : ScreenValue) (bytes : List ℕ) → IsScreen screen →
+        HasNoSelectors screen → ReadsNoSelector scan bytes → HasNoSelectors (screen_in scan screen bytes) }
+    ensures sized { (rows cols : ℕ) (screen : ScreenValue) → IsScreen screen → HasNoSelectors screen →
+        HasNoSelectors (resized rows cols screen) }
+    ensures viewed { (rows : ℕ) (screen : ScreenValue) → IsScreen screen → HasNoSelectors screen →
+        HasNoSelectors (scrolled_back rows screen) }
+    ensures shown { (screen : ScreenValue) → HasNoSelectors screen → ShowsNoSelector screen }
 {}
 
 /// A fresh screen is captured as line ends alone, one less than its rows.

@@ -6,16 +6,18 @@ use Rattle.vt_grid.specs.Scrollback.{reported}
 use Rattle.vt_screen.specs.Run.{Hears}
 use Rattle.vt_screen.specs.contracts.screen.Screen.{the_view}
 use Rattle.vt_screen.proofs.Asides.{kept_sent, rows_scrolled_out}
-use Rattle.vt_screen.proofs.ColoredScrollback.{colored_scrolled_out}
+use Rattle.vt_screen.proofs.StableScrollback.{stable_scrolled_out}
 use Rattle.vt_screen.proofs.KeptMoves.{kept_scrolled_up}
 use Rattle.vt_screen.proofs.Reporting.{same_callbacks, reported_to, scrolled_up_by}
 use Rattle.vt_screen.proofs.screen.Screen.su.Goals as goal
+use Rattle.vt_screen.proofs.Coloring.{coloring}
 
 pub invariant_of-self-2 : goal.invariant_of-self-2
 invariant_of-self-2 g c =
     let k = c.self.invariant in
     rw (c.in_ok-scroll_up.ensures.page, c.in_ok-scroll_up.ensures.sent.0)
-    (kept_sent _ _ _ _ _ c.self.inside.grid.width (rows_scrolled_out c.args.count c.self.inside.grid k.sound) (colored_scrolled_out c.args.count c.self.inside.grid k.colored)
+    (kept_sent _ _ _ _ _ c.self.inside.grid.width (rows_scrolled_out c.args.count c.self.inside.grid k.sound)
+    (stable_scrolled_out coloring c.args.count c.self.inside.grid k.colored)
     (kept_scrolled_up c.args.count c.self.inside.grid c.self.inside.last _ k))
 
 pub returns-clause-done : goal.returns-clause-done

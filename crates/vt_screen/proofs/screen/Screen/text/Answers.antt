@@ -6,16 +6,19 @@ use Rattle.vt_grid.specs.Scrollback.{reported}
 use Rattle.vt_screen.specs.Run.{Hears}
 use Rattle.vt_screen.specs.contracts.screen.Screen.{the_view}
 use Rattle.vt_screen.proofs.Asides.{kept_sent, rows_printed_out}
-use Rattle.vt_screen.proofs.ColoredScrollback.{colored_printed_out}
+use Rattle.vt_screen.proofs.StableScrollback.{stable_printed_out}
 use Rattle.vt_screen.proofs.Kept.{kept_printed}
 use Rattle.vt_screen.proofs.Reporting.{same_callbacks, reported_to, character_printed}
 use Rattle.vt_screen.proofs.screen.Screen.text.Goals as goal
+use Rattle.vt_screen.proofs.Coloring.{coloring}
 
 pub invariant_of-self-2 : goal.invariant_of-self-2
 invariant_of-self-2 g c =
     let k = c.self.invariant in
     rw (c.in_ok-print_columns.ensures.page, c.in_ok-print_columns.ensures.sent.0)
-    (kept_sent _ _ _ _ _ c.self.inside.grid.width (rows_printed_out c.args.c c.self.inside.attrs c.self.inside.grid k.sound) (colored_printed_out c.args.c c.self.inside.attrs c.self.inside.grid (search rules) k.colored)
+    (kept_sent _ _ _ _ _ c.self.inside.grid.width
+    (rows_printed_out c.args.c c.self.inside.attrs c.self.inside.grid k.sound)
+    (stable_printed_out coloring c.args.c c.self.inside.attrs c.self.inside.grid (search rules) k.colored)
     (kept_printed c.args.c c.self.inside.attrs c.self.inside.grid c.self.inside.last _ _ (search rules) c.requires c.last_after-last.ensures.printable (search rules) k))
 
 pub returns-clause-done : goal.returns-clause-done

@@ -1,0 +1,32 @@
+-- Colours whose numbers are bytes: they stay so in every cell, where what is drawn has such colours.
+use Rattle.std.specs.Prelude.{ℕ, Bool}
+use Rattle.vt_cells.specs.Cell.{CellValue, blank, glyph, right_half, widened, marked}
+use Rattle.vt_cells.specs.Op.{FitsAttrs}
+use Rattle.vt_screen.specs.Keeping.{IsColoredCell}
+use Rattle.vt_screen.proofs.Stable.{IsStable}
+
+abbrev AnyCharacter : ℕ → Type 0
+AnyCharacter c = Unit {0}
+
+colored_wider : (wide : Bool) (cell : CellValue) → IsColoredCell cell → IsColoredCell (widened wide cell)
+colored_wider wide (blank attrs) h = h
+colored_wider wide (glyph text was attrs) h = h
+colored_wider wide right_half h = h
+
+colored_marked : (mark : ℕ) (cell : CellValue) → IsColoredCell cell → IsColoredCell (marked mark cell)
+colored_marked mark (blank attrs) h = h
+colored_marked mark (glyph text wide attrs) h = h
+colored_marked mark right_half h = h
+
+pub coloring : IsStable IsColoredCell FitsAttrs AnyCharacter
+coloring = record {
+  plain = (tt, tt);
+  empty = λ attrs h. h;
+  half = (tt, tt);
+  torn = λ cell h. h;
+  space = λ attrs h. h;
+  wider = colored_wider;
+  marks = λ mark cell q h. colored_marked mark cell h;
+  prints = λ c wide attrs q h. h;
+  again = λ cell attrs h f. f;
+}

@@ -1,0 +1,231 @@
+-- What holds of each cell stays so of rows that leave a page.
+use Rattle.std.proofs.Common.{◌≡◌, ℕ, zero, suc, ◌+◌, ◌-◌, ◌==◌, nat_lt, min, Bool, true, false, List, [], ◌∷◌, ◌++◌, length, take, drop, map, refl, arith}
+use Rattle.std.specs.Prelude.{if◌then◌else◌, All, Option, Some, None}
+use Rattle.std.specs.List.{list_all, range_with_len}
+use Rattle.std.proofs.lemmas.List.{length-append, length-take, length-drop, length-map, nil_from_length}
+use Rattle.std.proofs.lemmas.List.Elements.{All-nil, All-cons, All-head, All-tail, All-append, All-take, All-drop, All-set, All-map, All-weaker}
+use Rattle.vt_cells.specs.Attrs.{default_attrs, Attrs}
+use Rattle.vt_cells.specs.Cell.{CellValue, is_default_blank}
+use Rattle.vt_cells.specs.Glyph.{columns_of}
+use Rattle.vt_rows.specs.Cells.{resized}
+use Rattle.vt_rows.specs.Row.{RowValue, blank_row, resized_row, trimmed, trimmed_row}
+use Rattle.vt_grid.specs.Page.{Page, row_or}
+use Rattle.vt_grid.specs.Moves.{feeds_out}
+use Rattle.vt_grid.specs.Printing.{mark_column, pushes}
+use Rattle.vt_grid.specs.Outgoing.{scrolled_out, fed_out, left_by, printed_out}
+use Rattle.vt_grid.specs.Scrollback.{Scrollback, no_scrollback, stacked, kept_after, grown_row, grown_in_view, pushed, reported, viewed, visible}
+use Rattle.vt_grid.specs.Resize.{leaving, returning, window, rows_resized, page_resized, out_of_view, scrollback_resized}
+use Rattle.vt_screen.proofs.Stable.{IsStable, EachCell, EachRow, stable_blank_row, stable_row_or, stable_erased_columns}
+use Rattle.vt_screen.proofs.StableMoves.{stable_moved}
+
+-- ---- rows cut or grown
+
+unless : {P : CellValue → Type 0} {F : Attrs → Type 0} {Q : ℕ → Type 0} → IsStable P F Q
+    → (b : Bool) (cells : List CellValue) → All P cells → All P (if b then [] else cells)
+unless {P} {F} {Q} rule true cells h = All-nil P
+unless {P} {F} {Q} rule false cells h = h
+
+row_if : {P : CellValue → Type 0} {F : Attrs → Type 0} {Q : ℕ → Type 0} → IsStable P F Q → (b : Bool) (x y : RowValue)
+    → (EachCell P) x → (EachCell P) y → (EachCell P) (if b then x else y)
+row_if {P} {F} {Q} rule true x y p q = p
+row_if {P} {F} {Q} rule false x y p q = q
+
+rows_where : {P : CellValue → Type 0} {F : Attrs → Type 0} {Q : ℕ → Type 0} → IsStable P F Q
+    → (b : Bool) (rows : List RowValue) → EachRow P rows → EachRow P (if b then rows else [])
+rows_where {P} {F} {Q} rule true rows h = h
+rows_where {P} {F} {Q} rule false rows h = All-nil (EachCell P)
+
+trimmed_cells : {P : CellValue → Type 0} {F : Attrs → Type 0} {Q : ℕ → Type 0} → IsStable P F Q
+    → (cells : List CellValue) → All P cells → All P (trimmed cells)
+trimmed_cells {P} {F} {Q} rule [] h = h
+trimmed_cells {P} {F} {Q} rule (x ∷ xs) h =
+    unless rule (list_all is_default_blank (x ∷ xs)) (x ∷ trimmed xs)
+    (All-cons P x (trimmed xs) (All-head P x xs h) (trimmed_cells rule xs (All-tail P x xs h)))
+
+pub stable_trimmed : {P : CellValue → Type 0} {F : Attrs → Type 0} {Q : ℕ → Type 0} → IsStable P F Q
+    → (row : RowValue) → (EachCell P) row → (EachCell P) (trimmed_row row)
+stable_trimmed {P} {F} {Q} rule row h = trimmed_cells rule row.cells h
+
+pub stable_resized_row : {P : CellValue → Type 0} {F : Attrs → Type 0} {Q : ℕ → Type 0} → IsStable P F Q
+    → (width : ℕ) (row : RowValue) → (EachCell P) row → (EachCell P) (resized_row width row)
+unfolding resized
+stable_resized_row {P} {F} {Q} rule width row h = stable_moved rule width (λ k. k) row.cells h
+
+stable_mapped : {P : CellValue → Type 0} {F : Attrs → Type 0} {Q : ℕ → Type 0} → IsStable P F Q
+    → (f : RowValue → RowValue) (rows : List RowValue) → ((row : RowValue) → (EachCell P) row → (EachCell P) (f row))
+    → EachRow P rows → EachRow P (map f rows)
+stable_mapped {P} {F} {Q} rule f rows keeps all =
+    All-map (EachCell P) f rows (All-weaker (EachCell P) (λ row. (EachCell P) (f row)) keeps rows all)
+
+-- ---- scrollback
+
+stable_grown_row : {P : CellValue → Type 0} {F : Attrs → Type 0} {Q : ℕ → Type 0} → IsStable P F Q
+    → (width : ℕ) (row : RowValue) → (EachCell P) row → (EachCell P) (grown_row width row)
+stable_grown_row {P} {F} {Q} rule width row h =
+    row_if rule (nat_lt (length row.cells) width) (resized_row width row) row (stable_resized_row rule width row h) h
+
+stable_grown : {P : CellValue → Type 0} {F : Attrs → Type 0} {Q : ℕ → Type 0} → IsStable P F Q
+    → (height width : ℕ) (above : Scrollback) → EachRow P above.rows → EachRow P (grown_in_view height width above).rows
+unfolding grown_in_view
+stable_grown {P} {F} {Q} rule height width above all =
+    let first = length above.rows - above.offset in
+    let seen = take height (drop first above.rows) in
+    let past = drop (first + height) above.rows in
+    All-append (EachCell P) (take first above.rows) (map (grown_row width) seen ++ past)
+    (All-take (EachCell P) first above.rows all)
+    (All-append (EachCell P) (map (grown_row width) seen) past
+    (stable_mapped rule (grown_row width) seen (stable_grown_row rule width)
+    (All-take (EachCell P) height (drop first above.rows) (All-drop (EachCell P) first above.rows all)))
+    (All-drop (EachCell P) (first + height) above.rows all))
+
+stable_kept_after : {P : CellValue → Type 0} {F : Attrs → Type 0} {Q : ℕ → Type 0} → IsStable P F Q
+    → (gone : List RowValue) (above : Scrollback) → EachRow P gone → EachRow P above.rows
+    → EachRow P (kept_after gone above).rows
+unfolding kept_after
+stable_kept_after {P} {F} {Q} rule gone above g all =
+    All-drop (EachCell P) (length (stacked gone above) - above.capacity) (stacked gone above)
+    (All-append (EachCell P) above.rows (map trimmed_row gone) all
+    (stable_mapped rule trimmed_row gone (stable_trimmed rule) g))
+
+pub stable_pushed : {P : CellValue → Type 0} {F : Attrs → Type 0} {Q : ℕ → Type 0} → IsStable P F Q
+    → (height width : ℕ) (gone : List RowValue) (above : Scrollback) → EachRow P gone → EachRow P above.rows
+    → EachRow P (pushed height width gone above).rows
+stable_pushed {P} {F} {Q} rule height width [] above g all = all
+stable_pushed {P} {F} {Q} rule height width (row ∷ gone) above g all =
+    stable_grown rule height width (kept_after (row ∷ gone) above) (stable_kept_after rule (row ∷ gone) above g all)
+
+pub stable_viewed : {P : CellValue → Type 0} {F : Attrs → Type 0} {Q : ℕ → Type 0} → IsStable P F Q
+    → (height width n : ℕ) (above : Scrollback) → EachRow P above.rows → EachRow P (viewed height width n above).rows
+unfolding viewed
+stable_viewed {P} {F} {Q} rule height width n above all =
+    stable_grown rule height width (record above { offset = min n (length above.rows) }) all
+
+-- ---- the rows that leave
+
+pub stable_fed_out : {P : CellValue → Type 0} {F : Attrs → Type 0} {Q : ℕ → Type 0} → IsStable P F Q → (page : Page)
+    → EachRow P page.rows → EachRow P (fed_out page)
+stable_fed_out {P} {F} {Q} rule page all =
+    rows_where rule (feeds_out page) (take 1 page.rows) (All-take (EachCell P) 1 page.rows all)
+
+pub stable_scrolled_out : {P : CellValue → Type 0} {F : Attrs → Type 0} {Q : ℕ → Type 0} → IsStable P F Q
+    → (n : ℕ) (page : Page) → EachRow P page.rows → EachRow P (scrolled_out n page)
+stable_scrolled_out {P} {F} {Q} rule n page all =
+    let count = min n (page.bottom + 1) in
+    rows_where rule (page.top == 0) (take count page.rows) (All-take (EachCell P) count page.rows all)
+
+stable_left_by : {P : CellValue → Type 0} {F : Attrs → Type 0} {Q : ℕ → Type 0} → IsStable P F Q
+    → (columns : Option ℕ) (attrs : Attrs) (page : Page) → F attrs → EachRow P page.rows
+    → EachRow P (left_by columns attrs page).rows
+stable_left_by {P} {F} {Q} rule None attrs page h all = all
+stable_left_by {P} {F} {Q} rule (Some zero) attrs page h all =
+    stable_erased_columns rule (mark_column page) 1 attrs page h all
+stable_left_by {P} {F} {Q} rule (Some (suc n)) attrs page h all = all
+
+pub stable_printed_out : {P : CellValue → Type 0} {F : Attrs → Type 0} {Q : ℕ → Type 0} → IsStable P F Q
+    → (c : ℕ) (attrs : Attrs) (page : Page) → F attrs → EachRow P page.rows → EachRow P (printed_out c attrs page)
+stable_printed_out {P} {F} {Q} rule c attrs page h all =
+    let left = (left_by (columns_of c) attrs page).rows in
+    rows_where rule (pushes c page) (take 1 left)
+    (All-take (EachCell P) 1 left (stable_left_by rule (columns_of c) attrs page h all))
+
+-- ---- another size
+
+stable_window : {P : CellValue → Type 0} {F : Attrs → Type 0} {Q : ℕ → Type 0} → IsStable P F Q
+    → (width height down up : ℕ) (above rows : List RowValue) → EachRow P above → EachRow P rows
+    → EachRow P (window width height down up above rows)
+unfolding window
+stable_window {P} {F} {Q} rule width height down up above rows a h =
+    let from = λ (k : ℕ). if nat_lt (length above + down + k) up then blank_row default_attrs width else row_or width
+    (above ++ rows) (length above + down + k - up) in
+    let each : (k : ℕ) → (EachCell P) (from k) = λ k.
+    row_if rule (nat_lt (length above + down + k) up) (blank_row default_attrs width)
+    (row_or width (above ++ rows) (length above + down + k - up)) (stable_blank_row rule default_attrs width rule.plain)
+    (stable_row_or rule width (above ++ rows) (length above + down + k - up)
+    (All-append (EachCell P) above rows a h)) in
+    All-map (EachCell P) from (range_with_len 0 height) (λ i d lt. each _)
+
+stable_rows_resized : {P : CellValue → Type 0} {F : Attrs → Type 0} {Q : ℕ → Type 0} → IsStable P F Q
+    → (width : ℕ) (rows : List RowValue) → EachRow P rows → EachRow P (rows_resized width rows)
+stable_rows_resized {P} {F} {Q} rule width rows all =
+    let cut = map (resized_row width) rows in
+    let there = stable_mapped rule (resized_row width) rows (stable_resized_row rule width) all in
+    All-set (EachCell P) cut (length rows - 1) (record (row_or width cut (length rows - 1)) { wrapped = false })
+    (stable_row_or rule width cut (length rows - 1) there) there
+
+pub stable_page_resized : {P : CellValue → Type 0} {F : Attrs → Type 0} {Q : ℕ → Type 0} → IsStable P F Q
+    → (height width : ℕ) (above : Scrollback) (page : Page) → EachRow P above.rows → EachRow P page.rows
+    → EachRow P (page_resized height width above page).rows
+unfolding page_resized
+stable_page_resized {P} {F} {Q} rule height width above page a all =
+    let down = leaving height page in
+    let up = returning height above page in
+    stable_rows_resized rule width (window page.width height down up above.rows page.rows)
+    (stable_window rule page.width height down up above.rows page.rows a all)
+
+pub stable_scrollback_resized : {P : CellValue → Type 0} {F : Attrs → Type 0} {Q : ℕ → Type 0} → IsStable P F Q
+    → (height : ℕ) (page : Page) (above : Scrollback) → EachRow P page.rows → EachRow P above.rows
+    → EachRow P (scrollback_resized height page above).rows
+unfolding scrollback_resized
+stable_scrollback_resized {P} {F} {Q} rule height page above all a =
+    let gone = take (leaving height page) page.rows in
+    let after = pushed (length page.rows) page.width gone (out_of_view above) in
+    All-take (EachCell P) (length after.rows - returning height above page) after.rows
+    (stable_pushed rule (length page.rows) page.width gone (out_of_view above)
+    (All-take (EachCell P) (leaving height page) page.rows all) a)
+
+-- ---- scrollback that keeps no row
+
+pub pushed_capacity : (height width : ℕ) (gone : List RowValue) (above : Scrollback)
+    → (pushed height width gone above).capacity ≡ above.capacity
+unfolding grown_in_view kept_after
+pushed_capacity height width [] above = refl
+pushed_capacity height width (row ∷ gone) above = refl
+
+pub grown_nothing : (height width : ℕ) (above : Scrollback) → length above.rows ≡ 0
+    → (grown_in_view height width above).rows ≡ []
+unfolding grown_in_view
+grown_nothing height width above e =
+    let first = length above.rows - above.offset in
+    let seen = take height (drop first above.rows) in
+    let past = drop (first + height) above.rows in
+    nil_from_length (take first above.rows ++ (map (grown_row width) seen ++ past)) (omega (
+      arith,
+      e,
+      length-append (take first above.rows) (map (grown_row width) seen ++ past),
+      length-append (map (grown_row width) seen) past,
+      length-take first above.rows,
+      length-map seen (grown_row width),
+      length-take height (drop first above.rows),
+      length-drop first above.rows,
+      length-drop (first + height) above.rows,
+    ))
+
+kept_nothing : (gone : List RowValue) (above : Scrollback) → above.capacity ≡ 0
+    → length (kept_after gone above).rows ≡ 0
+unfolding kept_after
+kept_nothing gone above c =
+    omega (arith, c, length-drop (length (stacked gone above) - above.capacity) (stacked gone above))
+
+unseen : (height width : ℕ) (gone : List RowValue) (above : Scrollback) → above.offset ≡ 0
+    → (grown_in_view height width (kept_after gone above)).offset ≡ 0
+unfolding grown_in_view kept_after
+unseen height width gone above o = rw o refl
+
+pub pushed_nothing : (height width : ℕ) (gone : List RowValue) (above : Scrollback) → above.capacity ≡ 0
+    → above.rows ≡ [] → above.offset ≡ 0 →
+    ((pushed height width gone above).rows ≡ []) × ((pushed height width gone above).offset ≡ 0)
+pushed_nothing height width [] above c r o = (r, o)
+pushed_nothing height width (row ∷ gone) above c r o = (
+  grown_nothing height width (kept_after (row ∷ gone) above)
+      (kept_nothing (row ∷ gone) above c),
+  unseen height width (row ∷ gone) above o,
+)
+
+pub reported_nothing : (gone : List RowValue) (above : Scrollback) → above.capacity ≡ 0 → above.rows ≡ []
+    → reported gone above ≡ reported gone (no_scrollback 0)
+reported_nothing [] above c r = refl
+reported_nothing (row ∷ gone) above c r = rw (c, r) refl
+
+pub visible_nothing : (rows : List RowValue) (above : Scrollback) → above.rows ≡ [] → above.offset ≡ 0
+    → visible above rows ≡ visible (no_scrollback 0) rows
+visible_nothing rows above r o = rw (r, o) refl
