@@ -49,8 +49,10 @@ impl Piece {
     #[inline(always)]
     #[tactic(auto, unfolding(crate::specs::PieceKeeping::gathered))]
     pub fn add<S: Sink>(&mut self, sink: &mut S, text: &str) -> Result<(), S::Error>
-        ensures text { OnOk result (gathered (S.text sink.new) self.new ≡ gathered (S.text sink.old) self.old ++ text.now) }
-        ensures gathers { length self.old + length text.now ≤ 128 → (self.new ≡ self.old ++ text.now) × (sink.new ≡ sink.old) }
+        ensures text { OnOk result (gathered (S.text sink.new) self.new
+            ≡ gathered (S.text sink.old) self.old ++ text.now) }
+        ensures gathers { length self.old + length text.now ≤ 128
+            → (self.new ≡ self.old ++ text.now) × (sink.new ≡ sink.old) }
         ensures full { IsErr result → 128 < length self.old + length text.now }
     {
         if text.len() == 1 && self.len < ROOM {
