@@ -1,6 +1,6 @@
 //! Small texts, gathered before they are written.
 
-ghost use Rattle.std.specs.Prelude.{◌≡◌, ◌+◌, ◌++◌, ◌≤◌, [], length, OnOk};
+ghost use Rattle.std.specs.Prelude.{◌≡◌, ◌+◌, ◌++◌, ◌<◌, ◌≤◌, [], length, IsErr, OnOk};
 ghost use Rattle.vt_cells.specs.PieceKeeping.{gathered};
 
 use crate::sink::Sink;
@@ -43,13 +43,17 @@ impl Piece {
     }
 
     /// Adds a text; where there is no room for it, what was added before and the
-    /// text itself are written.
+    /// text itself are written. Else nothing is written.
     ///
     /// An error is the sink's own; then part of the text may have been written.
     #[inline(always)]
     #[tactic(auto, unfolding(crate::specs::PieceKeeping::gathered))]
     pub fn add<S: Sink>(&mut self, sink: &mut S, text: &str) -> Result<(), S::Error>
-        ensures { OnOk result (gathered (S.text sink.new) self.new ≡ gathered (S.text sink.old) self.old ++ text.now) }
+        ensures text { OnOk result (gathered (S.text sink.new) self.new
+            ≡ gathered (S.text sink.old) self.old ++ text.now) }
+        ensures gathers { length self.old + length text.now ≤ 128
+            → (self.new ≡ self.old ++ text.now) × (sink.new ≡ sink.old) }
+        ensures full { IsErr result → 128 < length self.old + length text.now }
     {
         if text.len() == 1 && self.len < ROOM {
             self.push_one(text);
@@ -71,6 +75,8 @@ impl Piece {
     pub fn flush<S: Sink>(&mut self, sink: &mut S) -> Result<(), S::Error>
         ensures text { OnOk result (S.text sink.new ≡ gathered (S.text sink.old) self.old) }
         ensures empty { OnOk result (self.new ≡ []) }
+        ensures nothing { self.old ≡ [] → sink.new ≡ sink.old }
+        ensures some { IsErr result → 0 < length self.old }
     {
         if self.len == 0 {
             return Ok(());

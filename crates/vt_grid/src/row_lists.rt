@@ -1,11 +1,12 @@
 //! Lists of rows: made anew, all of whose memory is taken at once, and turned
 //! over.
 
-ghost use Rattle.std.specs.Prelude.{◌≡◌, ◌<◌, ◌≤◌, ◌++◌, All, IfOk, IsErr, OnErr, OnOk, drop, length, map, replicate, take};
+ghost use Rattle.std.specs.Prelude.{◌≡◌, ◌<◌, ◌≤◌, ◌++◌, All, IfOk, IsErr, OnErr, OnOk};
+ghost use Rattle.std.specs.Prelude.{drop, length, map, replicate, slice_index_or, take};
 ghost use Rattle.std.specs.List.{FoldsTo};
 ghost use Rattle.vt_cells.specs.Attrs.{default_attrs};
 ghost use Rattle.vt_cells.specs.Refusals.{OnlyOutOfMemory};
-ghost use Rattle.vt_rows.specs.Row.{IsRow, blank_row, trimmed_row};
+ghost use Rattle.vt_rows.specs.Row.{IsRow, RowValue, blank_row, trimmed_row};
 
 use crate::sheet::Sheet;
 use std::alloc::Global;
@@ -58,8 +59,8 @@ pub fn copied_rows(rows: &VecDeque<Row>, alloc: Global) -> Result<VecDeque<Row>,
 /// Hands the oldest of rows on, and puts a copy of the first row of a page below
 /// the others, without the default blanks at its end, in the memory of that one.
 ///
-/// Fails where it wants more memory and that is refused; then nothing has
-/// changed and nothing was handed on.
+/// Fails where the copy is longer than the oldest row, and memory for it is
+/// refused; then nothing has changed and nothing was handed on.
 pub fn turn_over<L: Leaving>(
     rows: &mut VecDeque<Row>,
     page: &Sheet,
@@ -72,6 +73,8 @@ pub fn turn_over<L: Leaving>(
     ensures rows { OnOk result (rows.new.items ≡ drop 1 rows.old.items ++ map trimmed_row (take 1 page.now.rows)) }
     ensures left { OnOk result (FoldsTo L.leaves leaving.old (take 1 rows.old.items) leaving.new) }
     ensures err { OnErr result ((rows.new.items ≡ rows.old.items) × (leaving.new ≡ leaving.old)) }
+    ensures grows { IsErr result → (d : RowValue) → length (slice_index_or rows.old.items 0 d).cells
+        < length (trimmed_row (slice_index_or page.now.rows 0 d)).cells }
     ensures memory { OnlyOutOfMemory result }
 {
     let row = page.row(0);

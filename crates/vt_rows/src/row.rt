@@ -1,10 +1,11 @@
 //! One row of a screen.
 
-ghost use Rattle.std.specs.Prelude.{◌≡◌, ◌&&◌, ◌≤◌, ◌+◌, ◌++◌, IfOk, OnErr, OnOk, length, vec_capacity, vec_len};
+ghost use Rattle.std.specs.Prelude.{◌≡◌, ◌&&◌, ◌<◌, ◌≤◌, ◌+◌, ◌++◌};
+ghost use Rattle.std.specs.Prelude.{IfOk, IsErr, OnErr, OnOk, length, vec_capacity, vec_len};
 ghost use Rattle.vt_cells.specs.Attrs.{default_attrs};
 ghost use Rattle.vt_cells.specs.Refusals.{OnlyOutOfMemory};
 ghost use Rattle.vt_rows.specs.Cells.{IsPaired, blanks};
-ghost use Rattle.vt_rows.specs.Row.{IsRow, blank_row, resized_row, trimmed_row};
+ghost use Rattle.vt_rows.specs.Row.{IsRow, blank_row, resized_row, trimmed, trimmed_row};
 
 use crate::capture::Leaving;
 use crate::copies::{copied, push_copies};
@@ -97,8 +98,8 @@ impl Row {
     /// Hands the row on, and is then a copy of other cells and their flag,
     /// without the default blanks at their end, in the memory that it has.
     ///
-    /// Fails where they want more memory and it is refused; then the row is as
-    /// it was and was not handed on.
+    /// Fails where they are more than its own cells, and memory for them is
+    /// refused; then the row is as it was and was not handed on.
     pub fn leave_for<L: Leaving>(
         &mut self,
         cells: &[Cell],
@@ -109,6 +110,7 @@ impl Row {
         ensures row { OnOk result (self.new ≡ trimmed_row (record { cells = cells.now; wrapped = wrapped })) }
         ensures left { OnOk result (L.leaves leaving.old self.old leaving.new) }
         ensures err { OnErr result ((self.new ≡ self.old) × (leaving.new ≡ leaving.old)) }
+        ensures grows { IsErr result → length self.old.cells < length (trimmed cells.now) }
         ensures memory { OnlyOutOfMemory result }
     {
         let kept = &cells[..cuts::trimmed_len(cells)];

@@ -6,4 +6,6 @@ use Rattle.vt_rows.proofs.plain.add_spaces.Goals as goal
 pub loop-left-preserved : goal.loop-left-preserved
 loop-left-preserved g c =
     let more : 16 ≤ c.loop-left.left = omega arith in
-    sixteen (gathered (g.S.Sink.text c.loop-left.sink) c.loop-left.piece) (gathered (g.S.Sink.text c.add.new.sink) c.add.new.self) c.loop-left.left more c.in_ok-add.ensures ∙ c.loop-left.invariant
+    let before = gathered (g.S.Sink.text c.loop-left.sink) c.loop-left.piece in
+    let after = gathered (g.S.Sink.text c.add.new.sink) c.add.new.self in
+    sixteen before after c.loop-left.left more c.in_ok-add.ensures.text ∙ c.loop-left.invariant
