@@ -115,3 +115,5 @@ ran_on does p q r bytes k n inside first second =
     let size : length front ≡ k = length-take-le k bytes inside in
     let more : take (k + n) bytes ≡ front ++ take n (drop k bytes) = sym (λ i. take (size i + n) (take-append-drop k bytes i)) ∙ take-append-add front (drop k bytes) n in
     subst (λ (all : List ℕ). Ran does p all r) (sym more) (ran_then does p q r front (take n (drop k bytes)) first second)
+
+pub ruleset stops_later = (stops_then, stops_first)
