@@ -44,3 +44,8 @@ marked_does does groups (m ∷ marks) mark b s t d e h k = search rules
 pub marked_stops : {S : Type 0} (does : CallValue → S → ScreenValue → S → ScreenValue → Type 0) (groups : List (List ℕ)) (marks : List ℕ) (mark b : ℕ) (s t : S) (d e : ScreenValue) → mark_at 0 marks ≡ Some mark → Stops does s d (marked_steps mark (mark_at 1 marks) groups b) t e → Stops does s d (csi_steps groups marks b (seen_of d)) t e
 marked_stops does groups [] mark b s t d e h k = search rules
 marked_stops does groups (m ∷ marks) mark b s t d e h k = search rules
+
+-- sequences by their marks, and those without a mark by what they count
+pub ruleset by_marks = (plain_does, plain_stops, marked_does, marked_stops)
+
+pub ruleset by_counts = (plain_counted, plain_other, plain_other_stops)

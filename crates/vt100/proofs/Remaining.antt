@@ -9,7 +9,7 @@ use Rattle.vt_screen.specs.declared.sgr.GroupRead.{GroupRead}
 use Rattle.vt_screen.specs.Controls.{mode_step, mode_steps, osc_steps, reading_steps, sgr_from}
 use Rattle.vt_screen.specs.Steps.{Step, Tell}
 use Rattle.vt100.specs.Keeping.{Does, Stops}
-use Rattle.vt100.proofs.Deciding.{other_parts}
+use Rattle.vt100.proofs.Deciding.{other_group, other_parts}
 use Rattle.vt100.proofs.Stepping.{Left, Rest, left_through, left_within, rest_on}
 
 -- the item that indexing falls back on
@@ -71,3 +71,8 @@ pub more_parts : (parts : List (Bor (List ℕ))) → length parts ≢ 2 → leng
 more_parts parts h k =
     let same : length (map (λ (part : Bor (List ℕ)). part.now) parts) ≡ length parts = length-map parts (λ part. part.now) in
     other_parts (map (λ (part : Bor (List ℕ)). part.now) parts) (λ e. h (sym same ∙ e)) (λ e. k (sym same ∙ e))
+
+-- as many parts or groups as the code looks at
+pub ruleset parts_counted = (two_parts, three_parts, more_parts)
+
+pub ruleset groups_met = (one_group, other_group)

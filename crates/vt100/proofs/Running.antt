@@ -133,3 +133,5 @@ known_stopped does p q after bytes n events fed stops = λ s stands.
     let all = stops_first (Performs does) (Breaks does) (run s front).events (run (run s front).state rest).events (stage p) (stage q) here in
     subst (λ (bs : List ℕ). StopsIn (Performs does) (Breaks does) (stage p) (run s bs).events (stage q)) (take-append-drop n bytes)
     (rw (run-append s front rest) all)
+
+pub ruleset stops_later = (stops_then, stops_first)

@@ -1,5 +1,6 @@
 -- One step, and two calls.
 use Rattle.std.proofs.Common.{◌≡◌, ℕ, suc, ◌+◌, ◌-◌, ◌<◌, Bool, true, false, List, [], ◌∷◌, ◌++◌, replicate, refl, subst, ap, inl, inr, arith}
+use Rattle.std.proofs.lemmas.Bool.Decides.{nat_tests}
 use Rattle.std.specs.List.{FoldsTo}
 use Rattle.std.proofs.lemmas.Bool.{false≢true}
 use Rattle.vt_screen.specs.Calls.{CallValue}
@@ -152,3 +153,17 @@ pub prints_stop : {S : Type 0} (does : CallValue → S → ScreenValue → S →
 prints_stop {S} does s t u d e f all c n k h left refusal =
     let gap : n - k ≡ suc (n - (k + 1)) = omega (arith, h) in
     left_stop does s t u d e f all (Print c) (replicate (n - (k + 1)) (Print c)) (subst (λ (steps : List Step). Left does s d all t e steps) (ap (λ (m : ℕ). replicate m (Print c)) gap) left) refusal
+
+-- ---- what the code's functions use of these, with the tests of numbers
+
+pub ruleset steps_told = (told, told_two, stepping)
+
+pub ruleset tested_steps = (nat_tests, steps_told)
+
+pub ruleset steps_taken = (tested_steps, taken)
+
+pub ruleset tested_growth = (nat_tests, taken, refused)
+
+pub ruleset told_or_grown = (told, tested_growth)
+
+pub ruleset pages_exchanged = (nat_tests, alternating, alternating_stops, freshening, freshening_stops)

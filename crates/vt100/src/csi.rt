@@ -14,7 +14,7 @@ use vt_cells::{CursorStyle, Error};
 use vt_screen::{Callbacks, Screen};
 
 /// Does what a control sequence says, up to a step whose memory is refused.
-#[tactic(auto, using(crate::proofs::Dispatching::plain_does, crate::proofs::Dispatching::plain_stops, crate::proofs::Dispatching::marked_does, crate::proofs::Dispatching::marked_stops))]
+#[tactic(auto, using(crate::proofs::Dispatching::by_marks))]
 pub fn perform<CB: Callbacks>(
     screen: &mut Screen,
     callbacks: &mut CB,
@@ -39,7 +39,7 @@ pub fn perform<CB: Callbacks>(
 }
 
 // A control sequence without a marker or an intermediate.
-#[tactic(auto, using(crate::proofs::Dispatching::plain_counted, crate::proofs::Dispatching::plain_other, crate::proofs::Dispatching::plain_other_stops))]
+#[tactic(auto, using(crate::proofs::Dispatching::by_counts))]
 fn plain<CB: Callbacks>(
     screen: &mut Screen,
     callbacks: &mut CB,
@@ -63,7 +63,7 @@ fn plain<CB: Callbacks>(
 }
 
 // One that may scroll rows off the page, or another one.
-#[tactic(auto, using(std::proofs::lemmas::Bool::Decides::nat_tests, crate::proofs::Stepping::taken, crate::proofs::Stepping::refused), unfolding(vt_screen::specs::Controls::scrolling_steps))]
+#[tactic(auto, using(crate::proofs::Stepping::tested_growth), unfolding(vt_screen::specs::Controls::scrolling_steps))]
 fn scrolling<CB: Callbacks>(
     screen: &mut Screen,
     callbacks: &mut CB,
@@ -89,7 +89,7 @@ fn scrolling<CB: Callbacks>(
 }
 
 // A control sequence with one count, at least 1; whether it is one of these.
-#[tactic(auto, using(std::proofs::lemmas::Bool::Decides::nat_tests), unfolding(vt_screen::specs::Controls::counted_step))]
+#[tactic(auto, using(crate::proofs::Stepping::tested_steps), unfolding(vt_screen::specs::Controls::counted_step))]
 fn counted(screen: &mut Screen, byte: u8, count: u16) -> bool
     requires { 0 < count }
     ensures { MadeIf (counted_step byte count) result screen.old screen.new }
@@ -115,7 +115,7 @@ fn counted(screen: &mut Screen, byte: u8, count: u16) -> bool
 }
 
 // The other control sequences without a marker or an intermediate.
-#[tactic(auto, using(std::proofs::lemmas::Bool::Decides::nat_tests, crate::proofs::Stepping::told, crate::proofs::Stepping::told_two, crate::proofs::Stepping::stepping), unfolding(vt_screen::specs::Controls::other_steps))]
+#[tactic(auto, using(crate::proofs::Stepping::tested_steps), unfolding(vt_screen::specs::Controls::other_steps))]
 fn other<CB: Callbacks>(screen: &mut Screen, callbacks: &mut CB, sequence: Sequence<'_>)
     requires { report_of sequence ≡ UnhandledCsi None None (map (λ group. group.now) sequence.groups.now) sequence.byte }
     ensures { Does CB.does callbacks.old screen.old (other_steps (map (λ group. group.now) sequence.entry.groups.now) sequence.entry.byte (seen_of screen.old)) callbacks.new screen.new }
@@ -151,7 +151,7 @@ fn set_region(screen: &mut Screen, groups: &[&[u16]])
 }
 
 // ED.
-#[tactic(auto, using(std::proofs::lemmas::Bool::Decides::nat_tests, crate::proofs::Stepping::told, crate::proofs::Stepping::told_two, crate::proofs::Stepping::stepping, crate::proofs::Stepping::taken), unfolding(vt_screen::specs::Controls::page_erasing))]
+#[tactic(auto, using(crate::proofs::Stepping::steps_taken), unfolding(vt_screen::specs::Controls::page_erasing))]
 fn erase_page<CB: Callbacks>(screen: &mut Screen, callbacks: &mut CB, sequence: Sequence<'_>)
     ensures { Does CB.does callbacks.old screen.old (page_erasing (report_of sequence.entry) (number_at 0 (map (λ group. group.now) sequence.entry.groups.now))) callbacks.new screen.new }
 {
@@ -165,7 +165,7 @@ fn erase_page<CB: Callbacks>(screen: &mut Screen, callbacks: &mut CB, sequence: 
 }
 
 // EL.
-#[tactic(auto, using(std::proofs::lemmas::Bool::Decides::nat_tests, crate::proofs::Stepping::told, crate::proofs::Stepping::told_two, crate::proofs::Stepping::stepping), unfolding(vt_screen::specs::Controls::row_erasing))]
+#[tactic(auto, using(crate::proofs::Stepping::tested_steps), unfolding(vt_screen::specs::Controls::row_erasing))]
 fn erase_row<CB: Callbacks>(screen: &mut Screen, callbacks: &mut CB, sequence: Sequence<'_>)
     ensures { Does CB.does callbacks.old screen.old (row_erasing (report_of sequence.entry) (number_at 0 (map (λ group. group.now) sequence.entry.groups.now))) callbacks.new screen.new }
 {
@@ -193,7 +193,7 @@ fn repeat<CB: Callbacks>(screen: &mut Screen, callbacks: &mut CB, count: u16) ->
 }
 
 // Window manipulation: a size that is asked for.
-#[tactic(auto, using(std::proofs::lemmas::Bool::Decides::nat_tests, crate::proofs::Stepping::told, crate::proofs::Stepping::told_two, crate::proofs::Stepping::stepping), unfolding(vt_screen::specs::Controls::window_steps))]
+#[tactic(auto, using(crate::proofs::Stepping::tested_steps), unfolding(vt_screen::specs::Controls::window_steps))]
 fn window<CB: Callbacks>(screen: &mut Screen, callbacks: &mut CB, sequence: Sequence<'_>)
     requires { report_of sequence ≡ UnhandledCsi None None (map (λ group. group.now) sequence.groups.now) 0x74 }
     ensures { Does CB.does callbacks.old screen.old (window_steps (map (λ group. group.now) sequence.entry.groups.now) (seen_of screen.old)) callbacks.new screen.new }
@@ -219,7 +219,7 @@ fn number_or_own(own: u16, groups: &[&[u16]], i: usize) -> u16
 }
 
 // A control sequence with a marker or an intermediate.
-#[tactic(auto, using(std::proofs::lemmas::Bool::Decides::nat_tests, crate::proofs::Stepping::told), unfolding(vt_screen::specs::Controls::marked_steps))]
+#[tactic(auto, using(crate::proofs::Stepping::tested_steps), unfolding(vt_screen::specs::Controls::marked_steps))]
 fn marked<CB: Callbacks>(
     screen: &mut Screen,
     callbacks: &mut CB,
@@ -240,7 +240,7 @@ fn marked<CB: Callbacks>(
 }
 
 // Behind `?`.
-#[tactic(auto, using(std::proofs::lemmas::Bool::Decides::nat_tests, crate::proofs::Stepping::told), unfolding(vt_screen::specs::Controls::private_steps))]
+#[tactic(auto, using(crate::proofs::Stepping::tested_steps), unfolding(vt_screen::specs::Controls::private_steps))]
 fn private<CB: Callbacks>(
     screen: &mut Screen,
     callbacks: &mut CB,
@@ -262,7 +262,7 @@ fn private<CB: Callbacks>(
 }
 
 // Behind a space.
-#[tactic(auto, using(std::proofs::lemmas::Bool::Decides::nat_tests, crate::proofs::Stepping::told, crate::proofs::Stepping::told_two, crate::proofs::Stepping::stepping), unfolding(vt_screen::specs::Controls::space_steps))]
+#[tactic(auto, using(crate::proofs::Stepping::tested_steps), unfolding(vt_screen::specs::Controls::space_steps))]
 fn spaced<CB: Callbacks>(screen: &mut Screen, callbacks: &mut CB, sequence: Sequence<'_>)
     requires { sequence.first ≡ Some 0x20 }
     ensures { Does CB.does callbacks.old screen.old (space_steps sequence.entry.second (map (λ group. group.now) sequence.entry.groups.now) sequence.entry.byte) callbacks.new screen.new }
@@ -283,7 +283,7 @@ fn spaced<CB: Callbacks>(screen: &mut Screen, callbacks: &mut CB, sequence: Sequ
 }
 
 // The cursor styles that DECSCUSR numbers.
-#[tactic(auto, using(std::proofs::lemmas::Bool::Decides::nat_tests, crate::proofs::Stepping::told, crate::proofs::Stepping::told_two, crate::proofs::Stepping::stepping), unfolding(vt_screen::specs::Controls::style_of))]
+#[tactic(auto, using(crate::proofs::Stepping::tested_steps), unfolding(vt_screen::specs::Controls::style_of))]
 fn style(number: u16) -> Option<CursorStyle>
     ensures { result ≡ style_of number }
 {

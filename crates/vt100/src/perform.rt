@@ -93,7 +93,7 @@ fn command<CB: Callbacks>(screen: &mut Screen, callbacks: &mut CB, scanner: &Sca
 
 /// A character: printed, or reported where it stands for bytes that are none.
 #[inline(always)]
-#[tactic(auto, using(std::proofs::lemmas::Bool::Decides::nat_tests, crate::proofs::Stepping::told, crate::proofs::Stepping::taken, crate::proofs::Stepping::refused), unfolding(vt_screen::specs::Controls::character_steps))]
+#[tactic(auto, using(crate::proofs::Stepping::told_or_grown), unfolding(vt_screen::specs::Controls::character_steps))]
 pub fn print<CB: Callbacks>(
     screen: &mut Screen,
     callbacks: &mut CB,
@@ -113,7 +113,7 @@ pub fn print<CB: Callbacks>(
 
 // U+0080 to U+009F, and what stands for bytes that are no character.
 #[inline]
-#[tactic(auto, using(std::proofs::lemmas::Bool::Decides::nat_tests, crate::proofs::Stepping::told, crate::proofs::Stepping::told_two, crate::proofs::Stepping::stepping))]
+#[tactic(auto, using(crate::proofs::Stepping::tested_steps))]
 fn is_reported(character: char) -> bool
     ensures { result ≡ ((character == 0xFFFD) || (nat_le 0x80 character && nat_le character 0x9F)) }
 {
@@ -121,7 +121,7 @@ fn is_reported(character: char) -> bool
 }
 
 // A control function of one byte.
-#[tactic(auto, using(std::proofs::lemmas::Bool::Decides::nat_tests, crate::proofs::Stepping::taken, crate::proofs::Stepping::refused, crate::proofs::Deciding::control_feeds))]
+#[tactic(auto, using(crate::proofs::Stepping::tested_growth, crate::proofs::Deciding::control_feeds))]
 fn execute<CB: Callbacks>(screen: &mut Screen, callbacks: &mut CB, byte: u8) -> Result<(), Error>
     ensures done { IfOk result (λ _. Does CB.does callbacks.old screen.old (control_steps byte) callbacks.new screen.new) }
     ensures stopped { IsErr result → Stops CB.does callbacks.old screen.old (control_steps byte) callbacks.new screen.new }
@@ -136,7 +136,7 @@ fn execute<CB: Callbacks>(screen: &mut Screen, callbacks: &mut CB, byte: u8) -> 
 }
 
 // A control function of one byte that is no line feed.
-#[tactic(auto, using(std::proofs::lemmas::Bool::Decides::nat_tests, crate::proofs::Stepping::told, crate::proofs::Stepping::told_two, crate::proofs::Stepping::stepping), unfolding(vt_screen::specs::Controls::control_steps))]
+#[tactic(auto, using(crate::proofs::Stepping::tested_steps), unfolding(vt_screen::specs::Controls::control_steps))]
 fn execute_other<CB: Callbacks>(screen: &mut Screen, callbacks: &mut CB, byte: u8)
     requires { (nat_le 0x0A byte && nat_le byte 0x0C) ≡ false }
     ensures { Does CB.does callbacks.old screen.old (control_steps byte) callbacks.new screen.new }
@@ -152,7 +152,7 @@ fn execute_other<CB: Callbacks>(screen: &mut Screen, callbacks: &mut CB, byte: u
 }
 
 // An escape sequence.
-#[tactic(auto, using(crate::proofs::Stepping::told, crate::proofs::Stepping::told_two, crate::proofs::Stepping::stepping), unfolding(vt_screen::specs::Controls::escape_steps))]
+#[tactic(auto, using(crate::proofs::Stepping::steps_told), unfolding(vt_screen::specs::Controls::escape_steps))]
 fn escape<CB: Callbacks>(screen: &mut Screen, callbacks: &mut CB, marks: &[u8], byte: u8)
     ensures { Does CB.does callbacks.old screen.old (escape_steps marks.now byte) callbacks.new screen.new }
 {
@@ -166,7 +166,7 @@ fn escape<CB: Callbacks>(screen: &mut Screen, callbacks: &mut CB, marks: &[u8], 
 }
 
 // An escape sequence without intermediates.
-#[tactic(auto, using(std::proofs::lemmas::Bool::Decides::nat_tests, crate::proofs::Stepping::told, crate::proofs::Stepping::told_two, crate::proofs::Stepping::stepping), unfolding(vt_screen::specs::Controls::escape_steps))]
+#[tactic(auto, using(crate::proofs::Stepping::tested_steps), unfolding(vt_screen::specs::Controls::escape_steps))]
 fn plain_escape<CB: Callbacks>(screen: &mut Screen, callbacks: &mut CB, byte: u8)
     ensures { Does CB.does callbacks.old screen.old (escape_steps [] byte) callbacks.new screen.new }
 {

@@ -29,7 +29,7 @@ pub fn perform<CB: Callbacks>(
 }
 
 // One group: a mode if it is one number.
-#[tactic(auto, using(crate::proofs::Stepping::told, crate::proofs::Deciding::other_group, crate::proofs::Remaining::one_group))]
+#[tactic(auto, using(crate::proofs::Stepping::told, crate::proofs::Remaining::groups_met))]
 fn perform_group<CB: Callbacks>(
     screen: &mut Screen,
     callbacks: &mut CB,
@@ -50,7 +50,7 @@ fn perform_group<CB: Callbacks>(
 
 // A mode of one number: one of the two that show the alternate page, or
 // another one.
-#[tactic(auto, using(std::proofs::lemmas::Bool::Decides::nat_tests, crate::proofs::Stepping::alternating, crate::proofs::Stepping::alternating_stops, crate::proofs::Stepping::freshening, crate::proofs::Stepping::freshening_stops), unfolding(vt_screen::specs::Controls::mode_step))]
+#[tactic(auto, using(crate::proofs::Stepping::pages_exchanged), unfolding(vt_screen::specs::Controls::mode_step))]
 fn set_mode<CB: Callbacks>(
     screen: &mut Screen,
     callbacks: &mut CB,
@@ -71,7 +71,7 @@ fn set_mode<CB: Callbacks>(
 }
 
 // A mode of one number that shows no other page.
-#[tactic(auto, using(std::proofs::lemmas::Bool::Decides::nat_tests, crate::proofs::Stepping::told, crate::proofs::Stepping::told_two, crate::proofs::Stepping::stepping), unfolding(vt_screen::specs::Controls::mode_step))]
+#[tactic(auto, using(crate::proofs::Stepping::tested_steps), unfolding(vt_screen::specs::Controls::mode_step))]
 fn set_other_mode<CB: Callbacks>(
     screen: &mut Screen,
     callbacks: &mut CB,

@@ -116,7 +116,7 @@ fn print_some<CB: Callbacks>(
 
 // The events of one byte, up to a step whose memory is refused.
 #[inline(always)]
-#[tactic(auto, using(vt_rows::proofs::Folds::folds_then, crate::proofs::Running::stops_then, crate::proofs::Running::stops_first))]
+#[tactic(auto, using(vt_rows::proofs::Folds::folds_then, crate::proofs::Running::stops_later))]
 fn perform_each<CB: Callbacks>(
     screen: &mut Screen,
     callbacks: &mut CB,

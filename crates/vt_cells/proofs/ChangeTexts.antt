@@ -134,3 +134,6 @@ tail_left x m (y ∷ ys) = refl
 pub numbers_left : (ns : List ℕ) → without_separator (separated_all ns ++ 0x6D ∷ []) ≡ joined ns ++ 0x6D ∷ []
 numbers_left [] = refl
 numbers_left (n ∷ ns) = tail_left 0x3B 0x6D (decimal n ++ flat_map separated ns) ∙ ap (λ xs. xs ++ 0x6D ∷ []) (sym (joined_is n ns))
+
+-- what a colour adds: no number, one, or several
+pub ruleset numbers_put = (nothing_put, one_put, some_put)

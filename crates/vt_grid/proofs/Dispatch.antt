@@ -27,3 +27,5 @@ no_columns c width e one two =
     let le = columns_of-le c width e in
     let zero : width ≡ 0 = omega arith in
     e ∙ ap (λ (n : ℕ). Some n) zero
+
+pub ruleset printed_cases = (printed_none, printed_narrow, printed_wide)

@@ -40,3 +40,5 @@ out_wide c attrs page e = rw e (all_three (nat_lt 1 page.width) (lacks_room 2 pa
 
 pub out_mark : (c : ℕ) (attrs : Attrs) (page : Page) → columns_of c ≡ Some 0 → printed_out c attrs page ≡ (if page.column == 0 then [] else mark_out c attrs page)
 out_mark c attrs page e = rw e (unless_first (page.column == 0) (carries c page) (feeds_out page) (take 1 (left_by (Some 0) attrs page).rows))
+
+pub ruleset out_cases = (out_none, out_narrow, out_wide)

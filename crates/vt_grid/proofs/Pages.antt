@@ -249,3 +249,8 @@ page_blank height width h hh w ww =
       rows = All-replicate (IsRow width) height blank (IsRow-blank_row default_attrs width);
       last = rw l (ap (λ (row : RowValue). row.wrapped) (get_or-replicate height (height - 1) blank blank (omega arith)));
     }
+
+-- the cursor's row on a page, and what is erased in it
+pub ruleset cursor_cells = (cursor_paired, cursor_columns)
+
+pub ruleset erasing = (page_erased_chars, page_erased_rest, cursor_cells)

@@ -14,6 +14,7 @@ use Rattle.vt_grid.specs.Page.{Page, IsPage, row_or, cursor_row, moved_rows, row
 use Rattle.vt_grid.specs.Regions.{in_region}
 use Rattle.vt_grid.specs.Shifts.{down_source, unflagged, rows_down, scrolled_down, reverse_index, lines_inserted, lines_deleted, chars_inserted, chars_deleted}
 use Rattle.vt_grid.proofs.Pages.{page_at, page_if, page_of_rows, page_with_row, page_rows_up, IsRow-row_or, IsRow-cursor_row, length-moved_rows, row_or-moved_rows, All-moved_rows}
+use Rattle.vt_grid.proofs.Prints.{region_order}
 
 -- ---- rows that move down
 
@@ -83,3 +84,6 @@ page_chars_inserted n page p =
 pub page_chars_deleted : (n : ℕ) (page : Page) → IsPage page → IsPage (chars_deleted n page)
 page_chars_deleted n page p =
     page_with_row page.row (deleted_row page.column n (cursor_row page)) page p.cursor_row p (IsRow-deleted_row page.width page.column n (cursor_row page) (IsRow-cursor_row page p)) (λ e. refl)
+
+-- rows that move down
+pub ruleset moving_down = (page_reverse_index, page_lines_inserted, region_order)

@@ -1,7 +1,7 @@
-//! Lists of rows: made anew, all of whose memory is taken at once, and turned
-//! over.
+//! Lists of rows: made anew, all of whose memory is taken at once, turned
+//! over, and reported.
 
-ghost use Rattle.std.specs.Prelude.{◌≡◌, ◌<◌, ◌≤◌, ◌++◌, All, IfOk, IsErr, OnErr, OnOk};
+ghost use Rattle.std.specs.Prelude.{◌≡◌, ◌<◌, ◌≤◌, ◌++◌, [], All, IfOk, IsErr, OnErr, OnOk};
 ghost use Rattle.std.specs.Prelude.{drop, length, map, replicate, slice_index_or, take};
 ghost use Rattle.std.specs.List.{FoldsTo};
 ghost use Rattle.vt_cells.specs.Attrs.{default_attrs};
@@ -12,6 +12,7 @@ use crate::sheet::Sheet;
 use std::alloc::Global;
 use std::collections::VecDeque;
 use vt_cells::Error;
+use vt_rows::capture::trimmed;
 use vt_rows::{Leaving, Row};
 
 /// Rows of default blanks.
@@ -81,4 +82,27 @@ pub fn turn_over<L: Leaving>(
     rows[0].leave_for(row.cells(), row.wrapped(), leaving)?;
     rows.rotate_left(1);
     Ok(())
+}
+
+/// Gives up and reports all rows, older first.
+pub fn report_all<L: Leaving>(rows: &mut VecDeque<Row>, leaving: &mut L)
+    requires { All (λ row. IsRow (length row.cells) row) rows.old.items }
+    ensures rows { rows.new.items ≡ [] }
+    ensures reported { FoldsTo L.leaves leaving.old rows.old.items leaving.new }
+{
+    while let Some(row) = rows.pop_front() {
+        leaving.leave(row.contents());
+    }
+}
+
+/// Reports the first rows of a page without the default blanks at their ends.
+pub fn report_trimmed<L: Leaving>(page: &Sheet, count: usize, leaving: &mut L)
+    requires inside { count ≤ length page.now.rows }
+    requires sound { All (IsRow page.now.width) page.now.rows }
+    ensures { FoldsTo L.leaves leaving.old (map trimmed_row (take count page.now.rows)) leaving.new }
+{
+    for k in 0..count {
+        let row = page.row(k);
+        leaving.leave(trimmed(&row));
+    }
 }

@@ -1,17 +1,19 @@
 //! The rows that left a page at its top, as far as they are kept (xterm's
 //! saved lines).
 
-ghost use Rattle.std.specs.Prelude.{◌≡◌, ◌+◌, ◌-◌, ◌^◌, ◌==◌, ◌<◌, ◌≤◌, ◌↔◌, ◌&&◌, ◌++◌, ◌∷◌, [], ℕ, List, All, IfOk, IfSome, IsErr, IsSome, OnErr, OnOk, if◌then◌else◌, length, map, min, nat_le, nat_lt, slice_index_or, take};
+ghost use Rattle.std.specs.Prelude.{◌≡◌, ◌+◌, ◌-◌, ◌^◌, ◌==◌, ◌<◌, ◌≤◌, ◌↔◌, ◌&&◌, ◌++◌, ◌∷◌, [], ℕ, List, All, IfOk, IfSome, IsErr, IsSome, OnErr, OnOk, if◌then◌else◌, length, min, nat_le, nat_lt, slice_index_or, take};
 ghost use Rattle.std.specs.List.{FoldsTo};
 ghost use Rattle.std.specs.VecDeque.{deque_capacity, deque_len};
 ghost use Rattle.vt_cells.specs.Attrs.{default_attrs};
 ghost use Rattle.vt_cells.specs.Refusals.{OnlyOutOfMemory};
-ghost use Rattle.vt_rows.specs.Row.{RowValue, IsRow, blank_row, resized_row, trimmed_row};
+ghost use Rattle.vt_rows.specs.Row.{RowValue, IsRow, blank_row, resized_row};
 ghost use Rattle.vt_grid.specs.Resize.{out_of_view, taken_back};
 ghost use Rattle.vt_grid.specs.Scrollback.{IsScrollback, Sends, TakesMemory, ViewTakesMemory, before_last, cleared, grown_row, kept_after, last_of, narrow_rows, no_scrollback, viewed, visible};
 ghost use Rattle.vt_grid.specs.Spare.{AreSpare, grown_from, in_view, window_from};
 
-use crate::row_lists::{blank_rows, copied_rows, trimmed_rows, turn_over};
+use crate::row_lists::{
+    blank_rows, copied_rows, report_all, report_trimmed, trimmed_rows, turn_over,
+};
 use crate::sheet::Sheet;
 use crate::size::Size;
 use std::alloc::Global;
@@ -19,7 +21,6 @@ use std::collections::VecDeque;
 use std::marker::Model;
 use std::mem;
 use vt_cells::Error;
-use vt_rows::capture::trimmed;
 use vt_rows::{Leaving, Row, RowContents};
 
 /// The rows that left a page at its top, at most as many as its capacity, and
@@ -345,29 +346,6 @@ impl Scrollback {
         } else {
             page.row(index - kept)
         }
-    }
-}
-
-/// Gives up and reports all rows, older first.
-fn report_all<L: Leaving>(rows: &mut VecDeque<Row>, leaving: &mut L)
-    requires { All (λ row. IsRow (length row.cells) row) rows.old.items }
-    ensures rows { rows.new.items ≡ [] }
-    ensures reported { FoldsTo L.leaves leaving.old rows.old.items leaving.new }
-{
-    while let Some(row) = rows.pop_front() {
-        leaving.leave(row.contents());
-    }
-}
-
-/// Reports the first rows of a page without the default blanks at their ends.
-fn report_trimmed<L: Leaving>(page: &Sheet, count: usize, leaving: &mut L)
-    requires inside { count ≤ length page.now.rows }
-    requires sound { All (IsRow page.now.width) page.now.rows }
-    ensures { FoldsTo L.leaves leaving.old (map trimmed_row (take count page.now.rows)) leaving.new }
-{
-    for k in 0..count {
-        let row = page.row(k);
-        leaving.leave(trimmed(&row));
     }
 }
 

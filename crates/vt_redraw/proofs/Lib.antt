@@ -16,6 +16,7 @@ pub mod Row
 pub mod Standing
 pub mod Link
 pub mod Spaces
+pub mod Joining
 pub mod Rows
 pub mod Cursor
 pub mod Local
@@ -27,6 +28,7 @@ pub mod Fitting
 pub mod CursorAlone
 pub mod RangeDraws
 pub mod WholeItems
+pub mod UncutItems
 pub mod ItemDraws
 pub mod ItemEmpty
 pub mod ItemFits

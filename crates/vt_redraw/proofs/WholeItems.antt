@@ -28,7 +28,8 @@ use Rattle.vt_redraw.proofs.TouchedTexts.{print_in}
 use Rattle.vt_redraw.proofs.Places.{PrintsCells, Place, shown, Ready, Wrote}
 use Rattle.vt_redraw.proofs.Row.{cells_draw}
 use Rattle.vt_redraw.proofs.Link.{broken_draws, going_behind_draws, no_tail}
-use Rattle.vt_redraw.proofs.Rows.{Stands, first_blank, first_draws, first_sound, glyph_sound}
+use Rattle.vt_redraw.proofs.Joining.{first_blank, first_draws, first_sound, glyph_sound}
+use Rattle.vt_redraw.proofs.Rows.{Stands}
 use Rattle.vt_redraw.proofs.RangeDraws.{Any, IsItem, range_draws, lets_any}
 
 -- ---- items of a difference

@@ -47,3 +47,6 @@ right_adds attrs cell xs e = rw ((kept_right attrs cell e).1, half_shown cell e)
 -- and keeps the attributes
 pub right_keeps : (attrs : Attrs) (cell : CellValue) → is_right_half cell ≡ true → attrs ≡ attrs_after attrs cell
 right_keeps attrs cell e = sym (kept_right attrs cell e).0
+
+-- the attributes behind each kind of cell
+pub ruleset attrs_kept = (kept_same, kept_default, kept_right, own)

@@ -81,3 +81,6 @@ sixteen old new n h e =
     ap (λ (xs : List ℕ). xs ++ replicate (n - 16) 0x20) e
     ∙ (append_assoc old (replicate 16 0x20) (replicate (n - 16) 0x20)
     ∙ ap (λ (xs : List ℕ). old ++ xs) (replicate-append-replicate 16 (n - 16) 0x20 ∙ ap (λ (m : ℕ). replicate m 0x20) all))
+
+-- the cells of a row, whole or cut
+pub ruleset plain_rows = (plain_whole, plain_cut)

@@ -197,7 +197,7 @@ fn add_cell<S: Sink>(
 /// Whether a cell leaves the attributes of the text before it: a default blank
 /// and a right half do, and what has the same ones.
 #[inline]
-#[tactic(auto, using(crate::proofs::BasicTexts::kept_same, crate::proofs::BasicTexts::kept_default, crate::proofs::BasicTexts::kept_right, crate::proofs::BasicTexts::own))]
+#[tactic(auto, using(crate::proofs::BasicTexts::attrs_kept))]
 fn keeps_attrs(cell: &Cell, attrs: &Attrs) -> bool
     ensures yes { result ≡ true → (attrs_after attrs.now cell.now ≡ attrs.now) × (change_text attrs.now (attrs_after attrs.now cell.now) ≡ []) }
     ensures no { result ≡ false → attrs_after attrs.now cell.now ≡ attrs_of cell.now }

@@ -18,7 +18,7 @@ const SPACES: &str = "                ";
 /// these columns is written whole, and the right half of one that begins
 /// before the first is a space. An error is the sink's own; then part of the
 /// text may have been appended.
-#[tactic(auto, unfolding(crate::specs::Plain::plain_text), using(crate::proofs::PlainTexts::plain_whole, crate::proofs::PlainTexts::plain_cut))]
+#[tactic(auto, unfolding(crate::specs::Plain::plain_text), using(crate::proofs::PlainTexts::plain_rows))]
 pub fn write_contents<S: Sink>(
     sink: &mut S,
     cells: &[Cell],

@@ -1,5 +1,5 @@
 //! The bytes of a character that isn't finished.
-#![tactic(auto, using(std::proofs::lemmas::Bool::Decides::nat_tests), unfolding(crate::specs::Characters::is_character, crate::specs::Characters::is_beginning))]
+#![tactic(auto, unfolding(crate::specs::Characters::is_character, crate::specs::Characters::is_beginning))]
 
 ghost use Rattle.std.specs.Prelude.{◌≡◌, ◌≢◌, ℕ, ◌<◌, ◌≤◌, ◌==◌, true, List, [], ◌∷◌, IfSome, IsSome, length, take, if◌then◌else◌};
 ghost use Rattle.vt_scan.specs.Characters.{character_of, continues, is_beginning, is_character, is_second};

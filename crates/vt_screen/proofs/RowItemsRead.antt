@@ -16,7 +16,8 @@ use Rattle.vt_redraw.specs.Locality.{row_of_picture}
 use Rattle.vt_redraw.specs.Picture.{Picture, IsPicture, IsColoredPicture, SamePictureSize, picture_of}
 use Rattle.vt_redraw.specs.Steady.{IsSteady}
 use Rattle.vt_redraw.specs.declared.pen.Pen.{Pen}
-use Rattle.vt_redraw.proofs.ItemDraws.{difference_item_draws, item_off, redraw_item_draws, redraw_item_wraps, whole_cuts_none}
+use Rattle.vt_redraw.proofs.ItemDraws.{difference_item_draws, redraw_item_draws, redraw_item_wraps}
+use Rattle.vt_redraw.proofs.UncutItems.{item_off, whole_cuts_none}
 use Rattle.vt_redraw.proofs.ItemFits.{difference_item_fits, redraw_item_fits}
 use Rattle.vt_redraw.proofs.Redrawing.{page_picture}
 use Rattle.vt_redraw.proofs.WholeItems.{range_all}

@@ -18,7 +18,7 @@ use Rattle.vt_grid.specs.Scrollback.{Scrollback, no_scrollback, viewed}
 use Rattle.vt_scan.specs.Automaton.{Character, Event, State}
 use Rattle.vt_scan.specs.Run.{run}
 use Rattle.vt_scan.proofs.Scalars.{AreCoded, coded_run}
-use Rattle.vt_screen.specs.Controls.{steps_of}
+use Rattle.vt_screen.specs.Controls.{seen_of, steps_of}
 use Rattle.vt_screen.specs.Pages.{above_aside, has_size, main_page, page_aside, resized}
 use Rattle.vt_screen.specs.Screen.{IsPrintable, IsScreen, ScreenValue, above_page, fresh_screen, scrolled_back, visible_row}
 use Rattle.vt_screen.specs.Selectors.{CellHasNoSelector, HasNoSelectors, ReadsNoSelector, RowsHaveNoSelector}
@@ -104,9 +104,9 @@ events_plain : (events : List Event) (s : ScreenValue) → AreCoded events
     → AllAmong IsPlainCharacter (Unit {0}) (steps_of_all events s)
 events_plain [] s coded others k = none
 events_plain (event ∷ events) s coded others k =
-    let steps = steps_of event s in
+    let steps = steps_of event (seen_of s) in
     let now : AllAmong IsPlainCharacter (Unit {0}) steps =
-    stream_event event s coded.0 (allows event others.0) k.last in
+    stream_event event (seen_of s) coded.0 (allows event others.0) k.last in
     let there = steps_plain steps s now.all k in
     all_then steps (steps_of_all events (stepped_all steps s)) now
     (events_plain events (stepped_all steps s) coded.1 others.1 there)

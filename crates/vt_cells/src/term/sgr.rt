@@ -93,7 +93,7 @@ impl ChangeText {
     }
 
     #[inline]
-    #[tactic(auto, using(crate::proofs::ChangeTexts::nothing_put, crate::proofs::ChangeTexts::one_put, crate::proofs::ChangeTexts::some_put), unfolding(crate::specs::Op::foreground_numbers))]
+    #[tactic(auto, using(crate::proofs::ChangeTexts::numbers_put), unfolding(crate::specs::Op::foreground_numbers))]
     fn put_foreground(&mut self, was: &Attrs, new: &Attrs)
         requires { length self.old + 20 ≤ 64 }
         ensures value { self.new ≡ separated_all (part (same_color was.now.fgcolor new.now.fgcolor) (foreground_numbers new.now.fgcolor)) ++ self.old }
@@ -112,7 +112,7 @@ impl ChangeText {
     }
 
     #[inline]
-    #[tactic(auto, using(crate::proofs::ChangeTexts::nothing_put, crate::proofs::ChangeTexts::one_put, crate::proofs::ChangeTexts::some_put), unfolding(crate::specs::Op::background_numbers))]
+    #[tactic(auto, using(crate::proofs::ChangeTexts::numbers_put), unfolding(crate::specs::Op::background_numbers))]
     fn put_background(&mut self, was: &Attrs, new: &Attrs)
         requires { length self.old + 20 ≤ 64 }
         ensures value { self.new ≡ separated_all (part (same_color was.now.bgcolor new.now.bgcolor) (background_numbers new.now.bgcolor)) ++ self.old }

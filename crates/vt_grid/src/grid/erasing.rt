@@ -9,7 +9,7 @@ use vt_cells::Attrs;
 impl Grid {
     /// Makes a number of columns from the cursor on blank, at most to the end
     /// of the row (ECH); at a pending wrap none.
-    #[tactic(auto, using(crate::proofs::Pages::page_erased_chars, crate::proofs::Pages::cursor_paired, crate::proofs::Pages::cursor_columns), unfolding(crate::specs::Erasing::erased_chars))]
+    #[tactic(auto, using(crate::proofs::Pages::erasing), unfolding(crate::specs::Erasing::erased_chars))]
     pub fn erase_cells(&mut self, count: u16, attrs: Attrs)
         ensures { self.new ≡ erased_chars count attrs self.old }
     {
@@ -20,7 +20,7 @@ impl Grid {
     }
 
     /// Makes the row blank from the cursor on (EL 0); at a pending wrap nothing happens.
-    #[tactic(auto, using(crate::proofs::Pages::page_erased_rest, crate::proofs::Pages::cursor_paired, crate::proofs::Pages::cursor_columns), unfolding(crate::specs::Erasing::erased_rest))]
+    #[tactic(auto, using(crate::proofs::Pages::erasing), unfolding(crate::specs::Erasing::erased_rest))]
     pub fn erase_row_forward(&mut self, attrs: Attrs)
         ensures { self.new ≡ erased_rest attrs self.old }
     {
@@ -32,7 +32,7 @@ impl Grid {
 
     /// Makes the row blank from the first column through the cursor's, or
     /// through the last one at a pending wrap (EL 1).
-    #[tactic(auto, using(crate::proofs::Pages::cursor_paired, crate::proofs::Pages::cursor_columns), unfolding(crate::specs::Erasing::erased_start))]
+    #[tactic(auto, using(crate::proofs::Pages::cursor_cells), unfolding(crate::specs::Erasing::erased_start))]
     pub fn erase_row_backward(&mut self, attrs: Attrs)
         ensures { self.new ≡ erased_start attrs self.old }
     {

@@ -32,7 +32,7 @@ impl Grid {
     /// then nothing has changed and nothing was reported.
     ///
     /// `width` is how many columns the character takes, none for a control.
-    #[tactic(auto, using(crate::proofs::Dispatch::printed_none, crate::proofs::Dispatch::printed_narrow, crate::proofs::Dispatch::printed_wide, crate::proofs::Outgoing::out_none, crate::proofs::Outgoing::out_narrow, crate::proofs::Outgoing::out_wide))]
+    #[tactic(auto, using(crate::proofs::Dispatch::printed_cases, crate::proofs::Outgoing::out_cases))]
     #[inline(always)]
     pub fn print_columns<L: Leaving>(
         &mut self,

@@ -10,7 +10,7 @@ impl Grid {
     ///
     /// At the scroll region's top, and at the first row outside of it, the
     /// region scrolls down by one row instead.
-    #[tactic(auto, using(crate::proofs::Shifting::page_reverse_index, crate::proofs::Prints::region_order), unfolding(crate::specs::Shifts::reverse_index))]
+    #[tactic(auto, using(crate::proofs::Shifting::moving_down), unfolding(crate::specs::Shifts::reverse_index))]
     pub fn reverse_index(&mut self)
         ensures { self.new ≡ reverse_index self.old }
     {
@@ -38,7 +38,7 @@ impl Grid {
     /// bottom is dropped (IL). Outside of the region nothing happens.
     ///
     /// The text of the region's bottom row no longer goes on below.
-    #[tactic(auto, using(crate::proofs::Shifting::page_lines_inserted), unfolding(crate::specs::Shifts::lines_inserted))]
+    #[tactic(auto, using(crate::proofs::Shifting::moving_down), unfolding(crate::specs::Shifts::lines_inserted))]
     pub fn insert_lines(&mut self, count: u16)
         ensures { self.new ≡ lines_inserted count self.old }
     {

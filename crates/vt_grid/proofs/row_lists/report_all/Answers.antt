@@ -1,7 +1,7 @@
 use Rattle.std.proofs.Common.{length}
 use Rattle.std.proofs.lemmas.List.Elements.{All-tail}
 use Rattle.vt_rows.specs.Row.{RowValue, IsRow}
-use Rattle.vt_grid.proofs.scrollback.report_all.Goals as goal
+use Rattle.vt_grid.proofs.row_lists.report_all.Goals as goal
 
 pub loop-row-preserved : goal.loop-row-preserved
 loop-row-preserved g c =

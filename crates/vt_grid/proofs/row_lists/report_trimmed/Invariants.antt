@@ -1,7 +1,7 @@
 use Rattle.std.proofs.Common.{take, drop, map}
 use Rattle.std.specs.List.{FoldsTo}
 use Rattle.vt_rows.specs.Row.{trimmed_row}
-use Rattle.vt_grid.proofs.scrollback.report_trimmed.Given as goal
+use Rattle.vt_grid.proofs.row_lists.report_trimmed.Given as goal
 
 -- what follows from here leads there from the beginning
 abbrev pub invariant-loop-k : goal.invariant-loop-k

@@ -2,7 +2,7 @@ use Rattle.std.proofs.Common.{length}
 use Rattle.std.specs.Prelude.{All}
 use Rattle.std.specs.List.{FoldsTo}
 use Rattle.vt_rows.specs.Row.{IsRow}
-use Rattle.vt_grid.proofs.scrollback.report_all.Given as goal
+use Rattle.vt_grid.proofs.row_lists.report_all.Given as goal
 
 -- what follows from here leads there from the beginning
 abbrev pub invariant-loop-row : goal.invariant-loop-row
