@@ -1,9 +1,9 @@
 -- A plain screen of another size is plain, and has that size.
-use Rattle.std.proofs.Common.{◌≡◌, ℕ, ◌+◌, ◌-◌, ◌<◌, ◌==◌, ◌&&◌, Bool, true, false, List, length, take, refl, sym, subst, ap, ◌∙◌, arith}
+use Rattle.std.proofs.Common.{◌≡◌, ℕ, ◌-◌, ◌<◌, Bool, true, false, length, take, refl, sym, subst, ap, ◌∙◌, arith}
 use Rattle.std.specs.Prelude.{if◌then◌else◌, option_map}
 use Rattle.std.proofs.lemmas.Bool.Decides.{nat_tests}
-use Rattle.vt_grid.specs.Page.{IsPlainPage, IsWhole, Page, SameSize}
-use Rattle.vt_grid.specs.Resize.{leaving, out_of_view, page_resized, scrollback_resized}
+use Rattle.vt_grid.specs.Page.{IsPlainPage, Page}
+use Rattle.vt_grid.specs.Resize.{leaving, page_resized, scrollback_resized}
 use Rattle.vt_grid.specs.Scrollback.{Scrollback, no_scrollback}
 use Rattle.vt_grid.proofs.Resizing.{offset-pushed}
 use Rattle.vt_screen.specs.Pages.{above_aside, has_size, main_page, resized}

@@ -56,43 +56,29 @@ pub fn sizes<CB: Callbacks>()
 /// `Parser::default` and `Parser::new_with_callbacks` give, by their clauses
 /// `begun` and `shown` and the clause `whole` of `Screen::size`.
 pub fn fresh_parsers<CB: Callbacks>()
-    ensures fresh {
-        (rows cols capacity : ℕ) (p : Parsing CB) → IsScreen p.screen → StandsFor p.scanner start
+    ensures fresh { (rows cols capacity : ℕ) (p : Parsing CB) → IsScreen p.screen → StandsFor p.scanner start
         → p ≡ parsing p.scanner (fresh_screen rows cols capacity) p.callbacks
-        → IsFreshParser rows cols capacity p
-    }
-    ensures plain {
-        (rows cols capacity : ℕ) (p : Parsing CB) → IsScreen p.screen → StandsFor p.scanner start
-        → p ≡ parsing p.scanner (fresh_screen rows cols capacity) p.callbacks → IsPlainParser p
-    }
-    ensures rows {
-        (rows cols capacity : ℕ) (p : Parsing CB) → IsFreshParser rows cols capacity p
-        → length p.screen.page.rows ≡ rows
-    }
-    ensures cols {
-        (rows cols capacity : ℕ) (p : Parsing CB) → IsFreshParser rows cols capacity p
-        → p.screen.page.width ≡ cols
-    }
+        → IsFreshParser rows cols capacity p }
+    ensures plain { (rows cols capacity : ℕ) (p : Parsing CB) → IsScreen p.screen → StandsFor p.scanner start
+        → p ≡ parsing p.scanner (fresh_screen rows cols capacity) p.callbacks → IsPlainParser p }
+    ensures rows { (rows cols capacity : ℕ) (p : Parsing CB) → IsFreshParser rows cols capacity p
+        → length p.screen.page.rows ≡ rows }
+    ensures cols { (rows cols capacity : ℕ) (p : Parsing CB) → IsFreshParser rows cols capacity p
+        → p.screen.page.width ≡ cols }
 {}
 
 /// A parser that took another size has that size, and is plain if it was. The
 /// premise that it took the size is the clause `ok` of `Parser::set_size`.
 pub fn resized_parsers<CB: Callbacks>()
-    ensures plain {
-        (rows cols : ℕ) (p q : Parsing CB) → 0 < rows
+    ensures plain { (rows cols : ℕ) (p q : Parsing CB) → 0 < rows
         → q ≡ record p { screen = resized rows cols p.screen; callbacks = q.callbacks }
-        → IsPlainParser p → IsPlainParser q
-    }
-    ensures rows {
-        (rows cols : ℕ) (p q : Parsing CB)
+        → IsPlainParser p → IsPlainParser q }
+    ensures rows { (rows cols : ℕ) (p q : Parsing CB)
         → q ≡ record p { screen = resized rows cols p.screen; callbacks = q.callbacks }
-        → length q.screen.page.rows ≡ rows
-    }
-    ensures cols {
-        (rows cols : ℕ) (p q : Parsing CB)
+        → length q.screen.page.rows ≡ rows }
+    ensures cols { (rows cols : ℕ) (p q : Parsing CB)
         → q ≡ record p { screen = resized rows cols p.screen; callbacks = q.callbacks }
-        → q.screen.page.width ≡ cols
-    }
+        → q.screen.page.width ≡ cols }
 {}
 
 /// What is read quietly as one text is so in every run over its bytes, whatever
@@ -101,22 +87,16 @@ pub fn resized_parsers<CB: Callbacks>()
 /// are the text, where these are told as what they make (`made`). And no such
 /// run can be refused memory (`harmless`), so that `process` answers Ok.
 pub fn quiet_runs<CB: Callbacks>()
-    ensures ran {
-        (p q : Parsing CB) (bytes : List ℕ) (state : State) (after : Terminal)
+    ensures ran { (p q : Parsing CB) (bytes : List ℕ) (state : State) (after : Terminal)
         → StandsFor p.scanner state → read (terminal state p.screen) bytes ≡ Some after
-        → Ran CB.does p bytes q → q.is_failed ≡ false → HasRead p after q
-    }
-    ensures made {
-        (p q : Parsing CB) (pieces : List (List ℕ)) (state : State) (after : Terminal)
+        → Ran CB.does p bytes q → q.is_failed ≡ false → HasRead p after q }
+    ensures made { (p q : Parsing CB) (pieces : List (List ℕ)) (state : State) (after : Terminal)
         → StandsFor p.scanner state
         → read (terminal state p.screen) (pieces_joined pieces) ≡ Some after
-        → FoldsTo (MakesCall CB.does) p (map Process pieces) q → q.is_failed ≡ false → HasRead p after q
-    }
-    ensures harmless {
-        (p : Parsing CB) (bytes : List ℕ) (state : State) (after : Terminal)
+        → FoldsTo (MakesCall CB.does) p (map Process pieces) q → q.is_failed ≡ false → HasRead p after q }
+    ensures harmless { (p : Parsing CB) (bytes : List ℕ) (state : State) (after : Terminal)
         → StandsFor p.scanner state → read (terminal state p.screen) bytes ≡ Some after
-        → IsHarmless CB.does p bytes
-    }
+        → IsHarmless CB.does p bytes }
 {}
 
 /// What is read quietly as one text is read so by every parser, whatever its
