@@ -58,9 +58,7 @@ fn take_size<CB: Callbacks>(terminal: &mut Parser<CB>, rows: u16, cols: u16) -> 
     let Some(cols) = NonZeroU16::new(cols) else {
         return Err(Error::Failed);
     };
-    terminal.set_size(rows, cols)?;
-    terminal.screen().size();
-    Ok(())
+    terminal.set_size(rows, cols)
 }
 
 /// Has a terminal read a text, in one piece.

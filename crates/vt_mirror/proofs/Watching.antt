@@ -16,39 +16,14 @@ use Rattle.vt_screen.proofs.Viewing.{same_shown}
 use Rattle.vt100.specs.Parser.{Parsing}
 use Rattle.vt100.specs.Pieces.{HasRead, IsPlainParser}
 use Rattle.vt100.proofs.Pieces.{read_pieces}
-use Rattle.vt_mirror.specs.Calls.{Answers, Asks, IsUpdate, JoinsMirror, Leaves, Processes, Redraws, Resizes, Tells}
-use Rattle.vt_mirror.specs.Mirror.{IsMirror, MirrorValue}
+use Rattle.vt_mirror.specs.Calls.{Answers, Asks, IsDiff, IsFull, IsUpdate, JoinsMirror, Leaves, Processes, Redraws, Resizes, Tells}
+use Rattle.vt_mirror.specs.Mirror.{MirrorValue}
 use Rattle.vt_mirror.specs.Viewers.{Puts, ViewersValue, next_number, note_of}
 use Rattle.vt_mirror.specs.Watching.{Ask, CountUp, Does, Watches, Goes, IsFresh, IsLeft, IsNew, IsTakenBy, Join, Leave, MirrorCall, Process, ReadsText, Sees, SetSize, ShowsSeen, TakesUpdate, TakesSize, Watching, numbers_given}
 use Rattle.vt_mirror.specs.declared.update.Update.{Update}
 use Rattle.vt_mirror.specs.declared.update.Update.TheVariants.{Diff, Full}
 use Rattle.vt_mirror.proofs.Bookkeeping.{by_number, none_some}
-use Rattle.vt_mirror.proofs.Noted.{noted_copy, noted_join, noted_leave, noted_none, noted_parser, noted_same}
-use Rattle.vt100.proofs.Sizing.{resized_plain, resized_size}
-
--- ---- the mirror
-
-noted_resize : (old new : MirrorValue) (rows cols : ℕ) (answer : Result (Unit {0}) Error) → Resizes old rows cols answer new → IsMirror old → IsMirror new
-noted_resize old new rows cols answer r m = by_test (has_size rows cols old.parser.screen) refl answer r where
-  all : new ≡ old → IsMirror new
-  all e = subst IsMirror (sym e) m
-
-  by_test : (b : Bool) → has_size rows cols old.parser.screen ≡ b → (answer : Result (Unit {0}) Error) → Resizes old rows cols answer new → IsMirror new
-  by_test true e answer r = all (r.same e).1
-  by_test false e (Ok u) r = noted_none new (ap (λ (m : MirrorValue). m.viewers.notes) (r.other e))
-  by_test false e (Err error) r = all r.refused.1
-
-noted_ask : (old new : MirrorValue) (viewer : ℕ) (answer : Result (Option Update) Error) → Asks old viewer answer new → IsMirror old → IsMirror new
-noted_ask old new viewer (Ok (Some update)) a m = noted_copy old new viewer old.parser.screen a.answers.parser a.answers.puts refl m
-noted_ask old new viewer (Ok None) a m = subst IsMirror (sym a.answers.1) m
-noted_ask old new viewer (Err error) a m = subst IsMirror (sym a.refused.1) m
-
-noted_call : (old new : MirrorValue) (call : MirrorCall) → Does old call new → IsMirror old → IsMirror new
-noted_call old new (Process bytes answer) d m = noted_parser old new d.viewers d.size m
-noted_call old new (SetSize rows cols answer) d m = noted_resize old new rows cols answer d m
-noted_call old new (Join answer) d m = noted_join old new answer d.0 d.1 m
-noted_call old new (Leave viewer answer) d m = noted_leave old new viewer answer d.0 d.1 m
-noted_call old new (Ask viewer answer) d m = noted_ask old new viewer answer d m
+use Rattle.vt100.proofs.Sizing.{resized_is, resized_plain, resized_size}
 
 -- ---- what is noted for a number whose viewer is told nothing: what was, or nothing
 
@@ -99,45 +74,52 @@ reads_redraw self Reader text p q steady r plain reader t =
       shows = ap shown all.screen ∙ made.1;
     }
 
-reads_diff : {S : Type 0} (self prev : ScreenValue) (text : List ℕ) (p q : Parsing S) → SameSize self.page prev.page → IsSteady (shown self) → Redraws self (IsReaderOf (shown self) (shown prev)) text
+reads_diff : {S : Type 0} (self prev : ScreenValue) (text : List ℕ) (p q : Parsing S) → IsDiff self prev text → IsSteady (shown self)
     → IsScreen p.screen → IsPlainParser p → shown p.screen ≡ shown prev → ReadsText text p q → Plainly self q
-reads_diff self prev text p q size steady r sound plain shows t =
-    reads_redraw self (IsReaderOf (shown self) (shown prev)) text p q steady r plain (record {
-      is = record { sound = sound; plain = plain.screen; size = subst (SamePictureSize (shown self)) (sym shows) (same_shown self prev size) };
+reads_diff self prev text p q diff steady sound plain shows t =
+    reads_redraw self (IsReaderOf (shown self) (shown prev)) text p q steady diff.redraws plain (record {
+      is = record { sound = sound; plain = plain.screen; size = subst (SamePictureSize (shown self)) (sym shows) (same_shown self prev diff.size) };
       shows = shows;
     }) t
 
-takes_size : {S : Type 0} (rows cols : ℕ) (p q : Parsing S) → TakesSize rows cols p q → IsPlainParser p → (IsPlainParser q) × (q.screen.page.width ≡ cols) × (length q.screen.page.rows ≡ rows)
-takes_size {S} rows cols p q t plain =
-    let size = resized_size rows cols p.screen in
-    let same : q.screen ≡ resized rows cols p.screen = ap (λ (r : Parsing S). r.screen) t.resized in
-    let tall : length q.screen.page.rows ≡ rows = ap (λ (s : ScreenValue). length s.page.rows) same ∙ size.1 in
-    let some : 0 < rows = let end = t.sound.page.region_end in omega arith in (
-      record {
-        is_failed = ap (λ (r : Parsing S). r.is_failed) t.resized ∙ plain.is_failed;
-        scanner = subst (λ (r : Parsing S). StandsFor r.scanner start) (sym t.resized) plain.scanner;
-        screen = subst IsPlain (sym same) (resized_plain rows cols p.screen some plain.screen);
-      },
-      ap (λ (s : ScreenValue). s.page.width) same ∙ size.0,
-      tall,
-    )
+-- a plain terminal that takes the size of a full update
+record Sized {S : Type 0} (rows cols : ℕ) (q : Parsing S) : Type 0 where
+  pub sound : IsScreen q.screen
+  pub plain : IsPlainParser q
+  pub wide : q.screen.page.width ≡ cols
+  pub tall : length q.screen.page.rows ≡ rows
 
-reads_full : {S : Type 0} (self : ScreenValue) (rows cols : ℕ) (text : List ℕ) (p sized q : Parsing S) → rows ≡ length self.page.rows → cols ≡ self.page.width → IsSteady (shown self) → Redraws self (IsReader (shown self)) text
-    → IsPlainParser p → TakesSize rows cols p sized → ReadsText text sized q → Plainly self q
-reads_full self rows cols text p sized q tall wide steady r plain takes t =
-    let s = takes_size rows cols p sized takes plain in
-    reads_redraw self (IsReader (shown self)) text sized q steady r s.0
-    (record { sound = takes.sound; plain = s.0.screen; size = same_shown self sized.screen (record { width = sym (s.1 ∙ wide); height = sym (s.2 ∙ tall) }) }) t
+takes_size : {S : Type 0} (self : ScreenValue) (rows cols : ℕ) (text : List ℕ) (p q : Parsing S) → IsFull self rows cols text → TakesSize rows cols p q → IsScreen p.screen → IsPlainParser p → Sized rows cols q
+takes_size {S} self rows cols text p q full t sound plain =
+    let size = resized_size rows cols p.screen in
+    let same : q.screen ≡ resized rows cols p.screen = ap (λ (r : Parsing S). r.screen) t in
+    record {
+      sound = subst IsScreen (sym same) (resized_is rows cols p.screen full.has_rows full.few_rows full.has_columns full.few_columns sound);
+      plain = record {
+        is_failed = ap (λ (r : Parsing S). r.is_failed) t ∙ plain.is_failed;
+        scanner = subst (λ (r : Parsing S). StandsFor r.scanner start) (sym t) plain.scanner;
+        screen = subst IsPlain (sym same) (resized_plain rows cols p.screen full.has_rows plain.screen);
+      };
+      wide = ap (λ (s : ScreenValue). s.page.width) same ∙ size.0;
+      tall = ap (λ (s : ScreenValue). length s.page.rows) same ∙ size.1;
+    }
+
+reads_full : {S : Type 0} (self : ScreenValue) (rows cols : ℕ) (text : List ℕ) (p sized q : Parsing S) → IsFull self rows cols text → IsSteady (shown self)
+    → IsScreen p.screen → IsPlainParser p → TakesSize rows cols p sized → ReadsText text sized q → Plainly self q
+reads_full self rows cols text p sized q full steady sound plain takes t =
+    let s = takes_size self rows cols text p sized full takes sound plain in
+    reads_redraw self (IsReader (shown self)) text sized q steady full.redraws s.plain
+    (record { sound = s.sound; plain = s.plain.screen; size = same_shown self sized.screen (record { width = sym (s.wide ∙ full.wide); height = sym (s.tall ∙ full.tall) }) }) t
 
 sound_after : {S : Type 0} (update : Update) (p q : Parsing S) → TakesUpdate update p q → IsScreen q.screen
 sound_after (Diff text) p q t = t.sound
 sound_after (Full rows cols text) p q t = t.2.sound
 
 -- by what is noted, which the viewer shows
-takes_update : {S : Type 0} (self : ScreenValue) (noted : Option ScreenValue) (update : Update) (p q : Parsing S) → ((prev : ScreenValue) → noted ≡ Some prev → SameSize self.page prev.page × (shown p.screen ≡ shown prev))
+takes_update : {S : Type 0} (self : ScreenValue) (noted : Option ScreenValue) (update : Update) (p q : Parsing S) → ((prev : ScreenValue) → noted ≡ Some prev → shown p.screen ≡ shown prev)
     → IsUpdate self noted update → IsSteady (shown self) → IsScreen p.screen → IsPlainParser p → TakesUpdate update p q → Plainly self q
-takes_update self (Some prev) (Diff text) p q shows is steady sound plain t = let s = shows prev refl in reads_diff self prev (string_bytes text) p q s.0 steady is.1 sound plain s.1 t
-takes_update self None (Full rows cols text) p q shows is steady sound plain t = reads_full self rows cols (string_bytes text) p t.0 q is.0 is.1 steady is.3 plain t.1 t.2
+takes_update self (Some prev) (Diff text) p q shows is steady sound plain t = reads_diff self prev (string_bytes text) p q is steady sound plain (shows prev refl) t
+takes_update self None (Full rows cols text) p q shows is steady sound plain t = reads_full self rows cols (string_bytes text) p t.0 q is steady sound plain t.1 t.2
 takes_update self (Some prev) (Full rows cols text) p q shows is steady sound plain t = absurd is
 takes_update self None (Diff text) p q shows is steady sound plain t = absurd is
 
@@ -145,15 +127,13 @@ takes_update self None (Diff text) p q shows is steady sound plain t = absurd is
 
 -- the viewer is plain and shows what it has seen, which is what is noted for it, if anything is
 record Holds {S : Type 0} (number : ℕ) (w : Watching S) : Type 0 where
-  pub mirror : IsMirror w.mirror
   pub sound : IsScreen w.viewer.screen
   pub plain : IsPlainParser w.viewer
   pub noted : (screen : ScreenValue) → note_of w.mirror.viewers number ≡ Some screen → w.seen ≡ Some screen
   pub shows : IfSome w.seen (λ screen. shown w.viewer.screen ≡ shown screen)
 
-holds_left : {S : Type 0} (number : ℕ) (old new : Watching S) → IsMirror new.mirror → NotedBefore number old.mirror new.mirror → IsLeft old new → Holds number old → Holds number new
-holds_left {S} number old new mirror before l h = record {
-  mirror = mirror;
+holds_left : {S : Type 0} (number : ℕ) (old new : Watching S) → NotedBefore number old.mirror new.mirror → IsLeft old new → Holds number old → Holds number new
+holds_left {S} number old new before l h = record {
   sound = subst (λ (p : Parsing S). IsScreen p.screen) (sym l.viewer) h.sound;
   plain = subst IsPlainParser (sym l.viewer) h.plain;
   noted = λ screen e. l.seen ∙ h.noted screen (before screen e);
@@ -161,37 +141,36 @@ holds_left {S} number old new mirror before l h = record {
       (subst (λ (o : Option ScreenValue). IfSome o (λ screen. shown old.viewer.screen ≡ shown screen)) (sym l.seen) h.shows);
 }
 
-holds_own : {S : Type 0} (number : ℕ) (update : Update) (old new : Watching S) → IsMirror new.mirror → Tells old.mirror number update new.mirror → Sees update old new → Holds number old → Holds number new
-holds_own {S} number update old new mirror t s h =
+holds_own : {S : Type 0} (number : ℕ) (update : Update) (old new : Watching S) → Tells old.mirror number update new.mirror → Sees update old new → Holds number old → Holds number new
+holds_own {S} number update old new t s h =
     let self = old.mirror.parser.screen in
-    let shows_prev : (prev : ScreenValue) → note_of old.mirror.viewers number ≡ Some prev → SameSize self.page prev.page × (shown old.viewer.screen ≡ shown prev)
-    = λ prev e. (h.mirror number prev e, subst (λ (o : Option ScreenValue). IfSome o (λ screen. shown old.viewer.screen ≡ shown screen)) (h.noted prev e) h.shows) in
+    let shows_prev : (prev : ScreenValue) → note_of old.mirror.viewers number ≡ Some prev → shown old.viewer.screen ≡ shown prev
+    = λ prev e. subst (λ (o : Option ScreenValue). IfSome o (λ screen. shown old.viewer.screen ≡ shown screen)) (h.noted prev e) h.shows in
     let p = takes_update self (note_of old.mirror.viewers number) update old.viewer new.viewer shows_prev t.text s.steady h.sound h.plain s.takes in
     record {
-      mirror = mirror;
       sound = sound_after update old.viewer new.viewer s.takes;
       plain = p.plain;
       noted = λ screen e. s.seen ∙ (sym t.puts.note_here ∙ e);
       shows = subst (λ (o : Option ScreenValue). IfSome o (λ screen. shown new.viewer.screen ≡ shown screen)) (sym s.seen) p.shows;
     }
 
-holds_taken : {S : Type 0} (number asked : ℕ) (update : Update) (old new : Watching S) → IsMirror new.mirror → Tells old.mirror asked update new.mirror → IsTakenBy number asked update old new → Holds number old → Holds number new
-holds_taken {S} number asked update old new mirror t taken h =
+holds_taken : {S : Type 0} (number asked : ℕ) (update : Update) (old new : Watching S) → Tells old.mirror asked update new.mirror → IsTakenBy number asked update old new → Holds number old → Holds number new
+holds_taken {S} number asked update old new t taken h =
     by_number number asked
-    (λ own. holds_own number update old new mirror (subst (λ (n : ℕ). Tells old.mirror n update new.mirror) own t) (taken.own own) h)
-    (λ other. holds_left number old new mirror (λ screen e. sym (t.puts.other_notes number (λ same. other (sym same))) ∙ e) (taken.others other) h)
+    (λ own. holds_own number update old new (subst (λ (n : ℕ). Tells old.mirror n update new.mirror) own t) (taken.own own) h)
+    (λ other. holds_left number old new (λ screen e. sym (t.puts.other_notes number (λ same. other (sym same))) ∙ e) (taken.others other) h)
 
-holds_ask : {S : Type 0} (number asked : ℕ) (answer : Result (Option Update) Error) (old new : Watching S) → IsMirror new.mirror → Asks old.mirror asked answer new.mirror → Watches number old (Ask asked answer) new → Holds number old → Holds number new
-holds_ask number asked (Ok (Some update)) old new mirror a f h = holds_taken number asked update old new mirror a.answers f h
-holds_ask number asked (Ok None) old new mirror a f h = holds_left number old new mirror (before_equal number old.mirror new.mirror a.answers.1) f h
-holds_ask number asked (Err error) old new mirror a f h = holds_left number old new mirror (before_equal number old.mirror new.mirror a.refused.1) f h
+holds_ask : {S : Type 0} (number asked : ℕ) (answer : Result (Option Update) Error) (old new : Watching S) → Asks old.mirror asked answer new.mirror → Watches number old (Ask asked answer) new → Holds number old → Holds number new
+holds_ask number asked (Ok (Some update)) old new a f h = holds_taken number asked update old new a.answers f h
+holds_ask number asked (Ok None) old new a f h = holds_left number old new (before_equal number old.mirror new.mirror a.answers.1) f h
+holds_ask number asked (Err error) old new a f h = holds_left number old new (before_equal number old.mirror new.mirror a.refused.1) f h
 
-holds_call : {S : Type 0} (number : ℕ) (call : MirrorCall) (old new : Watching S) → IsMirror new.mirror → Does old.mirror call new.mirror → Watches number old call new → Holds number old → Holds number new
-holds_call number (Process bytes answer) old new mirror d f h = holds_left number old new mirror (before_same number old.mirror new.mirror d.viewers) f h
-holds_call number (SetSize rows cols answer) old new mirror d f h = holds_left number old new mirror (before_resize number old.mirror new.mirror rows cols answer d) f h
-holds_call number (Join answer) old new mirror d f h = holds_left number old new mirror (before_join number old.mirror new.mirror answer d.1) f h
-holds_call number (Leave viewer answer) old new mirror d f h = holds_left number old new mirror (before_none number viewer false old.mirror new.mirror d.1.puts) f h
-holds_call number (Ask viewer answer) old new mirror d f h = holds_ask number viewer answer old new mirror d f h
+holds_call : {S : Type 0} (number : ℕ) (call : MirrorCall) (old new : Watching S) → Does old.mirror call new.mirror → Watches number old call new → Holds number old → Holds number new
+holds_call number (Process bytes answer) old new d f h = holds_left number old new (before_same number old.mirror new.mirror d.viewers) f h
+holds_call number (SetSize rows cols answer) old new d f h = holds_left number old new (before_resize number old.mirror new.mirror rows cols answer d) f h
+holds_call number (Join answer) old new d f h = holds_left number old new (before_join number old.mirror new.mirror answer d.1) f h
+holds_call number (Leave viewer answer) old new d f h = holds_left number old new (before_none number viewer false old.mirror new.mirror d.1.puts) f h
+holds_call number (Ask viewer answer) old new d f h = holds_ask number viewer answer old new d f h
 
 -- ---- all calls
 
@@ -199,11 +178,10 @@ holds_all : {S : Type 0} (number : ℕ) (calls : List MirrorCall) (old new : Wat
 holds_all {S} number [] old new f h = subst (λ (w : Watching S). Holds number w) f h
 holds_all {S} number (call ∷ calls) old new f h =
     let mid : Watching S = f.0 in
-    holds_all number calls mid new f.2 (holds_call number call old mid (noted_call old.mirror mid.mirror call f.1.0 h.mirror) f.1.0 f.1.1 h)
+    holds_all number calls mid new f.2 (holds_call number call old mid f.1.0 f.1.1 h)
 
 fresh_holds : {S : Type 0} (number : ℕ) (w : Watching S) → IsFresh w.mirror → IsNew w → Holds number w
 fresh_holds {S} number w fresh new = record {
-  mirror = noted_none w.mirror fresh.notes;
   sound = new.sound;
   plain = new.plain;
   noted = λ screen e. absurd (none_some screen (ap (λ (notes : List (ℕ × ScreenValue)). note_of (record (w.mirror.viewers) { notes = notes }) number) (sym fresh.notes) ∙ e));

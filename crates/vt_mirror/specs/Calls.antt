@@ -1,15 +1,19 @@
 -- What each call of a mirror answers, and what it leaves.
-use Rattle.std.specs.Prelude.{◌≡◌, ◌⊎◌, ◌↔◌, ℕ, ◌-◌, ◌^◌, Bool, true, false, List, [], Option, Some, None, Err, Ok, length, string_bytes, IfErr, IfOk, IsErr}
+use Rattle.std.specs.Prelude.{◌≡◌, ◌⊎◌, ◌↔◌, ℕ, ◌-◌, ◌^◌, ◌<◌, Bool, true, false, List, [], Option, Some, None, Err, Ok}
+use Rattle.std.specs.Prelude.{length, string_bytes, IfErr, IfOk, IsErr}
 use Rattle.std.specs.declared.result.Result.{Result}
 use Rattle.vt_cells.specs.Op.{bytes_of_all}
 use Rattle.vt_cells.specs.declared.error.Error.{Error}
 use Rattle.vt_cells.specs.declared.error.Error.TheVariants.{Failed, NoNumber, OutOfMemory}
 use Rattle.vt_grid.specs.Page.{SameSize}
+use Rattle.vt_redraw.specs.Locality.{IsLocal}
 use Rattle.vt_redraw.specs.Redraw.{difference, redraw}
 use Rattle.vt_redraw.specs.Steady.{IsSteady}
 use Rattle.vt_screen.specs.Pages.{has_size, resized}
-use Rattle.vt_screen.specs.Screen.{ScreenValue}
-use Rattle.vt_screen.specs.Shown.{IsReadBy, IsReader, IsReaderOf, KeepsRest, Makes, ShowsPlainly, shown}
+use Rattle.vt_screen.specs.Screen.{IsColored, IsScreen, ScreenValue}
+use Rattle.vt_screen.specs.Shown.{HasCursor, HasRows, IsReadBy, IsReader, IsReaderOf, KeepsRest, Makes}
+use Rattle.vt_screen.specs.Shown.{ShowsPlainly, shown}
+use Rattle.vt_screen.specs.Touched.{TouchesOnly}
 use Rattle.vt100.specs.Parser.{IsHarmless, Ran, Stopped, quietly}
 use Rattle.vt_mirror.specs.Mirror.{MirrorValue}
 use Rattle.vt_mirror.specs.Viewers.{Puts, ViewersValue, is_viewer, next_number, note_of}
@@ -56,20 +60,43 @@ pub record Leaves (old : ViewersValue) (viewer : ℕ) (answer : Bool) (new : Vie
 pub record Redraws (self : ScreenValue) (Reader : ScreenValue → Type 0) (text : List ℕ) : Type 0 where
   pub quiet : IsSteady (shown self) → IsReadBy Reader text
   pub shows : IsSteady (shown self) → Makes Reader text (ShowsPlainly (shown self))
+  pub rows : IsSteady (shown self) → Makes Reader text (HasRows (shown self))
+  pub cursor : IsSteady (shown self) → Makes Reader text (HasCursor (shown self))
   pub rest : IsSteady (shown self) → Makes Reader text KeepsRest
+
+-- the redraw of a screen, with its size: at least one row and one column
+pub record IsFull (self : ScreenValue) (rows cols : ℕ) (text : List ℕ) : Type 0 where
+  pub tall : rows ≡ length self.page.rows
+  pub wide : cols ≡ self.page.width
+  pub has_rows : 0 < rows
+  pub few_rows : rows < 2 ^ 16
+  pub has_columns : 0 < cols
+  pub few_columns : cols < 2 ^ 16
+  pub is : text ≡ bytes_of_all (redraw (shown self))
+  pub redraws : Redraws self (IsReader (shown self)) text
+
+-- the difference from a screen of the same size: it is empty where both show the same, and only there, and touches near what differs
+-- alone
+pub record IsDiff (self prev : ScreenValue) (text : List ℕ) : Type 0 where
+  pub size : SameSize self.page prev.page
+  pub is : text ≡ bytes_of_all (difference (shown self) (shown prev))
+  pub redraws : Redraws self (IsReaderOf (shown self) (shown prev)) text
+  pub none : shown self ≡ shown prev → text ≡ []
+  pub empty : IsSteady (shown self) → text ≡ [] → shown self ≡ shown prev
+  pub touches : IsSteady (shown self)
+      → TouchesOnly (IsReaderOf (shown self) (shown prev)) text (IsLocal (shown self) (shown prev))
 
 -- a full redraw where nothing is noted, and else the difference from the screen that is
 abbrev pub IsUpdate : (self : ScreenValue) → Option ScreenValue → Update → Type 0
-IsUpdate self (Some prev) (Diff text) =
-    (string_bytes text ≡ bytes_of_all (difference (shown self) (shown prev))) × Redraws self (IsReaderOf (shown self) (shown prev)) (string_bytes text)
-IsUpdate self None (Full rows cols text) =
-    (rows ≡ length self.page.rows) × (cols ≡ self.page.width)
-    × (string_bytes text ≡ bytes_of_all (redraw (shown self))) × Redraws self (IsReader (shown self)) (string_bytes text)
+IsUpdate self (Some prev) (Diff text) = IsDiff self prev (string_bytes text)
+IsUpdate self None (Full rows cols text) = IsFull self rows cols (string_bytes text)
 IsUpdate self _ _ = ⊥
 
--- a viewer is told, and the mirror's screen is noted for it
+-- a viewer is told, and the mirror's screen, which is a screen, is noted for it
 pub record Tells (old : MirrorValue) (viewer : ℕ) (update : Update) (new : MirrorValue) : Type 0 where
   pub is : is_viewer old.viewers viewer ≡ true
+  pub whole : IsScreen old.parser.screen
+  pub colored : IsColored old.parser.screen
   pub text : IsUpdate old.parser.screen (note_of old.viewers viewer) update
   pub parser : new.parser ≡ old.parser
   pub last : new.viewers.last ≡ old.viewers.last

@@ -59,9 +59,8 @@ pub record Watching (S : Type 0) : Type 0 where
   pub seen : Option ScreenValue
 
 -- the terminal takes a size, as `Parser::set_size` does that answers Ok
-pub record TakesSize {S : Type 0} (rows cols : ℕ) (old new : Parsing S) : Type 0 where
-  pub sound : IsScreen new.screen
-  pub resized : new ≡ record old { screen = resized rows cols old.screen; callbacks = new.callbacks }
+abbrev pub TakesSize : {S : Type 0} → (rows cols : ℕ) → (old new : Parsing S) → Type 0
+TakesSize rows cols old new = new ≡ record old { screen = resized rows cols old.screen; callbacks = new.callbacks }
 
 -- it reads a text, in any calls of `process` whose slices joined are the text
 pub record ReadsText {S : Type 0} (text : List ℕ) (old new : Parsing S) : Type 0 where

@@ -7,7 +7,7 @@ ghost use Rattle.vt_mirror.specs.Calls.{Asks, IsUpdate, JoinsMirror, Leaves, Pro
 ghost use Rattle.vt_mirror.specs.Viewers.{note_of};
 ghost use Rattle.vt_scan.specs.Automaton.{start};
 ghost use Rattle.vt_scan.specs.Scanner.{StandsFor};
-ghost use Rattle.vt_screen.specs.Screen.{fresh_screen};
+ghost use Rattle.vt_screen.specs.Screen.{IsColored, IsScreen, fresh_screen};
 
 use crate::update::Update;
 use crate::viewers::Viewers;
@@ -128,6 +128,11 @@ impl Mirror {
     /// the screen of its last update. `None` is answered exactly for a number
     /// that is no viewer's.
     ///
+    /// A full one has at least one row and one column. A difference is empty
+    /// where the screen shows what it showed at the viewer's last update, and,
+    /// if it is steady, only there; reading it touches only what is near a
+    /// difference, as that of `Screen::contents_diff` does.
+    ///
     /// A plain terminal that takes the size of each full update before it reads
     /// it, and that reads all updates of one viewer in order, shows the
     /// mirror's screen as it was at the last of them, if it was steady at each
@@ -150,10 +155,13 @@ impl Mirror {
 
     /// The difference from what is noted for a viewer, or a full redraw.
     fn update_from(&self, viewer: u64) -> Result<Update, Error>
+        ensures whole { IsScreen self.now.parser.screen }
+        ensures colored { IsColored self.now.parser.screen }
         ensures ok { IfOk result (λ update. IsUpdate self.now.parser.screen (note_of self.now.viewers viewer) update) }
         ensures memory { OnlyOutOfMemory result }
     {
         let screen = self.parser.screen();
+        screen.size();
         let Some(prev) = self.viewers.note(viewer) else {
             return full(screen);
         };
