@@ -38,7 +38,7 @@ pub fn perform<CB: Callbacks>(
     marked(screen, callbacks, mark, sequence)
 }
 
-// A control sequence without a marker or an intermediate.
+/// A control sequence without a marker or an intermediate.
 #[tactic(auto, using(crate::proofs::Dispatching::by_counts))]
 fn plain<CB: Callbacks>(
     screen: &mut Screen,
@@ -62,7 +62,7 @@ fn plain<CB: Callbacks>(
     scrolling(screen, callbacks, sequence)
 }
 
-// One that may scroll rows off the page, or another one.
+/// One that may scroll rows off the page, or another one.
 #[tactic(auto, using(crate::proofs::Stepping::tested_growth), unfolding(vt_screen::specs::Controls::scrolling_steps))]
 fn scrolling<CB: Callbacks>(
     screen: &mut Screen,
@@ -88,7 +88,7 @@ fn scrolling<CB: Callbacks>(
     }
 }
 
-// A control sequence with one count, at least 1; whether it is one of these.
+/// A control sequence with one count, at least 1; whether it is one of these.
 #[tactic(auto, using(crate::proofs::Stepping::tested_steps), unfolding(vt_screen::specs::Controls::counted_step))]
 fn counted(screen: &mut Screen, byte: u8, count: u16) -> bool
     requires { 0 < count }
@@ -114,7 +114,7 @@ fn counted(screen: &mut Screen, byte: u8, count: u16) -> bool
     true
 }
 
-// The other control sequences without a marker or an intermediate.
+/// The other control sequences without a marker or an intermediate.
 #[tactic(auto, using(crate::proofs::Stepping::tested_steps), unfolding(vt_screen::specs::Controls::other_steps))]
 fn other<CB: Callbacks>(screen: &mut Screen, callbacks: &mut CB, sequence: Sequence<'_>)
     requires { report_of sequence ≡ UnhandledCsi None None (map (λ group. group.now) sequence.groups.now) sequence.byte }
@@ -131,7 +131,7 @@ fn other<CB: Callbacks>(screen: &mut Screen, callbacks: &mut CB, sequence: Seque
     }
 }
 
-// CUP, whose numbers count from 1.
+/// CUP, whose numbers count from 1.
 fn move_to(screen: &mut Screen, groups: &[&[u16]])
     ensures { screen.new ≡ stepped (step.MoveTo (number_or 1 0 (map (λ group. group.now) groups.now) - 1) (number_or 1 1 (map (λ group. group.now) groups.now) - 1)) screen.old }
 {
@@ -140,7 +140,7 @@ fn move_to(screen: &mut Screen, groups: &[&[u16]])
     screen.cup(row - 1, col - 1);
 }
 
-// DECSTBM, whose numbers count from 1; without the second one, to the last row.
+/// DECSTBM, whose numbers count from 1; without the second one, to the last row.
 fn set_region(screen: &mut Screen, groups: &[&[u16]])
     ensures { screen.new ≡ stepped (step.SetRegion (number_or 1 0 (map (λ group. group.now) groups.now) - 1) (number_or (length screen.old.page.rows) 1 (map (λ group. group.now) groups.now) - 1)) screen.old }
 {
@@ -150,7 +150,7 @@ fn set_region(screen: &mut Screen, groups: &[&[u16]])
     screen.decstbm(top - 1, bottom - 1);
 }
 
-// ED.
+/// ED.
 #[tactic(auto, using(crate::proofs::Stepping::steps_taken), unfolding(vt_screen::specs::Controls::page_erasing))]
 fn erase_page<CB: Callbacks>(screen: &mut Screen, callbacks: &mut CB, sequence: Sequence<'_>)
     ensures { Does CB.does callbacks.old screen.old (page_erasing (report_of sequence.entry) (number_at 0 (map (λ group. group.now) sequence.entry.groups.now))) callbacks.new screen.new }
@@ -164,7 +164,7 @@ fn erase_page<CB: Callbacks>(screen: &mut Screen, callbacks: &mut CB, sequence: 
     }
 }
 
-// EL.
+/// EL.
 #[tactic(auto, using(crate::proofs::Stepping::tested_steps), unfolding(vt_screen::specs::Controls::row_erasing))]
 fn erase_row<CB: Callbacks>(screen: &mut Screen, callbacks: &mut CB, sequence: Sequence<'_>)
     ensures { Does CB.does callbacks.old screen.old (row_erasing (report_of sequence.entry) (number_at 0 (map (λ group. group.now) sequence.entry.groups.now))) callbacks.new screen.new }
@@ -177,7 +177,7 @@ fn erase_row<CB: Callbacks>(screen: &mut Screen, callbacks: &mut CB, sequence: S
     }
 }
 
-// REP: the last character, so many times, up to one whose memory is refused.
+/// REP: the last character, so many times, up to one whose memory is refused.
 fn repeat<CB: Callbacks>(screen: &mut Screen, callbacks: &mut CB, count: u16) -> Result<(), Error>
     ensures done { IfOk result (λ _. Does CB.does callbacks.old screen.old (repeated count screen.old.last) callbacks.new screen.new) }
     ensures stopped { IsErr result → Stops CB.does callbacks.old screen.old (repeated count screen.old.last) callbacks.new screen.new }
@@ -192,7 +192,7 @@ fn repeat<CB: Callbacks>(screen: &mut Screen, callbacks: &mut CB, count: u16) ->
     Ok(())
 }
 
-// Window manipulation: a size that is asked for.
+/// Window manipulation: a size that is asked for.
 #[tactic(auto, using(crate::proofs::Stepping::tested_steps), unfolding(vt_screen::specs::Controls::window_steps))]
 fn window<CB: Callbacks>(screen: &mut Screen, callbacks: &mut CB, sequence: Sequence<'_>)
     requires { report_of sequence ≡ UnhandledCsi None None (map (λ group. group.now) sequence.groups.now) 0x74 }
@@ -208,7 +208,7 @@ fn window<CB: Callbacks>(screen: &mut Screen, callbacks: &mut CB, sequence: Sequ
     callbacks.resize(screen, (rows, cols));
 }
 
-// The first number of a group, or the screen's own where the group is missing.
+/// The first number of a group, or the screen's own where the group is missing.
 fn number_or_own(own: u16, groups: &[&[u16]], i: usize) -> u16
     ensures { result ≡ size_or own i (map (λ group. group.now) groups.now) }
 {
@@ -218,7 +218,7 @@ fn number_or_own(own: u16, groups: &[&[u16]], i: usize) -> u16
     numbers::number_at(groups, i)
 }
 
-// A control sequence with a marker or an intermediate.
+/// A control sequence with a marker or an intermediate.
 #[tactic(auto, using(crate::proofs::Stepping::tested_steps), unfolding(vt_screen::specs::Controls::marked_steps))]
 fn marked<CB: Callbacks>(
     screen: &mut Screen,
@@ -239,7 +239,7 @@ fn marked<CB: Callbacks>(
     Ok(())
 }
 
-// Behind `?`.
+/// Behind `?`.
 #[tactic(auto, using(crate::proofs::Stepping::tested_steps), unfolding(vt_screen::specs::Controls::private_steps))]
 fn private<CB: Callbacks>(
     screen: &mut Screen,
@@ -261,7 +261,7 @@ fn private<CB: Callbacks>(
     Ok(())
 }
 
-// Behind a space.
+/// Behind a space.
 #[tactic(auto, using(crate::proofs::Stepping::tested_steps), unfolding(vt_screen::specs::Controls::space_steps))]
 fn spaced<CB: Callbacks>(screen: &mut Screen, callbacks: &mut CB, sequence: Sequence<'_>)
     requires { sequence.first ≡ Some 0x20 }
@@ -282,7 +282,7 @@ fn spaced<CB: Callbacks>(screen: &mut Screen, callbacks: &mut CB, sequence: Sequ
     }
 }
 
-// The cursor styles that DECSCUSR numbers.
+/// The cursor styles that DECSCUSR numbers.
 #[tactic(auto, using(crate::proofs::Stepping::tested_steps), unfolding(vt_screen::specs::Controls::style_of))]
 fn style(number: u16) -> Option<CursorStyle>
     ensures { result ≡ style_of number }

@@ -23,7 +23,7 @@ pub fn perform<CB: Callbacks>(screen: &mut Screen, callbacks: &mut CB, parts: &[
     callbacks.unhandled_osc(screen, parts);
 }
 
-// A command of two parts: a title.
+/// A command of two parts: a title.
 #[tactic(auto, using(crate::proofs::Stepping::steps_told), unfolding(vt_screen::specs::Controls::named_steps))]
 fn title<CB: Callbacks>(
     screen: &mut Screen,
@@ -51,7 +51,7 @@ fn title<CB: Callbacks>(
     callbacks.unhandled_osc(screen, parts);
 }
 
-// A command of three parts: a clipboard, and what it should hold.
+/// A command of three parts: a clipboard, and what it should hold.
 #[tactic(auto, using(crate::proofs::Stepping::steps_told), unfolding(vt_screen::specs::Controls::clipboard_steps))]
 fn clipboard<CB: Callbacks>(
     screen: &mut Screen,
@@ -85,14 +85,14 @@ fn is_text(text: &[u8], word: &[u8]) -> bool
     text == word
 }
 
-// Whether each byte names a clipboard.
+/// Whether each byte names a clipboard.
 fn all_clipboards(kind: &[u8]) -> bool
     ensures { result ≡ is_clipboard_kind kind.now }
 {
     kind.iter().all(|byte| matches!(byte, b'c' | b'p' | b'q' | b's' | b'0'..=b'7'))
 }
 
-// Whether each byte is one of Base64.
+/// Whether each byte is one of Base64.
 fn all_base64(text: &[u8]) -> bool
     ensures { result ≡ list_all is_base64 text.now }
 {

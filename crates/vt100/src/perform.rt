@@ -42,8 +42,8 @@ pub fn perform<CB: Callbacks>(
     }
 }
 
-// A control sequence. Its table of groups is made here and not above, since
-// that would cost time for each character.
+/// A control sequence. Its table of groups is made here and not above, since
+/// that would cost time for each character.
 #[inline(never)]
 fn control_sequence<CB: Callbacks>(
     screen: &mut Screen,
@@ -62,7 +62,7 @@ fn control_sequence<CB: Callbacks>(
     long_sequence(screen, callbacks, scanner, byte)
 }
 
-// A control sequence of any number of groups.
+/// A control sequence of any number of groups.
 #[inline(never)]
 fn long_sequence<CB: Callbacks>(
     screen: &mut Screen,
@@ -83,7 +83,7 @@ fn long_sequence<CB: Callbacks>(
     )
 }
 
-// An operating system command, with its table of parts.
+/// An operating system command, with its table of parts.
 #[inline(never)]
 fn command<CB: Callbacks>(screen: &mut Screen, callbacks: &mut CB, scanner: &Scanner)
     ensures { Performs CB.does (state callbacks.old screen.old) (event_of scanner.now Event.Osc) (state callbacks.new screen.new) }
@@ -111,7 +111,7 @@ pub fn print<CB: Callbacks>(
     Ok(())
 }
 
-// U+0080 to U+009F, and what stands for bytes that are no character.
+/// U+0080 to U+009F, and what stands for bytes that are no character.
 #[inline]
 #[tactic(auto, using(crate::proofs::Stepping::tested_steps))]
 fn is_reported(character: char) -> bool
@@ -120,7 +120,7 @@ fn is_reported(character: char) -> bool
     matches!(character, '\u{80}'..='\u{9f}' | '\u{fffd}')
 }
 
-// A control function of one byte.
+/// A control function of one byte.
 #[tactic(auto, using(crate::proofs::Stepping::tested_growth, crate::proofs::Deciding::control_feeds))]
 fn execute<CB: Callbacks>(screen: &mut Screen, callbacks: &mut CB, byte: u8) -> Result<(), Error>
     ensures done { IfOk result (λ _. Does CB.does callbacks.old screen.old (control_steps byte) callbacks.new screen.new) }
@@ -135,7 +135,7 @@ fn execute<CB: Callbacks>(screen: &mut Screen, callbacks: &mut CB, byte: u8) -> 
     Ok(())
 }
 
-// A control function of one byte that is no line feed.
+/// A control function of one byte that is no line feed.
 #[tactic(auto, using(crate::proofs::Stepping::tested_steps), unfolding(vt_screen::specs::Controls::control_steps))]
 fn execute_other<CB: Callbacks>(screen: &mut Screen, callbacks: &mut CB, byte: u8)
     requires { (nat_le 0x0A byte && nat_le byte 0x0C) ≡ false }
@@ -151,7 +151,7 @@ fn execute_other<CB: Callbacks>(screen: &mut Screen, callbacks: &mut CB, byte: u
     }
 }
 
-// An escape sequence.
+/// An escape sequence.
 #[tactic(auto, using(crate::proofs::Stepping::steps_told), unfolding(vt_screen::specs::Controls::escape_steps))]
 fn escape<CB: Callbacks>(screen: &mut Screen, callbacks: &mut CB, marks: &[u8], byte: u8)
     ensures { Does CB.does callbacks.old screen.old (escape_steps marks.now byte) callbacks.new screen.new }
@@ -165,7 +165,7 @@ fn escape<CB: Callbacks>(screen: &mut Screen, callbacks: &mut CB, marks: &[u8], 
     callbacks.unhandled_escape(screen, first, second, byte);
 }
 
-// An escape sequence without intermediates.
+/// An escape sequence without intermediates.
 #[tactic(auto, using(crate::proofs::Stepping::tested_steps), unfolding(vt_screen::specs::Controls::escape_steps))]
 fn plain_escape<CB: Callbacks>(screen: &mut Screen, callbacks: &mut CB, byte: u8)
     ensures { Does CB.does callbacks.old screen.old (escape_steps [] byte) callbacks.new screen.new }

@@ -28,7 +28,7 @@ pub fn perform<CB: Callbacks>(
     Ok(())
 }
 
-// One group: a mode if it is one number.
+/// One group: a mode if it is one number.
 #[tactic(auto, using(crate::proofs::Stepping::told, crate::proofs::Remaining::groups_met))]
 fn perform_group<CB: Callbacks>(
     screen: &mut Screen,
@@ -48,8 +48,8 @@ fn perform_group<CB: Callbacks>(
     set_mode(screen, callbacks, on, sequence, group[0])
 }
 
-// A mode of one number: one of the two that show the alternate page, or
-// another one.
+/// A mode of one number: one of the two that show the alternate page, or
+/// another one.
 #[tactic(auto, using(crate::proofs::Stepping::pages_exchanged), unfolding(vt_screen::specs::Controls::mode_step))]
 fn set_mode<CB: Callbacks>(
     screen: &mut Screen,
@@ -70,7 +70,7 @@ fn set_mode<CB: Callbacks>(
     Ok(())
 }
 
-// A mode of one number that shows no other page.
+/// A mode of one number that shows no other page.
 #[tactic(auto, using(crate::proofs::Stepping::tested_steps), unfolding(vt_screen::specs::Controls::mode_step))]
 fn set_other_mode<CB: Callbacks>(
     screen: &mut Screen,
@@ -98,7 +98,7 @@ fn set_other_mode<CB: Callbacks>(
     }
 }
 
-// The alternate page as it was left, or the main page.
+/// The alternate page as it was left, or the main page.
 fn show_alternate(screen: &mut Screen, on: bool) -> Result<(), Error>
     ensures ok { OnOk result (screen.new ≡ stepped (alternate_step on) screen.old) }
     ensures err { OnErr result (screen.new ≡ screen.old) }
@@ -112,8 +112,8 @@ fn show_alternate(screen: &mut Screen, on: bool) -> Result<(), Error>
     Ok(())
 }
 
-// All saved and a fresh alternate page, or the main page with what was saved
-// restored.
+/// All saved and a fresh alternate page, or the main page with what was saved
+/// restored.
 fn show_fresh_alternate(screen: &mut Screen, on: bool) -> Result<(), Error>
     ensures ok { OnOk result (screen.new ≡ stepped (fresh_alternate_step on) screen.old) }
     ensures err { OnErr result (screen.new ≡ screen.old) }

@@ -32,10 +32,10 @@ pub fn process<CB: Callbacks>(
     Ok(())
 }
 
-// Reads what comes first of these bytes: plain characters as one run, as far
-// as the cursor's row has room for them, or what leads into a control
-// sequence, or else one character or byte. Answers how many bytes that were,
-// unless memory is refused.
+/// Reads what comes first of these bytes: plain characters as one run, as far
+/// as the cursor's row has room for them, or what leads into a control
+/// sequence, or else one character or byte. Answers how many bytes that were,
+/// unless memory is refused.
 #[inline(always)]
 fn process_some<CB: Callbacks>(
     scanner: &mut Scanner,
@@ -60,9 +60,9 @@ fn process_some<CB: Callbacks>(
     process_one(scanner, screen, callbacks, bytes)
 }
 
-// Reads what comes first of these bytes: a character of more than one byte
-// that is all here, or else one byte. Answers how many bytes that were, unless
-// memory is refused.
+/// Reads what comes first of these bytes: a character of more than one byte
+/// that is all here, or else one byte. Answers how many bytes that were, unless
+/// memory is refused.
 #[inline(always)]
 fn process_one<CB: Callbacks>(
     scanner: &mut Scanner,
@@ -86,9 +86,9 @@ fn process_one<CB: Callbacks>(
     Ok(1)
 }
 
-// Prints what comes first of bytes that begin with a plain character: all
-// plain ones that the cursor's row has room for, or at its end one, which may
-// scroll. Answers how many were printed.
+/// Prints what comes first of bytes that begin with a plain character: all
+/// plain ones that the cursor's row has room for, or at its end one, which may
+/// scroll. Answers how many were printed.
 #[inline]
 fn print_some<CB: Callbacks>(
     scanner: &Scanner,
@@ -114,7 +114,7 @@ fn print_some<CB: Callbacks>(
     Ok(count)
 }
 
-// The events of one byte, up to a step whose memory is refused.
+/// The events of one byte, up to a step whose memory is refused.
 #[inline(always)]
 #[tactic(auto, using(vt_rows::proofs::Folds::folds_then, crate::proofs::Running::stops_later))]
 fn perform_each<CB: Callbacks>(
@@ -132,7 +132,7 @@ fn perform_each<CB: Callbacks>(
     Ok(())
 }
 
-// An event, if there is one, up to a step whose memory is refused.
+/// An event, if there is one, up to a step whose memory is refused.
 #[inline(always)]
 fn perform_some<CB: Callbacks>(
     screen: &mut Screen,

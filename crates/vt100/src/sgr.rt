@@ -23,7 +23,7 @@ pub fn perform<CB: Callbacks>(screen: &mut Screen, callbacks: &mut CB, sequence:
     }
 }
 
-// What one group gives.
+/// What one group gives.
 #[tactic(auto, using(crate::proofs::Stepping::told, crate::proofs::Stepping::stepping))]
 fn apply<CB: Callbacks>(
     screen: &mut Screen,

@@ -200,7 +200,7 @@ impl Scanner {
         Parts::of(&self.text)
     }
 
-    // Reads one byte, if it leads into a control sequence.
+    /// Reads one byte, if it leads into a control sequence.
     #[inline(always)]
     fn takes_lead(&mut self, byte: u8) -> bool
         ensures tells { result ≡ leads_in self.old.kind self.old.unfinished byte }
@@ -215,7 +215,7 @@ impl Scanner {
         }
     }
 
-    // Reads a byte of the parameter text.
+    /// Reads a byte of the parameter text.
     #[inline(always)]
     fn takes_parameter(&mut self, byte: u8) -> bool
         requires { (self.old.kind ≡ Kind.CsiEntry) ⊎ (self.old.kind ≡ Kind.CsiParam) }
@@ -231,7 +231,7 @@ impl Scanner {
         takes
     }
 
-    // Reads `[` after ESC.
+    /// Reads `[` after ESC.
     #[inline]
     fn takes_bracket(&mut self, byte: u8) -> bool
         requires { self.old.kind ≡ Kind.Escape }
@@ -246,7 +246,7 @@ impl Scanner {
         takes
     }
 
-    // Reads ESC in plain text, if no character is unfinished.
+    /// Reads ESC in plain text, if no character is unfinished.
     #[inline]
     fn takes_escape(&mut self, byte: u8) -> bool
         requires { self.old.kind ≡ Kind.Ground }
@@ -261,7 +261,7 @@ impl Scanner {
         true
     }
 
-    // Whether the next byte begins something.
+    /// Whether the next byte begins something.
     #[inline(always)]
     fn is_fresh(&self) -> bool
         ensures { IsTrue result ↔ ((self.now.kind ≡ Kind.Ground) × (self.now.unfinished ≡ [])) }
@@ -290,7 +290,7 @@ impl Scanner {
         }
     }
 
-    // A byte where no character is unfinished.
+    /// A byte where no character is unfinished.
     #[inline]
     fn feed_fresh(&mut self, byte: u8) -> Events
         requires kind { self.old.kind ≡ Kind.Ground }
@@ -335,7 +335,7 @@ impl Scanner {
         }
     }
 
-    // Collects a byte, in this kind from now on.
+    /// Collects a byte, in this kind from now on.
     fn collect(&mut self, kind: Kind, byte: u8) -> Result<(), Error>
         requires { Fits self.old.kind (Turn.Collect kind) }
         ensures kind { OnOk result (self.new.kind ≡ kind) }
@@ -360,7 +360,7 @@ impl Scanner {
         Ok(())
     }
 
-    // Begins with nothing collected, in this kind. What it doesn't use stays.
+    /// Begins with nothing collected, in this kind. What it doesn't use stays.
     fn begin(&mut self, kind: Kind)
         ensures { Begins self.old self.new kind }
     {
@@ -377,7 +377,7 @@ impl Scanner {
     }
 }
 
-// Whether the byte is a printable one of ASCII.
+/// Whether the byte is a printable one of ASCII.
 #[inline(always)]
 fn is_printable(byte: u8) -> bool
     ensures { IsTrue result ↔ ((0x20 ≤ byte) × (byte < 0x7F)) }
@@ -385,7 +385,7 @@ fn is_printable(byte: u8) -> bool
     byte >= 0x20 && byte < 0x7F
 }
 
-// How many of these bytes, from the first on, are printable ones of ASCII.
+/// How many of these bytes, from the first on, are printable ones of ASCII.
 #[inline]
 fn printable_len(bytes: &[u8]) -> usize
     ensures inside { result ≤ length bytes.now }
@@ -399,7 +399,7 @@ fn printable_len(bytes: &[u8]) -> usize
     len
 }
 
-// Whether the byte is one of the parameter text.
+/// Whether the byte is one of the parameter text.
 #[inline]
 fn is_parameter_byte(byte: u8) -> bool
     ensures { result ≡ is_parameter byte }
@@ -407,7 +407,7 @@ fn is_parameter_byte(byte: u8) -> bool
     byte >= 0x30 && byte <= 0x3B
 }
 
-// The events of an ending.
+/// The events of an ending.
 #[inline]
 fn answer(ending: Ending, byte: u8) -> Events
     ensures { result ≡ answer_of ending byte }

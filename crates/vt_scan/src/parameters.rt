@@ -144,7 +144,7 @@ impl Parameters {
     }
 }
 
-// A number with one more digit, at most 65535.
+/// A number with one more digit, at most 65535.
 #[inline]
 fn with_digit(number: u16, digit: u8) -> u16
     ensures { result ≡ min 65535 (10 * number + digit) }

@@ -179,7 +179,7 @@ fn extend_three(first: u8, second: u8, third: u8, byte: u8) -> (Bytes, Extended)
     )
 }
 
-// Whether this can be the second byte after the first.
+/// Whether this can be the second byte after the first.
 fn may_be_second(first: u8, byte: u8) -> bool
     ensures { result ≡ is_second first byte }
 {
@@ -192,7 +192,7 @@ fn may_be_second(first: u8, byte: u8) -> bool
     }
 }
 
-// Whether this can be a third or fourth byte.
+/// Whether this can be a third or fourth byte.
 fn may_continue(byte: u8) -> bool
     ensures { result ≡ continues byte }
 {
