@@ -22,17 +22,22 @@ plain_screen rows cols capacity some =
     let tall = height_is rows cols capacity in
     record { page = record { whole = (refl, omega (arith, tall, some)); origin = refl }; offset = refl }
 
-page_of : (rows cols capacity : ℕ) (screen : ScreenValue) → IsScreen screen → screen ≡ fresh_screen rows cols capacity → IsPage (fresh_screen rows cols capacity).page
+page_of : (rows cols capacity : ℕ) (screen : ScreenValue) → IsScreen screen →
+    screen ≡ fresh_screen rows cols capacity → IsPage (fresh_screen rows cols capacity).page
 page_of rows cols capacity screen is shown = (subst (λ (s : ScreenValue). IsScreen s) shown is).page
 
-some_rows : (rows cols capacity : ℕ) (screen : ScreenValue) → IsScreen screen → screen ≡ fresh_screen rows cols capacity → 0 < rows
+some_rows : (rows cols capacity : ℕ) (screen : ScreenValue) →
+    IsScreen screen → screen ≡ fresh_screen rows cols capacity → 0 < rows
 some_rows rows cols capacity screen is shown =
     subst (λ (n : ℕ). 0 < n) (height_is rows cols capacity) (page_of rows cols capacity screen is shown).cursor_row
 
-screen_of : {S : Type 0} (rows cols capacity : ℕ) (p : Parsing S) → p ≡ parsing p.scanner (fresh_screen rows cols capacity) p.callbacks → p.screen ≡ fresh_screen rows cols capacity
+screen_of : {S : Type 0} (rows cols capacity : ℕ) (p : Parsing S) →
+    p ≡ parsing p.scanner (fresh_screen rows cols capacity) p.callbacks → p.screen ≡ fresh_screen rows cols capacity
 screen_of {S} rows cols capacity p begun = ap (λ (r : Parsing S). r.screen) begun
 
-pub fresh_parser : {S : Type 0} (rows cols capacity : ℕ) (p : Parsing S) → IsScreen p.screen → StandsFor p.scanner start → p ≡ parsing p.scanner (fresh_screen rows cols capacity) p.callbacks → IsFreshParser rows cols capacity p
+pub fresh_parser : {S : Type 0} (rows cols capacity : ℕ) (p : Parsing S) →
+    IsScreen p.screen → StandsFor p.scanner start →
+    p ≡ parsing p.scanner (fresh_screen rows cols capacity) p.callbacks → IsFreshParser rows cols capacity p
 fresh_parser rows cols capacity p is stands begun =
     let shown = screen_of rows cols capacity p begun in
     let page = page_of rows cols capacity p.screen is shown in
@@ -45,32 +50,44 @@ fresh_parser rows cols capacity p is stands begun =
       shown = shown;
     }
 
-pub plain_parser : {S : Type 0} (rows cols capacity : ℕ) (p : Parsing S) → IsScreen p.screen → StandsFor p.scanner start → p ≡ parsing p.scanner (fresh_screen rows cols capacity) p.callbacks → IsPlainParser p
+pub plain_parser : {S : Type 0} (rows cols capacity : ℕ) (p : Parsing S) → IsScreen p.screen →
+    StandsFor p.scanner start → p ≡ parsing p.scanner (fresh_screen rows cols capacity) p.callbacks → IsPlainParser p
 plain_parser {S} rows cols capacity p is stands begun =
     let shown = screen_of rows cols capacity p begun in
     record {
       is_failed = ap (λ (r : Parsing S). r.is_failed) begun;
       scanner = stands;
-      screen = subst IsPlain (sym shown) (plain_screen rows cols capacity (some_rows rows cols capacity p.screen is shown));
+      screen =
+          subst IsPlain (sym shown) (plain_screen rows cols capacity (some_rows rows cols capacity p.screen is shown));
     }
 
-pub fresh_rows : {S : Type 0} (rows cols capacity : ℕ) (p : Parsing S) → IsFreshParser rows cols capacity p → length p.screen.page.rows ≡ rows
-fresh_rows rows cols capacity p fresh = ap (λ (s : ScreenValue). length s.page.rows) fresh.shown ∙ height_is rows cols capacity
+pub fresh_rows : {S : Type 0} (rows cols capacity : ℕ) (p : Parsing S) →
+    IsFreshParser rows cols capacity p → length p.screen.page.rows ≡ rows
+fresh_rows rows cols capacity p fresh =
+    ap (λ (s : ScreenValue). length s.page.rows) fresh.shown ∙ height_is rows cols capacity
 
-pub fresh_cols : {S : Type 0} (rows cols capacity : ℕ) (p : Parsing S) → IsFreshParser rows cols capacity p → p.screen.page.width ≡ cols
+pub fresh_cols : {S : Type 0} (rows cols capacity : ℕ) (p : Parsing S) →
+    IsFreshParser rows cols capacity p → p.screen.page.width ≡ cols
 fresh_cols rows cols capacity p fresh = ap (λ (s : ScreenValue). s.page.width) fresh.shown
 
 -- ---- another size
 
-pub resized_parser : {S : Type 0} (rows cols : ℕ) (p q : Parsing S) → 0 < rows → q ≡ record p { screen = resized rows cols p.screen; callbacks = q.callbacks } → IsPlainParser p → IsPlainParser q
+pub resized_parser : {S : Type 0} (rows cols : ℕ) (p q : Parsing S) → 0 < rows →
+    q ≡ record p { screen = resized rows cols p.screen; callbacks = q.callbacks } → IsPlainParser p → IsPlainParser q
 resized_parser {S} rows cols p q some became plain = record {
   is_failed = ap (λ (r : Parsing S). r.is_failed) became ∙ plain.is_failed;
   scanner = subst (λ (r : Parsing S). StandsFor r.scanner start) (sym became) plain.scanner;
-  screen = subst IsPlain (sym (ap (λ (r : Parsing S). r.screen) became)) (resized_plain rows cols p.screen some plain.screen);
+  screen =
+      subst IsPlain (sym (ap (λ (r : Parsing S). r.screen) became))
+      (resized_plain rows cols p.screen some plain.screen);
 }
 
-pub resized_rows : {S : Type 0} (rows cols : ℕ) (p q : Parsing S) → q ≡ record p { screen = resized rows cols p.screen; callbacks = q.callbacks } → length q.screen.page.rows ≡ rows
-resized_rows {S} rows cols p q became = ap (λ (r : Parsing S). length r.screen.page.rows) became ∙ (resized_size rows cols p.screen).1
+pub resized_rows : {S : Type 0} (rows cols : ℕ) (p q : Parsing S) →
+    q ≡ record p { screen = resized rows cols p.screen; callbacks = q.callbacks } → length q.screen.page.rows ≡ rows
+resized_rows {S} rows cols p q became =
+    ap (λ (r : Parsing S). length r.screen.page.rows) became ∙ (resized_size rows cols p.screen).1
 
-pub resized_cols : {S : Type 0} (rows cols : ℕ) (p q : Parsing S) → q ≡ record p { screen = resized rows cols p.screen; callbacks = q.callbacks } → q.screen.page.width ≡ cols
-resized_cols {S} rows cols p q became = ap (λ (r : Parsing S). r.screen.page.width) became ∙ (resized_size rows cols p.screen).0
+pub resized_cols : {S : Type 0} (rows cols : ℕ) (p q : Parsing S) →
+    q ≡ record p { screen = resized rows cols p.screen; callbacks = q.callbacks } → q.screen.page.width ≡ cols
+resized_cols {S} rows cols p q became =
+    ap (λ (r : Parsing S). r.screen.page.width) became ∙ (resized_size rows cols p.screen).0

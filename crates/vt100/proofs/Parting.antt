@@ -15,7 +15,8 @@ use Rattle.vt100.specs.Parser.{Parsing, Ran, pieces_joined, parsing, stage}
 use Rattle.vt100.proofs.Running.{folds_parted}
 
 -- a parser between two pieces, that has not failed
-pub record Between {S : Type 0} (does : CallValue → S → ScreenValue → S → ScreenValue → Type 0) (p : Parsing S) (a b : List ℕ) (r : Parsing S) (there : State) : Type 0 where
+pub record Between {S : Type 0} (does : CallValue → S → ScreenValue → S → ScreenValue → Type 0)
+    (p : Parsing S) (a b : List ℕ) (r : Parsing S) (there : State) : Type 0 where
   pub middle : Parsing S
   pub stands : StandsFor middle.scanner there
   pub whole : middle.is_failed ≡ false
@@ -23,10 +24,13 @@ pub record Between {S : Type 0} (does : CallValue → S → ScreenValue → S �
   pub then : Ran does middle b r
 
 -- its scanner holds what the state after the first piece reads; what holds of a run from one state holds from each
-pub ran_parted : {S : Type 0} (does : CallValue → S → ScreenValue → S → ScreenValue → Type 0) (p r : Parsing S) (a b : List ℕ) (s : State) → StandsFor p.scanner s → Ran does p (a ++ b) r → Between does p a b r (run s a).state
+pub ran_parted : {S : Type 0} (does : CallValue → S → ScreenValue → S → ScreenValue → Type 0)
+    (p r : Parsing S) (a b : List ℕ) (s : State) →
+    StandsFor p.scanner s → Ran does p (a ++ b) r → Between does p a b r (run s a).state
 ran_parted {S} does p r a b s stands ran =
     let there = (run s a).state in
-    let Ends : Step → Type 0 = λ step. StandsFor r.scanner step.state × FoldsTo (Performs does) (stage p) step.events (stage r) in
+    let Ends : Step → Type 0 =
+    λ step. StandsFor r.scanner step.state × FoldsTo (Performs does) (stage p) step.events (stage r) in
     let ends = subst Ends (run-append s a b) (ran s stands) in
     let parts = folds_parted (Performs does) (run s a).events (run there b).events (stage p) (stage r) ends.1 in
     record {
@@ -34,29 +38,45 @@ ran_parted {S} does p r a b s stands ran =
       stands = itself there;
       whole = refl;
       first = λ t also.
-          let same = runs_alike s t a (both_stand p.scanner s t stands also) in
-          (same.alike, subst (λ (events : List Event). FoldsTo (Performs does) (stage p) events parts.0) same.events parts.1);
+          let same = runs_alike s t a (both_stand p.scanner s t stands also) in (
+            same.alike,
+            subst (λ (events : List Event). FoldsTo (Performs does) (stage p) events parts.0) same.events parts.1,
+          );
       then = λ t alike.
-          let same = runs_alike there t b alike in
-          (other_stands r.scanner (run there b).state (run t b).state same.alike ends.0, subst (λ (events : List Event). FoldsTo (Performs does) parts.0 events (stage r)) same.events parts.2);
+          let same = runs_alike there t b alike in (
+            other_stands r.scanner (run there b).state (run t b).state same.alike ends.0,
+            subst (λ (events : List Event). FoldsTo (Performs does) parts.0 events (stage r)) same.events parts.2,
+          );
     }
 
-pub ran_parted_list : {S : Type 0} (does : CallValue → S → ScreenValue → S → ScreenValue → Type 0) (p r : Parsing S) (piece : List ℕ) (pieces : List (List ℕ)) (s : State) → StandsFor p.scanner s → Ran does p (pieces_joined (piece ∷ pieces)) r → FoldsTo (Ran does) p (piece ∷ pieces) r
-ran_parted_list does p r piece [] s stands ran = (r, subst (λ (bytes : List ℕ). Ran does p bytes r) (append-nil piece) ran, refl)
+pub ran_parted_list : {S : Type 0} (does : CallValue → S → ScreenValue → S → ScreenValue → Type 0)
+    (p r : Parsing S) (piece : List ℕ) (pieces : List (List ℕ)) (s : State) →
+    StandsFor p.scanner s → Ran does p (pieces_joined (piece ∷ pieces)) r → FoldsTo (Ran does) p (piece ∷ pieces) r
+ran_parted_list does p r piece [] s stands ran =
+    (r, subst (λ (bytes : List ℕ). Ran does p bytes r) (append-nil piece) ran, refl)
 ran_parted_list does p r piece (next ∷ pieces) s stands ran =
-    let parted = ran_parted does p r piece (pieces_joined (next ∷ pieces)) s stands ran in
-    (parted.middle, parted.first, ran_parted_list does parted.middle r next pieces (run s piece).state parted.stands parted.then)
+    let parted = ran_parted does p r piece (pieces_joined (next ∷ pieces)) s stands ran in (
+      parted.middle,
+      parted.first,
+      ran_parted_list does parted.middle r next pieces (run s piece).state parted.stands parted.then,
+    )
 
 -- from any state that the scanner stands for
 
-pub some_parted : {S : Type 0} (does : CallValue → S → ScreenValue → S → ScreenValue → Type 0) (p r : Parsing S) (a b : List ℕ) → ∥ ((state : State) × StandsFor p.scanner state) ∥₁ → Ran does p (a ++ b) r
+pub some_parted : {S : Type 0} (does : CallValue → S → ScreenValue → S → ScreenValue → Type 0)
+    (p r : Parsing S) (a b : List ℕ)
+    → ∥ ((state : State) × StandsFor p.scanner state) ∥₁ → Ran does p (a ++ b) r
     → ∥ ((q : Parsing S) × (q.is_failed ≡ false) × Ran does p a q × Ran does q b r) ∥₁
 some_parted {S} does p r a b some ran =
-    ∥∥₁_map {B = (q : Parsing S) × (q.is_failed ≡ false) × Ran does p a q × Ran does q b r} some (λ (s : (state : State) × StandsFor p.scanner state).
+    ∥∥₁_map {B = (q : Parsing S) × (q.is_failed ≡ false) × Ran does p a q × Ran does q b r}
+    some (λ (s : (state : State) × StandsFor p.scanner state).
     let parted = ran_parted does p r a b s.0 s.1 ran in
     (parted.middle, parted.whole, parted.first, parted.then))
 
-pub some_parted_list : {S : Type 0} (does : CallValue → S → ScreenValue → S → ScreenValue → Type 0) (p r : Parsing S) (piece : List ℕ) (pieces : List (List ℕ)) → ∥ ((state : State) × StandsFor p.scanner state) ∥₁ → Ran does p (pieces_joined (piece ∷ pieces)) r
+pub some_parted_list : {S : Type 0} (does : CallValue → S → ScreenValue → S → ScreenValue → Type 0)
+    (p r : Parsing S) (piece : List ℕ) (pieces : List (List ℕ))
+    → ∥ ((state : State) × StandsFor p.scanner state) ∥₁ → Ran does p (pieces_joined (piece ∷ pieces)) r
     → ∥ FoldsTo (Ran does) p (piece ∷ pieces) r ∥₁
 some_parted_list does p r piece pieces some ran =
-    ∥∥₁_map {B = FoldsTo (Ran does) p (piece ∷ pieces) r} some (λ (s : (state : State) × StandsFor p.scanner state). ran_parted_list does p r piece pieces s.0 s.1 ran)
+    ∥∥₁_map {B = FoldsTo (Ran does) p (piece ∷ pieces) r} some
+    (λ (s : (state : State) × StandsFor p.scanner state). ran_parted_list does p r piece pieces s.0 s.1 ran)

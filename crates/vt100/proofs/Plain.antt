@@ -1,5 +1,6 @@
 -- A run of plain characters that the cursor's row has room for is read as the run of their events.
-use Rattle.std.proofs.Common.{◌≡◌, ℕ, ◌+◌, ◌<◌, ◌≤◌, ◌==◌, ◌&&◌, ◌||◌, nat_le, false, List, [], ◌∷◌, length, refl, sym, ap, subst, arith}
+use Rattle.std.proofs.Common.{◌≡◌, ℕ, ◌+◌, ◌<◌, ◌≤◌, ◌==◌, ◌&&◌, ◌||◌, nat_le, false}
+use Rattle.std.proofs.Common.{List, [], ◌∷◌, length, refl, sym, ap, subst, arith}
 use Rattle.std.specs.Prelude.{All}
 use Rattle.std.specs.List.{FoldsTo}
 use Rattle.std.proofs.lemmas.Bool.Decides.{nat_tests}
@@ -21,25 +22,35 @@ use Rattle.vt100.specs.Parser.{Ran, parsing, stage}
 use Rattle.vt100.proofs.Deciding.{printed_steps}
 use Rattle.vt100.proofs.Running.{byte_ran, one_character, ran_then}
 
-print_done : {S : Type 0} (does : CallValue → S → ScreenValue → S → ScreenValue → Type 0) (c : ℕ) (s : S) (screen : ScreenValue) → 0x20 ≤ c → c < 0x7F → screen.page.column < screen.page.width →
+print_done : {S : Type 0} (does : CallValue → S → ScreenValue → S → ScreenValue → Type 0)
+    (c : ℕ) (s : S) (screen : ScreenValue) →
+    0x20 ≤ c → c < 0x7F → screen.page.column < screen.page.width →
     FoldsTo (Takes does) (state s screen) (character_steps c) (state s (stepped (Print c) screen))
 print_done does c s screen low high room =
     let shown : ((c == 0xFFFD) || (nat_le 0x80 c && nat_le c 0x9F)) ≡ false = grind (arith, nat_tests) in
-    subst (λ (steps : List Step). FoldsTo (Takes does) (state s screen) steps (state s (stepped (Print c) screen))) (sym (printed_steps c shown))
+    subst (λ (steps : List Step). FoldsTo (Takes does) (state s screen) steps (state s (stepped (Print c) screen)))
+    (sym (printed_steps c shown))
     (state s (stepped (Print c) screen), print_scrolls does c s screen low high room, refl)
 
-character_ran : {S : Type 0} (does : CallValue → S → ScreenValue → S → ScreenValue → Type 0) (c : ℕ) (held : Held) (s : S) (screen : ScreenValue) → ReadsItself held c → screen.page.column < screen.page.width →
+character_ran : {S : Type 0} (does : CallValue → S → ScreenValue → S → ScreenValue → Type 0)
+    (c : ℕ) (held : Held) (s : S) (screen : ScreenValue) →
+    ReadsItself held c → screen.page.column < screen.page.width →
     Ran does (parsing held screen s) (c ∷ []) (parsing held (stepped (Print c) screen) s)
 character_ran does c held s screen itself room =
     let now = parsing held (stepped (Print c) screen) s in
-    byte_ran does (parsing held screen s) now c (one_character c) (plain_feeds held c itself.0 itself.1 itself.2 (omega (arith, itself.3)))
+    byte_ran does (parsing held screen s) now c (one_character c)
+    (plain_feeds held c itself.0 itself.1 itself.2 (omega (arith, itself.3)))
     (stage now, print_done does c s screen itself.2 itself.3 room, refl)
 
 -- a plain character moves the cursor on by one column
-column_printed : (c : ℕ) (screen : ScreenValue) → 0x20 ≤ c → c < 0x7F → screen.page.column < screen.page.width → (stepped (Print c) screen).page.column ≡ screen.page.column + 1
-column_printed c screen low high room = ap (λ (page : Page). page.column) (printed_put c screen.attrs screen.page low high room)
+column_printed : (c : ℕ) (screen : ScreenValue) → 0x20 ≤ c → c < 0x7F →
+    screen.page.column < screen.page.width → (stepped (Print c) screen).page.column ≡ screen.page.column + 1
+column_printed c screen low high room =
+    ap (λ (page : Page). page.column) (printed_put c screen.attrs screen.page low high room)
 
-pub text_ran : {S : Type 0} (does : CallValue → S → ScreenValue → S → ScreenValue → Type 0) (text : List ℕ) (held : Held) (s : S) (screen : ScreenValue) → All (ReadsItself held) text → screen.page.column + length text ≤ screen.page.width →
+pub text_ran : {S : Type 0} (does : CallValue → S → ScreenValue → S → ScreenValue → Type 0)
+    (text : List ℕ) (held : Held) (s : S) (screen : ScreenValue) →
+    All (ReadsItself held) text → screen.page.column + length text ≤ screen.page.width →
     Ran does (parsing held screen s) text (parsing held (text_stepped text screen) s)
 text_ran does [] held s screen plain room = λ st stands. (stands, refl)
 text_ran does (c ∷ text) held s screen plain room =
@@ -50,7 +61,8 @@ text_ran does (c ∷ text) held s screen plain room =
     let same = same_printed c screen.attrs screen.page in
     let left : next.page.column + length text ≤ next.page.width = omega (arith, moved, same.width, room) in
     ran_then does (parsing held screen s) (parsing held next s) (parsing held (text_stepped text next) s) (c ∷ []) text
-    (character_ran does c held s screen first here) (text_ran does text held s next (All-tail (ReadsItself held) c text plain) left)
+    (character_ran does c held s screen first here)
+    (text_ran does text held s next (All-tail (ReadsItself held) c text plain) left)
 
 -- what the scanner reads as itself is printable
 pub printable_of : (held : Held) (text : List ℕ) → All (ReadsItself held) text → IsPrintableText text

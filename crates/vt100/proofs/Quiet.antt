@@ -1,6 +1,7 @@
 -- What is read quietly happens in every run.
 use Rattle.std.specs.Prelude.{if◌then◌else◌, is_some}
-use Rattle.std.proofs.Common.{◌≡◌, ◌==◌, ◌⊎◌, ℕ, zero, suc, ◌+◌, ◌<◌, min, inl, inr, Bool, true, false, List, [], ◌∷◌, ◌++◌, length, take, Option, Some, None, cond, refl, sym, subst, ap, ◌∙◌, arith}
+use Rattle.std.proofs.Common.{◌≡◌, ◌==◌, ◌⊎◌, ℕ, zero, suc, ◌+◌, ◌<◌, min, inl, inr, Bool, true, false, List, [], ◌∷◌}
+use Rattle.std.proofs.Common.{◌++◌, length, take, Option, Some, None, cond, refl, sym, subst, ap, ◌∙◌, arith}
 use Rattle.std.specs.List.{FoldsTo}
 use Rattle.std.proofs.lemmas.Bool.{false≢true}
 use Rattle.vt_grid.specs.Printing.{pushes}
@@ -19,7 +20,14 @@ use Rattle.vt_screen.specs.Screen.{ScreenValue, above_page}
 use Rattle.vt_screen.specs.Run as act
 use Rattle.vt_screen.specs.Run.{Performs, Breaks, Hears, Refuses, StopsIn, Takes, state}
 use Rattle.vt_screen.specs.Controls.{seen_of, steps_of}
-use Rattle.vt_screen.specs.Steps.{Step, Print, CarriageReturn, LineFeed, ReverseIndex, MoveUp, MoveDown, MoveLeft, NextLine, PreviousLine, Tab, MoveToColumn, MoveToRow, SetRegion, UseOrigin, EraseAbove, ErasePage, EraseScrollback, EraseStart, EraseRow, InsertChars, DeleteChars, InsertLines, DeleteLines, ScrollDown, ScrollUp, MoveRight, MoveTo, EraseBelow, EraseRest, EraseChars, Render, HideCursor, UseApplicationCursor, UseBracketedPaste, SetMouseMode, ClearMouseMode, SetMouseEncoding, ClearMouseEncoding, SetCursorStyle, SaveCursor, RestoreCursor, EnterAlternate, EnterFresh, LeaveAlternate, LeaveRestoring, Reset, UseApplicationKeypad, Tell, Grows, outgoing, stepped}
+use Rattle.vt_screen.specs.Steps.{Step, Print, CarriageReturn, LineFeed, ReverseIndex, MoveUp, MoveDown, MoveLeft}
+use Rattle.vt_screen.specs.Steps.{NextLine, PreviousLine, Tab, MoveToColumn, MoveToRow, SetRegion, UseOrigin}
+use Rattle.vt_screen.specs.Steps.{EraseAbove, ErasePage, EraseScrollback, EraseStart, EraseRow, InsertChars}
+use Rattle.vt_screen.specs.Steps.{DeleteChars, InsertLines, DeleteLines, ScrollDown, ScrollUp, MoveRight, MoveTo}
+use Rattle.vt_screen.specs.Steps.{EraseBelow, EraseRest, EraseChars, Render, HideCursor, UseApplicationCursor}
+use Rattle.vt_screen.specs.Steps.{UseBracketedPaste, SetMouseMode, ClearMouseMode, SetMouseEncoding, ClearMouseEncoding}
+use Rattle.vt_screen.specs.Steps.{SetCursorStyle, SaveCursor, RestoreCursor, EnterAlternate, EnterFresh, LeaveAlternate}
+use Rattle.vt_screen.specs.Steps.{LeaveRestoring, Reset, UseApplicationKeypad, Tell, Grows, outgoing, stepped}
 use Rattle.vt_screen.specs.Reading.{Terminal, terminal, grows, quiet_step, quiet_steps, quiet_events, read, read_byte}
 use Rattle.vt_screen.proofs.Readback.{and_then-some}
 use Rattle.vt100.specs.Parser.{IsHarmless, Parsing, Ran, Stopped, Collects, stage}
@@ -42,7 +50,8 @@ calm_of : {A : Type 0} (b : Bool) (o : Option A) (y : A) → cond b None o ≡ S
 calm_of true o y e = absurd (subst IsNone e tt)
 calm_of false o y e = (refl, e)
 
-there_of : {A B : Type 0} (p : Option B) (o : Option A) (y : A) → (if is_some p then o else None) ≡ Some y → (is_some p ≡ true) × (o ≡ Some y)
+there_of : {A B : Type 0} (p : Option B) (o : Option A) (y : A) →
+    (if is_some p then o else None) ≡ Some y → (is_some p ≡ true) × (o ≡ Some y)
 there_of None o y e = absurd (subst IsNone e tt)
 there_of (Some x) o y e = (refl, e)
 
@@ -51,83 +60,150 @@ same_screen true x y z p q = p
 same_screen false x y z p q = q
 
 -- no row left: the screen is as the step alone makes it, and nobody was told
-unsent : {S : Type 0} (does : CallValue → S → ScreenValue → S → ScreenValue → Type 0) (held : S) (screen after : ScreenValue) (gone : List RowValue) (b : act.State S) → gone ≡ [] → after.scrollback ≡ screen.scrollback
-    → b.screen ≡ (if screen.is_alternate then after else record after { scrollback = pushed (length screen.page.rows) screen.page.width gone screen.scrollback })
-    → FoldsTo (Hears does screen.is_alternate) held (reported gone (above_page screen)) b.callbacks → b ≡ state held after
+unsent : {S : Type 0} (does : CallValue → S → ScreenValue → S → ScreenValue → Type 0)
+    (held : S) (screen after : ScreenValue) (gone : List RowValue) (b : act.State S)
+    → gone ≡ [] → after.scrollback ≡ screen.scrollback
+    → b.screen
+    ≡ (if screen.is_alternate then after
+    else record after { scrollback = pushed (length screen.page.rows) screen.page.width gone screen.scrollback })
+    → FoldsTo (Hears does screen.is_alternate) held (reported gone (above_page screen)) b.callbacks
+    → b ≡ state held after
 unsent {S} does held screen after gone b none kept is heard =
     let shown : b.screen ≡ after = is ∙ same_screen screen.is_alternate after after _ refl
-    (ap (λ (rows : List RowValue). record after { scrollback = pushed (length screen.page.rows) screen.page.width rows screen.scrollback }) none
+    (ap (λ (rows : List RowValue). record after
+    { scrollback = pushed (length screen.page.rows) screen.page.width rows screen.scrollback })
+    none
     ∙ ap (λ (above : Scrollback). record after { scrollback = above }) (sym kept)) in
-    let told : held ≡ b.callbacks = subst (λ (rows : List RowValue). FoldsTo (Hears does screen.is_alternate) held (reported rows (above_page screen)) b.callbacks) none heard in
+    let told : held ≡ b.callbacks =
+    subst (λ (rows : List RowValue). FoldsTo (Hears does screen.is_alternate)
+    held (reported rows (above_page screen)) b.callbacks)
+    none heard in
     ap (λ (s : S). act.state s b.screen) (sym told) ∙ ap (act.state held) shown
 
-quiet_takes : {S : Type 0} (does : CallValue → S → ScreenValue → S → ScreenValue → Type 0) (x : Step) (held : S) (screen after : ScreenValue) (b : act.State S) → quiet_step x screen ≡ Some after → Takes does (state held screen) x b → b ≡ state held after
+quiet_takes : {S : Type 0} (does : CallValue → S → ScreenValue → S → ScreenValue → Type 0)
+    (x : Step) (held : S) (screen after : ScreenValue) (b : act.State S) →
+    quiet_step x screen ≡ Some after → Takes does (state held screen) x b → b ≡ state held after
 quiet_takes does (Print c) held screen after b e t =
     let calm = calm_of (pushes c screen.page) (Some (stepped (Print c) screen)) after e in
-    let none : outgoing (Print c) screen ≡ [] = ap (λ (pushed : Bool). if pushed then take 1 (left_by (columns_of c) screen.attrs screen.page).rows else []) calm.0 in
-    unsent does held screen (stepped (Print c) screen) (outgoing (Print c) screen) b none refl t.screen t.heard ∙ ap (state held) (same_some (stepped (Print c) screen) after calm.1)
+    let none : outgoing (Print c) screen ≡ [] =
+    ap (λ (pushed : Bool). if pushed then take 1 (left_by (columns_of c) screen.attrs screen.page).rows else [])
+    calm.0 in
+    unsent does held screen (stepped (Print c) screen) (outgoing (Print c) screen) b none refl t.screen t.heard
+    ∙ ap (state held) (same_some (stepped (Print c) screen) after calm.1)
 quiet_takes does LineFeed held screen after b e t =
     let calm = calm_of (feeds_out screen.page) (Some (stepped LineFeed screen)) after e in
-    let none : outgoing LineFeed screen ≡ [] = ap (λ (fed : Bool). if fed then take 1 screen.page.rows else []) calm.0 in
-    unsent does held screen (stepped LineFeed screen) (outgoing LineFeed screen) b none refl t.screen t.heard ∙ ap (state held) (same_some (stepped LineFeed screen) after calm.1)
+    let none : outgoing LineFeed screen ≡ [] =
+    ap (λ (fed : Bool). if fed then take 1 screen.page.rows else []) calm.0 in
+    unsent does held screen (stepped LineFeed screen) (outgoing LineFeed screen) b none refl t.screen t.heard
+    ∙ ap (state held) (same_some (stepped LineFeed screen) after calm.1)
 quiet_takes does (Tell call) held screen after b e t = absurd (subst IsNone e tt)
-quiet_takes does CarriageReturn held screen after b e t = t ∙ ap (state held) (same_some (stepped CarriageReturn screen) after e)
-quiet_takes does ReverseIndex held screen after b e t = t ∙ ap (state held) (same_some (stepped ReverseIndex screen) after e)
-quiet_takes does (MoveUp count) held screen after b e t = t ∙ ap (state held) (same_some (stepped (MoveUp count) screen) after e)
-quiet_takes does (MoveDown count) held screen after b e t = t ∙ ap (state held) (same_some (stepped (MoveDown count) screen) after e)
-quiet_takes does (MoveLeft count) held screen after b e t = t ∙ ap (state held) (same_some (stepped (MoveLeft count) screen) after e)
-quiet_takes does (NextLine count) held screen after b e t = t ∙ ap (state held) (same_some (stepped (NextLine count) screen) after e)
-quiet_takes does (PreviousLine count) held screen after b e t = t ∙ ap (state held) (same_some (stepped (PreviousLine count) screen) after e)
+quiet_takes does CarriageReturn held screen after b e t =
+    t ∙ ap (state held) (same_some (stepped CarriageReturn screen) after e)
+quiet_takes does ReverseIndex held screen after b e t =
+    t ∙ ap (state held) (same_some (stepped ReverseIndex screen) after e)
+quiet_takes does (MoveUp count) held screen after b e t =
+    t ∙ ap (state held) (same_some (stepped (MoveUp count) screen) after e)
+quiet_takes does (MoveDown count) held screen after b e t =
+    t ∙ ap (state held) (same_some (stepped (MoveDown count) screen) after e)
+quiet_takes does (MoveLeft count) held screen after b e t =
+    t ∙ ap (state held) (same_some (stepped (MoveLeft count) screen) after e)
+quiet_takes does (NextLine count) held screen after b e t =
+    t ∙ ap (state held) (same_some (stepped (NextLine count) screen) after e)
+quiet_takes does (PreviousLine count) held screen after b e t =
+    t ∙ ap (state held) (same_some (stepped (PreviousLine count) screen) after e)
 quiet_takes does Tab held screen after b e t = t ∙ ap (state held) (same_some (stepped Tab screen) after e)
-quiet_takes does (MoveToColumn col) held screen after b e t = t ∙ ap (state held) (same_some (stepped (MoveToColumn col) screen) after e)
-quiet_takes does (MoveToRow row) held screen after b e t = t ∙ ap (state held) (same_some (stepped (MoveToRow row) screen) after e)
-quiet_takes does (SetRegion top bottom) held screen after b e t = t ∙ ap (state held) (same_some (stepped (SetRegion top bottom) screen) after e)
-quiet_takes does (UseOrigin on) held screen after b e t = t ∙ ap (state held) (same_some (stepped (UseOrigin on) screen) after e)
-quiet_takes does EraseAbove held screen after b e t = t ∙ ap (state held) (same_some (stepped EraseAbove screen) after e)
+quiet_takes does (MoveToColumn col) held screen after b e t =
+    t ∙ ap (state held) (same_some (stepped (MoveToColumn col) screen) after e)
+quiet_takes does (MoveToRow row) held screen after b e t =
+    t ∙ ap (state held) (same_some (stepped (MoveToRow row) screen) after e)
+quiet_takes does (SetRegion top bottom) held screen after b e t =
+    t ∙ ap (state held) (same_some (stepped (SetRegion top bottom) screen) after e)
+quiet_takes does (UseOrigin on) held screen after b e t =
+    t ∙ ap (state held) (same_some (stepped (UseOrigin on) screen) after e)
+quiet_takes does EraseAbove held screen after b e t =
+    t ∙ ap (state held) (same_some (stepped EraseAbove screen) after e)
 quiet_takes does ErasePage held screen after b e t = t ∙ ap (state held) (same_some (stepped ErasePage screen) after e)
-quiet_takes does EraseStart held screen after b e t = t ∙ ap (state held) (same_some (stepped EraseStart screen) after e)
+quiet_takes does EraseStart held screen after b e t =
+    t ∙ ap (state held) (same_some (stepped EraseStart screen) after e)
 quiet_takes does EraseRow held screen after b e t = t ∙ ap (state held) (same_some (stepped EraseRow screen) after e)
-quiet_takes does (InsertChars count) held screen after b e t = t ∙ ap (state held) (same_some (stepped (InsertChars count) screen) after e)
-quiet_takes does (DeleteChars count) held screen after b e t = t ∙ ap (state held) (same_some (stepped (DeleteChars count) screen) after e)
-quiet_takes does (InsertLines count) held screen after b e t = t ∙ ap (state held) (same_some (stepped (InsertLines count) screen) after e)
-quiet_takes does (DeleteLines count) held screen after b e t = t ∙ ap (state held) (same_some (stepped (DeleteLines count) screen) after e)
-quiet_takes does (ScrollDown count) held screen after b e t = t ∙ ap (state held) (same_some (stepped (ScrollDown count) screen) after e)
+quiet_takes does (InsertChars count) held screen after b e t =
+    t ∙ ap (state held) (same_some (stepped (InsertChars count) screen) after e)
+quiet_takes does (DeleteChars count) held screen after b e t =
+    t ∙ ap (state held) (same_some (stepped (DeleteChars count) screen) after e)
+quiet_takes does (InsertLines count) held screen after b e t =
+    t ∙ ap (state held) (same_some (stepped (InsertLines count) screen) after e)
+quiet_takes does (DeleteLines count) held screen after b e t =
+    t ∙ ap (state held) (same_some (stepped (DeleteLines count) screen) after e)
+quiet_takes does (ScrollDown count) held screen after b e t =
+    t ∙ ap (state held) (same_some (stepped (ScrollDown count) screen) after e)
 quiet_takes does (ScrollUp count) held screen after b e t =
     let calm = calm_of (screen.page.top == 0) (Some (stepped (ScrollUp count) screen)) after e in
-    let none : outgoing (ScrollUp count) screen ≡ [] = ap (λ (whole : Bool). if whole then take (min count (screen.page.bottom + 1)) screen.page.rows else []) calm.0 in
-    unsent does held screen (stepped (ScrollUp count) screen) (outgoing (ScrollUp count) screen) b none refl t.screen t.heard ∙ ap (state held) (same_some (stepped (ScrollUp count) screen) after calm.1)
+    let none : outgoing (ScrollUp count) screen ≡ [] =
+    ap (λ (whole : Bool). if whole then take (min count (screen.page.bottom + 1)) screen.page.rows else []) calm.0 in
+    unsent does held screen (stepped (ScrollUp count) screen)
+    (outgoing (ScrollUp count) screen) b none refl t.screen t.heard
+    ∙ ap (state held) (same_some (stepped (ScrollUp count) screen) after calm.1)
 quiet_takes does EraseScrollback held screen after b e t = absurd (subst IsNone e tt)
-quiet_takes does (MoveRight count) held screen after b e t = t ∙ ap (state held) (same_some (stepped (MoveRight count) screen) after e)
-quiet_takes does (MoveTo row col) held screen after b e t = t ∙ ap (state held) (same_some (stepped (MoveTo row col) screen) after e)
-quiet_takes does EraseBelow held screen after b e t = t ∙ ap (state held) (same_some (stepped EraseBelow screen) after e)
+quiet_takes does (MoveRight count) held screen after b e t =
+    t ∙ ap (state held) (same_some (stepped (MoveRight count) screen) after e)
+quiet_takes does (MoveTo row col) held screen after b e t =
+    t ∙ ap (state held) (same_some (stepped (MoveTo row col) screen) after e)
+quiet_takes does EraseBelow held screen after b e t =
+    t ∙ ap (state held) (same_some (stepped EraseBelow screen) after e)
 quiet_takes does EraseRest held screen after b e t = t ∙ ap (state held) (same_some (stepped EraseRest screen) after e)
-quiet_takes does (EraseChars count) held screen after b e t = t ∙ ap (state held) (same_some (stepped (EraseChars count) screen) after e)
-quiet_takes does (Render setting) held screen after b e t = t ∙ ap (state held) (same_some (stepped (Render setting) screen) after e)
-quiet_takes does (HideCursor hidden) held screen after b e t = t ∙ ap (state held) (same_some (stepped (HideCursor hidden) screen) after e)
-quiet_takes does (UseApplicationCursor on) held screen after b e t = t ∙ ap (state held) (same_some (stepped (UseApplicationCursor on) screen) after e)
-quiet_takes does (UseBracketedPaste on) held screen after b e t = t ∙ ap (state held) (same_some (stepped (UseBracketedPaste on) screen) after e)
-quiet_takes does (SetMouseMode mode) held screen after b e t = t ∙ ap (state held) (same_some (stepped (SetMouseMode mode) screen) after e)
-quiet_takes does (ClearMouseMode mode) held screen after b e t = t ∙ ap (state held) (same_some (stepped (ClearMouseMode mode) screen) after e)
-quiet_takes does (SetMouseEncoding form) held screen after b e t = t ∙ ap (state held) (same_some (stepped (SetMouseEncoding form) screen) after e)
-quiet_takes does (ClearMouseEncoding form) held screen after b e t = t ∙ ap (state held) (same_some (stepped (ClearMouseEncoding form) screen) after e)
-quiet_takes does (SetCursorStyle look) held screen after b e t = t ∙ ap (state held) (same_some (stepped (SetCursorStyle look) screen) after e)
-quiet_takes does SaveCursor held screen after b e t = t ∙ ap (state held) (same_some (stepped SaveCursor screen) after e)
-quiet_takes does RestoreCursor held screen after b e t = t ∙ ap (state held) (same_some (stepped RestoreCursor screen) after e)
-quiet_takes does LeaveAlternate held screen after b e t = t ∙ ap (state held) (same_some (stepped LeaveAlternate screen) after e)
-quiet_takes does LeaveRestoring held screen after b e t = t ∙ ap (state held) (same_some (stepped LeaveRestoring screen) after e)
+quiet_takes does (EraseChars count) held screen after b e t =
+    t ∙ ap (state held) (same_some (stepped (EraseChars count) screen) after e)
+quiet_takes does (Render setting) held screen after b e t =
+    t ∙ ap (state held) (same_some (stepped (Render setting) screen) after e)
+quiet_takes does (HideCursor hidden) held screen after b e t =
+    t ∙ ap (state held) (same_some (stepped (HideCursor hidden) screen) after e)
+quiet_takes does (UseApplicationCursor on) held screen after b e t =
+    t ∙ ap (state held) (same_some (stepped (UseApplicationCursor on) screen) after e)
+quiet_takes does (UseBracketedPaste on) held screen after b e t =
+    t ∙ ap (state held) (same_some (stepped (UseBracketedPaste on) screen) after e)
+quiet_takes does (SetMouseMode mode) held screen after b e t =
+    t ∙ ap (state held) (same_some (stepped (SetMouseMode mode) screen) after e)
+quiet_takes does (ClearMouseMode mode) held screen after b e t =
+    t ∙ ap (state held) (same_some (stepped (ClearMouseMode mode) screen) after e)
+quiet_takes does (SetMouseEncoding form) held screen after b e t =
+    t ∙ ap (state held) (same_some (stepped (SetMouseEncoding form) screen) after e)
+quiet_takes does (ClearMouseEncoding form) held screen after b e t =
+    t ∙ ap (state held) (same_some (stepped (ClearMouseEncoding form) screen) after e)
+quiet_takes does (SetCursorStyle look) held screen after b e t =
+    t ∙ ap (state held) (same_some (stepped (SetCursorStyle look) screen) after e)
+quiet_takes does SaveCursor held screen after b e t =
+    t ∙ ap (state held) (same_some (stepped SaveCursor screen) after e)
+quiet_takes does RestoreCursor held screen after b e t =
+    t ∙ ap (state held) (same_some (stepped RestoreCursor screen) after e)
+quiet_takes does LeaveAlternate held screen after b e t =
+    t ∙ ap (state held) (same_some (stepped LeaveAlternate screen) after e)
+quiet_takes does LeaveRestoring held screen after b e t =
+    t ∙ ap (state held) (same_some (stepped LeaveRestoring screen) after e)
 quiet_takes does Reset held screen after b e t = t ∙ ap (state held) (same_some (stepped Reset screen) after e)
-quiet_takes does (UseApplicationKeypad on) held screen after b e t = t ∙ ap (state held) (same_some (stepped (UseApplicationKeypad on) screen) after e)
-quiet_takes does EnterAlternate held screen after b e t = t ∙ ap (state held) (same_some (stepped EnterAlternate screen) after (there_of screen.other (Some (stepped EnterAlternate screen)) after e).1)
-quiet_takes does EnterFresh held screen after b e t = t ∙ ap (state held) (same_some (stepped EnterFresh screen) after (there_of screen.other (Some (stepped EnterFresh screen)) after e).1)
+quiet_takes does (UseApplicationKeypad on) held screen after b e t =
+    t ∙ ap (state held) (same_some (stepped (UseApplicationKeypad on) screen) after e)
+quiet_takes does EnterAlternate held screen after b e t =
+    t
+    ∙ ap (state held) (same_some (stepped EnterAlternate screen) after
+    (there_of screen.other (Some (stepped EnterAlternate screen)) after e).1)
+quiet_takes does EnterFresh held screen after b e t =
+    t
+    ∙ ap (state held)
+    (same_some (stepped EnterFresh screen) after (there_of screen.other (Some (stepped EnterFresh screen)) after e).1)
 
-quiet_folds : {S : Type 0} (does : CallValue → S → ScreenValue → S → ScreenValue → Type 0) (steps : List Step) (held : S) (screen after : ScreenValue) (b : act.State S) → quiet_steps steps screen ≡ Some after → FoldsTo (Takes does) (state held screen) steps b → b ≡ state held after
+quiet_folds : {S : Type 0} (does : CallValue → S → ScreenValue → S → ScreenValue → Type 0)
+    (steps : List Step) (held : S) (screen after : ScreenValue) (b : act.State S) →
+    quiet_steps steps screen ≡ Some after → FoldsTo (Takes does) (state held screen) steps b → b ≡ state held after
 quiet_folds does [] held screen after b e t = sym t ∙ ap (state held) (same_some screen after e)
 quiet_folds does (x ∷ steps) held screen after b e t =
     let mid = and_then-some (quiet_steps steps) (quiet_step x screen) after e in
     let there = quiet_takes does x held screen mid.0 t.0 mid.1 t.1 in
     quiet_folds does steps held mid.0 after b mid.2 (subst (λ j. FoldsTo (Takes does) j steps b) there t.2)
 
-quiet_performs : {S : Type 0} (does : CallValue → S → ScreenValue → S → ScreenValue → Type 0) (events : List Event) (held : S) (screen after : ScreenValue) (b : act.State S) → quiet_events events screen ≡ Some after → FoldsTo (Performs does) (state held screen) events b → b ≡ state held after
+quiet_performs : {S : Type 0} (does : CallValue → S → ScreenValue → S → ScreenValue → Type 0)
+    (events : List Event) (held : S) (screen after : ScreenValue) (b : act.State S) →
+    quiet_events events screen ≡ Some after → FoldsTo (Performs does) (state held screen) events b →
+    b ≡ state held after
 quiet_performs does [] held screen after b e t = sym t ∙ ap (state held) (same_some screen after e)
 quiet_performs does (event ∷ events) held screen after b e t =
     let mid = and_then-some (quiet_events events) (quiet_steps (steps_of event (seen_of screen)) screen) after e in
@@ -142,13 +218,18 @@ never_grows gone above none takes = let n : length gone ≡ 0 = ap length none i
 quiet_holds : (x : Step) (screen after : ScreenValue) → quiet_step x screen ≡ Some after → Grows x screen → ⊥
 quiet_holds (Print c) screen after e g =
     let calm = calm_of (pushes c screen.page) (Some (stepped (Print c) screen)) after e in
-    never_grows (outgoing (Print c) screen) (above_page screen) (ap (λ (pushed : Bool). if pushed then take 1 (left_by (columns_of c) screen.attrs screen.page).rows else []) calm.0) g
+    never_grows (outgoing (Print c) screen) (above_page screen)
+    (ap (λ (pushed : Bool). if pushed then take 1 (left_by (columns_of c) screen.attrs screen.page).rows else [])
+    calm.0)
+    g
 quiet_holds LineFeed screen after e g =
     let calm = calm_of (feeds_out screen.page) (Some (stepped LineFeed screen)) after e in
-    never_grows (outgoing LineFeed screen) (above_page screen) (ap (λ (fed : Bool). if fed then take 1 screen.page.rows else []) calm.0) g
+    never_grows (outgoing LineFeed screen) (above_page screen)
+    (ap (λ (fed : Bool). if fed then take 1 screen.page.rows else []) calm.0) g
 quiet_holds (ScrollUp count) screen after e g =
     let calm = calm_of (screen.page.top == 0) (Some (stepped (ScrollUp count) screen)) after e in
-    never_grows (outgoing (ScrollUp count) screen) (above_page screen) (ap (λ (whole : Bool). if whole then take (min count (screen.page.bottom + 1)) screen.page.rows else []) calm.0) g
+    never_grows (outgoing (ScrollUp count) screen) (above_page screen)
+    (ap (λ (whole : Bool). if whole then take (min count (screen.page.bottom + 1)) screen.page.rows else []) calm.0) g
 quiet_holds (Tell call) screen after e g = never_grows [] (above_page screen) refl g
 quiet_holds CarriageReturn screen after e g = never_grows [] (above_page screen) refl g
 quiet_holds ReverseIndex screen after e g = never_grows [] (above_page screen) refl g
@@ -192,10 +273,14 @@ quiet_holds LeaveAlternate screen after e g = never_grows [] (above_page screen)
 quiet_holds LeaveRestoring screen after e g = never_grows [] (above_page screen) refl g
 quiet_holds Reset screen after e g = never_grows [] (above_page screen) refl g
 quiet_holds (UseApplicationKeypad on) screen after e g = never_grows [] (above_page screen) refl g
-quiet_holds EnterAlternate screen after e g = false≢true (ap is_some (sym g) ∙ (there_of screen.other (Some (stepped EnterAlternate screen)) after e).0)
-quiet_holds EnterFresh screen after e g = false≢true (ap is_some (sym g) ∙ (there_of screen.other (Some (stepped EnterFresh screen)) after e).0)
+quiet_holds EnterAlternate screen after e g =
+    false≢true (ap is_some (sym g) ∙ (there_of screen.other (Some (stepped EnterAlternate screen)) after e).0)
+quiet_holds EnterFresh screen after e g =
+    false≢true (ap is_some (sym g) ∙ (there_of screen.other (Some (stepped EnterFresh screen)) after e).0)
 
-quiet_stays : {S : Type 0} (does : CallValue → S → ScreenValue → S → ScreenValue → Type 0) (steps : List Step) (held : S) (screen after : ScreenValue) (b : act.State S) → quiet_steps steps screen ≡ Some after → StopsIn (Takes does) Refuses (state held screen) steps b → ⊥
+quiet_stays : {S : Type 0} (does : CallValue → S → ScreenValue → S → ScreenValue → Type 0)
+    (steps : List Step) (held : S) (screen after : ScreenValue) (b : act.State S) →
+    quiet_steps steps screen ≡ Some after → StopsIn (Takes does) Refuses (state held screen) steps b → ⊥
 quiet_stays does [] held screen after b e t = t
 quiet_stays does (x ∷ steps) held screen after b e t =
     let mid = and_then-some (quiet_steps steps) (quiet_step x screen) after e in
@@ -203,10 +288,13 @@ quiet_stays does (x ∷ steps) held screen after b e t =
       | inl refusal ↦ quiet_holds x screen mid.0 mid.1 refusal.0
       | inr (j, first, more) ↦
           let there = quiet_takes does x held screen mid.0 j mid.1 first in
-          quiet_stays does steps held mid.0 after b mid.2 (subst (λ i. StopsIn (Takes does) Refuses i steps b) there more)
+          quiet_stays does steps held mid.0 after b mid.2
+          (subst (λ i. StopsIn (Takes does) Refuses i steps b) there more)
     ]
 
-quiet_unbroken : {S : Type 0} (does : CallValue → S → ScreenValue → S → ScreenValue → Type 0) (events : List Event) (held : S) (screen after : ScreenValue) (b : act.State S) → quiet_events events screen ≡ Some after → StopsIn (Performs does) (Breaks does) (state held screen) events b → ⊥
+quiet_unbroken : {S : Type 0} (does : CallValue → S → ScreenValue → S → ScreenValue → Type 0)
+    (events : List Event) (held : S) (screen after : ScreenValue) (b : act.State S) →
+    quiet_events events screen ≡ Some after → StopsIn (Performs does) (Breaks does) (state held screen) events b → ⊥
 quiet_unbroken does [] held screen after b e t = t
 quiet_unbroken does (event ∷ events) held screen after b e t =
     let mid = and_then-some (quiet_events events) (quiet_steps (steps_of event (seen_of screen)) screen) after e in
@@ -214,11 +302,13 @@ quiet_unbroken does (event ∷ events) held screen after b e t =
       | inl broken ↦ quiet_stays does (steps_of event (seen_of screen)) held screen mid.0 b mid.1 broken
       | inr (j, first, more) ↦
           let there = quiet_folds does (steps_of event (seen_of screen)) held screen mid.0 j mid.1 first in
-          quiet_unbroken does events held mid.0 after b mid.2 (subst (λ i. StopsIn (Performs does) (Breaks does) i events b) there more)
+          quiet_unbroken does events held mid.0 after b mid.2
+          (subst (λ i. StopsIn (Performs does) (Breaks does) i events b) there more)
     ]
 
 -- what stops in a list stops in its first part, or behind it
-stops_parted : {P A : Type 0} (R T : P → A → P → Type 0) (xs ys : List A) (p q : P) → StopsIn R T p (xs ++ ys) q → StopsIn R T p xs q ⊎ ((m : P) × FoldsTo R p xs m × StopsIn R T m ys q)
+stops_parted : {P A : Type 0} (R T : P → A → P → Type 0) (xs ys : List A) (p q : P) →
+    StopsIn R T p (xs ++ ys) q → StopsIn R T p xs q ⊎ ((m : P) × FoldsTo R p xs m × StopsIn R T m ys q)
 stops_parted R T [] ys p q t = inr (p, refl, t)
 stops_parted R T (x ∷ xs) ys p q t = elim t [
   | inl here ↦ inl (inl here)
@@ -241,7 +331,8 @@ unfolding read_byte
 read_quietly t b u e =
     let step = step_in t.scan.kind t.scan.collected b in
     let calm = calm_of (grows (turn_of t.scan.kind (class_of b))) _ u e in
-    let mid = and_then-some (λ screen. Some (terminal step.state screen)) (quiet_events step.events t.screen) u calm.1 in
+    let mid =
+    and_then-some (λ screen. Some (terminal step.state screen)) (quiet_events step.events t.screen) u calm.1 in
     let there : terminal step.state mid.0 ≡ u = same_some (terminal step.state mid.0) u mid.2 in
     record {
       calm = calm.0;
@@ -249,7 +340,10 @@ read_quietly t b u e =
       events = mid.1 ∙ ap (λ (v : Terminal). Some v.screen) there;
     }
 
-pub read_runs : {S : Type 0} (does : CallValue → S → ScreenValue → S → ScreenValue → Type 0) (bytes : List ℕ) (t u : Terminal) (held : S) (b : act.State S) → read t bytes ≡ Some u → FoldsTo (Performs does) (state held t.screen) (run t.scan bytes).events b → (b ≡ state held u.screen) × ((run t.scan bytes).state ≡ u.scan)
+pub read_runs : {S : Type 0} (does : CallValue → S → ScreenValue → S → ScreenValue → Type 0)
+    (bytes : List ℕ) (t u : Terminal) (held : S) (b : act.State S) →
+    read t bytes ≡ Some u → FoldsTo (Performs does) (state held t.screen) (run t.scan bytes).events b →
+    (b ≡ state held u.screen) × ((run t.scan bytes).state ≡ u.scan)
 read_runs does [] t u held b e f =
     let same = same_some t u e in
     (sym f ∙ ap (λ (v : Terminal). state held v.screen) same, ap (λ (v : Terminal). v.scan) same)
@@ -260,24 +354,32 @@ read_runs does (x ∷ bytes) t u held b e f =
     let parted = folds_parted (Performs does) step.events (run step.state bytes).events (state held t.screen) b f in
     let there = quiet_performs does step.events held t.screen mid.0.screen parted.0 quiet.events parted.1 in
     let rest = subst (λ j. FoldsTo (Performs does) j (run step.state bytes).events b) there parted.2 in
-    let again = read_runs does bytes mid.0 u held b mid.2 (subst (λ (s : State). FoldsTo (Performs does) (state held mid.0.screen) (run s bytes).events b) (sym quiet.scan) rest) in
+    let again = read_runs does bytes mid.0 u held b mid.2
+    (subst (λ (s : State). FoldsTo (Performs does) (state held mid.0.screen) (run s bytes).events b)
+    (sym quiet.scan) rest) in
     (again.0, ap (λ (s : State). (run s bytes).state) (sym quiet.scan) ∙ again.1)
 
-pub read_unbroken : {S : Type 0} (does : CallValue → S → ScreenValue → S → ScreenValue → Type 0) (bytes : List ℕ) (t u : Terminal) (held : S) (b : act.State S) → read t bytes ≡ Some u → StopsIn (Performs does) (Breaks does) (state held t.screen) (run t.scan bytes).events b → ⊥
+pub read_unbroken : {S : Type 0} (does : CallValue → S → ScreenValue → S → ScreenValue → Type 0)
+    (bytes : List ℕ) (t u : Terminal) (held : S) (b : act.State S) →
+    read t bytes ≡ Some u → StopsIn (Performs does) (Breaks does) (state held t.screen) (run t.scan bytes).events b → ⊥
 read_unbroken does [] t u held b e f = f
 read_unbroken does (x ∷ bytes) t u held b e f =
     let step = step_in t.scan.kind t.scan.collected x in
     let mid = and_then-some (λ v. read v bytes) (read_byte t x) u e in
     let quiet = read_quietly t x mid.0 mid.1 in
-    elim (stops_parted (Performs does) (Breaks does) step.events (run step.state bytes).events (state held t.screen) b f) [
+    elim (stops_parted (Performs does) (Breaks does) step.events
+    (run step.state bytes).events (state held t.screen) b f) [
       | inl early ↦ quiet_unbroken does step.events held t.screen mid.0.screen b quiet.events early
       | inr (m, folds, late) ↦
           let there = quiet_performs does step.events held t.screen mid.0.screen m quiet.events folds in
           let rest = subst (λ j. StopsIn (Performs does) (Breaks does) j (run step.state bytes).events b) there late in
-          read_unbroken does bytes mid.0 u held b mid.2 (subst (λ (s : State). StopsIn (Performs does) (Breaks does) (state held mid.0.screen) (run s bytes).events b) (sym quiet.scan) rest)
+          read_unbroken does bytes mid.0 u held b mid.2
+          (subst (λ (s : State). StopsIn (Performs does) (Breaks does) (state held mid.0.screen) (run s bytes).events b)
+          (sym quiet.scan) rest)
     ]
 
-pub read_calmly : (bytes : List ℕ) (t u : Terminal) (k : ℕ) → read t bytes ≡ Some u → k < length bytes → Collects t.scan bytes k → ⊥
+pub read_calmly : (bytes : List ℕ) (t u : Terminal) (k : ℕ) →
+    read t bytes ≡ Some u → k < length bytes → Collects t.scan bytes k → ⊥
 read_calmly [] t u k e h c = absurd (omega (arith, h))
 read_calmly (x ∷ bytes) t u zero e h c =
     let mid = and_then-some (λ v. read v bytes) (read_byte t x) u e in
@@ -290,24 +392,43 @@ read_calmly (x ∷ bytes) t u (suc k) e h c =
 
 -- ---- parsers
 
-pub ran_quietly : {S : Type 0} (does : CallValue → S → ScreenValue → S → ScreenValue → Type 0) (p q : Parsing S) (bytes : List ℕ) (s : State) (t : Terminal) → Ran does p bytes q → StandsFor p.scanner s → read (terminal s p.screen) bytes ≡ Some t → StandsFor q.scanner t.scan × (q.screen ≡ t.screen) × (q.callbacks ≡ p.callbacks)
+pub ran_quietly : {S : Type 0} (does : CallValue → S → ScreenValue → S → ScreenValue → Type 0)
+    (p q : Parsing S) (bytes : List ℕ) (s : State) (t : Terminal) →
+    Ran does p bytes q → StandsFor p.scanner s → read (terminal s p.screen) bytes ≡ Some t →
+    StandsFor q.scanner t.scan × (q.screen ≡ t.screen) × (q.callbacks ≡ p.callbacks)
 ran_quietly {S} does p q bytes s t ran stands e =
     let one = ran s stands in
-    let same = read_runs does bytes (terminal s p.screen) t p.callbacks (stage q) e one.1 in
-    (subst (λ (z : State). StandsFor q.scanner z) same.1 one.0, ap (λ (b : act.State S). b.screen) same.0, ap (λ (b : act.State S). b.callbacks) same.0)
+    let same = read_runs does bytes (terminal s p.screen) t p.callbacks (stage q) e one.1 in (
+      subst (λ (z : State). StandsFor q.scanner z) same.1 one.0,
+      ap (λ (b : act.State S). b.screen) same.0,
+      ap (λ (b : act.State S). b.callbacks) same.0,
+    )
 
 -- the same of a parser that is seen through its fields
-pub quietly_here : {S : Type 0} (does : CallValue → S → ScreenValue → S → ScreenValue → Type 0) (p old q : Parsing S) (bytes : List ℕ) (s : State) (t : Terminal) → p ≡ old → Ran does p bytes q → StandsFor old.scanner s → read (terminal s old.screen) bytes ≡ Some t → StandsFor q.scanner t.scan × (q.screen ≡ t.screen) × (q.callbacks ≡ old.callbacks)
+pub quietly_here : {S : Type 0} (does : CallValue → S → ScreenValue → S → ScreenValue → Type 0)
+    (p old q : Parsing S) (bytes : List ℕ) (s : State) (t : Terminal) →
+    p ≡ old → Ran does p bytes q → StandsFor old.scanner s → read (terminal s old.screen) bytes ≡ Some t →
+    StandsFor q.scanner t.scan × (q.screen ≡ t.screen) × (q.callbacks ≡ old.callbacks)
 quietly_here {S} does p old q bytes s t same ran stands told =
     ran_quietly does old q bytes s t (subst (λ (z : Parsing S). Ran does z bytes q) same ran) stands told
 
-pub never_refused : {S : Type 0} (does : CallValue → S → ScreenValue → S → ScreenValue → Type 0) (p old q : Parsing S) (bytes : List ℕ) (s : State) (t : Terminal) → p.scanner ≡ old.scanner → stage p ≡ stage old → Stopped does p bytes q → StandsFor old.scanner s → read (terminal s old.screen) bytes ≡ Some t → ⊥
+pub never_refused : {S : Type 0} (does : CallValue → S → ScreenValue → S → ScreenValue → Type 0)
+    (p old q : Parsing S) (bytes : List ℕ) (s : State) (t : Terminal) →
+    p.scanner ≡ old.scanner → stage p ≡ stage old → Stopped does p bytes q → StandsFor old.scanner s →
+    read (terminal s old.screen) bytes ≡ Some t → ⊥
 never_refused {S} does p old q bytes s t scanner same stopped stands told =
     let ready : StandsFor p.scanner s = subst (λ (held : Held). StandsFor held s) (sym scanner) stands in
     elim stopped [
-      | inl before ↦ read_calmly bytes (terminal s old.screen) t before.count told before.inside (before.refused s ready)
-      | inr within ↦ read_unbroken does bytes (terminal s old.screen) t old.callbacks (stage q) told (subst (λ (z : act.State S). StopsIn (Performs does) (Breaks does) z (run s bytes).events (stage q)) same (within s ready))
+      | inl before ↦
+          read_calmly bytes (terminal s old.screen) t before.count told before.inside (before.refused s ready)
+      | inr within ↦
+          read_unbroken does bytes (terminal s old.screen) t old.callbacks (stage q) told
+          (subst (λ (z : act.State S). StopsIn (Performs does) (Breaks does) z (run s bytes).events (stage q))
+          same (within s ready))
     ]
 
-pub quietly_harmless : {S : Type 0} (does : CallValue → S → ScreenValue → S → ScreenValue → Type 0) (p : Parsing S) (bytes : List ℕ) (s : State) (t : Terminal) → StandsFor p.scanner s → read (terminal s p.screen) bytes ≡ Some t → IsHarmless does p bytes
-quietly_harmless does p bytes s t stands told q stopped = never_refused does p p q bytes s t refl refl stopped stands told
+pub quietly_harmless : {S : Type 0} (does : CallValue → S → ScreenValue → S → ScreenValue → Type 0)
+    (p : Parsing S) (bytes : List ℕ) (s : State) (t : Terminal) →
+    StandsFor p.scanner s → read (terminal s p.screen) bytes ≡ Some t → IsHarmless does p bytes
+quietly_harmless does p bytes s t stands told q stopped =
+    never_refused does p p q bytes s t refl refl stopped stands told

@@ -1,5 +1,6 @@
 -- Groups, parts and prints: what is left after one more, and what a count of parts says.
-use Rattle.std.proofs.Common.{◌≡◌, ◌≢◌, ℕ, ◌+◌, ◌<◌, Bool, List, [], ◌∷◌, ◌++◌, Bor, length, map, drop, get_or, refl, sym, subst, ap, ◌∙◌, arith}
+use Rattle.std.proofs.Common.{◌≡◌, ◌≢◌, ℕ, ◌+◌, ◌<◌, Bool, List, [], ◌∷◌, ◌++◌, Bor, length}
+use Rattle.std.proofs.Common.{map, drop, get_or, refl, sym, subst, ap, ◌∙◌, arith}
 use Rattle.std.proofs.lemmas.List.{append-nil, drop_more, length-map}
 use Rattle.vt_screen.specs.Calls.{CallValue, UnhandledOsc}
 use Rattle.vt_screen.specs.Screen.{ScreenValue}
@@ -16,60 +17,98 @@ use Rattle.vt100.proofs.Stepping.{Left, Rest, left_through, left_within, rest_on
 abbrev pub nothing : Bor (List ℕ)
 nothing = record { ref_ptr = (0, 0); now = [] }
 
-pub one_group : (on : Bool) (report : CallValue) (group : List ℕ) → length group ≡ 1 → mode_steps on report (group ∷ []) ≡ mode_step on report (get_or group 0 0)
+pub one_group : (on : Bool) (report : CallValue) (group : List ℕ) → length group ≡ 1 →
+    mode_steps on report (group ∷ []) ≡ mode_step on report (get_or group 0 0)
 one_group on report [] h = absurd (omega (arith, h))
 one_group on report (x ∷ []) h = append-nil (mode_step on report x)
 one_group on report (x ∷ y ∷ zs) h = absurd (omega (arith, h))
 
-modes_parted : (on : Bool) (report : CallValue) (x : List ℕ) (xs : List (List ℕ)) → mode_steps on report (x ∷ xs) ≡ mode_steps on report (x ∷ []) ++ mode_steps on report xs
+modes_parted : (on : Bool) (report : CallValue) (x : List ℕ) (xs : List (List ℕ)) →
+    mode_steps on report (x ∷ xs) ≡ mode_steps on report (x ∷ []) ++ mode_steps on report xs
 modes_parted on report [] xs = refl
-modes_parted on report (n ∷ []) xs = ap (λ (steps : List Step). steps ++ mode_steps on report xs) (sym (append-nil (mode_step on report n)))
+modes_parted on report (n ∷ []) xs =
+    ap (λ (steps : List Step). steps ++ mode_steps on report xs) (sym (append-nil (mode_step on report n)))
 modes_parted on report (n ∷ m ∷ ns) xs = refl
 
-modes_next : (on : Bool) (report : CallValue) (groups : List (Bor (List ℕ))) (i : ℕ) (none : Bor (List ℕ)) → i < length groups → mode_steps on report (map (λ (group : Bor (List ℕ)). group.now) (drop i groups)) ≡ mode_steps on report ((get_or groups i none).now ∷ []) ++ mode_steps on report (map (λ (group : Bor (List ℕ)). group.now) (drop (i + 1) groups))
+modes_next : (on : Bool) (report : CallValue) (groups : List (Bor (List ℕ))) (i : ℕ) (none : Bor (List ℕ)) →
+    i < length groups →
+    mode_steps on report (map (λ (group : Bor (List ℕ)). group.now) (drop i groups))
+    ≡ mode_steps on report ((get_or groups i none).now ∷ [])
+    ++ mode_steps on report (map (λ (group : Bor (List ℕ)). group.now) (drop (i + 1) groups))
 modes_next on report groups i none h =
-    ap (λ (gs : List (Bor (List ℕ))). mode_steps on report (map (λ (group : Bor (List ℕ)). group.now) gs)) (drop_more groups i none h)
-    ∙ modes_parted on report (get_or groups i none).now (map (λ (group : Bor (List ℕ)). group.now) (drop (i + 1) groups))
+    ap (λ (gs : List (Bor (List ℕ))). mode_steps on report (map (λ (group : Bor (List ℕ)). group.now) gs))
+    (drop_more groups i none h)
+    ∙ modes_parted on report (get_or groups i none).now
+    (map (λ (group : Bor (List ℕ)). group.now) (drop (i + 1) groups))
 
 -- one more group of modes is done, or stopped in
-pub modes_left : {S : Type 0} (does : CallValue → S → ScreenValue → S → ScreenValue → Type 0) (s t u : S) (d e f : ScreenValue) (all : List Step) (on : Bool) (report : CallValue) (groups : List (Bor (List ℕ))) (i : ℕ) (none : Bor (List ℕ)) → i < length groups → Left does s d all t e (mode_steps on report (map (λ (group : Bor (List ℕ)). group.now) (drop i groups))) → Does does t e (mode_steps on report ((get_or groups i none).now ∷ [])) u f → Left does s d all u f (mode_steps on report (map (λ (group : Bor (List ℕ)). group.now) (drop (i + 1) groups)))
+pub modes_left : {S : Type 0} (does : CallValue → S → ScreenValue → S → ScreenValue → Type 0)
+    (s t u : S) (d e f : ScreenValue) (all : List Step) (on : Bool)
+    (report : CallValue) (groups : List (Bor (List ℕ))) (i : ℕ) (none : Bor (List ℕ)) →
+    i < length groups →
+    Left does s d all t e (mode_steps on report (map (λ (group : Bor (List ℕ)). group.now) (drop i groups))) →
+    Does does t e (mode_steps on report ((get_or groups i none).now ∷ [])) u f →
+    Left does s d all u f (mode_steps on report (map (λ (group : Bor (List ℕ)). group.now) (drop (i + 1) groups)))
 modes_left {S} does s t u d e f all on report groups i none h left done =
-    left_through does s t u d e f all (mode_steps on report ((get_or groups i none).now ∷ [])) (mode_steps on report (map (λ (group : Bor (List ℕ)). group.now) (drop (i + 1) groups)))
+    left_through does s t u d e f all (mode_steps on report ((get_or groups i none).now ∷ []))
+    (mode_steps on report (map (λ (group : Bor (List ℕ)). group.now) (drop (i + 1) groups)))
     (subst (λ (steps : List Step). Left does s d all t e steps) (modes_next on report groups i none h) left) done
 
-pub modes_stop : {S : Type 0} (does : CallValue → S → ScreenValue → S → ScreenValue → Type 0) (s t u : S) (d e f : ScreenValue) (all : List Step) (on : Bool) (report : CallValue) (groups : List (Bor (List ℕ))) (i : ℕ) (none : Bor (List ℕ)) → i < length groups → Left does s d all t e (mode_steps on report (map (λ (group : Bor (List ℕ)). group.now) (drop i groups))) → Stops does t e (mode_steps on report ((get_or groups i none).now ∷ [])) u f → Stops does s d all u f
+pub modes_stop : {S : Type 0} (does : CallValue → S → ScreenValue → S → ScreenValue → Type 0)
+    (s t u : S) (d e f : ScreenValue) (all : List Step) (on : Bool)
+    (report : CallValue) (groups : List (Bor (List ℕ))) (i : ℕ) (none : Bor (List ℕ)) →
+    i < length groups →
+    Left does s d all t e (mode_steps on report (map (λ (group : Bor (List ℕ)). group.now) (drop i groups))) →
+    Stops does t e (mode_steps on report ((get_or groups i none).now ∷ [])) u f → Stops does s d all u f
 modes_stop {S} does s t u d e f all on report groups i none h left stop =
-    left_within does s t u d e f all (mode_steps on report ((get_or groups i none).now ∷ [])) (mode_steps on report (map (λ (group : Bor (List ℕ)). group.now) (drop (i + 1) groups)))
+    left_within does s t u d e f all (mode_steps on report ((get_or groups i none).now ∷ []))
+    (mode_steps on report (map (λ (group : Bor (List ℕ)). group.now) (drop (i + 1) groups)))
     (subst (λ (steps : List Step). Left does s d all t e steps) (modes_next on report groups i none h) left) stop
 
 -- one more group of settings is done
-pub settings_left : {S : Type 0} (does : CallValue → S → ScreenValue → S → ScreenValue → Type 0) (s t u : S) (d e f : ScreenValue) (all : List Step) (whole : List (List ℕ)) (wanted : Wanted) (groups : List (Bor (List ℕ))) (i : ℕ) (none : Bor (List ℕ)) (read : GroupRead) → i < length groups → read ≡ group_read wanted (get_or groups i none).now → Rest does s d all t e (sgr_from whole wanted (map (λ (group : Bor (List ℕ)). group.now) (drop i groups))) → Does does t e (reading_steps whole read.reading) u f → Rest does s d all u f (sgr_from whole read.wanted (map (λ (group : Bor (List ℕ)). group.now) (drop (i + 1) groups)))
+pub settings_left : {S : Type 0} (does : CallValue → S → ScreenValue → S → ScreenValue → Type 0)
+    (s t u : S) (d e f : ScreenValue) (all : List Step) (whole : List (List ℕ)) (wanted : Wanted)
+    (groups : List (Bor (List ℕ))) (i : ℕ) (none : Bor (List ℕ)) (read : GroupRead) →
+    i < length groups → read ≡ group_read wanted (get_or groups i none).now →
+    Rest does s d all t e (sgr_from whole wanted (map (λ (group : Bor (List ℕ)). group.now) (drop i groups))) →
+    Does does t e (reading_steps whole read.reading) u f →
+    Rest does s d all u f (sgr_from whole read.wanted (map (λ (group : Bor (List ℕ)). group.now) (drop (i + 1) groups)))
 settings_left {S} does s t u d e f all whole wanted groups i none read h is rest done =
-    let left : GroupRead → List Step = λ (r : GroupRead). reading_steps whole r.reading ++ sgr_from whole r.wanted (map (λ (group : Bor (List ℕ)). group.now) (drop (i + 1) groups)) in
+    let left : GroupRead → List Step =
+    λ (r : GroupRead). reading_steps whole r.reading
+    ++ sgr_from whole r.wanted (map (λ (group : Bor (List ℕ)). group.now) (drop (i + 1) groups)) in
     let next : sgr_from whole wanted (map (λ (group : Bor (List ℕ)). group.now) (drop i groups)) ≡ left read =
-    ap (λ (gs : List (Bor (List ℕ))). sgr_from whole wanted (map (λ (group : Bor (List ℕ)). group.now) gs)) (drop_more groups i none h)
+    ap (λ (gs : List (Bor (List ℕ))). sgr_from whole wanted (map (λ (group : Bor (List ℕ)). group.now) gs))
+    (drop_more groups i none h)
     ∙ ap left (sym is) in
-    rest_on does s t u d e f all (reading_steps whole read.reading) (sgr_from whole read.wanted (map (λ (group : Bor (List ℕ)). group.now) (drop (i + 1) groups)))
+    rest_on does s t u d e f all (reading_steps whole read.reading)
+    (sgr_from whole read.wanted (map (λ (group : Bor (List ℕ)). group.now) (drop (i + 1) groups)))
     (subst (λ (steps : List Step). Rest does s d all t e steps) next rest) done
 
 -- ---- parts by their count
 
-pub two_parts : (parts : List (Bor (List ℕ))) → length parts ≡ 2 → map (λ (part : Bor (List ℕ)). part.now) parts ≡ (get_or parts 0 nothing).now ∷ (get_or parts 1 nothing).now ∷ []
+pub two_parts : (parts : List (Bor (List ℕ))) → length parts ≡ 2 →
+    map (λ (part : Bor (List ℕ)). part.now) parts ≡ (get_or parts 0 nothing).now ∷ (get_or parts 1 nothing).now ∷ []
 two_parts [] h = absurd (omega (arith, h))
 two_parts (a ∷ []) h = absurd (omega (arith, h))
 two_parts (a ∷ b ∷ []) h = refl
 two_parts (a ∷ b ∷ c ∷ rest) h = absurd (omega (arith, h))
 
-pub three_parts : (parts : List (Bor (List ℕ))) → length parts ≡ 3 → map (λ (part : Bor (List ℕ)). part.now) parts ≡ (get_or parts 0 nothing).now ∷ (get_or parts 1 nothing).now ∷ (get_or parts 2 nothing).now ∷ []
+pub three_parts : (parts : List (Bor (List ℕ))) → length parts ≡ 3 →
+    map (λ (part : Bor (List ℕ)). part.now) parts
+    ≡ (get_or parts 0 nothing).now ∷ (get_or parts 1 nothing).now ∷ (get_or parts 2 nothing).now ∷ []
 three_parts [] h = absurd (omega (arith, h))
 three_parts (a ∷ []) h = absurd (omega (arith, h))
 three_parts (a ∷ b ∷ []) h = absurd (omega (arith, h))
 three_parts (a ∷ b ∷ c ∷ []) h = refl
 three_parts (a ∷ b ∷ c ∷ d ∷ rest) h = absurd (omega (arith, h))
 
-pub more_parts : (parts : List (Bor (List ℕ))) → length parts ≢ 2 → length parts ≢ 3 → osc_steps (map (λ (part : Bor (List ℕ)). part.now) parts) ≡ Tell (UnhandledOsc (map (λ (part : Bor (List ℕ)). part.now) parts)) ∷ []
+pub more_parts : (parts : List (Bor (List ℕ))) → length parts ≢ 2 → length parts ≢ 3 →
+    osc_steps (map (λ (part : Bor (List ℕ)). part.now) parts)
+    ≡ Tell (UnhandledOsc (map (λ (part : Bor (List ℕ)). part.now) parts)) ∷ []
 more_parts parts h k =
-    let same : length (map (λ (part : Bor (List ℕ)). part.now) parts) ≡ length parts = length-map parts (λ part. part.now) in
+    let same : length (map (λ (part : Bor (List ℕ)). part.now) parts) ≡ length parts =
+    length-map parts (λ part. part.now) in
     other_parts (map (λ (part : Bor (List ℕ)). part.now) parts) (λ e. h (sym same ∙ e)) (λ e. k (sym same ∙ e))
 
 -- as many parts or groups as the code looks at

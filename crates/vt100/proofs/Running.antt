@@ -1,5 +1,6 @@
 -- Runs, one after the other.
-use Rattle.std.proofs.Common.{◌≡◌, ℕ, List, [], ◌∷◌, ◌++◌, ◌+◌, ◌<◌, ◌≤◌, length, take, drop, slice_index_or, Some, None, refl, sym, subst, ap, ◌∙◌, inl, inr, arith}
+use Rattle.std.proofs.Common.{◌≡◌, ℕ, List, [], ◌∷◌, ◌++◌, ◌+◌, ◌<◌, ◌≤◌, length, take, drop}
+use Rattle.std.proofs.Common.{slice_index_or, Some, None, refl, sym, subst, ap, ◌∙◌, inl, inr, arith}
 use Rattle.std.proofs.Math.Seq.{get_or-append-add, take-append-add}
 use Rattle.std.proofs.lemmas.List.{append-nil, drop_more, length-append, length-take-le, take-append-drop}
 use Rattle.std.specs.List.{FoldsTo}
@@ -19,46 +20,71 @@ use Rattle.vt_screen.specs.Screen.{ScreenValue}
 use Rattle.vt_screen.specs.Run.{Performs, Breaks, StopsIn}
 use Rattle.vt100.specs.Parser.{Parsing, Ran, Stopped, StoppedBefore, StoppedWithin, Collects, pieces_joined, stage}
 
-pub stops_first : {P A : Type 0} (R T : P → A → P → Type 0) (xs ys : List A) (p q : P) → StopsIn R T p xs q → StopsIn R T p (xs ++ ys) q
+pub stops_first : {P A : Type 0} (R T : P → A → P → Type 0) (xs ys : List A) (p q : P) →
+    StopsIn R T p xs q → StopsIn R T p (xs ++ ys) q
 stops_first R T [] ys p q h = absurd h
 stops_first R T (x ∷ xs) ys p q h = elim h [
   | inl here ↦ inl here
   | inr (j, first, more) ↦ inr (j, first, stops_first R T xs ys j q more)
 ]
 
-pub stops_then : {P A : Type 0} (R T : P → A → P → Type 0) (xs ys : List A) (p q r : P) → FoldsTo R p xs q → StopsIn R T q ys r → StopsIn R T p (xs ++ ys) r
+pub stops_then : {P A : Type 0} (R T : P → A → P → Type 0) (xs ys : List A) (p q r : P) →
+    FoldsTo R p xs q → StopsIn R T q ys r → StopsIn R T p (xs ++ ys) r
 stops_then R T [] ys p q r e t = subst (λ z. StopsIn R T z ys r) (sym e) t
 stops_then R T (x ∷ xs) ys p q r s t = inr (s.0, s.1, stops_then R T xs ys s.0 q r s.2 t)
 
-pub folds_parted : {P A : Type 0} (R : P → A → P → Type 0) (xs ys : List A) (p r : P) → FoldsTo R p (xs ++ ys) r → (q : P) × FoldsTo R p xs q × FoldsTo R q ys r
+pub folds_parted : {P A : Type 0} (R : P → A → P → Type 0) (xs ys : List A) (p r : P) →
+    FoldsTo R p (xs ++ ys) r → (q : P) × FoldsTo R p xs q × FoldsTo R q ys r
 folds_parted R [] ys p r t = (p, refl, t)
 folds_parted R (x ∷ xs) ys p r t = let rest = folds_parted R xs ys t.0 r t.2 in (rest.0, (t.0, t.1, rest.1), rest.2)
 
-pub ran_then : {S : Type 0} (does : CallValue → S → ScreenValue → S → ScreenValue → Type 0) (p q r : Parsing S) (a b : List ℕ) → Ran does p a q → Ran does q b r → Ran does p (a ++ b) r
+pub ran_then : {S : Type 0} (does : CallValue → S → ScreenValue → S → ScreenValue → Type 0)
+    (p q r : Parsing S) (a b : List ℕ) →
+    Ran does p a q → Ran does q b r → Ran does p (a ++ b) r
 ran_then does p q r a b first second = λ s stands.
     let one = first s stands in
     let two = second (run s a).state one.0 in
-    rw (run-append s a b) (two.0, folds_then (Performs does) (run s a).events (run (run s a).state b).events (stage p) (stage q) (stage r) one.1 two.1)
+    rw (run-append s a b) (
+      two.0,
+      folds_then (Performs does) (run s a).events (run (run s a).state b).events
+          (stage p) (stage q) (stage r) one.1 two.1,
+    )
 
-pub byte_ran : {S : Type 0} (does : CallValue → S → ScreenValue → S → ScreenValue → Type 0) (p q : Parsing S) (b : ℕ) (answer : Events) → Feeds p.scanner b q.scanner answer → FoldsTo (Performs does) (stage p) (events_in q.scanner answer) (stage q) → Ran does p (b ∷ []) q
+pub byte_ran : {S : Type 0} (does : CallValue → S → ScreenValue → S → ScreenValue → Type 0)
+    (p q : Parsing S) (b : ℕ) (answer : Events) →
+    Feeds p.scanner b q.scanner answer → FoldsTo (Performs does) (stage p) (events_in q.scanner answer) (stage q) →
+    Ran does p (b ∷ []) q
 byte_ran does p q b answer feeds folds = λ s stands.
-    let follows = feeds s stands in
-    (follows.stands, subst (λ events. FoldsTo (Performs does) (stage p) events (stage q)) (follows.means ∙ sym (append-nil (step_in s.kind s.collected b).events)) folds)
+    let follows = feeds s stands in (
+      follows.stands,
+      subst (λ events. FoldsTo (Performs does) (stage p) events (stage q))
+          (follows.means ∙ sym (append-nil (step_in s.kind s.collected b).events)) folds,
+    )
 
 -- the byte that was refused is one of a command's text
-pub refused_at : {S : Type 0} (does : CallValue → S → ScreenValue → S → ScreenValue → Type 0) (p q : Parsing S) (bytes : List ℕ) (k : ℕ) → Ran does p (take k bytes) q → turn_of q.scanner.kind (class_of (slice_index_or bytes k 0)) ≡ Collect OscString → (state : State) → StandsFor p.scanner state → Collects state bytes k
+pub refused_at : {S : Type 0} (does : CallValue → S → ScreenValue → S → ScreenValue → Type 0)
+    (p q : Parsing S) (bytes : List ℕ) (k : ℕ) →
+    Ran does p (take k bytes) q → turn_of q.scanner.kind (class_of (slice_index_or bytes k 0)) ≡ Collect OscString →
+    (state : State) → StandsFor p.scanner state → Collects state bytes k
 refused_at does p q bytes k ran turn = λ s stands.
-    subst (λ (kind : Kind). turn_of kind (class_of (slice_index_or bytes k 0)) ≡ Collect OscString) (ran s stands).0.kind turn
+    subst (λ (kind : Kind). turn_of kind (class_of (slice_index_or bytes k 0)) ≡ Collect OscString)
+    (ran s stands).0.kind turn
 
-ran_nothing : {S : Type 0} (does : CallValue → S → ScreenValue → S → ScreenValue → Type 0) (p q : Parsing S) → p ≡ q → Ran does p [] q
+ran_nothing : {S : Type 0} (does : CallValue → S → ScreenValue → S → ScreenValue → Type 0) (p q : Parsing S) →
+    p ≡ q → Ran does p [] q
 ran_nothing does p q same = subst (λ z. Ran does p [] z) same (λ s stands. (stands, refl))
 
-pub ran_joined : {S : Type 0} (does : CallValue → S → ScreenValue → S → ScreenValue → Type 0) (p q : Parsing S) (pieces : List (List ℕ)) → FoldsTo (Ran does) p pieces q → Ran does p (pieces_joined pieces) q
+pub ran_joined : {S : Type 0} (does : CallValue → S → ScreenValue → S → ScreenValue → Type 0)
+    (p q : Parsing S) (pieces : List (List ℕ)) →
+    FoldsTo (Ran does) p pieces q → Ran does p (pieces_joined pieces) q
 ran_joined does p q [] same = ran_nothing does p q same
-ran_joined does p q (piece ∷ pieces) runs = ran_then does p runs.0 q piece (pieces_joined pieces) runs.1 (ran_joined does runs.0 q pieces runs.2)
+ran_joined does p q (piece ∷ pieces) runs =
+    ran_then does p runs.0 q piece (pieces_joined pieces) runs.1 (ran_joined does runs.0 q pieces runs.2)
 
 -- an event that broke, among those of one byte of many
-pub stopped_within : {S : Type 0} (does : CallValue → S → ScreenValue → S → ScreenValue → Type 0) (p m q : Parsing S) (after : Held) (bytes : List ℕ) (k : ℕ) (answer : Events) → k < length bytes → Ran does p (take k bytes) m → Feeds m.scanner (slice_index_or bytes k 0) after answer
+pub stopped_within : {S : Type 0} (does : CallValue → S → ScreenValue → S → ScreenValue → Type 0)
+    (p m q : Parsing S) (after : Held) (bytes : List ℕ) (k : ℕ) (answer : Events)
+    → k < length bytes → Ran does p (take k bytes) m → Feeds m.scanner (slice_index_or bytes k 0) after answer
     → StopsIn (Performs does) (Breaks does) (stage m) (events_in after answer) (stage q) → StoppedWithin does p bytes q
 stopped_within does p m q after bytes k answer inside ran feeds stops = λ s stands.
     let one = ran s stands in
@@ -67,9 +93,12 @@ stopped_within does p m q after bytes k answer inside ran feeds stops = λ s sta
     let step = step_in there.state.kind there.state.collected x in
     let rest = drop (k + 1) bytes in
     let follows = feeds there.state one.0 in
-    let split : take k bytes ++ (x ∷ rest) ≡ bytes = ap (λ (tail : List ℕ). take k bytes ++ tail) (sym (drop_more bytes k 0 inside)) ∙ take-append-drop k bytes in
-    let here = stops_first (Performs does) (Breaks does) step.events (run step.state rest).events (stage m) (stage q) (subst (λ events. StopsIn (Performs does) (Breaks does) (stage m) events (stage q)) follows.means stops) in
-    let all = stops_then (Performs does) (Breaks does) there.events (run there.state (x ∷ rest)).events (stage p) (stage m) (stage q) one.1 here in
+    let split : take k bytes ++ (x ∷ rest) ≡ bytes =
+    ap (λ (tail : List ℕ). take k bytes ++ tail) (sym (drop_more bytes k 0 inside)) ∙ take-append-drop k bytes in
+    let here = stops_first (Performs does) (Breaks does) step.events (run step.state rest).events (stage m) (stage q)
+    (subst (λ events. StopsIn (Performs does) (Breaks does) (stage m) events (stage q)) follows.means stops) in
+    let all = stops_then (Performs does) (Breaks does) there.events
+    (run there.state (x ∷ rest)).events (stage p) (stage m) (stage q) one.1 here in
     subst (λ (bs : List ℕ). StopsIn (Performs does) (Breaks does) (stage p) (run s bs).events (stage q)) split
     (rw (run-append s (take k bytes) (x ∷ rest)) all)
 
@@ -78,60 +107,82 @@ abbrev pub one_character : ℕ → Events
 one_character code = record { first = Some (Character code); second = None }
 
 -- a byte that is read as its character
-pub plain_answer : (held : Held) (b code : ℕ) → Feeds held b held (one_character b) → code ≡ b → Feeds held b held (one_character code)
+pub plain_answer : (held : Held) (b code : ℕ) → Feeds held b held (one_character b) →
+    code ≡ b → Feeds held b held (one_character code)
 plain_answer held b code feeds same = subst (λ (k : ℕ). Feeds held b held (one_character k)) (sym same) feeds
 
 -- ---- a run, and then one that ends for want of memory
 
-stopped_within_then : {S : Type 0} (does : CallValue → S → ScreenValue → S → ScreenValue → Type 0) (p q r : Parsing S) (a b : List ℕ) → Ran does p a q → StoppedWithin does q b r → StoppedWithin does p (a ++ b) r
+stopped_within_then : {S : Type 0} (does : CallValue → S → ScreenValue → S → ScreenValue → Type 0)
+    (p q r : Parsing S) (a b : List ℕ) →
+    Ran does p a q → StoppedWithin does q b r → StoppedWithin does p (a ++ b) r
 stopped_within_then does p q r a b first second = λ s stands.
     let one = first s stands in
-    rw (run-append s a b) (stops_then (Performs does) (Breaks does) (run s a).events (run (run s a).state b).events (stage p) (stage q) (stage r) one.1 (second (run s a).state one.0))
+    rw (run-append s a b) (stops_then (Performs does) (Breaks does) (run s a).events
+    (run (run s a).state b).events (stage p) (stage q) (stage r) one.1 (second (run s a).state one.0))
 
-stopped_before_then : {S : Type 0} (does : CallValue → S → ScreenValue → S → ScreenValue → Type 0) (p q r : Parsing S) (a b : List ℕ) → Ran does p a q → StoppedBefore does q b r → StoppedBefore does p (a ++ b) r
+stopped_before_then : {S : Type 0} (does : CallValue → S → ScreenValue → S → ScreenValue → Type 0)
+    (p q r : Parsing S) (a b : List ℕ) →
+    Ran does p a q → StoppedBefore does q b r → StoppedBefore does p (a ++ b) r
 stopped_before_then does p q r a b first second =
     let k = second.count in
     let front = take-append-add a b k in
     record {
       count = length a + k;
       inside = omega (arith, length-append a b, second.inside);
-      ran = subst (λ (bytes : List ℕ). Ran does p bytes r) (sym front) (ran_then does p q r a (take k b) first second.ran);
+      ran =
+          subst (λ (bytes : List ℕ). Ran does p bytes r) (sym front)
+          (ran_then does p q r a (take k b) first second.ran);
       refused = λ s stands.
           let reached = ap (λ (step : Step). step.state.kind) (ap (run s) front ∙ run-append s a (take k b)) in
           let turn = second.refused (run s a).state (first s stands).0 in
           rw (reached, get_or-append-add a b k 0) turn;
     }
 
-pub stopped_then : {S : Type 0} (does : CallValue → S → ScreenValue → S → ScreenValue → Type 0) (p q r : Parsing S) (bytes : List ℕ) (k : ℕ) → Ran does p (take k bytes) q → Stopped does q (drop k bytes) r → Stopped does p bytes r
+pub stopped_then : {S : Type 0} (does : CallValue → S → ScreenValue → S → ScreenValue → Type 0)
+    (p q r : Parsing S) (bytes : List ℕ) (k : ℕ) →
+    Ran does p (take k bytes) q → Stopped does q (drop k bytes) r → Stopped does p bytes r
 stopped_then does p q r bytes k ran stopped =
     subst (λ (all : List ℕ). Stopped does p all r) (take-append-drop k bytes) (elim stopped [
       | inl before ↦ inl (stopped_before_then does p q r (take k bytes) (drop k bytes) ran before)
       | inr within ↦ inr (stopped_within_then does p q r (take k bytes) (drop k bytes) ran within)
     ])
 
-pub ran_on : {S : Type 0} (does : CallValue → S → ScreenValue → S → ScreenValue → Type 0) (p q r : Parsing S) (bytes : List ℕ) (k n : ℕ) → k ≤ length bytes → Ran does p (take k bytes) q → Ran does q (take n (drop k bytes)) r → Ran does p (take (k + n) bytes) r
+pub ran_on : {S : Type 0} (does : CallValue → S → ScreenValue → S → ScreenValue → Type 0)
+    (p q r : Parsing S) (bytes : List ℕ) (k n : ℕ) →
+    k ≤ length bytes → Ran does p (take k bytes) q → Ran does q (take n (drop k bytes)) r →
+    Ran does p (take (k + n) bytes) r
 ran_on does p q r bytes k n inside first second =
     let front = take k bytes in
     let size : length front ≡ k = length-take-le k bytes inside in
-    let more : take (k + n) bytes ≡ front ++ take n (drop k bytes) = sym (λ i. take (size i + n) (take-append-drop k bytes i)) ∙ take-append-add front (drop k bytes) n in
-    subst (λ (all : List ℕ). Ran does p all r) (sym more) (ran_then does p q r front (take n (drop k bytes)) first second)
+    let more : take (k + n) bytes ≡ front ++ take n (drop k bytes) =
+    sym (λ i. take (size i + n) (take-append-drop k bytes i)) ∙ take-append-add front (drop k bytes) n in
+    subst (λ (all : List ℕ). Ran does p all r) (sym more)
+    (ran_then does p q r front (take n (drop k bytes)) first second)
 
 -- ---- bytes whose events are known
 
-pub known_ran : {S : Type 0} (does : CallValue → S → ScreenValue → S → ScreenValue → Type 0) (p q : Parsing S) (bytes : List ℕ) (events : List Event)
-    → FeedsAll p.scanner bytes q.scanner events → FoldsTo (Performs does) (stage p) events (stage q) → Ran does p bytes q
+pub known_ran : {S : Type 0} (does : CallValue → S → ScreenValue → S → ScreenValue → Type 0)
+    (p q : Parsing S) (bytes : List ℕ) (events : List Event)
+    → FeedsAll p.scanner bytes q.scanner events
+    → FoldsTo (Performs does) (stage p) events (stage q) → Ran does p bytes q
 known_ran does p q bytes events fed folds = λ s stands.
     let follows = fed s stands in
     (follows.0, subst (λ (all : List Event). FoldsTo (Performs does) (stage p) all (stage q)) (sym follows.1) folds)
 
-pub known_stopped : {S : Type 0} (does : CallValue → S → ScreenValue → S → ScreenValue → Type 0) (p q : Parsing S) (after : Held) (bytes : List ℕ) (n : ℕ) (events : List Event)
-    → FeedsAll p.scanner (take n bytes) after events → StopsIn (Performs does) (Breaks does) (stage p) events (stage q) → StoppedWithin does p bytes q
+pub known_stopped : {S : Type 0} (does : CallValue → S → ScreenValue → S → ScreenValue → Type 0)
+    (p q : Parsing S) (after : Held) (bytes : List ℕ) (n : ℕ) (events : List Event)
+    → FeedsAll p.scanner (take n bytes) after events
+    → StopsIn (Performs does) (Breaks does) (stage p) events (stage q) → StoppedWithin does p bytes q
 known_stopped does p q after bytes n events fed stops = λ s stands.
     let front = take n bytes in
     let rest = drop n bytes in
-    let here = subst (λ (all : List Event). StopsIn (Performs does) (Breaks does) (stage p) all (stage q)) (sym (fed s stands).1) stops in
-    let all = stops_first (Performs does) (Breaks does) (run s front).events (run (run s front).state rest).events (stage p) (stage q) here in
-    subst (λ (bs : List ℕ). StopsIn (Performs does) (Breaks does) (stage p) (run s bs).events (stage q)) (take-append-drop n bytes)
+    let here = subst (λ (all : List Event). StopsIn (Performs does) (Breaks does) (stage p) all (stage q))
+    (sym (fed s stands).1) stops in
+    let all = stops_first (Performs does) (Breaks does) (run s front).events
+    (run (run s front).state rest).events (stage p) (stage q) here in
+    subst (λ (bs : List ℕ). StopsIn (Performs does) (Breaks does) (stage p) (run s bs).events (stage q))
+    (take-append-drop n bytes)
     (rw (run-append s front rest) all)
 
 pub ruleset stops_later = (stops_then, stops_first)

@@ -13,7 +13,8 @@ use Rattle.vt_screen.specs.Screen.{IsScreen, ScreenValue, above_page}
 use Rattle.vt_screen.specs.Shown.{IsPlain}
 use Rattle.vt_screen.proofs.Asides.{above_none, height_resized, same_resized}
 
-plain_page : (rows cols : ℕ) (above : Scrollback) (page : Page) → 0 < rows → page.origin ≡ false → IsPlainPage (page_resized rows cols above page)
+plain_page : (rows cols : ℕ) (above : Scrollback) (page : Page) → 0 < rows →
+    page.origin ≡ false → IsPlainPage (page_resized rows cols above page)
 unfolding page_resized
 plain_page rows cols above page some origin =
     let tall = height_resized rows cols above page in
@@ -41,22 +42,36 @@ other_size rows cols screen = record screen {
 
 -- the screen in another size, or as it is
 by_size : (P : ScreenValue → Type 0) (rows cols : ℕ) (screen : ScreenValue)
-    → (length screen.page.rows ≡ rows → screen.page.width ≡ cols → P screen) → ((new : ScreenValue) → new.page ≡ page_resized rows cols (above_page screen) screen.page → (above_page new).offset ≡ 0 → P new) → P (resized rows cols screen)
+    → (length screen.page.rows ≡ rows → screen.page.width ≡ cols → P screen)
+    → ((new : ScreenValue) → new.page ≡ page_resized rows cols (above_page screen) screen.page
+    → (above_page new).offset ≡ 0 → P new)
+    → P (resized rows cols screen)
 by_size P rows cols screen same other = by_test (has_size rows cols screen) refl where
   by_test : (b : Bool) → has_size rows cols screen ≡ b → P (if b then screen else other_size rows cols screen)
   by_test true e = same (grind (arith, nat_tests, e)) (grind (arith, nat_tests, e))
   by_test false e = other (other_size rows cols screen) refl
-      (above_resized screen.is_alternate (scrollback_resized rows (main_page screen) screen.scrollback) (none_in_view rows (main_page screen) screen.scrollback))
+      (above_resized screen.is_alternate (scrollback_resized rows (main_page screen) screen.scrollback)
+      (none_in_view rows (main_page screen) screen.scrollback))
 
-pub resized_plain : (rows cols : ℕ) (screen : ScreenValue) → 0 < rows → IsPlain screen → IsPlain (resized rows cols screen)
+pub resized_plain : (rows cols : ℕ) (screen : ScreenValue) →
+    0 < rows → IsPlain screen → IsPlain (resized rows cols screen)
 resized_plain rows cols screen some plain =
     by_size IsPlain rows cols screen (λ _ _. plain)
-    (λ (new : ScreenValue) page offset. record { page = subst IsPlainPage (sym page) (plain_page rows cols (above_page screen) screen.page some plain.page.origin); offset = offset })
+    (λ (new : ScreenValue) page offset.
+    record {
+      page = subst IsPlainPage (sym page) (plain_page rows cols (above_page screen) screen.page some plain.page.origin);
+      offset = offset;
+    })
 
-pub resized_size : (rows cols : ℕ) (screen : ScreenValue) → ((resized rows cols screen).page.width ≡ cols) × (length (resized rows cols screen).page.rows ≡ rows)
+pub resized_size : (rows cols : ℕ) (screen : ScreenValue) →
+    ((resized rows cols screen).page.width ≡ cols) × (length (resized rows cols screen).page.rows ≡ rows)
 resized_size rows cols screen =
-    by_size (λ (new : ScreenValue). (new.page.width ≡ cols) × (length new.page.rows ≡ rows)) rows cols screen (λ tall wide. (wide, tall))
-    (λ (new : ScreenValue) page offset. (ap (λ (p : Page). p.width) page ∙ width_is rows cols (above_page screen) screen.page, ap (λ (p : Page). length p.rows) page ∙ height_resized rows cols (above_page screen) screen.page))
+    by_size (λ (new : ScreenValue). (new.page.width ≡ cols) × (length new.page.rows ≡ rows))
+    rows cols screen (λ tall wide. (wide, tall))
+    (λ (new : ScreenValue) page offset. (
+      ap (λ (p : Page). p.width) page ∙ width_is rows cols (above_page screen) screen.page,
+      ap (λ (p : Page). length p.rows) page ∙ height_resized rows cols (above_page screen) screen.page,
+    ))
 
 -- ---- a screen of another size is a screen
 
@@ -79,14 +94,16 @@ main_is screen is = by_test screen.is_alternate where
   by_other (Some page) p = p.0
   by_other None p =
       let page = is.page in
-      page_blank (length screen.page.rows) screen.page.width (omega (arith, page.cursor_row)) page.height page.has_columns page.columns
+      page_blank (length screen.page.rows) screen.page.width
+      (omega (arith, page.cursor_row)) page.height page.has_columns page.columns
 
   by_test : (b : Bool) → IsPage (if b then page_aside screen else screen.page)
   by_test true = by_other screen.other is.other
   by_test false = is.page
 
 other_is : (rows cols : ℕ) (above beyond : Scrollback) (page : Page) (other : Option Page)
-    → 0 < rows → rows < 2 ^ 16 → 0 < cols → cols < 2 ^ 16 → IsScrollback beyond → IfSome other (λ p. IsPage p × SameSize p page)
+    → 0 < rows → rows < 2 ^ 16 → 0 < cols → cols < 2 ^ 16
+    → IsScrollback beyond → IfSome other (λ p. IsPage p × SameSize p page)
     → IfSome (option_map (page_resized rows cols beyond) other)
     (λ p. IsPage p × SameSize p (page_resized rows cols above page))
 other_is rows cols above beyond page None a b c d s k = k
@@ -105,7 +122,8 @@ resized_is rows cols screen a b c d is = by_test (has_size rows cols screen) whe
   by_test false = record {
     page = page_page_resized rows cols (above_page screen) screen.page is.page (above_is screen is) a b c d;
     other =
-        other_is rows cols (above_page screen) (above_aside screen) screen.page screen.other a b c d (aside_is screen is) is.other;
+        other_is rows cols (above_page screen) (above_aside screen)
+        screen.page screen.other a b c d (aside_is screen is) is.other;
     entered = λ e. still_some (page_resized rows cols (above_aside screen)) screen.other (is.entered e);
     scrollback = scrollback_resized_is rows (main_page screen) screen.scrollback (main_is screen is) is.scrollback;
     last = is.last;

@@ -1,5 +1,6 @@
 -- Calls of a parser, one after the other: what is told of them, what is kept, and the one text of both.
-use Rattle.std.proofs.Common.{◌≡◌, ◌≢◌, ℕ, Bool, true, false, List, [], ◌∷◌, ◌++◌, map, refl, sym, ap, ap₂, subst, ◌∙◌, append_assoc}
+use Rattle.std.proofs.Common.{◌≡◌, ◌≢◌, ℕ, Bool, true, false, List, [], ◌∷◌, ◌++◌}
+use Rattle.std.proofs.Common.{map, refl, sym, ap, ap₂, subst, ◌∙◌, append_assoc}
 use Rattle.std.proofs.lemmas.List.{append-nil}
 use Rattle.std.specs.List.{AllByRecursion, FoldsTo}
 use Rattle.vt_grid.proofs.Pages.{page_blank}
@@ -13,7 +14,8 @@ use Rattle.vt_scan.proofs.Running.{run-append}
 use Rattle.vt_screen.specs.Calls.{CallValue}
 use Rattle.vt_screen.specs.Capture.{all_rows, basic_texts, written_after_all}
 use Rattle.vt_screen.specs.Screen.{ScreenValue, IsScreen, fresh_screen, scrolled_back}
-use Rattle.vt_screen.specs.Streamed.{AreAlike, HasNoRis, HasWideFlags, bare, ris, row_told, rows_told, sent_off_in, streamed_text}
+use Rattle.vt_screen.specs.Streamed.{AreAlike, HasNoRis, HasWideFlags, bare, ris}
+use Rattle.vt_screen.specs.Streamed.{row_told, rows_told, sent_off_in, streamed_text}
 use Rattle.vt_screen.specs.Telling.{Heard, LeavesScreen, calls_in, screen_in}
 use Rattle.vt_screen.proofs.Bare.{SameBare, bare_scrolled_back, both_screen_in, both_sent_in}
 use Rattle.vt_screen.proofs.EventSteps.{run_streams}
@@ -22,56 +24,80 @@ use Rattle.vt_screen.proofs.StepLists.{screen_in_then, sent_in_then}
 use Rattle.vt_screen.proofs.StreamedTexts.{after_then, streamed_is, texts_then}
 use Rattle.vt_screen.proofs.Streaming.{Held, Streamed, held_fresh, held_screen, streamed_then, view_streams}
 use Rattle.vt100.specs.Parser.{Parsing, Ran, stage}
-use Rattle.vt100.specs.Streams.{ParserCall, Process, SetScrollback, IsFreshParser, IsRecorder, MakesCall, bytes_of_calls, screen_by, told_by, whole_text}
+use Rattle.vt100.specs.Streams.{ParserCall, Process, SetScrollback, IsFreshParser, IsRecorder}
+use Rattle.vt100.specs.Streams.{MakesCall, bytes_of_calls, screen_by, told_by, whole_text}
 
 -- ---- what callbacks hear
 
-pub ran_heard : {S : Type 0} (does : CallValue → S → ScreenValue → S → ScreenValue → Type 0) → LeavesScreen does → (p q : Parsing S) (bytes : List ℕ) (scan : State) → StandsFor p.scanner scan → Ran does p bytes q
+pub ran_heard : {S : Type 0} (does : CallValue → S → ScreenValue → S → ScreenValue → Type 0) → LeavesScreen does
+    → (p q : Parsing S) (bytes : List ℕ) (scan : State) → StandsFor p.scanner scan → Ran does p bytes q
     → Hearing does (stage p) (calls_in scan p.screen bytes) (screen_in scan p.screen bytes) (stage q)
-ran_heard does leaves p q bytes scan stands ran = heard_events does leaves (run scan bytes).events (stage p) (stage q) (ran scan stands).1
+ran_heard does leaves p q bytes scan stands ran =
+    heard_events does leaves (run scan bytes).events (stage p) (stage q) (ran scan stands).1
 
 -- a list of calls was made
-pub record HasHeard {S : Type 0} (does : CallValue → S → ScreenValue → S → ScreenValue → Type 0) (scan : State) (screen : ScreenValue) (calls : List ParserCall) (p q : Parsing S) : Type 0 where
+pub record HasHeard {S : Type 0} (does : CallValue → S → ScreenValue → S → ScreenValue → Type 0)
+    (scan : State) (screen : ScreenValue) (calls : List ParserCall) (p q : Parsing S) : Type 0 where
   pub shown : q.screen ≡ screen_by scan screen calls
   pub heard : FoldsTo (Heard does) p.callbacks (told_by scan screen calls) q.callbacks
 
-pub calls_heard : {S : Type 0} (does : CallValue → S → ScreenValue → S → ScreenValue → Type 0) → LeavesScreen does → (calls : List ParserCall) (p q : Parsing S) (scan : State) → StandsFor p.scanner scan → FoldsTo (MakesCall does) p calls q
+pub calls_heard : {S : Type 0} (does : CallValue → S → ScreenValue → S → ScreenValue → Type 0)
+    → LeavesScreen does → (calls : List ParserCall) (p q : Parsing S) (scan : State)
+    → StandsFor p.scanner scan → FoldsTo (MakesCall does) p calls q
     → HasHeard does scan p.screen calls p q
-calls_heard {S} does leaves [] p q scan stands e = record { shown = sym (ap (λ (r : Parsing S). r.screen) e); heard = ap (λ (r : Parsing S). r.callbacks) e }
+calls_heard {S} does leaves [] p q scan stands e =
+    record { shown = sym (ap (λ (r : Parsing S). r.screen) e); heard = ap (λ (r : Parsing S). r.callbacks) e }
 calls_heard does leaves (Process bytes ∷ calls) p q scan stands t =
     let one = ran_heard does leaves p t.0 bytes scan stands t.1 in
-    let rest = subst (λ (screen : ScreenValue). HasHeard does (run scan bytes).state screen calls t.0 q) one.shown (calls_heard does leaves calls t.0 q (run scan bytes).state (t.1 scan stands).0 t.2) in
+    let rest = subst (λ (screen : ScreenValue). HasHeard does (run scan bytes).state screen calls t.0 q)
+    one.shown (calls_heard does leaves calls t.0 q (run scan bytes).state (t.1 scan stands).0 t.2) in
     record {
       shown = rest.shown;
-      heard = folds_then (Heard does) (calls_in scan p.screen bytes) (told_by (run scan bytes).state (screen_in scan p.screen bytes) calls) p.callbacks t.0.callbacks q.callbacks one.heard rest.heard;
+      heard =
+          folds_then (Heard does) (calls_in scan p.screen bytes)
+          (told_by (run scan bytes).state (screen_in scan p.screen bytes) calls)
+          p.callbacks t.0.callbacks q.callbacks one.heard rest.heard;
     }
 calls_heard {S} does leaves (SetScrollback rows ∷ calls) p q scan stands t =
     let now : Parsing S = record p { screen = scrolled_back rows p.screen } in
-    let rest = calls_heard does leaves calls now q scan stands (subst (λ (r : Parsing S). FoldsTo (MakesCall does) r calls q) t.1 t.2) in
+    let rest = calls_heard does leaves calls now q scan stands
+    (subst (λ (r : Parsing S). FoldsTo (MakesCall does) r calls q) t.1 t.2) in
     record { shown = rest.shown; heard = rest.heard }
 
 -- ---- what is told and kept
 
-all_parted : (xs ys : List Event) → AllByRecursion (λ event. event ≢ ris) (xs ++ ys) → AllByRecursion (λ event. event ≢ ris) xs × AllByRecursion (λ event. event ≢ ris) ys
+all_parted : (xs ys : List Event) → AllByRecursion (λ event. event ≢ ris) (xs ++ ys) →
+    AllByRecursion (λ event. event ≢ ris) xs × AllByRecursion (λ event. event ≢ ris) ys
 all_parted [] ys all = (tt, all)
 all_parted (x ∷ xs) ys all = let rest = all_parted xs ys all.1 in ((all.0, rest.0), rest.1)
 
 none_parted : (scan : State) (a b : List ℕ) → HasNoRis scan (a ++ b) → HasNoRis scan a × HasNoRis (run scan a).state b
 none_parted scan a b none =
-    all_parted (run scan a).events (run (run scan a).state b).events (subst (λ (o : Outcome). AllByRecursion (λ event. event ≢ ris) o.events) (run-append scan a b) none)
+    all_parted (run scan a).events (run (run scan a).state b).events
+    (subst (λ (o : Outcome). AllByRecursion (λ event. event ≢ ris) o.events) (run-append scan a b) none)
 
 -- from a screen, as against one that is the same but for scrollback, over the same bytes in one piece
 record Follows (told : List CallValue) (scan : State) (s r after : ScreenValue) (bytes : List ℕ) : Type 0 where
   streams : Streamed told (sent_off_in scan r bytes) s after
   same : SameBare after (screen_in scan r bytes)
 
-calls_stream : (calls : List ParserCall) (scan : State) (s r : ScreenValue) → SameBare s r → HasNoRis scan (bytes_of_calls calls) → Held s → Follows (told_by scan s calls) scan s r (screen_by scan s calls) (bytes_of_calls calls)
-calls_stream [] scan s r e none k = record { streams = record { held = k; alike = ap (map trimmed_row) (sym (append-nil s.scrollback.rows)) }; same = e }
+calls_stream : (calls : List ParserCall) (scan : State) (s r : ScreenValue) →
+    SameBare s r → HasNoRis scan (bytes_of_calls calls) → Held s →
+    Follows (told_by scan s calls) scan s r (screen_by scan s calls) (bytes_of_calls calls)
+calls_stream [] scan s r e none k = record {
+  streams = record { held = k; alike = ap (map trimmed_row) (sym (append-nil s.scrollback.rows)) };
+  same = e;
+}
 calls_stream (SetScrollback rows ∷ calls) scan s r e none k =
     let view = view_streams rows s k in
     let now = scrolled_back rows s in
     let rest = calls_stream calls scan now r (bare_scrolled_back rows s ∙ e) none view.held in
-    record { streams = streamed_then [] (told_by scan now calls) [] (sent_off_in scan r (bytes_of_calls calls)) s now (screen_by scan now calls) view rest.streams; same = rest.same }
+    record {
+      streams =
+          streamed_then [] (told_by scan now calls) [] (sent_off_in scan r (bytes_of_calls calls))
+          s now (screen_by scan now calls) view rest.streams;
+      same = rest.same;
+    }
 calls_stream (Process bytes ∷ calls) scan s r e none k =
     let more = bytes_of_calls calls in
     let parts = none_parted scan bytes more none in
@@ -80,29 +106,43 @@ calls_stream (Process bytes ∷ calls) scan s r e none k =
     let there = screen_in scan r bytes in
     let next = (run scan bytes).state in
     let rest = calls_stream calls next now there (both_screen_in scan s r bytes e) parts.1 one.held in
-    let both = streamed_then (calls_in scan s bytes) (told_by next now calls) (sent_off_in scan s bytes) (sent_off_in next there more) s now (screen_by next now calls) one rest.streams in
+    let both = streamed_then (calls_in scan s bytes) (told_by next now calls) (sent_off_in scan s bytes)
+    (sent_off_in next there more) s now (screen_by next now calls) one rest.streams in
     let gone : sent_off_in scan s bytes ++ sent_off_in next there more ≡ sent_off_in scan r (bytes ++ more)
-    = ap (λ (rows : List RowValue). rows ++ sent_off_in next there more) (both_sent_in scan s r bytes e) ∙ sym (sent_in_then scan r bytes more) in
+    = ap (λ (rows : List RowValue). rows ++ sent_off_in next there more) (both_sent_in scan s r bytes e)
+    ∙ sym (sent_in_then scan r bytes more) in
     record {
-      streams = subst (λ (rows : List RowValue). Streamed (calls_in scan s bytes ++ told_by next now calls) rows s (screen_by next now calls)) gone both;
+      streams =
+          subst (λ (rows : List RowValue). Streamed
+          (calls_in scan s bytes ++ told_by next now calls) rows s (screen_by next now calls))
+          gone both;
       same = rest.same ∙ ap bare (sym (screen_in_then scan r bytes more));
     }
 
-pub ran_keeps : {S : Type 0} (does : CallValue → S → ScreenValue → S → ScreenValue → Type 0) → LeavesScreen does → (p q : Parsing S) (bytes : List ℕ) (scan : State) → StandsFor p.scanner scan → Ran does p bytes q
+pub ran_keeps : {S : Type 0} (does : CallValue → S → ScreenValue → S → ScreenValue → Type 0) → LeavesScreen does
+    → (p q : Parsing S) (bytes : List ℕ) (scan : State) → StandsFor p.scanner scan → Ran does p bytes q
     → IsScreen p.screen → HasWideFlags p.screen → HasNoRis scan bytes
-    → FoldsTo (Heard does) p.callbacks (calls_in scan p.screen bytes) q.callbacks × AreAlike (rows_told (calls_in scan p.screen bytes) ++ q.screen.scrollback.rows) (p.screen.scrollback.rows ++ sent_off_in scan p.screen bytes)
+    → FoldsTo (Heard does) p.callbacks (calls_in scan p.screen bytes) q.callbacks
+    × AreAlike (rows_told (calls_in scan p.screen bytes) ++ q.screen.scrollback.rows)
+    (p.screen.scrollback.rows ++ sent_off_in scan p.screen bytes)
 ran_keeps does leaves p q bytes scan stands ran is wide none =
     let hears = ran_heard does leaves p q bytes scan stands ran in
     let calls = calls_in scan p.screen bytes in (
       hears.heard,
-      subst (λ (t : ScreenValue). AreAlike (rows_told calls ++ t.scrollback.rows) (p.screen.scrollback.rows ++ sent_off_in scan p.screen bytes)) (sym hears.shown)
+      subst (λ (t : ScreenValue). AreAlike (rows_told calls ++ t.scrollback.rows)
+          (p.screen.scrollback.rows ++ sent_off_in scan p.screen bytes))
+          (sym hears.shown)
           (run_streams scan p.screen bytes none (held_screen p.screen is wide)).alike,
     )
 
 -- ---- one text
 
-pub text_by : (rows cols capacity : ℕ) (calls : List ParserCall) → Held (fresh_screen rows cols capacity) → HasNoRis start (bytes_of_calls calls) → (screen_by start (fresh_screen rows cols capacity) calls).is_alternate ≡ false
-    → streamed_text (told_by start (fresh_screen rows cols capacity) calls) (screen_by start (fresh_screen rows cols capacity) calls) ≡ whole_text rows cols (bytes_of_calls calls)
+pub text_by : (rows cols capacity : ℕ) (calls : List ParserCall)
+    → Held (fresh_screen rows cols capacity) → HasNoRis start (bytes_of_calls calls)
+    → (screen_by start (fresh_screen rows cols capacity) calls).is_alternate ≡ false
+    → streamed_text (told_by start (fresh_screen rows cols capacity) calls)
+    (screen_by start (fresh_screen rows cols capacity) calls)
+    ≡ whole_text rows cols (bytes_of_calls calls)
 text_by rows cols capacity calls held none main =
     let s = fresh_screen rows cols capacity in
     let r = fresh_screen rows cols 0 in
@@ -111,12 +151,17 @@ text_by rows cols capacity calls held none main =
     streamed_is (told_by start s calls) (sent_off_in start r bytes) s (screen_by start s calls) k.streams refl main
     ∙ ap (λ (t : ScreenValue). basic_texts unwritten (sent_off_in start r bytes ++ t.page.rows)) k.same
 
-pub one_text : {S : Type 0} (does : CallValue → S → ScreenValue → S → ScreenValue → Type 0) → LeavesScreen does → (rows cols capacity : ℕ) (p q : Parsing S) (calls : List ParserCall) → IsFreshParser rows cols capacity p
-    → HasNoRis start (bytes_of_calls calls) → FoldsTo (MakesCall does) p calls q → q.screen.is_alternate ≡ false → streamed_text (told_by start p.screen calls) q.screen ≡ whole_text rows cols (bytes_of_calls calls)
+pub one_text : {S : Type 0} (does : CallValue → S → ScreenValue → S → ScreenValue → Type 0) → LeavesScreen does
+    → (rows cols capacity : ℕ) (p q : Parsing S) (calls : List ParserCall) → IsFreshParser rows cols capacity p
+    → HasNoRis start (bytes_of_calls calls) → FoldsTo (MakesCall does) p calls q → q.screen.is_alternate ≡ false
+    → streamed_text (told_by start p.screen calls) q.screen ≡ whole_text rows cols (bytes_of_calls calls)
 one_text does leaves rows cols capacity p q calls fresh none makes main =
     let s = fresh_screen rows cols capacity in
-    let there : q.screen ≡ screen_by start s calls = (calls_heard does leaves calls p q start fresh.begun makes).shown ∙ ap (λ (t : ScreenValue). screen_by start t calls) fresh.shown in
-    let held = held_fresh rows cols capacity (page_blank rows cols fresh.has_rows fresh.few_rows fresh.has_columns fresh.few_columns) in
+    let there : q.screen ≡ screen_by start s calls =
+    (calls_heard does leaves calls p q start fresh.begun makes).shown
+    ∙ ap (λ (t : ScreenValue). screen_by start t calls) fresh.shown in
+    let held = held_fresh rows cols capacity
+    (page_blank rows cols fresh.has_rows fresh.few_rows fresh.has_columns fresh.few_columns) in
     ap (λ (t : ScreenValue). streamed_text (told_by start t calls) q.screen) fresh.shown
     ∙ (ap (streamed_text (told_by start s calls)) there
     ∙ text_by rows cols capacity calls held none (sym (ap (λ (t : ScreenValue). t.is_alternate) there) ∙ main))
@@ -124,15 +169,23 @@ one_text does leaves rows cols capacity p q calls fresh none makes main =
 -- ---- recorders
 
 -- what a recorder has written, after these calls
-record HasRecorded {S : Type 0} (text_of : S → List ℕ) (state_of : S → Written) (is_whole : S → Bool) (calls : List CallValue) (old new : S) : Type 0 where
+record HasRecorded {S : Type 0} (text_of : S → List ℕ) (state_of : S → Written)
+    (is_whole : S → Bool) (calls : List CallValue) (old new : S) : Type 0 where
   whole : is_whole old ≡ true
   text : text_of new ≡ text_of old ++ basic_texts (state_of old) (rows_told calls)
   state : state_of new ≡ written_after_all (state_of old) (rows_told calls)
 
-has_recorded : {S : Type 0} (does : CallValue → S → ScreenValue → S → ScreenValue → Type 0) (text_of : S → List ℕ) (state_of : S → Written) (is_whole : S → Bool) → IsRecorder does text_of state_of is_whole → (calls : List CallValue) (old new : S) → FoldsTo (Heard does) old calls new → is_whole new ≡ true
+has_recorded : {S : Type 0} (does : CallValue → S → ScreenValue → S → ScreenValue → Type 0)
+    (text_of : S → List ℕ) (state_of : S → Written) (is_whole : S → Bool)
+    → IsRecorder does text_of state_of is_whole → (calls : List CallValue) (old new : S)
+    → FoldsTo (Heard does) old calls new → is_whole new ≡ true
     → HasRecorded text_of state_of is_whole calls old new
 has_recorded does text_of state_of is_whole r [] old new e w =
-    record { whole = ap is_whole e ∙ w; text = ap text_of (sym e) ∙ sym (append-nil (text_of old)); state = ap state_of (sym e) }
+    record {
+      whole = ap is_whole e ∙ w;
+      text = ap text_of (sym e) ∙ sym (append-nil (text_of old));
+      state = ap state_of (sym e);
+    }
 has_recorded does text_of state_of is_whole r (call ∷ calls) old new t w =
     let mid = t.0 in
     let does_it = t.1.1 in
@@ -145,18 +198,28 @@ has_recorded does text_of state_of is_whole r (call ∷ calls) old new t w =
       whole = r.whole call old mid t.1.0 t.1.0 does_it rest.whole;
       text = rest.text
           ∙ (ap₂ (λ (xs : List ℕ) (v : Written). xs ++ basic_texts v told) text state
-          ∙ (append_assoc (text_of old) (basic_texts (state_of old) here) (basic_texts (written_after_all (state_of old) here) told)
+          ∙ (append_assoc (text_of old) (basic_texts (state_of old) here)
+          (basic_texts (written_after_all (state_of old) here) told)
           ∙ ap (λ (xs : List ℕ). text_of old ++ xs) (sym (texts_then (state_of old) here told))));
-      state = rest.state ∙ (ap (λ (v : Written). written_after_all v told) state ∙ sym (after_then (state_of old) here told));
+      state =
+          rest.state
+          ∙ (ap (λ (v : Written). written_after_all v told) state ∙ sym (after_then (state_of old) here told));
     }
 
-pub recorded_text : {S : Type 0} (does : CallValue → S → ScreenValue → S → ScreenValue → Type 0) (text_of : S → List ℕ) (state_of : S → Written) (is_whole : S → Bool) → IsRecorder does text_of state_of is_whole → (rows cols capacity : ℕ) (p q : Parsing S) (calls : List ParserCall)
-    → IsFreshParser rows cols capacity p → text_of p.callbacks ≡ [] → state_of p.callbacks ≡ unwritten → HasNoRis start (bytes_of_calls calls) → FoldsTo (MakesCall does) p calls q → q.screen.is_alternate ≡ false → is_whole q.callbacks ≡ true
-    → text_of q.callbacks ++ basic_texts (state_of q.callbacks) (all_rows q.screen) ≡ whole_text rows cols (bytes_of_calls calls)
+pub recorded_text : {S : Type 0} (does : CallValue → S → ScreenValue → S → ScreenValue → Type 0)
+    (text_of : S → List ℕ) (state_of : S → Written) (is_whole : S → Bool)
+    → IsRecorder does text_of state_of is_whole → (rows cols capacity : ℕ) (p q : Parsing S) (calls : List ParserCall)
+    → IsFreshParser rows cols capacity p → text_of p.callbacks ≡ []
+    → state_of p.callbacks ≡ unwritten → HasNoRis start (bytes_of_calls calls)
+    → FoldsTo (MakesCall does) p calls q → q.screen.is_alternate ≡ false → is_whole q.callbacks ≡ true
+    → text_of q.callbacks ++ basic_texts (state_of q.callbacks) (all_rows q.screen)
+    ≡ whole_text rows cols (bytes_of_calls calls)
 recorded_text does text_of state_of is_whole r rows cols capacity p q calls fresh empty begun none makes main w =
     let told = told_by start p.screen calls in
     let heard = (calls_heard does r.leaves calls p q start fresh.begun makes).heard in
     let done = has_recorded does text_of state_of is_whole r told p.callbacks q.callbacks heard w in
     ap₂ (λ (xs : List ℕ) (v : Written). xs ++ basic_texts v (all_rows q.screen)) done.text done.state
-    ∙ (ap₂ (λ (xs : List ℕ) (v : Written). (xs ++ basic_texts v (rows_told told)) ++ basic_texts (written_after_all v (rows_told told)) (all_rows q.screen)) empty begun
+    ∙ (ap₂ (λ (xs : List ℕ) (v : Written). (xs ++ basic_texts v (rows_told told))
+    ++ basic_texts (written_after_all v (rows_told told)) (all_rows q.screen))
+    empty begun
     ∙ one_text does r.leaves rows cols capacity p q calls fresh none makes main)

@@ -3,21 +3,25 @@ use Rattle.std.specs.Prelude.{◌≡◌, Bool, true, false, List, map, Option, S
 use Rattle.std.specs.List.{FoldsTo}
 use Rattle.vt_screen.specs.Calls.{CallValue, UnhandledCsi}
 use Rattle.vt_screen.specs.Screen.{ScreenValue}
-use Rattle.vt_screen.specs.Steps.{Step, Print, LineFeed, ScrollUp, EnterAlternate, EnterFresh, EraseScrollback, Tell, stepped}
+use Rattle.vt_screen.specs.Steps.{Step, Print, LineFeed, ScrollUp, EnterAlternate}
+use Rattle.vt_screen.specs.Steps.{EnterFresh, EraseScrollback, Tell, stepped}
 use Rattle.vt_screen.specs.Run.{Refuses, StopsIn, Takes, state}
 use Rattle.vt100.specs.declared.sequence.Sequence.{Sequence}
 
 -- these steps, one after the other
-abbrev pub Does : {S : Type 0} → (CallValue → S → ScreenValue → S → ScreenValue → Type 0) → S → ScreenValue → List Step → S → ScreenValue → Type 0
+abbrev pub Does : {S : Type 0} → (CallValue → S → ScreenValue → S → ScreenValue → Type 0) →
+    S → ScreenValue → List Step → S → ScreenValue → Type 0
 Does does old before steps new after = FoldsTo (Takes does) (state old before) steps (state new after)
 
 -- some of these steps, and then one that is refused for want of memory
-abbrev pub Stops : {S : Type 0} → (CallValue → S → ScreenValue → S → ScreenValue → Type 0) → S → ScreenValue → List Step → S → ScreenValue → Type 0
+abbrev pub Stops : {S : Type 0} → (CallValue → S → ScreenValue → S → ScreenValue → Type 0) →
+    S → ScreenValue → List Step → S → ScreenValue → Type 0
 Stops does old before steps new after = StopsIn (Takes does) Refuses (state old before) steps (state new after)
 
 -- the report of a control sequence
 abbrev pub report_of : Sequence → CallValue
-report_of sequence = UnhandledCsi sequence.first sequence.second (map (λ group. group.now) sequence.groups.now) sequence.byte
+report_of sequence =
+    UnhandledCsi sequence.first sequence.second (map (λ group. group.now) sequence.groups.now) sequence.byte
 
 -- a step that calls nobody, takes no memory, and scrolls no row off the page
 abbrev pub is_own : Step → Bool

@@ -21,46 +21,55 @@ pub record Parsing (S : Type 0) : Type 0 where
 
 -- a parser that didn't run out of memory
 abbrev pub parsing : {S : Type 0} → Held → ScreenValue → S → Parsing S
-parsing scanner screen callbacks = record { scanner = scanner; screen = screen; callbacks = callbacks; is_failed = false }
+parsing scanner screen callbacks =
+    record { scanner = scanner; screen = screen; callbacks = callbacks; is_failed = false }
 
 -- what the steps of events act on
 abbrev pub stage : {S : Type 0} → Parsing S → screen.State S
 stage parser = screen.state parser.callbacks parser.screen
 
--- a run over bytes: from each state that the scanner stood for, it then stands for the one after these bytes, and callbacks and
--- screen have taken the steps of all events on the way, one after the other
-abbrev pub Ran : {S : Type 0} → (CallValue → S → ScreenValue → S → ScreenValue → Type 0) → Parsing S → List ℕ → Parsing S → Type 0
+-- a run over bytes: from each state that the scanner stood for, it then stands for the one after these bytes, and
+-- callbacks and screen have taken the steps of all events on the way, one after the other
+abbrev pub Ran : {S : Type 0} → (CallValue → S → ScreenValue → S → ScreenValue → Type 0) →
+    Parsing S → List ℕ → Parsing S → Type 0
 Ran does old bytes new =
     (state : State) → StandsFor old.scanner state
-    → StandsFor new.scanner (scan.run state bytes).state × FoldsTo (Performs does) (stage old) (scan.run state bytes).events (stage new)
+    → StandsFor new.scanner (scan.run state bytes).state
+    × FoldsTo (Performs does) (stage old) (scan.run state bytes).events (stage new)
 
 -- the byte at k is one that is collected into the text of an operating system command, and so may take memory
 abbrev pub Collects : State → List ℕ → ℕ → Type 0
-Collects state bytes k = turn_of (scan.run state (take k bytes)).state.kind (class_of (slice_index_or bytes k 0)) ≡ Collect OscString
+Collects state bytes k =
+    turn_of (scan.run state (take k bytes)).state.kind (class_of (slice_index_or bytes k 0)) ≡ Collect OscString
 
 -- a run that ended before a byte that may take memory: all bytes before it were read, and nothing else was done
-pub record StoppedBefore {S : Type 0} (does : CallValue → S → ScreenValue → S → ScreenValue → Type 0) (old : Parsing S) (bytes : List ℕ) (new : Parsing S) : Type 0 where
+pub record StoppedBefore {S : Type 0} (does : CallValue → S → ScreenValue → S → ScreenValue → Type 0)
+    (old : Parsing S) (bytes : List ℕ) (new : Parsing S) : Type 0 where
   pub count : ℕ
   pub inside : count < length bytes
   pub ran : Ran does old (take count bytes) new
   pub refused : (state : State) → StandsFor old.scanner state → Collects state bytes count
 
--- a run that ended within the events of its bytes, before a step that takes memory: the steps before it were taken, and nothing else
--- was done; where the scanner stands then is open, since the parser reads no more
-abbrev pub StoppedWithin : {S : Type 0} → (CallValue → S → ScreenValue → S → ScreenValue → Type 0) → Parsing S → List ℕ → Parsing S → Type 0
+-- a run that ended within the events of its bytes, before a step that takes memory: the steps before it were taken, and
+-- nothing else was done; where the scanner stands then is open, since the parser reads no more
+abbrev pub StoppedWithin : {S : Type 0} → (CallValue → S → ScreenValue → S → ScreenValue → Type 0) →
+    Parsing S → List ℕ → Parsing S → Type 0
 StoppedWithin does old bytes new =
-    (state : State) → StandsFor old.scanner state → StopsIn (Performs does) (Breaks does) (stage old) (scan.run state bytes).events (stage new)
+    (state : State) → StandsFor old.scanner state →
+    StopsIn (Performs does) (Breaks does) (stage old) (scan.run state bytes).events (stage new)
 
 -- callbacks that do nothing, and leave the screen
 abbrev pub quietly : CallValue → Unit {0} → ScreenValue → Unit {0} → ScreenValue → Type 0
 quietly call old before new after = (new ≡ old) × (after ≡ before)
 
 -- a run that ended for want of memory
-abbrev pub Stopped : {S : Type 0} → (CallValue → S → ScreenValue → S → ScreenValue → Type 0) → Parsing S → List ℕ → Parsing S → Type 0
+abbrev pub Stopped : {S : Type 0} → (CallValue → S → ScreenValue → S → ScreenValue → Type 0) →
+    Parsing S → List ℕ → Parsing S → Type 0
 Stopped does old bytes new = StoppedBefore does old bytes new ⊎ StoppedWithin does old bytes new
 
 -- no run over these bytes comes to a step that takes memory
-abbrev pub IsHarmless : {S : Type 0} → (CallValue → S → ScreenValue → S → ScreenValue → Type 0) → Parsing S → List ℕ → Type 0
+abbrev pub IsHarmless : {S : Type 0} →
+    (CallValue → S → ScreenValue → S → ScreenValue → Type 0) → Parsing S → List ℕ → Type 0
 IsHarmless {S} does old bytes = (new : Parsing S) → Stopped does old bytes new → ⊥
 
 -- pieces put together

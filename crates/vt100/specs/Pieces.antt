@@ -30,7 +30,8 @@ pub record HasRead {S : Type 0} (old : Parsing S) (after : Terminal) (new : Pars
 -- what a call of `process` does where its bytes are read quietly: it answers Ok, and they are read
 abbrev pub Processes : {S : Type 0} → Parsing S → Processing → Parsing S → Type 0
 Processes old call new =
-    (state : State) → (after : Terminal) → old.is_failed ≡ false → StandsFor old.scanner state → read (terminal state old.screen) call.bytes ≡ Some after
+    (state : State) → (after : Terminal) → old.is_failed ≡ false
+    → StandsFor old.scanner state → read (terminal state old.screen) call.bytes ≡ Some after
     → IsFine call × HasRead old after new
 
 -- the bytes of calls, one after the other

@@ -1,4 +1,5 @@
--- Calls of a parser between which its screen is scrolled back and forth: what they tell the callbacks, and the one text of what is told and captured.
+-- Calls of a parser between which its screen is scrolled back and forth: what they tell the callbacks,
+-- and the one text of what is told and captured.
 use Rattle.std.specs.Prelude.{◌≡◌, ℕ, ◌<◌, ◌^◌, Bool, true, List, [], ◌∷◌, ◌++◌}
 use Rattle.vt_rows.specs.Basic.{Written, unwritten}
 use Rattle.vt_scan.specs.Automaton.{State, start}
@@ -17,7 +18,8 @@ pub data ParserCall : Type 0 where
   SetScrollback : (rows : ℕ) → ParserCall
 
 -- what such a call does that answers Ok
-abbrev pub MakesCall : {S : Type 0} → (CallValue → S → ScreenValue → S → ScreenValue → Type 0) → Parsing S → ParserCall → Parsing S → Type 0
+abbrev pub MakesCall : {S : Type 0} → (CallValue → S → ScreenValue → S → ScreenValue → Type 0) →
+    Parsing S → ParserCall → Parsing S → Type 0
 MakesCall does old (Process bytes) new = Ran does old bytes new
 MakesCall does old (SetScrollback rows) new = new ≡ record old { screen = scrolled_back rows old.screen }
 
@@ -30,7 +32,8 @@ bytes_of_calls (SetScrollback rows ∷ calls) = bytes_of_calls calls
 -- what they tell callbacks that leave the screen alone, and the screen after them
 abbrev pub told_by : State → ScreenValue → List ParserCall → List CallValue
 told_by scan screen [] = []
-told_by scan screen (Process bytes ∷ calls) = calls_in scan screen bytes ++ told_by (run scan bytes).state (screen_in scan screen bytes) calls
+told_by scan screen (Process bytes ∷ calls) =
+    calls_in scan screen bytes ++ told_by (run scan bytes).state (screen_in scan screen bytes) calls
 told_by scan screen (SetScrollback rows ∷ calls) = told_by scan (scrolled_back rows screen) calls
 
 abbrev pub screen_by : State → ScreenValue → List ParserCall → ScreenValue
@@ -53,10 +56,14 @@ whole_text rows cols bytes =
     let fresh = fresh_screen rows cols 0 in
     basic_texts unwritten (sent_off_in start fresh bytes ++ (screen_in start fresh bytes).page.rows)
 
--- callbacks that write each row that is reported of the main page behind their text, with one state of captures; they may not be
--- whole any more where their sink refused some of it
-pub record IsRecorder {S : Type 0} (does : CallValue → S → ScreenValue → S → ScreenValue → Type 0) (text_of : S → List ℕ) (state_of : S → Written) (is_whole : S → Bool) : Type 0 where
+-- callbacks that write each row that is reported of the main page behind their text, with one state of captures; they
+-- may not be whole any more where their sink refused some of it
+pub record IsRecorder {S : Type 0} (does : CallValue → S → ScreenValue → S → ScreenValue → Type 0)
+    (text_of : S → List ℕ) (state_of : S → Written) (is_whole : S → Bool) : Type 0 where
   pub leaves : LeavesScreen does
-  pub whole : (call : CallValue) (old new : S) (before after : ScreenValue) → does call old before new after → is_whole new ≡ true → is_whole old ≡ true
-  pub text : (call : CallValue) (old new : S) (before after : ScreenValue) → does call old before new after → is_whole new ≡ true → text_of new ≡ text_of old ++ basic_texts (state_of old) (row_told call)
-  pub state : (call : CallValue) (old new : S) (before after : ScreenValue) → does call old before new after → is_whole new ≡ true → state_of new ≡ written_after_all (state_of old) (row_told call)
+  pub whole : (call : CallValue) (old new : S) (before after : ScreenValue) →
+      does call old before new after → is_whole new ≡ true → is_whole old ≡ true
+  pub text : (call : CallValue) (old new : S) (before after : ScreenValue) → does call old before new after →
+      is_whole new ≡ true → text_of new ≡ text_of old ++ basic_texts (state_of old) (row_told call)
+  pub state : (call : CallValue) (old new : S) (before after : ScreenValue) → does call old before new after →
+      is_whole new ≡ true → state_of new ≡ written_after_all (state_of old) (row_told call)

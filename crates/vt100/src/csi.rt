@@ -4,7 +4,9 @@ ghost use Rattle.std.specs.Prelude.{◌≡◌, ◌-◌, ◌<◌, IfOk, IsErr, No
 ghost use Rattle.vt_cells.specs.Refusals.{OnlyOutOfMemory};
 ghost use Rattle.vt100.specs.Keeping.{Does, MadeIf, Stops, report_of};
 ghost use Rattle.vt_screen.specs.Calls.{UnhandledCsi};
-ghost use Rattle.vt_screen.specs.Controls.{counted_step, csi_steps, marked_steps, number_at, number_or, other_steps, scrolling_steps, page_erasing, plain_steps, private_steps, repeated, row_erasing, size_or, space_steps, style_of, window_steps, seen_of};
+ghost use Rattle.vt_screen.specs.Controls.{counted_step, csi_steps, marked_steps, number_at, number_or, other_steps};
+ghost use Rattle.vt_screen.specs.Controls.{scrolling_steps, page_erasing, plain_steps, private_steps, repeated};
+ghost use Rattle.vt_screen.specs.Controls.{row_erasing, size_or, space_steps, style_of, window_steps, seen_of};
 ghost use Rattle.vt_screen.specs.Steps.{stepped};
 ghost use Rattle.vt_screen.specs.Steps as step;
 
@@ -22,8 +24,12 @@ pub fn perform<CB: Callbacks>(
     marks: &[u8],
     byte: u8,
 ) -> Result<(), Error>
-    ensures done { IfOk result (λ _. Does CB.does callbacks.old screen.old (csi_steps (map (λ group. group.now) groups.now) marks.now byte (seen_of screen.old)) callbacks.new screen.new) }
-    ensures stopped { IsErr result → Stops CB.does callbacks.old screen.old (csi_steps (map (λ group. group.now) groups.now) marks.now byte (seen_of screen.old)) callbacks.new screen.new }
+    ensures done { IfOk result (λ _. Does CB.does callbacks.old screen.old
+        (csi_steps (map (λ group. group.now) groups.now) marks.now byte (seen_of screen.old))
+        callbacks.new screen.new) }
+    ensures stopped { IsErr result →
+        Stops CB.does callbacks.old screen.old
+        (csi_steps (map (λ group. group.now) groups.now) marks.now byte (seen_of screen.old)) callbacks.new screen.new }
     ensures memory { OnlyOutOfMemory result }
 {
     let Some(mark) = numbers::mark_at(marks, 0) else {
@@ -46,8 +52,11 @@ fn plain<CB: Callbacks>(
     groups: &[&[u16]],
     byte: u8,
 ) -> Result<(), Error>
-    ensures done { IfOk result (λ _. Does CB.does callbacks.old screen.old (plain_steps (map (λ group. group.now) groups.now) byte (seen_of screen.old)) callbacks.new screen.new) }
-    ensures stopped { IsErr result → Stops CB.does callbacks.old screen.old (plain_steps (map (λ group. group.now) groups.now) byte (seen_of screen.old)) callbacks.new screen.new }
+    ensures done { IfOk result (λ _. Does CB.does callbacks.old screen.old
+        (plain_steps (map (λ group. group.now) groups.now) byte (seen_of screen.old)) callbacks.new screen.new) }
+    ensures stopped { IsErr result →
+        Stops CB.does callbacks.old screen.old
+        (plain_steps (map (λ group. group.now) groups.now) byte (seen_of screen.old)) callbacks.new screen.new }
     ensures memory { OnlyOutOfMemory result }
 {
     if counted(screen, byte, numbers::number_or(1, groups, 0)) {
@@ -69,9 +78,15 @@ fn scrolling<CB: Callbacks>(
     callbacks: &mut CB,
     sequence: Sequence<'_>,
 ) -> Result<(), Error>
-    requires { report_of sequence ≡ UnhandledCsi None None (map (λ group. group.now) sequence.groups.now) sequence.byte }
-    ensures done { IfOk result (λ _. Does CB.does callbacks.old screen.old (scrolling_steps (map (λ group. group.now) sequence.entry.groups.now) sequence.entry.byte (seen_of screen.old)) callbacks.new screen.new) }
-    ensures stopped { IsErr result → Stops CB.does callbacks.old screen.old (scrolling_steps (map (λ group. group.now) sequence.entry.groups.now) sequence.entry.byte (seen_of screen.old)) callbacks.new screen.new }
+    requires { report_of sequence
+        ≡ UnhandledCsi None None (map (λ group. group.now) sequence.groups.now) sequence.byte }
+    ensures done { IfOk result (λ _. Does CB.does callbacks.old screen.old
+        (scrolling_steps (map (λ group. group.now) sequence.entry.groups.now) sequence.entry.byte (seen_of screen.old))
+        callbacks.new screen.new) }
+    ensures stopped { IsErr result →
+        Stops CB.does callbacks.old screen.old
+        (scrolling_steps (map (λ group. group.now) sequence.entry.groups.now) sequence.entry.byte (seen_of screen.old))
+        callbacks.new screen.new }
     ensures memory { OnlyOutOfMemory result }
 {
     let count = numbers::number_or(1, sequence.groups, 0);
@@ -117,8 +132,11 @@ fn counted(screen: &mut Screen, byte: u8, count: u16) -> bool
 /// The other control sequences without a marker or an intermediate.
 #[tactic(auto, using(crate::proofs::Stepping::tested_steps), unfolding(vt_screen::specs::Controls::other_steps))]
 fn other<CB: Callbacks>(screen: &mut Screen, callbacks: &mut CB, sequence: Sequence<'_>)
-    requires { report_of sequence ≡ UnhandledCsi None None (map (λ group. group.now) sequence.groups.now) sequence.byte }
-    ensures { Does CB.does callbacks.old screen.old (other_steps (map (λ group. group.now) sequence.entry.groups.now) sequence.entry.byte (seen_of screen.old)) callbacks.new screen.new }
+    requires { report_of sequence
+        ≡ UnhandledCsi None None (map (λ group. group.now) sequence.groups.now) sequence.byte }
+    ensures { Does CB.does callbacks.old screen.old
+        (other_steps (map (λ group. group.now) sequence.entry.groups.now) sequence.entry.byte (seen_of screen.old))
+        callbacks.new screen.new }
 {
     match sequence.byte {
         b'H' | b'f' => move_to(screen, sequence.groups),
@@ -133,7 +151,10 @@ fn other<CB: Callbacks>(screen: &mut Screen, callbacks: &mut CB, sequence: Seque
 
 /// CUP, whose numbers count from 1.
 fn move_to(screen: &mut Screen, groups: &[&[u16]])
-    ensures { screen.new ≡ stepped (step.MoveTo (number_or 1 0 (map (λ group. group.now) groups.now) - 1) (number_or 1 1 (map (λ group. group.now) groups.now) - 1)) screen.old }
+    ensures { screen.new
+        ≡ stepped (step.MoveTo (number_or 1 0 (map (λ group. group.now) groups.now) - 1)
+        (number_or 1 1 (map (λ group. group.now) groups.now) - 1))
+        screen.old }
 {
     let row = numbers::number_or(1, groups, 0);
     let col = numbers::number_or(1, groups, 1);
@@ -142,7 +163,10 @@ fn move_to(screen: &mut Screen, groups: &[&[u16]])
 
 /// DECSTBM, whose numbers count from 1; without the second one, to the last row.
 fn set_region(screen: &mut Screen, groups: &[&[u16]])
-    ensures { screen.new ≡ stepped (step.SetRegion (number_or 1 0 (map (λ group. group.now) groups.now) - 1) (number_or (length screen.old.page.rows) 1 (map (λ group. group.now) groups.now) - 1)) screen.old }
+    ensures { screen.new
+        ≡ stepped (step.SetRegion (number_or 1 0 (map (λ group. group.now) groups.now) - 1)
+        (number_or (length screen.old.page.rows) 1 (map (λ group. group.now) groups.now) - 1))
+        screen.old }
 {
     let (rows, _) = screen.size();
     let top = numbers::number_or(1, groups, 0);
@@ -153,7 +177,9 @@ fn set_region(screen: &mut Screen, groups: &[&[u16]])
 /// ED.
 #[tactic(auto, using(crate::proofs::Stepping::steps_taken), unfolding(vt_screen::specs::Controls::page_erasing))]
 fn erase_page<CB: Callbacks>(screen: &mut Screen, callbacks: &mut CB, sequence: Sequence<'_>)
-    ensures { Does CB.does callbacks.old screen.old (page_erasing (report_of sequence.entry) (number_at 0 (map (λ group. group.now) sequence.entry.groups.now))) callbacks.new screen.new }
+    ensures { Does CB.does callbacks.old screen.old
+        (page_erasing (report_of sequence.entry) (number_at 0 (map (λ group. group.now) sequence.entry.groups.now)))
+        callbacks.new screen.new }
 {
     match numbers::number_at(sequence.groups, 0) {
         0 => screen.erase_below(),
@@ -167,7 +193,9 @@ fn erase_page<CB: Callbacks>(screen: &mut Screen, callbacks: &mut CB, sequence: 
 /// EL.
 #[tactic(auto, using(crate::proofs::Stepping::tested_steps), unfolding(vt_screen::specs::Controls::row_erasing))]
 fn erase_row<CB: Callbacks>(screen: &mut Screen, callbacks: &mut CB, sequence: Sequence<'_>)
-    ensures { Does CB.does callbacks.old screen.old (row_erasing (report_of sequence.entry) (number_at 0 (map (λ group. group.now) sequence.entry.groups.now))) callbacks.new screen.new }
+    ensures { Does CB.does callbacks.old screen.old
+        (row_erasing (report_of sequence.entry) (number_at 0 (map (λ group. group.now) sequence.entry.groups.now)))
+        callbacks.new screen.new }
 {
     match numbers::number_at(sequence.groups, 0) {
         0 => screen.erase_rest(),
@@ -179,8 +207,10 @@ fn erase_row<CB: Callbacks>(screen: &mut Screen, callbacks: &mut CB, sequence: S
 
 /// REP: the last character, so many times, up to one whose memory is refused.
 fn repeat<CB: Callbacks>(screen: &mut Screen, callbacks: &mut CB, count: u16) -> Result<(), Error>
-    ensures done { IfOk result (λ _. Does CB.does callbacks.old screen.old (repeated count screen.old.last) callbacks.new screen.new) }
-    ensures stopped { IsErr result → Stops CB.does callbacks.old screen.old (repeated count screen.old.last) callbacks.new screen.new }
+    ensures done { IfOk result
+        (λ _. Does CB.does callbacks.old screen.old (repeated count screen.old.last) callbacks.new screen.new) }
+    ensures stopped { IsErr result →
+        Stops CB.does callbacks.old screen.old (repeated count screen.old.last) callbacks.new screen.new }
     ensures memory { OnlyOutOfMemory result }
 {
     let Some(character) = screen.last_char() else {
@@ -196,7 +226,9 @@ fn repeat<CB: Callbacks>(screen: &mut Screen, callbacks: &mut CB, count: u16) ->
 #[tactic(auto, using(crate::proofs::Stepping::tested_steps), unfolding(vt_screen::specs::Controls::window_steps))]
 fn window<CB: Callbacks>(screen: &mut Screen, callbacks: &mut CB, sequence: Sequence<'_>)
     requires { report_of sequence ≡ UnhandledCsi None None (map (λ group. group.now) sequence.groups.now) 0x74 }
-    ensures { Does CB.does callbacks.old screen.old (window_steps (map (λ group. group.now) sequence.entry.groups.now) (seen_of screen.old)) callbacks.new screen.new }
+    ensures { Does CB.does callbacks.old screen.old
+        (window_steps (map (λ group. group.now) sequence.entry.groups.now) (seen_of screen.old))
+        callbacks.new screen.new }
 {
     if numbers::number_at(sequence.groups, 0) != 8 {
         sequence.report(screen, callbacks);
@@ -227,8 +259,15 @@ fn marked<CB: Callbacks>(
     sequence: Sequence<'_>,
 ) -> Result<(), Error>
     requires { sequence.first ≡ Some mark }
-    ensures done { IfOk result (λ _. Does CB.does callbacks.old screen.old (marked_steps mark sequence.entry.second (map (λ group. group.now) sequence.entry.groups.now) sequence.entry.byte) callbacks.new screen.new) }
-    ensures stopped { IsErr result → Stops CB.does callbacks.old screen.old (marked_steps mark sequence.entry.second (map (λ group. group.now) sequence.entry.groups.now) sequence.entry.byte) callbacks.new screen.new }
+    ensures done { IfOk result (λ _. Does CB.does callbacks.old screen.old
+        (marked_steps mark sequence.entry.second
+        (map (λ group. group.now) sequence.entry.groups.now) sequence.entry.byte)
+        callbacks.new screen.new) }
+    ensures stopped { IsErr result →
+        Stops CB.does callbacks.old screen.old
+        (marked_steps mark sequence.entry.second
+        (map (λ group. group.now) sequence.entry.groups.now) sequence.entry.byte)
+        callbacks.new screen.new }
     ensures memory { OnlyOutOfMemory result }
 {
     match mark {
@@ -247,8 +286,13 @@ fn private<CB: Callbacks>(
     sequence: Sequence<'_>,
 ) -> Result<(), Error>
     requires { sequence.first ≡ Some 0x3F }
-    ensures done { IfOk result (λ _. Does CB.does callbacks.old screen.old (private_steps sequence.entry.second (map (λ group. group.now) sequence.entry.groups.now) sequence.entry.byte) callbacks.new screen.new) }
-    ensures stopped { IsErr result → Stops CB.does callbacks.old screen.old (private_steps sequence.entry.second (map (λ group. group.now) sequence.entry.groups.now) sequence.entry.byte) callbacks.new screen.new }
+    ensures done { IfOk result (λ _. Does CB.does callbacks.old screen.old
+        (private_steps sequence.entry.second (map (λ group. group.now) sequence.entry.groups.now) sequence.entry.byte)
+        callbacks.new screen.new) }
+    ensures stopped { IsErr result →
+        Stops CB.does callbacks.old screen.old
+        (private_steps sequence.entry.second (map (λ group. group.now) sequence.entry.groups.now) sequence.entry.byte)
+        callbacks.new screen.new }
     ensures memory { OnlyOutOfMemory result }
 {
     match sequence.byte {
@@ -265,7 +309,9 @@ fn private<CB: Callbacks>(
 #[tactic(auto, using(crate::proofs::Stepping::tested_steps), unfolding(vt_screen::specs::Controls::space_steps))]
 fn spaced<CB: Callbacks>(screen: &mut Screen, callbacks: &mut CB, sequence: Sequence<'_>)
     requires { sequence.first ≡ Some 0x20 }
-    ensures { Does CB.does callbacks.old screen.old (space_steps sequence.entry.second (map (λ group. group.now) sequence.entry.groups.now) sequence.entry.byte) callbacks.new screen.new }
+    ensures { Does CB.does callbacks.old screen.old
+        (space_steps sequence.entry.second (map (λ group. group.now) sequence.entry.groups.now) sequence.entry.byte)
+        callbacks.new screen.new }
 {
     if sequence.byte != b'q' {
         let unmarked = Sequence {

@@ -31,10 +31,16 @@ use vt_screen::Callbacks;
 /// whose scanner stands for at least one state, as every parser's does by the
 /// clause `stands` of `Parser::screen`.
 pub fn pieces<CB: Callbacks>()
-    ensures two { (p q r : Parsing CB) (a b : List ℕ) → Ran CB.does p a q → Ran CB.does q b r → Ran CB.does p (a ++ b) r }
-    ensures list { (p q : Parsing CB) (pieces : List (List ℕ)) → FoldsTo (Ran CB.does) p pieces q → Ran CB.does p (pieces_joined pieces) q }
-    ensures parted { (p r : Parsing CB) (a b : List ℕ) → ∥ ((state : State) × StandsFor p.scanner state) ∥₁ → Ran CB.does p (a ++ b) r → ∥ ((q : Parsing CB) × (q.is_failed ≡ false) × Ran CB.does p a q × Ran CB.does q b r) ∥₁ }
-    ensures parted_list { (p r : Parsing CB) (piece : List ℕ) (pieces : List (List ℕ)) → ∥ ((state : State) × StandsFor p.scanner state) ∥₁ → Ran CB.does p (pieces_joined (piece ∷ pieces)) r → ∥ FoldsTo (Ran CB.does) p (piece ∷ pieces) r ∥₁ }
+    ensures two { (p q r : Parsing CB) (a b : List ℕ) →
+        Ran CB.does p a q → Ran CB.does q b r → Ran CB.does p (a ++ b) r }
+    ensures list { (p q : Parsing CB) (pieces : List (List ℕ)) →
+        FoldsTo (Ran CB.does) p pieces q → Ran CB.does p (pieces_joined pieces) q }
+    ensures parted { (p r : Parsing CB) (a b : List ℕ) →
+        ∥ ((state : State) × StandsFor p.scanner state) ∥₁ → Ran CB.does p (a ++ b) r →
+        ∥ ((q : Parsing CB) × (q.is_failed ≡ false) × Ran CB.does p a q × Ran CB.does q b r) ∥₁ }
+    ensures parted_list { (p r : Parsing CB) (piece : List ℕ) (pieces : List (List ℕ)) →
+        ∥ ((state : State) × StandsFor p.scanner state) ∥₁ →
+        Ran CB.does p (pieces_joined (piece ∷ pieces)) r → ∥ FoldsTo (Ran CB.does) p (piece ∷ pieces) r ∥₁ }
 {}
 
 /// Bytes leave the size of the screen, where the callbacks leave the screen
@@ -42,8 +48,12 @@ pub fn pieces<CB: Callbacks>()
 /// end, and of one that stopped for want of memory. The premises hold of every
 /// parser, by the clauses of `Screen::size` and `Parser::screen`.
 pub fn sizes<CB: Callbacks>()
-    ensures ran { (p q : Parsing CB) (bytes : List ℕ) → LeavesScreen CB.does → IsScreen p.screen → ∥ ((state : State) × StandsFor p.scanner state) ∥₁ → Ran CB.does p bytes q → SameSize q.screen.page p.screen.page }
-    ensures stopped { (p q : Parsing CB) (bytes : List ℕ) → LeavesScreen CB.does → IsScreen p.screen → ∥ ((state : State) × StandsFor p.scanner state) ∥₁ → Stopped CB.does p bytes q → SameSize q.screen.page p.screen.page }
+    ensures ran { (p q : Parsing CB) (bytes : List ℕ) → LeavesScreen CB.does →
+        IsScreen p.screen → ∥ ((state : State) × StandsFor p.scanner state) ∥₁ →
+        Ran CB.does p bytes q → SameSize q.screen.page p.screen.page }
+    ensures stopped { (p q : Parsing CB) (bytes : List ℕ) → LeavesScreen CB.does →
+        IsScreen p.screen → ∥ ((state : State) × StandsFor p.scanner state) ∥₁ →
+        Stopped CB.does p bytes q → SameSize q.screen.page p.screen.page }
     ensures nobody { LeavesScreen quietly }
 {}
 
@@ -107,7 +117,9 @@ pub fn quiet_runs<CB: Callbacks>()
 /// That a call of `process` does so with its own slice is the clause `quiet` of
 /// `Parser::process`.
 pub fn quiet_pieces<CB: Callbacks>()
-    ensures { (p q : Parsing CB) → (calls : List Processing) → (state : State) → (after : Terminal) → p.is_failed ≡ false → StandsFor p.scanner state → read (terminal state p.screen) (bytes_in calls) ≡ Some after → FoldsTo Processes p calls q → AllByRecursion IsFine calls × HasRead p after q }
+    ensures { (p q : Parsing CB) → (calls : List Processing) → (state : State) → (after : Terminal) →
+        p.is_failed ≡ false → StandsFor p.scanner state → read (terminal state p.screen) (bytes_in calls) ≡ Some after →
+        FoldsTo Processes p calls q → AllByRecursion IsFine calls × HasRead p after q }
 {}
 
 /// A full redraw followed by any chain of differences, each against the screen
@@ -117,7 +129,10 @@ pub fn quiet_pieces<CB: Callbacks>()
 /// Each call answers Ok; callbacks, scrollback, the other page and the modes
 /// are as before.
 pub fn chain<CB: Callbacks>()
-    ensures { (self : ScreenValue) → (nexts : List ScreenValue) → (p q : Parsing CB) → (calls : List Processing) → IsScreen p.screen → IsPlainParser p → CanShowOn p.screen self → AllByRecursion (CanShowOn p.screen) nexts → bytes_in calls ≡ chain_text self nexts → FoldsTo Processes p calls q → AllByRecursion IsFine calls × ShowsLast p (last_screen self nexts) q }
+    ensures { (self : ScreenValue) → (nexts : List ScreenValue) → (p q : Parsing CB) →
+        (calls : List Processing) → IsScreen p.screen → IsPlainParser p → CanShowOn p.screen self →
+        AllByRecursion (CanShowOn p.screen) nexts → bytes_in calls ≡ chain_text self nexts →
+        FoldsTo Processes p calls q → AllByRecursion IsFine calls × ShowsLast p (last_screen self nexts) q }
 {}
 
 /// A capture that is written as rows are reported has one text, whatever the
@@ -145,9 +160,31 @@ pub fn chain<CB: Callbacks>()
 /// Premises are that each call answered Ok, that no RIS is among the bytes, and
 /// that the callbacks leave the screen alone.
 pub fn one_text<CB: Callbacks>()
-    ensures heard { (p q : Parsing CB) (calls : List ParserCall) (scan : State) → LeavesScreen CB.does → StandsFor p.scanner scan → FoldsTo (MakesCall CB.does) p calls q → (q.screen ≡ screen_by scan p.screen calls) × FoldsTo (Heard CB.does) p.callbacks (told_by scan p.screen calls) q.callbacks }
-    ensures kept { (p q : Parsing CB) (bytes : List ℕ) (scan : State) → LeavesScreen CB.does → StandsFor p.scanner scan → Ran CB.does p bytes q → IsScreen p.screen → HasWideFlags p.screen → HasNoRis scan bytes → FoldsTo (Heard CB.does) p.callbacks (calls_in scan p.screen bytes) q.callbacks × AreAlike (rows_told (calls_in scan p.screen bytes) ++ q.screen.scrollback.rows) (p.screen.scrollback.rows ++ sent_off_in scan p.screen bytes) }
-    ensures text { (rows cols capacity : ℕ) (p q : Parsing CB) (calls : List ParserCall) → LeavesScreen CB.does → IsFreshParser rows cols capacity p → HasNoRis start (bytes_of_calls calls) → FoldsTo (MakesCall CB.does) p calls q → q.screen.is_alternate ≡ false → streamed_text (told_by start p.screen calls) q.screen ≡ whole_text rows cols (bytes_of_calls calls) }
-    ensures recorded { (text_of : CB → List ℕ) (state_of : CB → Written) (is_whole : CB → Bool) (rows cols capacity : ℕ) (p q : Parsing CB) (calls : List ParserCall) → IsRecorder CB.does text_of state_of is_whole → IsFreshParser rows cols capacity p → text_of p.callbacks ≡ [] → state_of p.callbacks ≡ unwritten → HasNoRis start (bytes_of_calls calls) → FoldsTo (MakesCall CB.does) p calls q → q.screen.is_alternate ≡ false → is_whole q.callbacks ≡ true → text_of q.callbacks ++ basic_texts (state_of q.callbacks) (all_rows q.screen) ≡ whole_text rows cols (bytes_of_calls calls) }
-    ensures one { (rows cols capacity other : ℕ) (p q r s : Parsing CB) (calls others : List ParserCall) → LeavesScreen CB.does → IsFreshParser rows cols capacity p → IsFreshParser rows cols other r → bytes_of_calls calls ≡ bytes_of_calls others → HasNoRis start (bytes_of_calls calls) → FoldsTo (MakesCall CB.does) p calls q → FoldsTo (MakesCall CB.does) r others s → q.screen.is_alternate ≡ false → s.screen.is_alternate ≡ false → streamed_text (told_by start p.screen calls) q.screen ≡ streamed_text (told_by start r.screen others) s.screen }
+    ensures heard { (p q : Parsing CB) (calls : List ParserCall) (scan : State) → LeavesScreen CB.does →
+        StandsFor p.scanner scan → FoldsTo (MakesCall CB.does) p calls q →
+        (q.screen ≡ screen_by scan p.screen calls)
+        × FoldsTo (Heard CB.does) p.callbacks (told_by scan p.screen calls) q.callbacks }
+    ensures kept { (p q : Parsing CB) (bytes : List ℕ) (scan : State) → LeavesScreen CB.does →
+        StandsFor p.scanner scan → Ran CB.does p bytes q → IsScreen p.screen → HasWideFlags p.screen →
+        HasNoRis scan bytes →
+        FoldsTo (Heard CB.does) p.callbacks (calls_in scan p.screen bytes) q.callbacks
+        × AreAlike (rows_told (calls_in scan p.screen bytes) ++ q.screen.scrollback.rows)
+        (p.screen.scrollback.rows ++ sent_off_in scan p.screen bytes) }
+    ensures text { (rows cols capacity : ℕ) (p q : Parsing CB) (calls : List ParserCall) →
+        LeavesScreen CB.does → IsFreshParser rows cols capacity p → HasNoRis start (bytes_of_calls calls) →
+        FoldsTo (MakesCall CB.does) p calls q → q.screen.is_alternate ≡ false →
+        streamed_text (told_by start p.screen calls) q.screen ≡ whole_text rows cols (bytes_of_calls calls) }
+    ensures recorded { (text_of : CB → List ℕ) (state_of : CB → Written) (is_whole : CB → Bool)
+        (rows cols capacity : ℕ) (p q : Parsing CB) (calls : List ParserCall) →
+        IsRecorder CB.does text_of state_of is_whole → IsFreshParser rows cols capacity p → text_of p.callbacks ≡ [] →
+        state_of p.callbacks ≡ unwritten → HasNoRis start (bytes_of_calls calls) →
+        FoldsTo (MakesCall CB.does) p calls q → q.screen.is_alternate ≡ false → is_whole q.callbacks ≡ true →
+        text_of q.callbacks ++ basic_texts (state_of q.callbacks) (all_rows q.screen)
+        ≡ whole_text rows cols (bytes_of_calls calls) }
+    ensures one { (rows cols capacity other : ℕ) (p q r s : Parsing CB) (calls others : List ParserCall) →
+        LeavesScreen CB.does → IsFreshParser rows cols capacity p → IsFreshParser rows cols other r →
+        bytes_of_calls calls ≡ bytes_of_calls others → HasNoRis start (bytes_of_calls calls) →
+        FoldsTo (MakesCall CB.does) p calls q → FoldsTo (MakesCall CB.does) r others s →
+        q.screen.is_alternate ≡ false → s.screen.is_alternate ≡ false →
+        streamed_text (told_by start p.screen calls) q.screen ≡ streamed_text (told_by start r.screen others) s.screen }
 {}

@@ -10,7 +10,8 @@ use vt_screen::{Callbacks, Screen};
 /// Calls what an operating system command says.
 #[tactic(auto, using(crate::proofs::Stepping::told, crate::proofs::Remaining::parts_counted))]
 pub fn perform<CB: Callbacks>(screen: &mut Screen, callbacks: &mut CB, parts: &[&[u8]])
-    ensures { Does CB.does callbacks.old screen.old (osc_steps (map (λ part. part.now) parts.now)) callbacks.new screen.new }
+    ensures { Does CB.does callbacks.old screen.old
+        (osc_steps (map (λ part. part.now) parts.now)) callbacks.new screen.new }
 {
     if parts.len() == 2 {
         title(screen, callbacks, parts, parts[0], parts[1]);
@@ -62,7 +63,8 @@ fn clipboard<CB: Callbacks>(
     text: &[u8],
 )
     requires { map (λ part. part.now) parts.now ≡ name.now ∷ kind.now ∷ text.now ∷ [] }
-    ensures { Does CB.does callbacks.old screen.old (clipboard_steps name.now kind.now text.now) callbacks.new screen.new }
+    ensures { Does CB.does callbacks.old screen.old
+        (clipboard_steps name.now kind.now text.now) callbacks.new screen.new }
 {
     if !is_text(name, b"52") || !all_clipboards(kind) {
         callbacks.unhandled_osc(screen, parts);

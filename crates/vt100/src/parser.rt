@@ -37,7 +37,8 @@ impl<CB: Callbacks> Model for Parser<CB> {
 
     ghost Value = { Parsing CB };
 
-    ghost view = { λ p. record { scanner = p.scanner; screen = p.screen; callbacks = p.callbacks; is_failed = p.is_failed } };
+    ghost view = { λ p.
+        record { scanner = p.scanner; screen = p.screen; callbacks = p.callbacks; is_failed = p.is_failed } };
 }
 
 impl Parser {
@@ -67,7 +68,8 @@ impl Parser {
     ) -> Result<Parser, Error>
         ensures begun { IfOk result (λ parser. StandsFor parser.scanner start) }
         ensures memory { OnlyOutOfMemory result }
-        ensures shown { IfOk result (λ parser. parser ≡ parsing parser.scanner (fresh_screen rows.value cols.value scrollback_capacity) parser.callbacks) }
+        ensures shown { IfOk result (λ parser. parser
+            ≡ parsing parser.scanner (fresh_screen rows.value cols.value scrollback_capacity) parser.callbacks) }
     {
         Parser::new_with_callbacks(alloc, rows, cols, scrollback_capacity, ())
     }
@@ -78,7 +80,8 @@ impl Parser {
     pub fn default(alloc: Global) -> Result<Parser, Error>
         ensures begun { IfOk result (λ parser. StandsFor parser.scanner start) }
         ensures memory { OnlyOutOfMemory result }
-        ensures shown { IfOk result (λ parser. parser ≡ parsing parser.scanner (fresh_screen 24 80 0) parser.callbacks) }
+        ensures shown { IfOk result
+            (λ parser. parser ≡ parsing parser.scanner (fresh_screen 24 80 0) parser.callbacks) }
     {
         let rows = NonZeroU16::new(Parser::DEFAULT_ROWS).unwrap();
         let cols = NonZeroU16::new(Parser::DEFAULT_COLS).unwrap();
@@ -103,7 +106,8 @@ impl<CB: Callbacks> Parser<CB> {
         CB: Drop,
         ensures begun { IfOk result (λ parser. StandsFor parser.scanner start) }
         ensures memory { OnlyOutOfMemory result }
-        ensures shown { IfOk result (λ parser. parser ≡ parsing parser.scanner (fresh_screen rows.value cols.value scrollback_capacity) callbacks) }
+        ensures shown { IfOk result (λ parser. parser
+            ≡ parsing parser.scanner (fresh_screen rows.value cols.value scrollback_capacity) callbacks) }
     {
         let scanner = Scanner::new(alloc);
         let screen = Screen::new(alloc, rows, cols, scrollback_capacity)?;
@@ -172,8 +176,11 @@ impl<CB: Callbacks> Parser<CB> {
     /// Fails where memory is refused; then nothing has changed, and nothing was
     /// told. A parser that ran out of memory can be resized, too.
     pub fn set_size(&mut self, rows: NonZeroU16, cols: NonZeroU16) -> Result<(), Error>
-        ensures ok { OnOk result (self.new ≡ record self.old { screen = resized rows.value cols.value self.old.screen; callbacks = self.new.callbacks }) }
-        ensures told { OnOk result (FoldsTo (Told CB.does) self.old.callbacks (calls_resized rows.value cols.value self.old.screen) self.new.callbacks) }
+        ensures ok { OnOk result (self.new
+            ≡ record self.old
+            { screen = resized rows.value cols.value self.old.screen; callbacks = self.new.callbacks }) }
+        ensures told { OnOk result (FoldsTo (Told CB.does) self.old.callbacks
+            (calls_resized rows.value cols.value self.old.screen) self.new.callbacks) }
         ensures err { OnErr result (self.new ≡ self.old) }
         ensures grows { IsErr result → has_size rows.value cols.value self.old.screen ≡ false }
         ensures memory { OnlyOutOfMemory result }
@@ -199,7 +206,8 @@ impl<CB: Callbacks> Parser<CB> {
     /// The screen, to change it.
     #[inline]
     pub fn screen_mut(&mut self) -> &mut Screen
-        ensures* writes_back { sem 𝓛 (Lends (parser_row CB.row ⟦<CB as Callbacks>⟧) screen_row self.entry result (λ w. record self.old { screen = w })) }
+        ensures* writes_back { sem 𝓛 (Lends (parser_row CB.row ⟦<CB as Callbacks>⟧)
+            screen_row self.entry result (λ w. record self.old { screen = w })) }
         ensures value { result.now ≡ self.old.screen }
     {
         &mut self.screen
@@ -216,7 +224,8 @@ impl<CB: Callbacks> Parser<CB> {
     /// The callbacks, to change them.
     #[inline]
     pub fn callbacks_mut(&mut self) -> &mut CB
-        ensures* writes_back { sem 𝓛 (Lends (parser_row CB.row ⟦<CB as Callbacks>⟧) CB.row self.entry result (λ w. record self.old { callbacks = w })) }
+        ensures* writes_back { sem 𝓛 (Lends (parser_row CB.row ⟦<CB as Callbacks>⟧)
+            CB.row self.entry result (λ w. record self.old { callbacks = w })) }
         ensures value { result.now ≡ self.old.callbacks }
     {
         &mut self.callbacks
@@ -226,7 +235,8 @@ impl<CB: Callbacks> Parser<CB> {
     /// changes by that, also not whether it has failed.
     #[inline]
     pub fn screen_and_callbacks_mut(&mut self) -> (&mut Screen, &mut CB)
-        ensures* writes_back { sem 𝓛 (LendsBoth (parser_row CB.row ⟦<CB as Callbacks>⟧) screen_row CB.row self.entry result (λ screen callbacks. record self.old { screen = screen; callbacks = callbacks })) }
+        ensures* writes_back { sem 𝓛 (LendsBoth (parser_row CB.row ⟦<CB as Callbacks>⟧) screen_row CB.row
+            self.entry result (λ screen callbacks. record self.old { screen = screen; callbacks = callbacks })) }
         ensures screen { result.0.now ≡ self.old.screen }
         ensures callbacks { result.1.now ≡ self.old.callbacks }
     {

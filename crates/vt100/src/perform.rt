@@ -23,8 +23,10 @@ pub fn perform<CB: Callbacks>(
     scanner: &Scanner,
     event: Event,
 ) -> Result<(), Error>
-    ensures done { IfOk result (λ _. Performs CB.does (state callbacks.old screen.old) (event_of scanner.now event) (state callbacks.new screen.new)) }
-    ensures stopped { IsErr result → Breaks CB.does (state callbacks.old screen.old) (event_of scanner.now event) (state callbacks.new screen.new) }
+    ensures done { IfOk result (λ _. Performs CB.does (state callbacks.old screen.old)
+        (event_of scanner.now event) (state callbacks.new screen.new)) }
+    ensures stopped { IsErr result →
+        Breaks CB.does (state callbacks.old screen.old) (event_of scanner.now event) (state callbacks.new screen.new) }
     ensures memory { OnlyOutOfMemory result }
 {
     match event {
@@ -51,8 +53,11 @@ fn control_sequence<CB: Callbacks>(
     scanner: &Scanner,
     byte: u8,
 ) -> Result<(), Error>
-    ensures done { IfOk result (λ _. Performs CB.does (state callbacks.old screen.old) (event_of scanner.now (Event.Csi byte)) (state callbacks.new screen.new)) }
-    ensures stopped { IsErr result → Breaks CB.does (state callbacks.old screen.old) (event_of scanner.now (Event.Csi byte)) (state callbacks.new screen.new) }
+    ensures done { IfOk result (λ _. Performs CB.does (state callbacks.old screen.old)
+        (event_of scanner.now (Event.Csi byte)) (state callbacks.new screen.new)) }
+    ensures stopped { IsErr result →
+        Breaks CB.does (state callbacks.old screen.old)
+        (event_of scanner.now (Event.Csi byte)) (state callbacks.new screen.new) }
     ensures memory { OnlyOutOfMemory result }
 {
     let mut few = FewGroups::new();
@@ -70,8 +75,11 @@ fn long_sequence<CB: Callbacks>(
     scanner: &Scanner,
     byte: u8,
 ) -> Result<(), Error>
-    ensures done { IfOk result (λ _. Performs CB.does (state callbacks.old screen.old) (event_of scanner.now (Event.Csi byte)) (state callbacks.new screen.new)) }
-    ensures stopped { IsErr result → Breaks CB.does (state callbacks.old screen.old) (event_of scanner.now (Event.Csi byte)) (state callbacks.new screen.new) }
+    ensures done { IfOk result (λ _. Performs CB.does (state callbacks.old screen.old)
+        (event_of scanner.now (Event.Csi byte)) (state callbacks.new screen.new)) }
+    ensures stopped { IsErr result →
+        Breaks CB.does (state callbacks.old screen.old)
+        (event_of scanner.now (Event.Csi byte)) (state callbacks.new screen.new) }
     ensures memory { OnlyOutOfMemory result }
 {
     csi::perform(
@@ -86,7 +94,8 @@ fn long_sequence<CB: Callbacks>(
 /// An operating system command, with its table of parts.
 #[inline(never)]
 fn command<CB: Callbacks>(screen: &mut Screen, callbacks: &mut CB, scanner: &Scanner)
-    ensures { Performs CB.does (state callbacks.old screen.old) (event_of scanner.now Event.Osc) (state callbacks.new screen.new) }
+    ensures { Performs CB.does (state callbacks.old screen.old)
+        (event_of scanner.now Event.Osc) (state callbacks.new screen.new) }
 {
     osc::perform(screen, callbacks, scanner.parts().as_slice());
 }
@@ -99,8 +108,10 @@ pub fn print<CB: Callbacks>(
     callbacks: &mut CB,
     character: char,
 ) -> Result<(), Error>
-    ensures done { IfOk result (λ _. Does CB.does callbacks.old screen.old (character_steps character) callbacks.new screen.new) }
-    ensures stopped { IsErr result → Stops CB.does callbacks.old screen.old (character_steps character) callbacks.new screen.new }
+    ensures done { IfOk result
+        (λ _. Does CB.does callbacks.old screen.old (character_steps character) callbacks.new screen.new) }
+    ensures stopped { IsErr result →
+        Stops CB.does callbacks.old screen.old (character_steps character) callbacks.new screen.new }
     ensures memory { OnlyOutOfMemory result }
 {
     if is_reported(character) {
@@ -123,8 +134,10 @@ fn is_reported(character: char) -> bool
 /// A control function of one byte.
 #[tactic(auto, using(crate::proofs::Stepping::tested_growth, crate::proofs::Deciding::control_feeds))]
 fn execute<CB: Callbacks>(screen: &mut Screen, callbacks: &mut CB, byte: u8) -> Result<(), Error>
-    ensures done { IfOk result (λ _. Does CB.does callbacks.old screen.old (control_steps byte) callbacks.new screen.new) }
-    ensures stopped { IsErr result → Stops CB.does callbacks.old screen.old (control_steps byte) callbacks.new screen.new }
+    ensures done { IfOk result
+        (λ _. Does CB.does callbacks.old screen.old (control_steps byte) callbacks.new screen.new) }
+    ensures stopped { IsErr result →
+        Stops CB.does callbacks.old screen.old (control_steps byte) callbacks.new screen.new }
     ensures memory { OnlyOutOfMemory result }
 {
     if (0x0A..=0x0C).contains(&byte) {

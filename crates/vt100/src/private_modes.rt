@@ -3,7 +3,8 @@
 ghost use Rattle.std.specs.Prelude.{◌≡◌, ◌==◌, [], ◌∷◌, IfOk, IsErr, OnErr, OnOk, false, map};
 ghost use Rattle.vt_cells.specs.Refusals.{OnlyOutOfMemory};
 ghost use Rattle.vt100.specs.Keeping.{Does, Stops, report_of};
-ghost use Rattle.vt_screen.specs.Controls.{alternate_step, encoding_step, fresh_alternate_step, mode_step, mode_steps, mouse_step};
+ghost use Rattle.vt_screen.specs.Controls.{alternate_step, encoding_step, fresh_alternate_step};
+ghost use Rattle.vt_screen.specs.Controls.{mode_step, mode_steps, mouse_step};
 ghost use Rattle.vt_screen.specs.Steps.{Grows, stepped};
 
 use crate::sequence::Sequence;
@@ -18,8 +19,13 @@ pub fn perform<CB: Callbacks>(
     on: bool,
     sequence: Sequence<'_>,
 ) -> Result<(), Error>
-    ensures done { IfOk result (λ _. Does CB.does callbacks.old screen.old (mode_steps on (report_of sequence.entry) (map (λ group. group.now) sequence.entry.groups.now)) callbacks.new screen.new) }
-    ensures stopped { IsErr result → Stops CB.does callbacks.old screen.old (mode_steps on (report_of sequence.entry) (map (λ group. group.now) sequence.entry.groups.now)) callbacks.new screen.new }
+    ensures done { IfOk result (λ _. Does CB.does callbacks.old screen.old
+        (mode_steps on (report_of sequence.entry) (map (λ group. group.now) sequence.entry.groups.now))
+        callbacks.new screen.new) }
+    ensures stopped { IsErr result →
+        Stops CB.does callbacks.old screen.old
+        (mode_steps on (report_of sequence.entry) (map (λ group. group.now) sequence.entry.groups.now))
+        callbacks.new screen.new }
     ensures memory { OnlyOutOfMemory result }
 {
     for group in sequence.groups {
@@ -37,8 +43,11 @@ fn perform_group<CB: Callbacks>(
     sequence: Sequence<'_>,
     group: &[u16],
 ) -> Result<(), Error>
-    ensures done { IfOk result (λ _. Does CB.does callbacks.old screen.old (mode_steps on (report_of sequence.entry) (group.now ∷ [])) callbacks.new screen.new) }
-    ensures stopped { IsErr result → Stops CB.does callbacks.old screen.old (mode_steps on (report_of sequence.entry) (group.now ∷ [])) callbacks.new screen.new }
+    ensures done { IfOk result (λ _. Does CB.does callbacks.old screen.old
+        (mode_steps on (report_of sequence.entry) (group.now ∷ [])) callbacks.new screen.new) }
+    ensures stopped { IsErr result →
+        Stops CB.does callbacks.old screen.old
+        (mode_steps on (report_of sequence.entry) (group.now ∷ [])) callbacks.new screen.new }
     ensures memory { OnlyOutOfMemory result }
 {
     if group.len() != 1 {
@@ -58,8 +67,11 @@ fn set_mode<CB: Callbacks>(
     sequence: Sequence<'_>,
     number: u16,
 ) -> Result<(), Error>
-    ensures done { IfOk result (λ _. Does CB.does callbacks.old screen.old (mode_step on (report_of sequence.entry) number) callbacks.new screen.new) }
-    ensures stopped { IsErr result → Stops CB.does callbacks.old screen.old (mode_step on (report_of sequence.entry) number) callbacks.new screen.new }
+    ensures done { IfOk result (λ _. Does CB.does callbacks.old screen.old
+        (mode_step on (report_of sequence.entry) number) callbacks.new screen.new) }
+    ensures stopped { IsErr result →
+        Stops CB.does callbacks.old screen.old
+        (mode_step on (report_of sequence.entry) number) callbacks.new screen.new }
     ensures memory { OnlyOutOfMemory result }
 {
     match number {
@@ -81,7 +93,8 @@ fn set_other_mode<CB: Callbacks>(
 )
     requires first { (number == 47) ≡ false }
     requires second { (number == 1049) ≡ false }
-    ensures { Does CB.does callbacks.old screen.old (mode_step on (report_of sequence.entry) number) callbacks.new screen.new }
+    ensures { Does CB.does callbacks.old screen.old
+        (mode_step on (report_of sequence.entry) number) callbacks.new screen.new }
 {
     match number {
         1 => screen.set_application_cursor(on),

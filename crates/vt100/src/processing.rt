@@ -20,8 +20,11 @@ pub fn process<CB: Callbacks>(
     callbacks: &mut CB,
     bytes: &[u8],
 ) -> Result<(), Error>
-    ensures ran { IfOk result (λ _. Ran CB.does (parsing scanner.old screen.old callbacks.old) bytes.now (parsing scanner.new screen.new callbacks.new)) }
-    ensures stopped { IsErr result → Stopped CB.does (parsing scanner.old screen.old callbacks.old) bytes.now (parsing scanner.new screen.new callbacks.new) }
+    ensures ran { IfOk result (λ _. Ran CB.does (parsing scanner.old screen.old callbacks.old)
+        bytes.now (parsing scanner.new screen.new callbacks.new)) }
+    ensures stopped { IsErr result →
+        Stopped CB.does (parsing scanner.old screen.old callbacks.old)
+        bytes.now (parsing scanner.new screen.new callbacks.new) }
     ensures memory { OnlyOutOfMemory result }
 {
     let mut at = 0;
@@ -46,8 +49,11 @@ fn process_some<CB: Callbacks>(
     requires { 0 < length bytes.now }
     ensures some { IfOk result (λ count. 0 < count) }
     ensures inside { IfOk result (λ count. count ≤ length bytes.now) }
-    ensures ran { IfOk result (λ count. Ran CB.does (parsing scanner.old screen.old callbacks.old) (take count bytes.now) (parsing scanner.new screen.new callbacks.new)) }
-    ensures stopped { IsErr result → Stopped CB.does (parsing scanner.old screen.old callbacks.old) bytes.now (parsing scanner.new screen.new callbacks.new) }
+    ensures ran { IfOk result (λ count. Ran CB.does (parsing scanner.old screen.old callbacks.old)
+        (take count bytes.now) (parsing scanner.new screen.new callbacks.new)) }
+    ensures stopped { IsErr result →
+        Stopped CB.does (parsing scanner.old screen.old callbacks.old)
+        bytes.now (parsing scanner.new screen.new callbacks.new) }
     ensures memory { OnlyOutOfMemory result }
 {
     if scanner.is_plain(bytes[0]) {
@@ -73,8 +79,11 @@ fn process_one<CB: Callbacks>(
     requires { 0 < length bytes.now }
     ensures some { IfOk result (λ count. 0 < count) }
     ensures inside { IfOk result (λ count. count ≤ length bytes.now) }
-    ensures ran { IfOk result (λ count. Ran CB.does (parsing scanner.old screen.old callbacks.old) (take count bytes.now) (parsing scanner.new screen.new callbacks.new)) }
-    ensures stopped { IsErr result → Stopped CB.does (parsing scanner.old screen.old callbacks.old) bytes.now (parsing scanner.new screen.new callbacks.new) }
+    ensures ran { IfOk result (λ count. Ran CB.does (parsing scanner.old screen.old callbacks.old)
+        (take count bytes.now) (parsing scanner.new screen.new callbacks.new)) }
+    ensures stopped { IsErr result →
+        Stopped CB.does (parsing scanner.old screen.old callbacks.old)
+        bytes.now (parsing scanner.new screen.new callbacks.new) }
     ensures memory { OnlyOutOfMemory result }
 {
     if let Some((character, count)) = scanner.whole_character(bytes) {
@@ -100,8 +109,11 @@ fn print_some<CB: Callbacks>(
     requires plain { ReadsItself scanner.now (slice_index_or bytes.now 0 0) }
     ensures some { IfOk result (λ count. 0 < count) }
     ensures inside { IfOk result (λ count. count ≤ length bytes.now) }
-    ensures ran { IfOk result (λ count. Ran CB.does (parsing scanner.now screen.old callbacks.old) (take count bytes.now) (parsing scanner.now screen.new callbacks.new)) }
-    ensures stopped { IsErr result → Stopped CB.does (parsing scanner.now screen.old callbacks.old) bytes.now (parsing scanner.now screen.new callbacks.new) }
+    ensures ran { IfOk result (λ count. Ran CB.does (parsing scanner.now screen.old callbacks.old)
+        (take count bytes.now) (parsing scanner.now screen.new callbacks.new)) }
+    ensures stopped { IsErr result →
+        Stopped CB.does (parsing scanner.now screen.old callbacks.old)
+        bytes.now (parsing scanner.now screen.new callbacks.new) }
     ensures memory { OnlyOutOfMemory result }
 {
     let fitting = bytes.len().min(usize::from(screen.room()));
@@ -123,8 +135,11 @@ fn perform_each<CB: Callbacks>(
     scanner: &Scanner,
     events: Events,
 ) -> Result<(), Error>
-    ensures done { IfOk result (λ _. FoldsTo (Performs CB.does) (state callbacks.old screen.old) (events_in scanner.now events) (state callbacks.new screen.new)) }
-    ensures stopped { IsErr result → StopsIn (Performs CB.does) (Breaks CB.does) (state callbacks.old screen.old) (events_in scanner.now events) (state callbacks.new screen.new) }
+    ensures done { IfOk result (λ _. FoldsTo (Performs CB.does) (state callbacks.old screen.old)
+        (events_in scanner.now events) (state callbacks.new screen.new)) }
+    ensures stopped { IsErr result →
+        StopsIn (Performs CB.does) (Breaks CB.does) (state callbacks.old screen.old)
+        (events_in scanner.now events) (state callbacks.new screen.new) }
     ensures memory { OnlyOutOfMemory result }
 {
     perform_some(screen, callbacks, scanner, events.first)?;
@@ -140,8 +155,11 @@ fn perform_some<CB: Callbacks>(
     scanner: &Scanner,
     event: Option<Event>,
 ) -> Result<(), Error>
-    ensures done { IfOk result (λ _. FoldsTo (Performs CB.does) (state callbacks.old screen.old) (map (event_of scanner.now) (option_to_list event)) (state callbacks.new screen.new)) }
-    ensures stopped { IsErr result → StopsIn (Performs CB.does) (Breaks CB.does) (state callbacks.old screen.old) (map (event_of scanner.now) (option_to_list event)) (state callbacks.new screen.new) }
+    ensures done { IfOk result (λ _. FoldsTo (Performs CB.does) (state callbacks.old screen.old)
+        (map (event_of scanner.now) (option_to_list event)) (state callbacks.new screen.new)) }
+    ensures stopped { IsErr result →
+        StopsIn (Performs CB.does) (Breaks CB.does) (state callbacks.old screen.old)
+        (map (event_of scanner.now) (option_to_list event)) (state callbacks.new screen.new) }
     ensures memory { OnlyOutOfMemory result }
 {
     let Some(event) = event else {

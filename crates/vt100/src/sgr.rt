@@ -13,7 +13,8 @@ use vt_screen::{Callbacks, Screen};
 /// that is none.
 pub fn perform<CB: Callbacks>(screen: &mut Screen, callbacks: &mut CB, sequence: Sequence<'_>)
     requires { report_of sequence ≡ UnhandledCsi None None (map (λ group. group.now) sequence.groups.now) 0x6D }
-    ensures { Does CB.does callbacks.old screen.old (sgr_steps (map (λ group. group.now) sequence.entry.groups.now)) callbacks.new screen.new }
+    ensures { Does CB.does callbacks.old screen.old
+        (sgr_steps (map (λ group. group.now) sequence.entry.groups.now)) callbacks.new screen.new }
 {
     let mut wanted = Wanted::Any;
     for group in sequence.groups {
@@ -32,7 +33,8 @@ fn apply<CB: Callbacks>(
     reading: Reading,
 )
     requires { report_of sequence ≡ UnhandledCsi None None (map (λ group. group.now) sequence.groups.now) 0x6D }
-    ensures { Does CB.does callbacks.old screen.old (reading_steps (map (λ group. group.now) sequence.entry.groups.now) reading) callbacks.new screen.new }
+    ensures { Does CB.does callbacks.old screen.old
+        (reading_steps (map (λ group. group.now) sequence.entry.groups.now) reading) callbacks.new screen.new }
 {
     match reading {
         Reading::Silent => {}

@@ -32,7 +32,8 @@ impl Write for Parser<()> {
         ensures stopped { self.old.is_failed ≡ false → IsErr result → Stopped quietly self.old buf.now self.new }
         ensures refused { self.old.is_failed ≡ false → IfErr result (λ error. error_kind error ≡ OutOfMemory) }
         ensures failed { self.old.is_failed ≡ true → self.new ≡ self.old }
-        ensures harmless { self.old.is_failed ≡ false → IsHarmless quietly self.old buf.now → result ≡ Ok (length buf.now) }
+        ensures harmless { self.old.is_failed ≡ false →
+            IsHarmless quietly self.old buf.now → result ≡ Ok (length buf.now) }
         ensures quiet { Processes self.old (processing buf.now (Ok tt)) self.new }
         ensures after { self.old.is_failed ≡ true → IfErr result (λ error. error_kind error ≡ Other) }
     {

@@ -14,29 +14,42 @@ use Rattle.vt100.specs.Pieces.{IsPlainParser, Processes, processing}
 use Rattle.vt_callers.specs.Remote.{ShowsScreen}
 
 -- a plain terminal among those that read the text
-reads : {S : Type 0} (self : ScreenValue) (Reader : ScreenValue → Type 0) (text : List ℕ) (answer : Result (Unit {0}) Error) (old new : Parsing S) → IsReadBy Reader text → Makes Reader text (ShowsPlainly (shown self))
+reads : {S : Type 0} (self : ScreenValue) (Reader : ScreenValue → Type 0)
+    (text : List ℕ) (answer : Result (Unit {0}) Error) (old new : Parsing S)
+    → IsReadBy Reader text → Makes Reader text (ShowsPlainly (shown self))
     → IsPlainParser old → Reader old.screen → Processes old (processing text answer) new → ShowsScreen self new
 reads self Reader text answer old new quiet shows plain reader processes =
     let ends = quiet old.screen reader in
     let all = (processes start (terminal start ends.0) plain.is_failed plain.scanner ends.1).1 in
     let made = shows old.screen ends.0 reader ends.1 in
     record {
-      plain = record { is_failed = all.is_failed; scanner = all.scanner; screen = subst IsPlain (sym all.screen) made.0 };
+      plain =
+          record { is_failed = all.is_failed; scanner = all.scanner; screen = subst IsPlain (sym all.screen) made.0 };
       shows = ap shown all.screen ∙ made.1;
     }
 
-pub redrawn : {S : Type 0} (self : ScreenValue) (text : List ℕ) (answer : Result (Unit {0}) Error) (old new : Parsing S) → IsReadBy (IsReader (shown self)) text → Makes (IsReader (shown self)) text (ShowsPlainly (shown self))
-    → IsScreen old.screen → IsPlainParser old → SamePictureSize (shown self) (shown old.screen) → Processes old (processing text answer) new → ShowsScreen self new
+pub redrawn : {S : Type 0} (self : ScreenValue) (text : List ℕ) (answer : Result (Unit {0}) Error) (old new : Parsing S)
+    → IsReadBy (IsReader (shown self)) text → Makes (IsReader (shown self)) text (ShowsPlainly (shown self))
+    → IsScreen old.screen → IsPlainParser old → SamePictureSize (shown self) (shown old.screen)
+    → Processes old (processing text answer) new → ShowsScreen self new
 redrawn self text answer old new quiet shows sound plain size processes =
-    reads self (IsReader (shown self)) text answer old new quiet shows plain (record { sound = sound; plain = plain.screen; size = size }) processes
+    reads self (IsReader (shown self)) text answer old new quiet shows plain
+    (record { sound = sound; plain = plain.screen; size = size }) processes
 
 same_shown : (self other : ScreenValue) → SameSize self.page other.page → SamePictureSize (shown self) (shown other)
 same_shown self other s = record { width = s.width; height = shown_height self ∙ (s.height ∙ sym (shown_height other)) }
 
-pub differing : {S : Type 0} (self prev : ScreenValue) (text : List ℕ) (answer : Result (Unit {0}) Error) (old new : Parsing S) → IsReadBy (IsReaderOf (shown self) (shown prev)) text
-    → Makes (IsReaderOf (shown self) (shown prev)) text (ShowsPlainly (shown self)) → SameSize self.page prev.page → IsScreen old.screen → ShowsScreen prev old → Processes old (processing text answer) new → ShowsScreen self new
+pub differing : {S : Type 0} (self prev : ScreenValue) (text : List ℕ)
+    (answer : Result (Unit {0}) Error) (old new : Parsing S)
+    → IsReadBy (IsReaderOf (shown self) (shown prev)) text
+    → Makes (IsReaderOf (shown self) (shown prev)) text (ShowsPlainly (shown self)) → SameSize self.page prev.page
+    → IsScreen old.screen → ShowsScreen prev old → Processes old (processing text answer) new → ShowsScreen self new
 differing self prev text answer old new quiet shows size sound was processes =
     reads self (IsReaderOf (shown self) (shown prev)) text answer old new quiet shows was.plain (record {
-      is = record { sound = sound; plain = was.plain.screen; size = subst (SamePictureSize (shown self)) (sym was.shows) (same_shown self prev size) };
+      is = record {
+        sound = sound;
+        plain = was.plain.screen;
+        size = subst (SamePictureSize (shown self)) (sym was.shows) (same_shown self prev size);
+      };
       shows = was.shows;
     }) processes

@@ -9,7 +9,8 @@ use Rattle.vt_screen.specs.Screen.{IsScreen, ScreenValue, fresh_screen}
 use Rattle.vt100.specs.Parser.{Parsing}
 use Rattle.vt100.specs.Streams.{IsFreshParser}
 
-pub fresh_parser : {S : Type 0} (rows cols capacity : ℕ) (p : Parsing S) → 0 < rows → 0 < cols → IsScreen p.screen → StandsFor p.scanner start → p.screen ≡ fresh_screen rows cols capacity → IsFreshParser rows cols capacity p
+pub fresh_parser : {S : Type 0} (rows cols capacity : ℕ) (p : Parsing S) → 0 < rows → 0 < cols → IsScreen p.screen →
+    StandsFor p.scanner start → p.screen ≡ fresh_screen rows cols capacity → IsFreshParser rows cols capacity p
 fresh_parser rows cols capacity p tall wide sound begun shown =
     let page = (subst (λ (s : ScreenValue). IsScreen s) shown sound).page in
     record {

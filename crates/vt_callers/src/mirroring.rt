@@ -21,7 +21,8 @@ pub fn show_late<CB: Callbacks>(
     output: &[u8],
     terminal: &mut Parser<CB>,
 ) -> Result<u64, Error>
-    ensures { IfOk result (λ viewer. IsFresh mirror.old → IsPlainParser terminal.old → IsSteady (shown mirror.new.parser.screen) → ShowsScreen mirror.new.parser.screen terminal.new) }
+    ensures { IfOk result (λ viewer. IsFresh mirror.old → IsPlainParser terminal.old →
+        IsSteady (shown mirror.new.parser.screen) → ShowsScreen mirror.new.parser.screen terminal.new) }
 {
     laws::viewers::<CB>();
     terminal.screen().size();

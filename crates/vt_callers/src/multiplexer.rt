@@ -15,7 +15,8 @@ use vt100::{Callbacks, Error, Parser, Screen};
 ///
 /// Fails where memory is refused, or the remote terminal failed before.
 pub fn send_redraw<CB: Callbacks>(screen: &Screen, remote: &mut Parser<CB>) -> Result<(), Error>
-    ensures { OnOk result (IsSteady (shown screen.now) → IsPlainParser remote.old → SamePictureSize (shown screen.now) (shown remote.old.screen) → ShowsScreen screen.now remote.new) }
+    ensures { OnOk result (IsSteady (shown screen.now) → IsPlainParser remote.old →
+        SamePictureSize (shown screen.now) (shown remote.old.screen) → ShowsScreen screen.now remote.new) }
 {
     remote.screen().size();
     let text = screen.contents_formatted()?;
@@ -33,7 +34,8 @@ pub fn send_difference<CB: Callbacks>(
     remote: &mut Parser<CB>,
 ) -> Result<(), Error>
     requires { SameSize screen.now.page prev.now.page }
-    ensures { OnOk result (IsSteady (shown screen.now) → ShowsScreen prev.now remote.old → ShowsScreen screen.now remote.new) }
+    ensures { OnOk result
+        (IsSteady (shown screen.now) → ShowsScreen prev.now remote.old → ShowsScreen screen.now remote.new) }
 {
     remote.screen().size();
     let text = screen.contents_diff(prev)?;
@@ -49,7 +51,8 @@ pub fn send_both<CB: Callbacks>(
     remote: &mut Parser<CB>,
 ) -> Result<(), Error>
     requires { SameSize second.now.page first.now.page }
-    ensures { OnOk result (IsSteady (shown first.now) → IsSteady (shown second.now) → IsPlainParser remote.old → SamePictureSize (shown first.now) (shown remote.old.screen) → ShowsScreen second.now remote.new) }
+    ensures { OnOk result (IsSteady (shown first.now) → IsSteady (shown second.now) → IsPlainParser remote.old →
+        SamePictureSize (shown first.now) (shown remote.old.screen) → ShowsScreen second.now remote.new) }
 {
     send_redraw(first, remote)?;
     send_difference(second, first, remote)?;

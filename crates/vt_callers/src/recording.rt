@@ -24,7 +24,9 @@ pub fn record(
     capacity: usize,
     output: &[u8],
 ) -> Result<String, Error>
-    ensures { IfOk result (λ text. HasNoRis start output.now → (screen_in start (fresh_screen rows.value cols.value capacity) output.now).is_alternate ≡ false → string_bytes text ≡ whole_text rows.value cols.value output.now) }
+    ensures { IfOk result (λ text. HasNoRis start output.now →
+        (screen_in start (fresh_screen rows.value cols.value capacity) output.now).is_alternate ≡ false →
+        string_bytes text ≡ whole_text rows.value cols.value output.now) }
 {
     vt100::laws::one_text::<Recorder>();
     vt_notes::laws::recorded();
@@ -39,7 +41,8 @@ pub fn record(
 /// What a recorder has written, and behind it the rows that its parser keeps and shows.
 fn finish(alloc: Global, parser: &mut Parser<Recorder>) -> Result<String, Error>
     ensures whole { IfOk result (λ text. parser.old.callbacks.is_whole ≡ true) }
-    ensures text { IfOk result (λ text. string_bytes text ≡ parser.old.callbacks.text ++ basic_texts parser.old.callbacks.state (all_rows parser.old.screen)) }
+    ensures text { IfOk result (λ text. string_bytes text
+        ≡ parser.old.callbacks.text ++ basic_texts parser.old.callbacks.state (all_rows parser.old.screen)) }
 {
     let (screen, recorder) = parser.screen_and_callbacks_mut();
     recorder.capture(screen)?;

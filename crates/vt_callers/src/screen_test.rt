@@ -52,7 +52,8 @@ pub fn output_shows(
     output: &[u8],
     text: &str,
 ) -> Result<bool, Error>
-    ensures { IfOk result (λ is. is ≡ true ↔ contents_of (screen_in start (fresh_screen rows.value cols.value 0) output.now) ≡ text.now) }
+    ensures { IfOk result
+        (λ is. is ≡ true ↔ contents_of (screen_in start (fresh_screen rows.value cols.value 0) output.now) ≡ text.now) }
 {
     laws::one_text::<()>();
     let mut parser = Parser::new(alloc, rows, cols, 0)?;

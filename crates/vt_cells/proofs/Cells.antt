@@ -7,7 +7,8 @@ use Rattle.vt_cells.specs.Attrs.{Attrs}
 use Rattle.vt_cells.proofs.Glyphs.{IsGlyphText-first, IsGlyphText-marked, IsGlyphText-selector, IsGlyphText-space}
 
 -- what `Cell::glyph` makes is a cell
-pub IsCell-glyph : (c : ℕ) (wide : Bool) (attrs : Attrs) → IsScalar c → c ≢ 0xFFFD → columns_of c ≡ Some (first_columns wide) → IsCell (glyph (encode_utf8 c) wide attrs)
+pub IsCell-glyph : (c : ℕ) (wide : Bool) (attrs : Attrs) → IsScalar c → c ≢ 0xFFFD →
+    columns_of c ≡ Some (first_columns wide) → IsCell (glyph (encode_utf8 c) wide attrs)
 IsCell-glyph c wide attrs scalar reported columns = IsGlyphText-first c wide scalar reported columns
 
 pub IsCell-space : (attrs : Attrs) → IsCell (glyph (0x20 ∷ []) false attrs)
@@ -20,7 +21,8 @@ IsCell-marked mark (glyph text wide attrs) is_mark is_cell = IsGlyphText-marked 
 IsCell-marked mark right_half is_mark is_cell = tt
 
 -- with U+FE0F put on it, a cell may be made wide or narrow
-pub IsCell-selector : (wide : Bool) (cell : CellValue) → IsCell cell → has_room (text_of cell) ≡ true → IsCell (widened wide (marked 0xFE0F cell))
+pub IsCell-selector : (wide : Bool) (cell : CellValue) → IsCell cell →
+    has_room (text_of cell) ≡ true → IsCell (widened wide (marked 0xFE0F cell))
 IsCell-selector wide (blank attrs) is_cell room = IsGlyphText-selector (0x20 ∷ []) false wide IsGlyphText-space refl
 IsCell-selector wide (glyph text was attrs) is_cell room = rw room (IsGlyphText-selector text was wide is_cell room)
 IsCell-selector wide right_half is_cell room = tt

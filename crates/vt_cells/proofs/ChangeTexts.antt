@@ -1,5 +1,7 @@
 -- The text of a change, written from its last byte to its first.
-use Rattle.std.proofs.Common.{◌≡◌, ℕ, ◌+◌, ◌<◌, ◌≤◌, ◌^◌, Bool, true, false, List, [], ◌∷◌, ◌++◌, length, drop, decimal, flat_map, nat_lt, IsAscii, refl, sym, ap, ◌∙◌, append_assoc, append-nil, length-append, arith}
+use Rattle.std.proofs.Common.{◌≡◌, ℕ, ◌+◌, ◌<◌, ◌≤◌, ◌^◌, Bool, true, false, List, [], ◌∷◌}
+use Rattle.std.proofs.Common.{◌++◌, length, drop, decimal, flat_map, nat_lt, IsAscii, refl, sym}
+use Rattle.std.proofs.Common.{ap, ◌∙◌, append_assoc, append-nil, length-append, arith}
 use Rattle.std.proofs.lemmas.Fmt.{IsAscii-decimal, length-decimal-le}
 use Rattle.std.proofs.lemmas.List.{drop-drop, length-drop}
 use Rattle.std.proofs.lemmas.List.Concat.{flat_map-append}
@@ -10,7 +12,8 @@ use Rattle.vt_cells.specs.AttrsKeeping.{same_style, style_of_attrs}
 use Rattle.vt_cells.specs.ChangeKeeping.{IsEnd, separated, separated_all, style_part, without_separator}
 use Rattle.vt_cells.specs.Op.{change_numbers, joined, part}
 use Rattle.vt_cells.specs.declared.color.Color.{Color}
-use Rattle.vt_cells.proofs.Changes.{background_part, foreground_part, intensity_part, inverse_part, italic_part, joined_is, underline_part}
+use Rattle.vt_cells.proofs.Changes.{background_part, foreground_part, intensity_part}
+use Rattle.vt_cells.proofs.Changes.{inverse_part, italic_part, joined_is, underline_part}
 use Rattle.vt_cells.proofs.Same.{two_parts}
 
 -- a number has three digits at most
@@ -18,7 +21,8 @@ pub digits_of_byte : (n : ℕ) → n < 256 → length (decimal n) ≤ 3
 digits_of_byte n h = length-decimal-le 3 n (omega arith) (omega arith) (omega arith)
 
 -- digits are put before a text
-pub digits_put : (n start next : ℕ) (rest text : List ℕ) → n < 256 → IsEnd start rest → next + length (decimal n) ≡ start → text ≡ decimal n ++ rest → IsEnd next text
+pub digits_put : (n start next : ℕ) (rest text : List ℕ) → n < 256 → IsEnd start rest →
+    next + length (decimal n) ≡ start → text ≡ decimal n ++ rest → IsEnd next text
 digits_put n start next rest text byte is_end sum e =
     let measured = is_end.measured in
     let joined_length = length-append (decimal n) rest in
@@ -27,14 +31,16 @@ digits_put n start next rest text byte is_end sum e =
       ascii = IsAscii-append (decimal n) rest (IsAscii-decimal n (omega arith)) is_end.ascii;
     })
 
-pub room_for_digits : (n start : ℕ) (rest now : List ℕ) → n < 256 → IsEnd start rest → rest ≡ now → length now + 4 ≤ 64 → length (decimal n) ≤ start
+pub room_for_digits : (n start : ℕ) (rest now : List ℕ) → n < 256 →
+    IsEnd start rest → rest ≡ now → length now + 4 ≤ 64 → length (decimal n) ≤ start
 room_for_digits n start rest now byte is_end same room =
     let measured = is_end.measured in
     let digits = digits_of_byte n byte in
     let lengths = ap length same in
     omega arith
 
-pub room_for_separator : (n start next : ℕ) (rest text now : List ℕ) → n < 256 → IsEnd start rest → next + length (decimal n) ≡ start → text ≡ decimal n ++ rest
+pub room_for_separator : (n start next : ℕ) (rest text now : List ℕ) → n < 256
+    → IsEnd start rest → next + length (decimal n) ≡ start → text ≡ decimal n ++ rest
     → rest ≡ now → length now + 4 ≤ 64 → length text + 1 ≤ 64
 room_for_separator n start next rest text now byte is_end sum e same room =
     let measured = (digits_put n start next rest text byte is_end sum e).measured in
@@ -43,7 +49,8 @@ room_for_separator n start next rest text now byte is_end sum e same room =
     let lengths = ap length same in
     omega arith
 
-pub longer_by_number : (n : ℕ) (rest now text whole : List ℕ) → n < 256 → text ≡ decimal n ++ rest → rest ≡ now → whole ≡ 0x3B ∷ text → length whole ≤ length now + 4
+pub longer_by_number : (n : ℕ) (rest now text whole : List ℕ) → n < 256 →
+    text ≡ decimal n ++ rest → rest ≡ now → whole ≡ 0x3B ∷ text → length whole ≤ length now + 4
 longer_by_number n rest now text whole byte e same is_whole =
     let digits = digits_of_byte n byte in
     let lengths = ap length same in
@@ -56,24 +63,29 @@ pub one_put : (n : ℕ) (xs : List ℕ) → separated_all (n ∷ []) ++ xs ≡ s
 one_put n xs = ap (λ ys. ys ++ xs) (append-nil (separated n))
 
 -- colours that are the same need no number
-pub nothing_put : (a b : Color) (xs ns : List ℕ) → same_color a b ≡ true → xs ≡ separated_all (part (same_color a b) ns) ++ xs
+pub nothing_put : (a b : Color) (xs ns : List ℕ) → same_color a b ≡ true →
+    xs ≡ separated_all (part (same_color a b) ns) ++ xs
 nothing_put a b xs ns e = rw e refl
 
-pub some_put : (a b : Color) (xs ns : List ℕ) → same_color a b ≡ false → separated_all (part (same_color a b) ns) ++ xs ≡ separated_all ns ++ xs
+pub some_put : (a b : Color) (xs ns : List ℕ) → same_color a b ≡ false →
+    separated_all (part (same_color a b) ns) ++ xs ≡ separated_all ns ++ xs
 some_put a b xs ns e = rw e refl
 
 -- neither do styles that are the same
-pub no_style_put : (was new : Attrs) (xs : List ℕ) → same_style (style_of_attrs was) (style_of_attrs new) ≡ true → xs ≡ separated_all (style_part was new) ++ xs
+pub no_style_put : (was new : Attrs) (xs : List ℕ) →
+    same_style (style_of_attrs was) (style_of_attrs new) ≡ true → xs ≡ separated_all (style_part was new) ++ xs
 unfolding same_style
 no_style_put was new xs e =
     let (intensity, rest) = two_parts (same_intensity was.intensity new.intensity) _ e in
     let (italic, others) = two_parts (same_bool was.italic new.italic) _ rest in
-    let (underline, inverse) = two_parts (same_bool was.underline new.underline) (same_bool was.inverse new.inverse) others in
+    let (underline, inverse) =
+    two_parts (same_bool was.underline new.underline) (same_bool was.inverse new.inverse) others in
     rw (intensity, italic, underline, inverse) refl
 
 -- four lists of numbers, put one before the other
 four_put : (i t u v end : List ℕ)
-    → separated_all i ++ (separated_all t ++ (separated_all u ++ (separated_all v ++ end))) ≡ separated_all (i ++ (t ++ (u ++ v))) ++ end
+    → separated_all i ++ (separated_all t ++ (separated_all u ++ (separated_all v ++ end)))
+    ≡ separated_all (i ++ (t ++ (u ++ v))) ++ end
 four_put i t u v end =
     rw (
       flat_map-append separated i (t ++ (u ++ v)),
@@ -85,12 +97,16 @@ four_put i t u v end =
     ) refl
 
 pub switches_put : (was new : Attrs) (end : List ℕ)
-    → separated_all (intensity_part was new) ++ (separated_all (italic_part was new) ++ (separated_all (underline_part was new) ++ (separated_all (inverse_part was new) ++ end)))
+    → separated_all (intensity_part was new)
+    ++ (separated_all (italic_part was new)
+    ++ (separated_all (underline_part was new) ++ (separated_all (inverse_part was new) ++ end)))
     ≡ separated_all (style_part was new) ++ end
-switches_put was new end = four_put (intensity_part was new) (italic_part was new) (underline_part was new) (inverse_part was new) end
+switches_put was new end =
+    four_put (intensity_part was new) (italic_part was new) (underline_part was new) (inverse_part was new) end
 
 -- three lists of numbers, put one before the other
-three_put : (f b i end : List ℕ) → separated_all f ++ (separated_all b ++ (separated_all i ++ end)) ≡ separated_all (f ++ (b ++ i)) ++ end
+three_put : (f b i end : List ℕ) →
+    separated_all f ++ (separated_all b ++ (separated_all i ++ end)) ≡ separated_all (f ++ (b ++ i)) ++ end
 three_put f b i end =
     rw (
       flat_map-append separated f (b ++ i),
@@ -101,7 +117,8 @@ three_put f b i end =
 
 -- the parts of a change, put one before the other
 pub change_put : (was new : Attrs)
-    → separated_all (foreground_part was new) ++ (separated_all (background_part was new) ++ (separated_all (style_part was new) ++ 0x6D ∷ []))
+    → separated_all (foreground_part was new)
+    ++ (separated_all (background_part was new) ++ (separated_all (style_part was new) ++ 0x6D ∷ []))
     ≡ separated_all (change_numbers was new) ++ 0x6D ∷ []
 unfolding change_numbers
 change_put was new = three_put (foreground_part was new) (background_part was new) (style_part was new) (0x6D ∷ [])
@@ -112,12 +129,14 @@ without_first (x ∷ []) h = absurd (omega (arith, h))
 without_first (x ∷ y ∷ xs) h = refl
 
 -- the first byte is left out
-pub without_first_is : (start : ℕ) (bytes : List ℕ) → IsEnd start (drop start bytes) → start + 1 < 64 → drop (start + 1) bytes ≡ without_separator (drop start bytes)
+pub without_first_is : (start : ℕ) (bytes : List ℕ) → IsEnd start (drop start bytes) →
+    start + 1 < 64 → drop (start + 1) bytes ≡ without_separator (drop start bytes)
 without_first_is start bytes is_end room =
     let measured = is_end.measured in
     sym (drop-drop 1 start bytes) ∙ without_first (drop start bytes) (omega arith)
 
-pub end_without_first : (start : ℕ) (bytes : List ℕ) → IsEnd start (drop start bytes) → start + 1 < 64 → IsEnd (start + 1) (drop (start + 1) bytes)
+pub end_without_first : (start : ℕ) (bytes : List ℕ) → IsEnd start (drop start bytes) →
+    start + 1 < 64 → IsEnd (start + 1) (drop (start + 1) bytes)
 end_without_first start bytes is_end room =
     let measured = is_end.measured in
     let shorter = length-drop 1 (drop start bytes) in
@@ -133,7 +152,8 @@ tail_left x m (y ∷ ys) = refl
 -- what is left when the first separator is taken away
 pub numbers_left : (ns : List ℕ) → without_separator (separated_all ns ++ 0x6D ∷ []) ≡ joined ns ++ 0x6D ∷ []
 numbers_left [] = refl
-numbers_left (n ∷ ns) = tail_left 0x3B 0x6D (decimal n ++ flat_map separated ns) ∙ ap (λ xs. xs ++ 0x6D ∷ []) (sym (joined_is n ns))
+numbers_left (n ∷ ns) =
+    tail_left 0x3B 0x6D (decimal n ++ flat_map separated ns) ∙ ap (λ xs. xs ++ 0x6D ∷ []) (sym (joined_is n ns))
 
 -- what a colour adds: no number, one, or several
 pub ruleset numbers_put = (nothing_put, one_put, some_put)

@@ -1,11 +1,14 @@
 -- Changes of attributes: the code's `==` is the definitions' sameness, and what the numbers of a change are.
-use Rattle.std.proofs.Common.{◌≡◌, ℕ, ◌≤◌, ◌<◌, Bool, true, false, List, [], ◌∷◌, ◌++◌, length, nat_lt, decimal, refl, sym, ◌∙◌, ap, append_assoc, append-nil, length-append, flat_map, if◌then◌else◌, rules, arith}
+use Rattle.std.proofs.Common.{◌≡◌, ℕ, ◌≤◌, ◌<◌, Bool, true, false, List, [], ◌∷◌, ◌++◌, length}
+use Rattle.std.proofs.Common.{nat_lt, decimal, refl, sym, ◌∙◌, ap, append_assoc, append-nil}
+use Rattle.std.proofs.Common.{length-append, flat_map, if◌then◌else◌, rules, arith}
 use Rattle.std.proofs.lemmas.Bool.{cond_both}
 use Rattle.std.proofs.lemmas.Bool.Decides.{nat_tests}
 use Rattle.std.specs.List.{AllByRecursion}
 use Rattle.vt_cells.specs.Attrs.{default_attrs, same_attrs, same_bool, same_color, same_intensity, Attrs}
 use Rattle.vt_cells.specs.ChangeKeeping.{separated}
-use Rattle.vt_cells.specs.Op.{FitsAttrs, FitsColor, background_numbers, change_numbers, change_text, csi, foreground_numbers, intensity_number, joined, part}
+use Rattle.vt_cells.specs.Op.{FitsAttrs, FitsColor, background_numbers, change_numbers, change_text}
+use Rattle.vt_cells.specs.Op.{csi, foreground_numbers, intensity_number, joined, part}
 use Rattle.vt_cells.specs.declared.attrs.Intensity.{Intensity}
 use Rattle.vt_cells.specs.declared.attrs.Intensity.TheVariants.{Normal, Bold, Dim}
 use Rattle.vt_cells.specs.declared.color.Color.{Color}

@@ -1,5 +1,7 @@
 -- Texts of glyphs: the first character, and one more mark.
-use Rattle.std.proofs.Common.{◌≡◌, ◌≢◌, ℕ, ◌+◌, ◌<◌, ◌≤◌, Bool, true, false, List, [], ◌∷◌, ◌++◌, length, Some, if◌then◌else◌, refl, arith, ap, sym, ◌∙◌, append_assoc, append-nil, length-append, IsUtf8, subst, lit<, lit≤}
+use Rattle.std.proofs.Common.{◌≡◌, ◌≢◌, ℕ, ◌+◌, ◌<◌, ◌≤◌, Bool, true, false, List, [], ◌∷◌, ◌++◌}
+use Rattle.std.proofs.Common.{length, Some, if◌then◌else◌, refl, arith, ap, sym, ◌∙◌, append_assoc}
+use Rattle.std.proofs.Common.{append-nil, length-append, IsUtf8, subst, lit<, lit≤}
 use Rattle.unicode_width.proofs.Computing.{unicode_width}
 use Rattle.vt_cells.proofs.Widths.{columns_of-ascii}
 use borrow.Author.Tests.{ltb-true}
@@ -7,24 +9,30 @@ use Rattle.std.specs.Char.{encode_utf8, IsScalar}
 use Rattle.std.specs.List.{list_any, AllByRecursion}
 use Rattle.std.proofs.lemmas.Bool.Decides.{nat_tests}
 use Rattle.std.proofs.lemmas.List.Folds.{list_any-append}
-use Rattle.std.proofs.lemmas.Str.{length-encode, len_utf8_bounds, encode_ascii, IsUtf8-encode, IsUtf8-append, chars-encodes}
+use Rattle.std.proofs.lemmas.Str.{length-encode, len_utf8_bounds, encode_ascii}
+use Rattle.std.proofs.lemmas.Str.{IsUtf8-encode, IsUtf8-append, chars-encodes}
 use Rattle.std.specs.Str.{chars, encode_utf8_all}
 use lib.Utf8.{scalars}
-use Rattle.vt_cells.specs.Glyph.{IsGlyphText, Joins, IsMark, columns_of, is_selector, mark_limit, has_room, marked_text, first_columns}
+use Rattle.vt_cells.specs.Glyph.{IsGlyphText, Joins, IsMark, columns_of, is_selector}
+use Rattle.vt_cells.specs.Glyph.{mark_limit, has_room, marked_text, first_columns}
 
 -- a character takes one to four bytes
 pub encode_bounds : (c : ℕ) → (1 ≤ length (encode_utf8 c)) × (length (encode_utf8 c) ≤ 4)
 encode_bounds c = rw (length-encode c) (len_utf8_bounds c)
 
-Joins-push : (text marks whole : List ℕ) (mark : ℕ) → Joins text marks whole → has_room whole ≡ true → Joins text (marks ++ mark ∷ []) (whole ++ encode_utf8 mark)
+Joins-push : (text marks whole : List ℕ) (mark : ℕ) → Joins text marks whole →
+    has_room whole ≡ true → Joins text (marks ++ mark ∷ []) (whole ++ encode_utf8 mark)
 Joins-push text [] whole mark e room = (rw e room, ap (λ t. t ++ encode_utf8 mark) e)
-Joins-push text (m ∷ marks) whole mark (first, more) room = (first, Joins-push (text ++ encode_utf8 m) marks whole mark more room)
+Joins-push text (m ∷ marks) whole mark (first, more) room =
+    (first, Joins-push (text ++ encode_utf8 m) marks whole mark more room)
 
-are_marks-push : (marks : List ℕ) (mark : ℕ) → AllByRecursion IsMark marks → IsMark mark → AllByRecursion IsMark (marks ++ mark ∷ [])
+are_marks-push : (marks : List ℕ) (mark : ℕ) → AllByRecursion IsMark marks →
+    IsMark mark → AllByRecursion IsMark (marks ++ mark ∷ [])
 are_marks-push [] mark all here = (here, tt)
 are_marks-push (m ∷ marks) mark (first, more) here = (first, are_marks-push marks mark more here)
 
-list_any-push : (p : ℕ → Bool) (marks : List ℕ) (mark : ℕ) → list_any p (marks ++ mark ∷ []) ≡ false → list_any p marks ≡ false
+list_any-push : (p : ℕ → Bool) (marks : List ℕ) (mark : ℕ) →
+    list_any p (marks ++ mark ∷ []) ≡ false → list_any p marks ≡ false
 list_any-push p marks mark e = let both = list_any-append p marks (mark ∷ []) in grind (arith, both)
 
 some_columns : (wide : Bool) → Some (first_columns wide) ≡ Some 0 → ⊥
@@ -32,7 +40,8 @@ some_columns true e = cc
 some_columns false e = cc
 
 -- the text of one character
-pub IsGlyphText-first : (c : ℕ) (wide : Bool) → IsScalar c → c ≢ 0xFFFD → columns_of c ≡ Some (first_columns wide) → IsGlyphText (encode_utf8 c) wide
+pub IsGlyphText-first : (c : ℕ) (wide : Bool) → IsScalar c → c ≢ 0xFFFD →
+    columns_of c ≡ Some (first_columns wide) → IsGlyphText (encode_utf8 c) wide
 IsGlyphText-first c wide scalar reported columns = record {
   first = c;
   marks = [];
@@ -46,8 +55,10 @@ IsGlyphText-first c wide scalar reported columns = record {
 }
 
 -- one mark more, where the width is known
-pub longer : (text : List ℕ) (was wide : Bool) (mark : ℕ) (glyph : IsGlyphText text was) → IsMark mark → has_room text ≡ true
-    → (list_any is_selector (glyph.marks ++ mark ∷ []) ≡ false → columns_of glyph.first ≡ Some (first_columns wide)) → IsGlyphText (text ++ encode_utf8 mark) wide
+pub longer : (text : List ℕ) (was wide : Bool) (mark : ℕ) (glyph : IsGlyphText text was)
+    → IsMark mark → has_room text ≡ true
+    → (list_any is_selector (glyph.marks ++ mark ∷ []) ≡ false → columns_of glyph.first ≡ Some (first_columns wide))
+    → IsGlyphText (text ++ encode_utf8 mark) wide
 longer text was wide mark glyph is_mark room width = record {
   first = glyph.first;
   marks = glyph.marks ++ mark ∷ [];
@@ -61,16 +72,21 @@ longer text was wide mark glyph is_mark room width = record {
 }
 
 -- one mark more
-pub IsGlyphText-push : (text : List ℕ) (wide : Bool) (mark : ℕ) → IsGlyphText text wide → IsMark mark → has_room text ≡ true → IsGlyphText (text ++ encode_utf8 mark) wide
+pub IsGlyphText-push : (text : List ℕ) (wide : Bool) (mark : ℕ) → IsGlyphText text wide →
+    IsMark mark → has_room text ≡ true → IsGlyphText (text ++ encode_utf8 mark) wide
 IsGlyphText-push text wide mark glyph is_mark room =
-    longer text wide wide mark glyph is_mark room (λ none. glyph.width (list_any-push is_selector glyph.marks mark none))
+    longer text wide wide mark glyph is_mark room
+    (λ none. glyph.width (list_any-push is_selector glyph.marks mark none))
 
-Joins-utf8 : (text marks whole : List ℕ) → IsUtf8 text → AllByRecursion IsMark marks → Joins text marks whole → IsUtf8 whole
+Joins-utf8 : (text marks whole : List ℕ) → IsUtf8 text →
+    AllByRecursion IsMark marks → Joins text marks whole → IsUtf8 whole
 Joins-utf8 text [] whole utf8 all e = subst IsUtf8 e utf8
 Joins-utf8 text (m ∷ marks) whole utf8 (mark, all) (room, joins) =
-    Joins-utf8 (text ++ encode_utf8 m) marks whole (IsUtf8-append text (encode_utf8 m) utf8 (IsUtf8-encode m mark.0)) all joins
+    Joins-utf8 (text ++ encode_utf8 m) marks whole
+    (IsUtf8-append text (encode_utf8 m) utf8 (IsUtf8-encode m mark.0)) all joins
 
-Joins-length : (text marks whole : List ℕ) → 1 ≤ length text → length text ≤ mark_limit + 3 → Joins text marks whole → (1 ≤ length whole) × (length whole ≤ mark_limit + 3)
+Joins-length : (text marks whole : List ℕ) → 1 ≤ length text → length text ≤ mark_limit + 3 →
+    Joins text marks whole → (1 ≤ length whole) × (length whole ≤ mark_limit + 3)
 Joins-length text [] whole low high e = (rw (← e) low, rw (← e) high)
 Joins-length text (m ∷ marks) whole low high (room, joins) =
     let bounds = encode_bounds m in
@@ -80,15 +96,19 @@ Joins-length text (m ∷ marks) whole low high (room, joins) =
 
 -- a glyph's text is UTF-8
 pub IsGlyphText-utf8 : (text : List ℕ) (wide : Bool) → IsGlyphText text wide → IsUtf8 text
-IsGlyphText-utf8 text wide glyph = Joins-utf8 (encode_utf8 glyph.first) glyph.marks text (IsUtf8-encode glyph.first glyph.scalar) glyph.are_marks glyph.spelled
+IsGlyphText-utf8 text wide glyph =
+    Joins-utf8 (encode_utf8 glyph.first) glyph.marks text
+    (IsUtf8-encode glyph.first glyph.scalar) glyph.are_marks glyph.spelled
 
 -- it has at least one byte, and at most three behind the limit of marks
-pub IsGlyphText-length : (text : List ℕ) (wide : Bool) → IsGlyphText text wide → (1 ≤ length text) × (length text ≤ mark_limit + 3)
+pub IsGlyphText-length : (text : List ℕ) (wide : Bool) →
+    IsGlyphText text wide → (1 ≤ length text) × (length text ≤ mark_limit + 3)
 IsGlyphText-length text wide glyph =
     let bounds = encode_bounds glyph.first in
     Joins-length (encode_utf8 glyph.first) glyph.marks text bounds.0 (omega arith) glyph.spelled
 
-by_room : (room : Bool) (longer text : List ℕ) (wide : Bool) → (room ≡ true → IsGlyphText longer wide) → IsGlyphText text wide → IsGlyphText (if room then longer else text) wide
+by_room : (room : Bool) (longer text : List ℕ) (wide : Bool) → (room ≡ true → IsGlyphText longer wide) →
+    IsGlyphText text wide → IsGlyphText (if room then longer else text) wide
 by_room true longer text wide with_room without = with_room refl
 by_room false longer text wide with_room without = without
 
@@ -102,12 +122,14 @@ list_any-last [] = refl
 list_any-last (m ∷ marks) = let more = list_any-last marks in grind (arith, nat_tests, more)
 
 -- U+FE0F lets a glyph be of either width
-pub IsGlyphText-selector : (text : List ℕ) (was wide : Bool) → IsGlyphText text was → has_room text ≡ true → IsGlyphText (text ++ encode_utf8 0xFE0F) wide
+pub IsGlyphText-selector : (text : List ℕ) (was wide : Bool) → IsGlyphText text was →
+    has_room text ≡ true → IsGlyphText (text ++ encode_utf8 0xFE0F) wide
 IsGlyphText-selector text was wide glyph room =
     longer text was wide 0xFE0F glyph (refl, selector_columns) room (λ none. let has = list_any-last glyph.marks in cc)
 
 -- a mark leaves a glyph's text a glyph's text, also where there is no room for it
-pub IsGlyphText-marked : (text : List ℕ) (wide : Bool) (mark : ℕ) → IsGlyphText text wide → IsMark mark → IsGlyphText (marked_text text mark) wide
+pub IsGlyphText-marked : (text : List ℕ) (wide : Bool) (mark : ℕ) →
+    IsGlyphText text wide → IsMark mark → IsGlyphText (marked_text text mark) wide
 IsGlyphText-marked text wide mark glyph is_mark =
     by_room (has_room text) (text ++ encode_utf8 mark) text wide (IsGlyphText-push text wide mark glyph is_mark) glyph
 
@@ -116,7 +138,9 @@ space_first = encode_ascii 0x20 (lit< tt)
 
 -- a space is a glyph's text
 pub IsGlyphText-space : IsGlyphText (0x20 ∷ []) false
-IsGlyphText-space = subst (λ text. IsGlyphText text false) space_first (IsGlyphText-first 0x20 false refl (λ e. cc) (columns_of-ascii 0x20 (lit≤ tt) (lit< tt)))
+IsGlyphText-space =
+    subst (λ text. IsGlyphText text false) space_first
+    (IsGlyphText-first 0x20 false refl (λ e. cc) (columns_of-ascii 0x20 (lit≤ tt) (lit< tt)))
 
 Joins-spelled : (text marks whole : List ℕ) → Joins text marks whole → whole ≡ text ++ encode_utf8_all marks
 Joins-spelled text [] whole e = sym e ∙ sym (append-nil text)
@@ -128,10 +152,13 @@ all_scalar [] all = refl
 all_scalar (m ∷ marks) (mark, all) = rw (mark.0, all_scalar marks all) refl
 
 -- a glyph's text spells its first character and its marks
-pub IsGlyphText-spelled : (text : List ℕ) (wide : Bool) (glyph : IsGlyphText text wide) → text ≡ encode_utf8_all (glyph.first ∷ glyph.marks)
+pub IsGlyphText-spelled : (text : List ℕ) (wide : Bool) (glyph : IsGlyphText text wide) →
+    text ≡ encode_utf8_all (glyph.first ∷ glyph.marks)
 IsGlyphText-spelled text wide glyph = Joins-spelled (encode_utf8 glyph.first) glyph.marks text glyph.spelled
 
 -- and these are its characters
-pub IsGlyphText-chars : (text : List ℕ) (wide : Bool) (glyph : IsGlyphText text wide) → chars text ≡ glyph.first ∷ glyph.marks
+pub IsGlyphText-chars : (text : List ℕ) (wide : Bool) (glyph : IsGlyphText text wide) →
+    chars text ≡ glyph.first ∷ glyph.marks
 IsGlyphText-chars text wide glyph =
-    ap chars (IsGlyphText-spelled text wide glyph) ∙ chars-encodes (glyph.first ∷ glyph.marks) (rw (glyph.scalar, all_scalar glyph.marks glyph.are_marks) refl)
+    ap chars (IsGlyphText-spelled text wide glyph)
+    ∙ chars-encodes (glyph.first ∷ glyph.marks) (rw (glyph.scalar, all_scalar glyph.marks glyph.are_marks) refl)

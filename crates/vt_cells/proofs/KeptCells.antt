@@ -1,5 +1,6 @@
 -- What a cell's fields keep.
-use Rattle.std.proofs.Common.{◌≡◌, ◌≢◌, ℕ, ◌+◌, ◌<◌, ◌≤◌, Bool, true, false, List, ◌++◌, length, Some, arith, sym, length-append}
+use Rattle.std.proofs.Common.{◌≡◌, ◌≢◌, ℕ, ◌+◌, ◌<◌, ◌≤◌, Bool, true, false, List}
+use Rattle.std.proofs.Common.{◌++◌, length, Some, arith, sym, length-append}
 use Rattle.std.specs.Char.{encode_utf8, IsScalar}
 use Rattle.std.proofs.lemmas.Bool.Decides.{nat_tests}
 use Rattle.std.proofs.lemmas.Bool.{lt-ltb}
@@ -7,16 +8,20 @@ use Rattle.vt_cells.specs.Cell.{glyph, cell_of, is_blank, is_right_half}
 use Rattle.vt_cells.specs.CellKeeping.{IsKept}
 use Rattle.vt_cells.specs.Glyph.{IsGlyphText, columns_of, first_columns, mark_limit, has_room}
 use Rattle.vt_cells.specs.Attrs.{Attrs}
-use Rattle.vt_cells.proofs.Glyphs.{IsGlyphText-first, IsGlyphText-utf8, IsGlyphText-length, IsGlyphText-push, encode_bounds}
+use Rattle.vt_cells.proofs.Glyphs.{IsGlyphText-first, IsGlyphText-utf8, IsGlyphText-length}
+use Rattle.vt_cells.proofs.Glyphs.{IsGlyphText-push, encode_bounds}
 
 -- with a text the cell is a glyph
-pub cell_of-glyph : (text : List ℕ) (wide : Bool) (attrs : Attrs) → 1 ≤ length text → cell_of text wide false attrs ≡ glyph text wide attrs
+pub cell_of-glyph : (text : List ℕ) (wide : Bool) (attrs : Attrs) →
+    1 ≤ length text → cell_of text wide false attrs ≡ glyph text wide attrs
 cell_of-glyph text wide attrs low = grind (arith, nat_tests)
 
-pub cell_of-first : (text : List ℕ) (c : ℕ) (wide : Bool) (attrs : Attrs) → text ≡ encode_utf8 c → cell_of text wide false attrs ≡ glyph (encode_utf8 c) wide attrs
+pub cell_of-first : (text : List ℕ) (c : ℕ) (wide : Bool) (attrs : Attrs) →
+    text ≡ encode_utf8 c → cell_of text wide false attrs ≡ glyph (encode_utf8 c) wide attrs
 cell_of-first text c wide attrs e = rw e (cell_of-glyph (encode_utf8 c) wide attrs ((encode_bounds c).0))
 
-pub IsKept-glyph : (len : ℕ) (text : List ℕ) (wide : Bool) (attrs : Attrs) → IsGlyphText text wide → len ≡ length text → IsKept len text wide false attrs
+pub IsKept-glyph : (len : ℕ) (text : List ℕ) (wide : Bool) (attrs : Attrs) →
+    IsGlyphText text wide → len ≡ length text → IsKept len text wide false attrs
 IsKept-glyph len text wide attrs is_text e =
     let bounds = IsGlyphText-length text wide is_text in
     record {
@@ -30,20 +35,26 @@ IsKept-glyph len text wide attrs is_text e =
       sound = rw (cell_of-glyph text wide attrs bounds.0) is_text;
     }
 
-pub IsKept-first : (c len : ℕ) (text : List ℕ) (wide : Bool) (attrs : Attrs) → IsScalar c → c ≢ 0xFFFD → columns_of c ≡ Some (first_columns wide) → len ≡ length (encode_utf8 c) → text ≡ encode_utf8 c → IsKept len text wide false attrs
+pub IsKept-first : (c len : ℕ) (text : List ℕ) (wide : Bool) (attrs : Attrs) →
+    IsScalar c → c ≢ 0xFFFD → columns_of c ≡ Some (first_columns wide) →
+    len ≡ length (encode_utf8 c) → text ≡ encode_utf8 c → IsKept len text wide false attrs
 IsKept-first c len text wide attrs scalar reported columns size e =
     rw e (IsKept-glyph len (encode_utf8 c) wide attrs (IsGlyphText-first c wide scalar reported columns) size)
 
 -- a cell with a text, and no right half, is a glyph
-glyph_kept : (len : ℕ) (text : List ℕ) (wide : Bool) (attrs : Attrs) → IsKept len text wide false attrs → is_blank (cell_of text wide false attrs) ≡ false → IsGlyphText text wide
+glyph_kept : (len : ℕ) (text : List ℕ) (wide : Bool) (attrs : Attrs) → IsKept len text wide false attrs →
+    is_blank (cell_of text wide false attrs) ≡ false → IsGlyphText text wide
 glyph_kept len text wide attrs kept shown =
     let low : 1 ≤ length text = grind (arith, nat_tests) in
     rw (cell_of-glyph text wide attrs low) at kept.sound
 
 -- a glyph with a mark behind its text, as wide as it was
-pub IsKept-mark : (c len next : ℕ) (text longer : List ℕ) (wide right same : Bool) (attrs : Attrs) → IsScalar c → columns_of c ≡ Some 0
-    → IsKept len text wide right attrs → is_blank (cell_of text wide right attrs) ≡ false → is_right_half (cell_of text wide right attrs) ≡ false
-    → len < mark_limit → next ≡ len + length (encode_utf8 c) → longer ≡ text ++ encode_utf8 c → same ≡ wide → IsKept next longer same false attrs
+pub IsKept-mark : (c len next : ℕ) (text longer : List ℕ) (wide right same : Bool) (attrs : Attrs)
+    → IsScalar c → columns_of c ≡ Some 0
+    → IsKept len text wide right attrs → is_blank (cell_of text wide right attrs) ≡ false
+    → is_right_half (cell_of text wide right attrs) ≡ false
+    → len < mark_limit → next ≡ len + length (encode_utf8 c)
+    → longer ≡ text ++ encode_utf8 c → same ≡ wide → IsKept next longer same false attrs
 IsKept-mark c len next text longer wide true same attrs scalar columns kept full shown room size e is_same = cc
 IsKept-mark c len next text longer wide false same attrs scalar columns kept full shown room size e is_same =
     let has : has_room text ≡ true = rw kept.measured (lt-ltb len mark_limit room) in

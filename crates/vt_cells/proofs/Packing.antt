@@ -1,5 +1,6 @@
 -- Attributes in nine bytes are the same exactly where the bytes are.
-use Rattle.std.proofs.Common.{◌≡◌, ◌≢◌, ℕ, ◌+◌, ◌/◌, ◌%◌, ◌<◌, ◌≤◌, ◌&&◌, ◌==◌, Bool, true, false, zero, suc, refl, arith, ap, sym, ◌∙◌, eqb-true, if◌then◌else◌}
+use Rattle.std.proofs.Common.{◌≡◌, ◌≢◌, ℕ, ◌+◌, ◌/◌, ◌%◌, ◌<◌, ◌≤◌, ◌&&◌, ◌==◌, Bool, true, false}
+use Rattle.std.proofs.Common.{zero, suc, refl, arith, ap, sym, ◌∙◌, eqb-true, if◌then◌else◌}
 use Rattle.std.proofs.lemmas.Bool.Decides.{nat_tests}
 use Rattle.vt_cells.specs.Attrs.{Attrs, same_attrs, same_bool, same_color, same_intensity}
 use Rattle.vt_cells.specs.AttrsKeeping.{IsPacked, StyleValue, same_style, style_bits, style_of, unpacked}
@@ -35,7 +36,8 @@ packed_same (suc (suc (suc k))) a b c l d e f p q = absurd p
 
 -- the parts of a style are those of its byte
 pub style_back : (intensity : Intensity) (italic underline inverse : Bool)
-    → style_of (style_bits (record { intensity = intensity; italic = italic; underline = underline; inverse = inverse }))
+    → style_of
+    (style_bits (record { intensity = intensity; italic = italic; underline = underline; inverse = inverse }))
     ≡ record { intensity = intensity; italic = italic; underline = underline; inverse = inverse }
 style_back Normal true true true = refl
 style_back Normal true true false = refl
@@ -77,7 +79,13 @@ style_of-same a b e =
 
 same_style-itself : (a : StyleValue) → same_style a a ≡ true
 unfolding same_style
-same_style-itself a = rw (same_intensity-itself a.intensity, same_bool-itself a.italic, same_bool-itself a.underline, same_bool-itself a.inverse) refl
+same_style-itself a =
+    rw (
+      same_intensity-itself a.intensity,
+      same_bool-itself a.italic,
+      same_bool-itself a.underline,
+      same_bool-itself a.inverse,
+    ) refl
 
 pub alike : (p q : Bool) → (p ≡ true → q ≡ true) → (q ≡ true → p ≡ true) → p ≡ q
 alike true q to from = sym (to refl)
@@ -88,7 +96,8 @@ pub itself : (n : ℕ) → (n == n) ≡ true
 itself n = grind (arith, nat_tests)
 
 -- two bytes are compared, and the styles are
-pub bits_same : (m n : ℕ) → style_bits (style_of m) ≡ m → style_bits (style_of n) ≡ n → (m == n) ≡ same_style (style_of m) (style_of n)
+pub bits_same : (m n : ℕ) → style_bits (style_of m) ≡ m →
+    style_bits (style_of n) ≡ n → (m == n) ≡ same_style (style_of m) (style_of n)
 bits_same m n p q =
     alike (m == n) (same_style (style_of m) (style_of n))
     (λ e. rw (eqb-true m n e) (same_style-itself (style_of n)))
@@ -96,7 +105,8 @@ bits_same m n p q =
 
 -- both colours and the style are compared
 pub attrs_same : (a b : Attrs) (f g s : Bool) → f ≡ same_color a.fgcolor b.fgcolor → g ≡ same_color a.bgcolor b.bgcolor
-    → s ≡ same_style (record { intensity = a.intensity; italic = a.italic; underline = a.underline; inverse = a.inverse })
+    → s
+    ≡ same_style (record { intensity = a.intensity; italic = a.italic; underline = a.underline; inverse = a.inverse })
     (record { intensity = b.intensity; italic = b.italic; underline = b.underline; inverse = b.inverse })
     → ((f && g) && s) ≡ same_attrs a b
 unfolding same_attrs same_style

@@ -1,5 +1,6 @@
 -- Texts that are gathered.
-use Rattle.std.proofs.Common.{◌≡◌, ℕ, ◌+◌, ◌≤◌, List, [], ◌∷◌, ◌++◌, length, take, slice_index_or, slice_set, IsUtf8, refl, sym, subst, ap, ◌∙◌, arith, length-append, append-nil}
+use Rattle.std.proofs.Common.{◌≡◌, ℕ, ◌+◌, ◌≤◌, List, [], ◌∷◌, ◌++◌, length, take, slice_index_or, slice_set}
+use Rattle.std.proofs.Common.{IsUtf8, refl, sym, subst, ap, ◌∙◌, arith, length-append, append-nil}
 use Rattle.std.proofs.lemmas.Slice.{take-put_mid}
 use Rattle.std.proofs.lemmas.Str.{IsUtf8-append}
 use Rattle.vt_cells.specs.PieceKeeping.{IsPiece, gathered}
@@ -14,7 +15,8 @@ one_set xs [] e f = let none : ⊥ = omega (arith, f) in absurd none
 one_set xs (y ∷ (z ∷ ys)) e f = let none : ⊥ = omega (arith, f) in absurd none
 
 -- the only two, and the only three
-pub two_set : (xs ys : List ℕ) → length xs ≡ length ys → length ys ≡ 2 → slice_set (slice_set xs 0 (slice_index_or ys 0 0)) 1 (slice_index_or ys 1 0) ≡ ys
+pub two_set : (xs ys : List ℕ) → length xs ≡ length ys → length ys ≡ 2 →
+    slice_set (slice_set xs 0 (slice_index_or ys 0 0)) 1 (slice_index_or ys 1 0) ≡ ys
 two_set (x ∷ (z ∷ [])) (y ∷ (w ∷ [])) e f = refl
 two_set [] ys e f = let none : ⊥ = omega (arith, e, f) in absurd none
 two_set (x ∷ []) ys e f = let none : ⊥ = omega (arith, e, f) in absurd none
@@ -23,7 +25,9 @@ two_set (x ∷ (z ∷ [])) [] e f = let none : ⊥ = omega (arith, f) in absurd 
 two_set (x ∷ (z ∷ [])) (y ∷ []) e f = let none : ⊥ = omega (arith, f) in absurd none
 two_set (x ∷ (z ∷ [])) (y ∷ (w ∷ (v ∷ ys))) e f = let none : ⊥ = omega (arith, f) in absurd none
 
-pub three_set : (xs ys : List ℕ) → length xs ≡ length ys → length ys ≡ 3 → slice_set (slice_set (slice_set xs 0 (slice_index_or ys 0 0)) 1 (slice_index_or ys 1 0)) 2 (slice_index_or ys 2 0) ≡ ys
+pub three_set : (xs ys : List ℕ) → length xs ≡ length ys → length ys ≡ 3 →
+    slice_set (slice_set (slice_set xs 0 (slice_index_or ys 0 0)) 1 (slice_index_or ys 1 0)) 2 (slice_index_or ys 2 0)
+    ≡ ys
 three_set (x ∷ (z ∷ (v ∷ []))) (y ∷ (w ∷ (u ∷ []))) e f = refl
 three_set [] ys e f = let none : ⊥ = omega (arith, e, f) in absurd none
 three_set (x ∷ []) ys e f = let none : ⊥ = omega (arith, e, f) in absurd none
@@ -34,7 +38,8 @@ three_set (x ∷ (z ∷ (v ∷ []))) (y ∷ []) e f = let none : ⊥ = omega (ar
 three_set (x ∷ (z ∷ (v ∷ []))) (y ∷ (w ∷ [])) e f = let none : ⊥ = omega (arith, f) in absurd none
 three_set (x ∷ (z ∷ (v ∷ []))) (y ∷ (w ∷ (u ∷ (t ∷ ys)))) e f = let none : ⊥ = omega (arith, f) in absurd none
 
-longer : (old text : List ℕ) (n : ℕ) → IsPiece (length old) old → n ≡ length old + length text → n ≤ 128 → IsUtf8 text → IsPiece n (old ++ text)
+longer : (old text : List ℕ) (n : ℕ) → IsPiece (length old) old →
+    n ≡ length old + length text → n ≤ 128 → IsUtf8 text → IsPiece n (old ++ text)
 longer old text n piece e fits utf8 = record {
   bounded = fits;
   measured = length-append old text ∙ sym e;
@@ -42,13 +47,17 @@ longer old text n piece e fits utf8 = record {
 }
 
 -- a text is put behind another one
-pub pushed : (len k : ℕ) (bytes copied text : List ℕ) → IsPiece len (take len bytes) → len ≤ length bytes → length (take len bytes) + length text ≤ 128 → copied ≡ text → IsUtf8 text
+pub pushed : (len k : ℕ) (bytes copied text : List ℕ) → IsPiece len (take len bytes)
+    → len ≤ length bytes → length (take len bytes) + length text ≤ 128 → copied ≡ text → IsUtf8 text
     → IsPiece (len + length text) (take (len + length text) (put_mid len k bytes copied))
 pushed len k bytes copied text piece inside fits same utf8 =
     subst (λ (whole : List ℕ). IsPiece (len + length text) whole)
-    (sym (take-put_mid len k bytes copied (len + length text) (ap (λ (xs : List ℕ). len + length xs) (sym same)) inside ∙ ap (λ (xs : List ℕ). take len bytes ++ xs) same))
-    (longer (take len bytes) text (len + length text) (subst (λ (n : ℕ). IsPiece n (take len bytes)) (sym piece.measured) piece)
-    (ap (λ (n : ℕ). n + length text) (sym piece.measured)) (subst (λ (n : ℕ). n + length text ≤ 128) piece.measured fits) utf8)
+    (sym (take-put_mid len k bytes copied (len + length text) (ap (λ (xs : List ℕ). len + length xs) (sym same)) inside
+    ∙ ap (λ (xs : List ℕ). take len bytes ++ xs) same))
+    (longer (take len bytes) text (len + length text)
+    (subst (λ (n : ℕ). IsPiece n (take len bytes)) (sym piece.measured) piece)
+    (ap (λ (n : ℕ). n + length text) (sym piece.measured))
+    (subst (λ (n : ℕ). n + length text ≤ 128) piece.measured fits) utf8)
 
 pub nothing_gathered : (text : List ℕ) → gathered text [] ≡ text
 unfolding gathered

@@ -57,7 +57,8 @@ six p q r s t u p' q' r' s' t' u' e1 e2 e3 e4 e5 e6 = cc
 pub attrs_eq-same : (a b : Attrs) → attrs_eq a b ≡ same_attrs a b
 unfolding same_attrs
 attrs_eq-same a b =
-    six _ _ _ _ _ _ _ _ _ _ _ _ (color_eq-same a.fgcolor b.fgcolor) (color_eq-same a.bgcolor b.bgcolor) (intensity_eq-same a.intensity b.intensity)
+    six _ _ _ _ _ _ _ _ _ _ _ _ (color_eq-same a.fgcolor b.fgcolor)
+    (color_eq-same a.bgcolor b.bgcolor) (intensity_eq-same a.intensity b.intensity)
     (beq-same a.italic b.italic) (beq-same a.underline b.underline) (beq-same a.inverse b.inverse)
 
 pub two_parts : (p q : Bool) → (p && q) ≡ true → (p ≡ true) × (q ≡ true)
@@ -140,7 +141,8 @@ attrs_of-same a b e =
 pub same_attrs-itself : (a : Attrs) → same_attrs a a ≡ true
 unfolding same_attrs
 same_attrs-itself a =
-    six _ _ _ _ _ _ true true true true true true (same_color-itself a.fgcolor) (same_color-itself a.bgcolor) (same_intensity-itself a.intensity)
+    six _ _ _ _ _ _ true true true true true true (same_color-itself a.fgcolor)
+    (same_color-itself a.bgcolor) (same_intensity-itself a.intensity)
     (same_bool-itself a.italic) (same_bool-itself a.underline) (same_bool-itself a.inverse)
 
 pub false_of : (b : Bool) → b ≢ true → b ≡ false
@@ -150,7 +152,8 @@ chosen : {A : Type 0} (b : Bool) (x y : A) → (b ≡ true → x ≡ y) → (if 
 chosen true x y e = e refl
 chosen false x y e = refl
 
-third : {A : Type 0} (b c : Bool) (x y z n : A) → (b ≡ true → x ≡ n) → (c ≡ true → y ≡ n) → z ≡ n → (if b then x else if c then y else z) ≡ n
+third : {A : Type 0} (b c : Bool) (x y z n : A) → (b ≡ true → x ≡ n) →
+    (c ≡ true → y ≡ n) → z ≡ n → (if b then x else if c then y else z) ≡ n
 third true c x y z n first second last = first refl
 third false true x y z n first second last = second refl
 third false false x y z n first second last = last
@@ -159,13 +162,21 @@ third false false x y z n first second last = last
 pub changed_attrs-new : (was new : Attrs) → changed_attrs was new was ≡ new
 unfolding changed_attrs
 changed_attrs-new was new =
-    third (same_attrs was new) (same_attrs new default_attrs) was default_attrs _ new (attrs_of-same was new) (λ e. sym (attrs_of-same new default_attrs e)) (λ i. record {
-      fgcolor = chosen (same_color was.fgcolor new.fgcolor) was.fgcolor new.fgcolor (color_of-same was.fgcolor new.fgcolor) i;
-      bgcolor = chosen (same_color was.bgcolor new.bgcolor) was.bgcolor new.bgcolor (color_of-same was.bgcolor new.bgcolor) i;
-      intensity = chosen (same_intensity was.intensity new.intensity) was.intensity new.intensity (intensity_of-same was.intensity new.intensity) i;
+    third (same_attrs was new) (same_attrs new default_attrs) was default_attrs _ new
+    (attrs_of-same was new) (λ e. sym (attrs_of-same new default_attrs e)) (λ i. record {
+      fgcolor =
+          chosen (same_color was.fgcolor new.fgcolor) was.fgcolor new.fgcolor (color_of-same was.fgcolor new.fgcolor) i;
+      bgcolor =
+          chosen (same_color was.bgcolor new.bgcolor) was.bgcolor new.bgcolor (color_of-same was.bgcolor new.bgcolor) i;
+      intensity =
+          chosen (same_intensity was.intensity new.intensity) was.intensity
+          new.intensity (intensity_of-same was.intensity new.intensity) i;
       italic = chosen (same_bool was.italic new.italic) was.italic new.italic (bool_of-same was.italic new.italic) i;
-      underline = chosen (same_bool was.underline new.underline) was.underline new.underline (bool_of-same was.underline new.underline) i;
-      inverse = chosen (same_bool was.inverse new.inverse) was.inverse new.inverse (bool_of-same was.inverse new.inverse) i;
+      underline =
+          chosen (same_bool was.underline new.underline) was.underline
+          new.underline (bool_of-same was.underline new.underline) i;
+      inverse =
+          chosen (same_bool was.inverse new.inverse) was.inverse new.inverse (bool_of-same was.inverse new.inverse) i;
     })
 
 -- no change leaves all attributes
@@ -174,7 +185,8 @@ unfolding changed_attrs
 changed_attrs-none attrs others = rw (same_attrs-itself attrs) refl
 
 -- attributes that change to the default ones at all are the default ones
-pub changed_attrs-default : (was others : Attrs) → same_attrs was default_attrs ≡ false → changed_attrs was default_attrs others ≡ default_attrs
+pub changed_attrs-default : (was others : Attrs) → same_attrs was default_attrs ≡ false →
+    changed_attrs was default_attrs others ≡ default_attrs
 unfolding changed_attrs
 changed_attrs-default was others differ = rw (differ, same_attrs-itself default_attrs) refl
 

@@ -1,5 +1,6 @@
 -- What a cell is, in one byte.
-use Rattle.std.proofs.Common.{◌≡◌, ℕ, ◌+◌, ◌/◌, ◌%◌, ◌<◌, ◌≤◌, ◌&&◌, ◌==◌, Bool, true, false, refl, arith, ap, sym, ◌∙◌, eqb-true, if◌then◌else◌, nat_le}
+use Rattle.std.proofs.Common.{◌≡◌, ℕ, ◌+◌, ◌/◌, ◌%◌, ◌<◌, ◌≤◌, ◌&&◌, ◌==◌, Bool, true, false}
+use Rattle.std.proofs.Common.{refl, arith, ap, sym, ◌∙◌, eqb-true, if◌then◌else◌, nat_le}
 use Rattle.std.proofs.lemmas.Bool.Decides.{nat_tests}
 use Rattle.vt_cells.specs.Attrs.{same_bool}
 use Rattle.vt_cells.specs.CellKeeping.{ShapeValue, blank_shape, same_shape, shape_bits, shape_of}
@@ -36,7 +37,8 @@ unfolding same_shape
 same_shape-itself a = rw (itself a.len, same_bool-itself a.wide, same_bool-itself a.right_half) refl
 
 -- two bytes are compared, and the shapes are
-pub bits_same : (m n : ℕ) → shape_bits (shape_of m) ≡ m → shape_bits (shape_of n) ≡ n → (m == n) ≡ same_shape (shape_of m) (shape_of n)
+pub bits_same : (m n : ℕ) → shape_bits (shape_of m) ≡ m →
+    shape_bits (shape_of n) ≡ n → (m == n) ≡ same_shape (shape_of m) (shape_of n)
 bits_same m n p q =
     alike (m == n) (same_shape (shape_of m) (shape_of n))
     (λ e. rw (eqb-true m n e) (same_shape-itself (shape_of n)))

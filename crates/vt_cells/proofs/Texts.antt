@@ -1,11 +1,15 @@
 -- Texts of operations: they join as lists do, and are ASCII but for the texts that they print.
-use Rattle.std.proofs.Common.{◌≡◌, ℕ, zero, suc, ◌+◌, ◌<◌, ◌^◌, Bool, true, false, List, [], ◌∷◌, ◌++◌, decimal, if◌then◌else◌, true≢false, IsAscii, arith}
+use Rattle.std.proofs.Common.{◌≡◌, ℕ, zero, suc, ◌+◌, ◌<◌, ◌^◌, Bool, true, false, List, [], ◌∷◌}
+use Rattle.std.proofs.Common.{◌++◌, decimal, if◌then◌else◌, true≢false, IsAscii, arith}
 use Rattle.std.specs.List.{AllByRecursion}
 use Rattle.std.proofs.lemmas.Fmt.{IsAscii-decimal}
 use Rattle.std.proofs.lemmas.List.Concat.{flat_map-append}
 use Rattle.std.proofs.lemmas.Str.Ascii.{IsAscii-cons, IsAscii-nil, IsAscii-push}
 use Rattle.vt_cells.specs.Attrs.{default_attrs, same_attrs, Attrs}
-use Rattle.vt_cells.specs.Op.{Op, Hide, ClearAttrs, MoveTo, MoveRight, NextRow, LineFeed, Backspace, EraseBelow, EraseRest, EraseChars, SaveCursor, RestoreCursor, ChangeAttrs, Print, FitsAttrs, FitsOp, bytes_of, bytes_of_all, change_numbers, change_text, counted, csi, is_print, joined, place}
+use Rattle.vt_cells.specs.Op.{Op, Hide, ClearAttrs, MoveTo, MoveRight, NextRow, LineFeed, Backspace}
+use Rattle.vt_cells.specs.Op.{EraseBelow, EraseRest, EraseChars, SaveCursor, RestoreCursor, ChangeAttrs}
+use Rattle.vt_cells.specs.Op.{Print, FitsAttrs, FitsOp, bytes_of, bytes_of_all, change_numbers}
+use Rattle.vt_cells.specs.Op.{change_text, counted, csi, is_print, joined, place}
 use Rattle.vt_cells.proofs.Changes.{AllBytes, AllBytes-change_numbers}
 
 -- the text of two lists of operations, one after the other

@@ -41,7 +41,9 @@ IsPacked (suc (suc (suc kind))) first second third = ⊥
 
 -- a colour gives its bytes back
 pub packed_back : (k a b c : ℕ) → IsPacked k a b c
-    → (kind_of (unpacked k a b c) ≡ k) × ((first_part (unpacked k a b c) ≡ a) × ((second_part (unpacked k a b c) ≡ b) × (third_part (unpacked k a b c) ≡ c)))
+    → (kind_of (unpacked k a b c) ≡ k)
+    × ((first_part (unpacked k a b c) ≡ a)
+    × ((second_part (unpacked k a b c) ≡ b) × (third_part (unpacked k a b c) ≡ c)))
 packed_back zero a b c p = (refl, (sym p.0, (sym p.1.0, sym p.1.1)))
 packed_back (suc zero) a b c p = (refl, (refl, (sym p.0, sym p.1)))
 packed_back (suc (suc zero)) a b c p = (refl, (refl, (refl, refl)))
@@ -55,13 +57,16 @@ pub record StyleValue : Type 0 where
   pub inverse : Bool
 
 abbrev pub style_of_attrs : Attrs → StyleValue
-style_of_attrs attrs = record { intensity = attrs.intensity; italic = attrs.italic; underline = attrs.underline; inverse = attrs.inverse }
+style_of_attrs attrs =
+    record { intensity = attrs.intensity; italic = attrs.italic; underline = attrs.underline; inverse = attrs.inverse }
 
 abbrev pub plain_style : StyleValue
 plain_style = record { intensity = Normal; italic = false; underline = false; inverse = false }
 
 unfoldable pub same_style : StyleValue → StyleValue → Bool
-same_style a b = same_intensity a.intensity b.intensity && (same_bool a.italic b.italic && (same_bool a.underline b.underline && same_bool a.inverse b.inverse))
+same_style a b =
+    same_intensity a.intensity b.intensity
+    && (same_bool a.italic b.italic && (same_bool a.underline b.underline && same_bool a.inverse b.inverse))
 
 -- the intensity of two bits, and back
 abbrev pub intensity_of : ℕ → Intensity
@@ -85,4 +90,5 @@ style_of bits = record {
 
 abbrev pub style_bits : StyleValue → ℕ
 style_bits style =
-    intensity_bits style.intensity + (if style.italic then 4 else 0) + (if style.underline then 8 else 0) + (if style.inverse then 16 else 0)
+    intensity_bits style.intensity + (if style.italic then 4 else 0)
+    + (if style.underline then 8 else 0) + (if style.inverse then 16 else 0)

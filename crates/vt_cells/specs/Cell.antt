@@ -14,7 +14,8 @@ default_blank = blank default_attrs
 
 -- the cell that a text, its width, the mark of a right half and attributes stand for: without text it is a blank
 abbrev pub cell_of : List ℕ → Bool → Bool → Attrs → CellValue
-cell_of text wide right attrs = if right then right_half else if length text == 0 then blank attrs else glyph text wide attrs
+cell_of text wide right attrs =
+    if right then right_half else if length text == 0 then blank attrs else glyph text wide attrs
 
 -- a wide glyph, which is the left half of two columns
 abbrev pub is_wide : CellValue → Bool

@@ -35,4 +35,6 @@ abbrev pub cell_eq : CellValue → CellValue → Bool
 cell_eq = eq_of_both (on kind_of nat_eq) (eq_of_both (on text_of bytes_eq) (on attrs_of attrs_eq))
 
 pub cell_eq_equiv : IsEquivalence cell_eq
-cell_eq_equiv = and_equiv (on_equiv kind_of nat_eq_equiv) (and_equiv (on_equiv text_of nat_list_eq_equiv) (on_equiv attrs_of attrs_eq_equiv))
+cell_eq_equiv =
+    and_equiv (on_equiv kind_of nat_eq_equiv)
+    (and_equiv (on_equiv text_of nat_list_eq_equiv) (on_equiv attrs_of attrs_eq_equiv))

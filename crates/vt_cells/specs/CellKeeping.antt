@@ -1,5 +1,6 @@
 -- How a cell keeps its value in its fields; for its model, private contracts and proofs only.
-use Rattle.std.specs.Prelude.{◌≡◌, ℕ, ◌+◌, ◌/◌, ◌%◌, ◌==◌, ◌&&◌, ◌<◌, ◌≤◌, Bool, true, false, List, [], ◌∷◌, length, if◌then◌else◌, IsUtf8}
+use Rattle.std.specs.Prelude.{◌≡◌, ℕ, ◌+◌, ◌/◌, ◌%◌, ◌==◌, ◌&&◌, ◌<◌, ◌≤◌, Bool, true}
+use Rattle.std.specs.Prelude.{false, List, [], ◌∷◌, length, if◌then◌else◌, IsUtf8}
 use Rattle.vt_cells.specs.Attrs.{Attrs, default_attrs, same_bool}
 use Rattle.vt_cells.specs.Cell.{CellValue, blank, glyph, right_half, cell_of, is_right_half, is_wide, text_of, IsCell}
 use Rattle.vt_cells.specs.Glyph.{mark_limit}

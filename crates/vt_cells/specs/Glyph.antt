@@ -1,10 +1,12 @@
 -- Texts of cells: one character that takes columns, and the marks put on it.
-use Rattle.std.specs.Prelude.{◌≡◌, ◌≢◌, ℕ, Bool, true, false, ◌==◌, nat_lt, min, List, [], ◌∷◌, ◌++◌, length, Option, Some, None, chars, if◌then◌else◌}
+use Rattle.std.specs.Prelude.{◌≡◌, ◌≢◌, ℕ, Bool, true, false, ◌==◌, nat_lt, min, List, [], ◌∷◌}
+use Rattle.std.specs.Prelude.{◌++◌, length, Option, Some, None, chars, if◌then◌else◌}
 use Rattle.std.specs.List.{list_any, AllByRecursion}
 use Rattle.std.specs.Char.{encode_utf8, IsScalar}
 use Rattle.unicode_width.specs.Width.{char_width, str_width}
 
--- the columns that a character takes, of those that `unicode_width` gives: at most 2, and 1 from U+0100 on where it gives none (UAX #11)
+-- the columns that a character takes, of those that `unicode_width` gives: at most 2,
+-- and 1 from U+0100 on where it gives none (UAX #11)
 abbrev pub columns_or : ℕ → Option ℕ → Option ℕ
 columns_or c (Some width) = Some (min width 2)
 columns_or c None = if nat_lt c 0x100 then None else Some 1

@@ -1,5 +1,6 @@
 -- What a redraw asks of the terminal that reads it, one operation after the other, and the exact text of each.
-use Rattle.std.specs.Prelude.{ℕ, zero, suc, ◌+◌, ◌-◌, ◌^◌, ◌<◌, ◌&&◌, ◌==◌, nat_lt, Bool, true, false, List, [], ◌∷◌, ◌++◌, decimal, if◌then◌else◌}
+use Rattle.std.specs.Prelude.{ℕ, zero, suc, ◌+◌, ◌-◌, ◌^◌, ◌<◌, ◌&&◌, ◌==◌, nat_lt, Bool}
+use Rattle.std.specs.Prelude.{true, false, List, [], ◌∷◌, ◌++◌, decimal, if◌then◌else◌}
 use Rattle.std.specs.List.{flat_map}
 use Rattle.vt_cells.specs.Attrs.{default_attrs, same_attrs, same_color, same_intensity, same_bool, Attrs}
 use Rattle.vt_cells.specs.declared.attrs.Intensity.{Intensity}
@@ -55,12 +56,14 @@ joined (n ∷ m ∷ ns) = decimal n ++ 0x3B ∷ joined (m ∷ ns)
 -- SGR's numbers for a colour: those of the palette's first 8, of its next 8, and the long forms of xterm
 unfoldable pub foreground_numbers : Color → List ℕ
 foreground_numbers Default = 39 ∷ []
-foreground_numbers (Idx i) = if nat_lt i 8 then (30 + i) ∷ [] else if nat_lt i 16 then (82 + i) ∷ [] else 38 ∷ 5 ∷ i ∷ []
+foreground_numbers (Idx i) =
+    if nat_lt i 8 then (30 + i) ∷ [] else if nat_lt i 16 then (82 + i) ∷ [] else 38 ∷ 5 ∷ i ∷ []
 foreground_numbers (Rgb r g b) = 38 ∷ 2 ∷ r ∷ g ∷ b ∷ []
 
 unfoldable pub background_numbers : Color → List ℕ
 background_numbers Default = 49 ∷ []
-background_numbers (Idx i) = if nat_lt i 8 then (40 + i) ∷ [] else if nat_lt i 16 then (92 + i) ∷ [] else 48 ∷ 5 ∷ i ∷ []
+background_numbers (Idx i) =
+    if nat_lt i 8 then (40 + i) ∷ [] else if nat_lt i 16 then (92 + i) ∷ [] else 48 ∷ 5 ∷ i ∷ []
 background_numbers (Rgb r g b) = 48 ∷ 2 ∷ r ∷ g ∷ b ∷ []
 
 abbrev pub intensity_number : Intensity → ℕ

@@ -1,8 +1,10 @@
 //! One cell of a screen.
 
-ghost use Rattle.std.specs.Prelude.{◌≡◌, ◌≢◌, ◌<◌, ◌≤◌, ◌++◌, ◌+◌, ◌%◌, ◌↔◌, [], ◌∷◌, length, take, false, Some, if◌then◌else◌, IsTrue, encode_utf8, bytes_eq};
+ghost use Rattle.std.specs.Prelude.{◌≡◌, ◌≢◌, ◌<◌, ◌≤◌, ◌++◌, ◌+◌, ◌%◌, ◌↔◌, [], ◌∷◌, length, take};
+ghost use Rattle.std.specs.Prelude.{false, Some, if◌then◌else◌, IsTrue, encode_utf8, bytes_eq};
 ghost use Rattle.vt_cells.specs.Attrs.{default_attrs, is_bold, is_dim, same_attrs};
-ghost use Rattle.vt_cells.specs.Cell.{blank, glyph, right_half, cell_of, is_wide, is_blank, is_glyph, is_right_half, text_of, attrs_of, same_cell, marked, widened, redrawn, IsCell};
+ghost use Rattle.vt_cells.specs.Cell.{blank, glyph, right_half, cell_of, is_wide, is_blank, is_glyph, is_right_half};
+ghost use Rattle.vt_cells.specs.Cell.{text_of, attrs_of, same_cell, marked, widened, redrawn, IsCell};
 ghost use Rattle.vt_cells.specs.CellKeeping.{same_shape, shape_of_cell, spaced};
 ghost use Rattle.vt_cells.specs.Glyph.{columns_of, is_wide_text};
 

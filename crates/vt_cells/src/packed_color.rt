@@ -18,7 +18,8 @@ pub struct PackedColor {
 }
 
 impl Model for PackedColor {
-    ghost use Rattle.vt_cells.specs.AttrsKeeping.{IsPacked, first_part, kind_of, packed_back, second_part, third_part, unpacked};
+    ghost use Rattle.vt_cells.specs.AttrsKeeping.{IsPacked, first_part, kind_of, packed_back};
+    ghost use Rattle.vt_cells.specs.AttrsKeeping.{second_part, third_part, unpacked};
     ghost use Rattle.vt_cells.specs.declared.color.Color.{Color};
 
     ghost Value = { Color };
@@ -27,7 +28,8 @@ impl Model for PackedColor {
 
     ghost invariant = { λ c. IsPacked c.kind c.first c.second c.third };
 
-    ghost inverse = { λ v. record { kind = kind_of v; first = first_part v; second = second_part v; third = third_part v } };
+    ghost inverse = { λ v.
+        record { kind = kind_of v; first = first_part v; second = second_part v; third = third_part v } };
 
     ghost inverse_ok = { λ c h.
         let parts = packed_back c.kind c.first c.second c.third h in

@@ -11,14 +11,17 @@ use Rattle.vt_grid.specs.Printing.{glyph_put, room_made, mark_printed, printed}
 pub printed_none : (c : ℕ) (attrs : Attrs) (page : Page) → columns_of c ≡ None → printed c attrs page ≡ page
 printed_none c attrs page e = rw e refl
 
-pub printed_narrow : (c : ℕ) (attrs : Attrs) (page : Page) → columns_of c ≡ Some 1 → printed c attrs page ≡ glyph_put (encode_utf8 c) false attrs (room_made 1 page)
+pub printed_narrow : (c : ℕ) (attrs : Attrs) (page : Page) → columns_of c ≡ Some 1 →
+    printed c attrs page ≡ glyph_put (encode_utf8 c) false attrs (room_made 1 page)
 printed_narrow c attrs page e = rw e refl
 
 pub printed_wide : (c : ℕ) (attrs : Attrs) (page : Page) → columns_of c ≡ Some 2 →
-    printed c attrs page ≡ (if nat_lt 1 page.width then glyph_put (encode_utf8 c) true attrs (room_made 2 page) else page)
+    printed c attrs page
+    ≡ (if nat_lt 1 page.width then glyph_put (encode_utf8 c) true attrs (room_made 2 page) else page)
 printed_wide c attrs page e = rw e refl
 
-pub printed_mark : (c : ℕ) (attrs : Attrs) (page : Page) → columns_of c ≡ Some 0 → printed c attrs page ≡ (if page.column == 0 then page else mark_printed c attrs page)
+pub printed_mark : (c : ℕ) (attrs : Attrs) (page : Page) → columns_of c ≡ Some 0 →
+    printed c attrs page ≡ (if page.column == 0 then page else mark_printed c attrs page)
 printed_mark c attrs page e = rw e refl
 
 -- what is left for a mark

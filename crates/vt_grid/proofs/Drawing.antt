@@ -7,18 +7,22 @@ use Rattle.vt_grid.specs.Canvas.{Canvas, and_then, drawn, drawn_all}
 abbrev pub Draws : List Op → Canvas → Canvas → Type 0
 Draws ops a b = drawn_all ops a ≡ Some b
 
-pub and_then-assoc : {A B C : Type 0} (f : A → Option B) (g : B → Option C) (x : Option A) → and_then (λ a. and_then g (f a)) x ≡ and_then g (and_then f x)
+pub and_then-assoc : {A B C : Type 0} (f : A → Option B) (g : B → Option C) (x : Option A) →
+    and_then (λ a. and_then g (f a)) x ≡ and_then g (and_then f x)
 and_then-assoc f g None = refl
 and_then-assoc f g (Some x) = refl
 
-pub and_then-same : {A B : Type 0} (f g : A → Option B) → ((a : A) → f a ≡ g a) → (x : Option A) → and_then f x ≡ and_then g x
+pub and_then-same : {A B : Type 0} (f g : A → Option B) →
+    ((a : A) → f a ≡ g a) → (x : Option A) → and_then f x ≡ and_then g x
 and_then-same f g h None = refl
 and_then-same f g h (Some x) = h x
 
-pub drawn_all-append : (xs ys : List Op) (a : Canvas) → drawn_all (xs ++ ys) a ≡ and_then (drawn_all ys) (drawn_all xs a)
+pub drawn_all-append : (xs ys : List Op) (a : Canvas) →
+    drawn_all (xs ++ ys) a ≡ and_then (drawn_all ys) (drawn_all xs a)
 drawn_all-append [] ys a = refl
 drawn_all-append (x ∷ xs) ys a =
-    and_then-same (drawn_all (xs ++ ys)) (λ b. and_then (drawn_all ys) (drawn_all xs b)) (drawn_all-append xs ys) (drawn x a)
+    and_then-same (drawn_all (xs ++ ys))
+    (λ b. and_then (drawn_all ys) (drawn_all xs b)) (drawn_all-append xs ys) (drawn x a)
     ∙ and_then-assoc (drawn_all xs) (drawn_all ys) (drawn x a)
 
 pub draws_then : (xs ys : List Op) (a b c : Canvas) → Draws xs a b → Draws ys b c → Draws (xs ++ ys) a c

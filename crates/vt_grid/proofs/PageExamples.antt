@@ -37,41 +37,50 @@ shown rows r c width page = record page { rows = rows; row = r; column = c; widt
 
 -- a full row leaves the cursor behind its last column, and no flag
 full_row : letter 4 (letter 3 (letter 2 (letter 1 (blank_page 2 4))))
-    ≡ shown (row (n 1 ∷ n 2 ∷ n 3 ∷ n 4 ∷ []) false ∷ row (default_blank ∷ default_blank ∷ default_blank ∷ default_blank ∷ []) false ∷ []) 0 4 4 (blank_page 2 4)
+    ≡ shown (row (n 1 ∷ n 2 ∷ n 3 ∷ n 4 ∷ []) false
+    ∷ row (default_blank ∷ default_blank ∷ default_blank ∷ default_blank ∷ []) false ∷ [])
+    0 4 4 (blank_page 2 4)
 unfolding room_made wrapped_page line_feed put_cells moved_rows
 full_row = refl
 
 -- one letter more wraps, and the row above goes on
-wraps : letter 3 (letter 2 (letter 1 (blank_page 2 2))) ≡ shown (row (n 1 ∷ n 2 ∷ []) true ∷ row (n 3 ∷ default_blank ∷ []) false ∷ []) 1 1 2 (blank_page 2 2)
+wraps : letter 3 (letter 2 (letter 1 (blank_page 2 2)))
+    ≡ shown (row (n 1 ∷ n 2 ∷ []) true ∷ row (n 3 ∷ default_blank ∷ []) false ∷ []) 1 1 2 (blank_page 2 2)
 unfolding room_made wrapped_page line_feed put_cells moved_rows
 wraps = refl
 
 -- at the bottom the rows move up, and the row that was left moves with its flag
-wraps_at_bottom : letter 5 (letter 4 (letter 3 (letter 2 (letter 1 (blank_page 2 2))))) ≡ shown (row (n 3 ∷ n 4 ∷ []) true ∷ row (n 5 ∷ default_blank ∷ []) false ∷ []) 1 1 2 (blank_page 2 2)
+wraps_at_bottom : letter 5 (letter 4 (letter 3 (letter 2 (letter 1 (blank_page 2 2)))))
+    ≡ shown (row (n 3 ∷ n 4 ∷ []) true ∷ row (n 5 ∷ default_blank ∷ []) false ∷ []) 1 1 2 (blank_page 2 2)
 unfolding room_made wrapped_page line_feed put_cells moved_rows
 wraps_at_bottom = refl
 
 -- a wide character wraps over a blank column, and the row above does not go on
-wide_wraps : wide_letter 2 (letter 1 (blank_page 2 2)) ≡ shown (row (n 1 ∷ default_blank ∷ []) false ∷ row (w 2 ∷ right_half ∷ []) false ∷ []) 1 2 2 (blank_page 2 2)
+wide_wraps : wide_letter 2 (letter 1 (blank_page 2 2))
+    ≡ shown (row (n 1 ∷ default_blank ∷ []) false ∷ row (w 2 ∷ right_half ∷ []) false ∷ []) 1 2 2 (blank_page 2 2)
 unfolding room_made wrapped_page line_feed put_cells moved_rows
 wide_wraps = refl
 
 -- one row: what was left is gone, and no flag is set
-wraps_single : letter 3 (letter 2 (letter 1 (blank_page 1 2))) ≡ shown (row (n 3 ∷ default_blank ∷ []) false ∷ []) 0 1 2 (blank_page 1 2)
+wraps_single : letter 3 (letter 2 (letter 1 (blank_page 1 2)))
+    ≡ shown (row (n 3 ∷ default_blank ∷ []) false ∷ []) 0 1 2 (blank_page 1 2)
 unfolding room_made wrapped_page line_feed put_cells moved_rows
 wraps_single = refl
 
 -- a wide character over the left half of another
-wide_over_half : wide_letter 2 (moved_to 0 0 (wide_letter 1 (moved_to 0 1 (blank_page 1 4)))) ≡ shown (row (w 2 ∷ right_half ∷ default_blank ∷ default_blank ∷ []) false ∷ []) 0 2 4 (blank_page 1 4)
+wide_over_half : wide_letter 2 (moved_to 0 0 (wide_letter 1 (moved_to 0 1 (blank_page 1 4))))
+    ≡ shown (row (w 2 ∷ right_half ∷ default_blank ∷ default_blank ∷ []) false ∷ []) 0 2 4 (blank_page 1 4)
 unfolding room_made wrapped_page line_feed put_cells moved_rows
 wide_over_half = refl
 
 -- a letter over a right half, and over a left half
-over_right : letter 4 (moved_to 0 1 (letter 3 (letter 2 (wide_letter 1 (blank_page 1 5))))) ≡ shown (row (default_blank ∷ n 4 ∷ n 2 ∷ n 3 ∷ default_blank ∷ []) false ∷ []) 0 2 5 (blank_page 1 5)
+over_right : letter 4 (moved_to 0 1 (letter 3 (letter 2 (wide_letter 1 (blank_page 1 5)))))
+    ≡ shown (row (default_blank ∷ n 4 ∷ n 2 ∷ n 3 ∷ default_blank ∷ []) false ∷ []) 0 2 5 (blank_page 1 5)
 unfolding room_made wrapped_page line_feed put_cells moved_rows
 over_right = refl
 
-over_left : letter 4 (moved_to 0 0 (letter 3 (letter 2 (wide_letter 1 (blank_page 1 5))))) ≡ shown (row (n 4 ∷ n 0x20 ∷ n 2 ∷ n 3 ∷ default_blank ∷ []) false ∷ []) 0 1 5 (blank_page 1 5)
+over_left : letter 4 (moved_to 0 0 (letter 3 (letter 2 (wide_letter 1 (blank_page 1 5)))))
+    ≡ shown (row (n 4 ∷ n 0x20 ∷ n 2 ∷ n 3 ∷ default_blank ∷ []) false ∷ []) 0 1 5 (blank_page 1 5)
 unfolding room_made wrapped_page line_feed put_cells moved_rows
 over_left = refl
 
@@ -80,18 +89,21 @@ too_wide : printed_by (Some 2) 0x4E2D default_attrs (blank_page 2 1) ≡ blank_p
 too_wide = refl
 
 -- U+FE0F behind a heart makes it wide where a column is left
-heart_in_place : made_wide 0 default_attrs (letter 9 (blank_page 1 3)) ≡ shown (row (w 9 ∷ right_half ∷ default_blank ∷ []) false ∷ []) 0 2 3 (blank_page 1 3)
+heart_in_place : made_wide 0 default_attrs (letter 9 (blank_page 1 3))
+    ≡ shown (row (w 9 ∷ right_half ∷ default_blank ∷ []) false ∷ []) 0 2 3 (blank_page 1 3)
 unfolding room_made wrapped_page line_feed put_cells moved_rows made_wide
 heart_in_place = refl
 
 -- and carries it to the next row where none is
 heart_carried : carried 0xFE0F default_attrs (letter 9 (moved_to 1 1 (letter 1 (blank_page 2 2))))
-    ≡ shown (row (default_blank ∷ default_blank ∷ []) false ∷ row (heart ∷ right_half ∷ []) false ∷ []) 1 2 2 (blank_page 2 2)
+    ≡ shown (row (default_blank ∷ default_blank ∷ []) false ∷ row (heart ∷ right_half ∷ []) false ∷ [])
+    1 2 2 (blank_page 2 2)
 unfolding room_made wrapped_page line_feed put_cells moved_rows carried
 heart_carried = refl
 
 -- a wide character made narrow leaves a space, and the cursor stays
-narrowed : made_narrow 0 default_attrs (wide_letter 9 (blank_page 1 3)) ≡ shown (row (n 9 ∷ n 0x20 ∷ default_blank ∷ []) false ∷ []) 0 2 3 (blank_page 1 3)
+narrowed : made_narrow 0 default_attrs (wide_letter 9 (blank_page 1 3))
+    ≡ shown (row (n 9 ∷ n 0x20 ∷ default_blank ∷ []) false ∷ []) 0 2 3 (blank_page 1 3)
 unfolding room_made wrapped_page line_feed put_cells moved_rows
 narrowed = refl
 
@@ -100,17 +112,20 @@ pending : erased_rest default_attrs (letter 2 (letter 1 (blank_page 1 2))) ≡ l
 unfolding room_made wrapped_page line_feed put_cells moved_rows erased_rest
 pending = refl
 
-pending_right : moved_right 1 (letter 2 (letter 1 (blank_page 1 2))) ≡ shown (row (n 1 ∷ n 2 ∷ []) false ∷ []) 0 1 2 (blank_page 1 2)
+pending_right : moved_right 1 (letter 2 (letter 1 (blank_page 1 2)))
+    ≡ shown (row (n 1 ∷ n 2 ∷ []) false ∷ []) 0 1 2 (blank_page 1 2)
 unfolding room_made wrapped_page line_feed put_cells moved_rows
 pending_right = refl
 
 -- what is below is erased, and the flag of the cursor's row stays at a pending wrap
 erases_below : erased_below default_attrs (moved_to 0 1 (letter 3 (letter 2 (letter 1 (blank_page 2 2)))))
-    ≡ shown (row (n 1 ∷ default_blank ∷ []) false ∷ row (default_blank ∷ default_blank ∷ []) false ∷ []) 0 1 2 (blank_page 2 2)
+    ≡ shown (row (n 1 ∷ default_blank ∷ []) false ∷ row (default_blank ∷ default_blank ∷ []) false ∷ [])
+    0 1 2 (blank_page 2 2)
 unfolding room_made wrapped_page line_feed put_cells moved_rows erased_rest erased_below
 erases_below = refl
 
 -- one half erased blanks the other
-erases_half : erased_chars 1 default_attrs (moved_to 0 1 (letter 2 (wide_letter 1 (blank_page 1 4)))) ≡ shown (row (default_blank ∷ default_blank ∷ n 2 ∷ default_blank ∷ []) false ∷ []) 0 1 4 (blank_page 1 4)
+erases_half : erased_chars 1 default_attrs (moved_to 0 1 (letter 2 (wide_letter 1 (blank_page 1 4))))
+    ≡ shown (row (default_blank ∷ default_blank ∷ n 2 ∷ default_blank ∷ []) false ∷ []) 0 1 4 (blank_page 1 4)
 unfolding room_made wrapped_page line_feed put_cells moved_rows erased_chars
 erases_half = refl

@@ -1,10 +1,13 @@
 -- Every operation on a page leaves a page.
-use Rattle.std.proofs.Common.{◌≡◌, ℕ, ◌+◌, ◌-◌, ◌<◌, ◌≤◌, ◌^◌, ◌==◌, ◌&&◌, ◌⊎◌, nat_lt, min, not, Bool, true, false, List, ◌++◌, length, take, get_or, set, replicate, refl, inl, inr, sym, ap, subst, ◌∙◌, arith}
+use Rattle.std.proofs.Common.{◌≡◌, ℕ, ◌+◌, ◌-◌, ◌<◌, ◌≤◌, ◌^◌, ◌==◌, ◌&&◌, ◌⊎◌, nat_lt, min}
+use Rattle.std.proofs.Common.{not, Bool, true, false, List, ◌++◌, length, take, get_or, set}
+use Rattle.std.proofs.Common.{replicate, refl, inl, inr, sym, ap, subst, ◌∙◌, arith}
 use Rattle.std.specs.Prelude.{◌||◌, if◌then◌else◌, All}
 use Rattle.std.proofs.lemmas.Bool.{cases_lt, cases_eq, ltb-true}
 use Rattle.std.proofs.lemmas.Bool.Decides.{nat_tests}
 use Rattle.std.proofs.lemmas.Grind.{get_or-set_at}
-use Rattle.std.proofs.lemmas.List.{get_or_past, get_or-take, get_or_append_left, get_or-append_right, get_or-set_other, get_or-replicate, length-append, length-take, length-set, length-replicate}
+use Rattle.std.proofs.lemmas.List.{get_or_past, get_or-take, get_or_append_left, get_or-append_right, get_or-set_other}
+use Rattle.std.proofs.lemmas.List.{get_or-replicate, length-append, length-take, length-set, length-replicate}
 use Rattle.std.proofs.lemmas.List.FromFn.{length-map-range_with_len, get_or-map-range_with_len}
 use Rattle.std.proofs.lemmas.List.Elements.{All-set, All-get_or, All-from_get_or, All-append, All-take, All-replicate}
 use Rattle.vt_cells.specs.Attrs.{default_attrs, Attrs}
@@ -12,14 +15,17 @@ use Rattle.vt_cells.specs.Cell.{CellValue}
 use Rattle.vt_rows.specs.Cells.{IsPaired, ends_blank}
 use Rattle.vt_rows.specs.Row.{RowValue, IsRow, blank_row, with_cells}
 use Rattle.vt_rows.proofs.Rows.{IsRow-blank_row, IsRow-erased}
-use Rattle.vt_grid.specs.Page.{Page, IsPage, row_or, row_at, cursor_row, with_row, blank_page, moved_rows, up_source, rows_up, scrolled_up}
-use Rattle.vt_grid.specs.Moves.{carriage_return, moved_left, moved_right, moved_to, target_row, at_bottom, line_feed, cursor_saved, cursor_restored}
+use Rattle.vt_grid.specs.Page.{Page, IsPage, row_or, row_at, cursor_row, with_row}
+use Rattle.vt_grid.specs.Page.{blank_page, moved_rows, up_source, rows_up, scrolled_up}
+use Rattle.vt_grid.specs.Moves.{carriage_return, moved_left, moved_right, moved_to, target_row}
+use Rattle.vt_grid.specs.Moves.{at_bottom, line_feed, cursor_saved, cursor_restored}
 use Rattle.vt_grid.specs.Erasing.{erased_columns, erased_chars, erased_rest, blanked_below, erased_below}
 use Rattle.vt_grid.specs.Printing.{with_cursor_cells}
 
 -- ---- the cursor, and the rows
 
-pub page_at : (row column : ℕ) (page : Page) → row < length page.rows → column ≤ page.width → IsPage page → IsPage (record page { row = row; column = column })
+pub page_at : (row column : ℕ) (page : Page) → row < length page.rows →
+    column ≤ page.width → IsPage page → IsPage (record page { row = row; column = column })
 page_at row column page r c p = record {
   has_columns = p.has_columns;
   columns = p.columns;
@@ -34,11 +40,13 @@ page_at row column page r c p = record {
   last = p.last;
 }
 
-same_region : (top bottom n m : ℕ) → n ≡ m → (top < bottom) ⊎ ((top ≡ 0) × (bottom + 1 ≡ m)) → (top < bottom) ⊎ ((top ≡ 0) × (bottom + 1 ≡ n))
+same_region : (top bottom n m : ℕ) → n ≡ m → (top < bottom) ⊎ ((top ≡ 0) × (bottom + 1 ≡ m)) →
+    (top < bottom) ⊎ ((top ≡ 0) × (bottom + 1 ≡ n))
 same_region top bottom n m e (inl h) = inl h
 same_region top bottom n m e (inr h) = inr (h.0, h.1 ∙ sym e)
 
-pub page_of_rows : (rows : List RowValue) (page : Page) → length rows ≡ length page.rows → All (IsRow page.width) rows → (row_or page.width rows (length page.rows - 1)).wrapped ≡ false → IsPage page → IsPage (record page { rows = rows })
+pub page_of_rows : (rows : List RowValue) (page : Page) → length rows ≡ length page.rows → All (IsRow page.width) rows →
+    (row_or page.width rows (length page.rows - 1)).wrapped ≡ false → IsPage page → IsPage (record page { rows = rows })
 page_of_rows rows page e sound last p = record {
   has_columns = p.has_columns;
   columns = p.columns;
@@ -92,32 +100,40 @@ page_cursor_restored page p = record {
 pub page_moved_right : (n : ℕ) (page : Page) → IsPage page → IsPage (moved_right n page)
 page_moved_right n page p = page_at page.row (min (page.column + n) (page.width - 1)) page p.cursor_row (omega arith) p
 
-target_in : (origin : Bool) (r top bottom height : ℕ) → bottom < height → (if origin then min (top + r) bottom else min r (height - 1)) < height
+target_in : (origin : Bool) (r top bottom height : ℕ) → bottom < height →
+    (if origin then min (top + r) bottom else min r (height - 1)) < height
 target_in true r top bottom height h = omega arith
 target_in false r top bottom height h = omega arith
 
 pub page_moved_to : (r c : ℕ) (page : Page) → IsPage page → IsPage (moved_to r c page)
 page_moved_to r c page p =
-    page_at (target_row r page) (min c (page.width - 1)) page (target_in page.origin r page.top page.bottom (length page.rows) p.region_end) (omega arith) p
+    page_at (target_row r page) (min c (page.width - 1)) page
+    (target_in page.origin r page.top page.bottom (length page.rows) p.region_end) (omega arith) p
 
 -- ---- one row
 
-set_last : (rows : List RowValue) (r : ℕ) (row d : RowValue) → r < length rows → (r + 1 ≡ length rows → row.wrapped ≡ false) → (get_or rows (length rows - 1) d).wrapped ≡ false →
+set_last : (rows : List RowValue) (r : ℕ) (row d : RowValue) → r < length rows →
+    (r + 1 ≡ length rows → row.wrapped ≡ false) → (get_or rows (length rows - 1) d).wrapped ≡ false →
     (get_or (set rows r row) (length rows - 1) d).wrapped ≡ false
 set_last rows r row d h new old = elim (cases_eq r (length rows - 1)) [
   | inl e ↦ rw (get_or-set_at rows r (length rows - 1) row d (sym e) h) (new (omega arith))
   | inr ne ↦ rw (get_or-set_other rows r (length rows - 1) row d (λ e. ne (sym e))) old
 ]
 
-pub page_with_row : (r : ℕ) (row : RowValue) (page : Page) → r < length page.rows → IsPage page → IsRow page.width row → (r + 1 ≡ length page.rows → row.wrapped ≡ false) → IsPage (with_row r row page)
+pub page_with_row : (r : ℕ) (row : RowValue) (page : Page) → r < length page.rows → IsPage page →
+    IsRow page.width row → (r + 1 ≡ length page.rows → row.wrapped ≡ false) → IsPage (with_row r row page)
 page_with_row r row page h p sound last =
-    page_of_rows (set page.rows r row) page (length-set page.rows r row) (All-set (IsRow page.width) page.rows r row sound p.rows)
+    page_of_rows (set page.rows r row) page (length-set page.rows r row)
+    (All-set (IsRow page.width) page.rows r row sound p.rows)
     (set_last page.rows r row (blank_row default_attrs page.width) h last p.last) p
 
-pub IsRow-row_or : (width : ℕ) (rows : List RowValue) (r : ℕ) → All (IsRow width) rows → IsRow width (row_or width rows r)
+pub IsRow-row_or : (width : ℕ) (rows : List RowValue) (r : ℕ) →
+    All (IsRow width) rows → IsRow width (row_or width rows r)
 IsRow-row_or width rows r h = elim (cases_lt r (length rows)) [
   | inl lt ↦ All-get_or (IsRow width) rows r (blank_row default_attrs width) lt h
-  | inr ge ↦ subst (IsRow width) (sym (get_or_past rows r (blank_row default_attrs width) ge)) (IsRow-blank_row default_attrs width)
+  | inr ge ↦
+      subst (IsRow width) (sym (get_or_past rows r (blank_row default_attrs width) ge))
+      (IsRow-blank_row default_attrs width)
 ]
 
 pub IsRow-cursor_row : (page : Page) → IsPage page → IsRow page.width (cursor_row page)
@@ -135,9 +151,11 @@ last_unwrapped page p e =
     let i : page.row ≡ length page.rows - 1 = omega arith in
     ap (λ (r : ℕ). (row_at page r).wrapped) i ∙ p.last
 
-pub page_cursor_cells : (cells : List CellValue) (page : Page) → IsPage page → IsRow page.width (with_cells (cursor_row page) cells) → IsPage (with_cursor_cells cells page)
+pub page_cursor_cells : (cells : List CellValue) (page : Page) → IsPage page →
+    IsRow page.width (with_cells (cursor_row page) cells) → IsPage (with_cursor_cells cells page)
 page_cursor_cells cells page p sound =
-    page_with_row page.row (with_cells (cursor_row page) cells) page p.cursor_row p sound (λ e. ap (λ (w : Bool). w && not (ends_blank cells)) (last_unwrapped page p e))
+    page_with_row page.row (with_cells (cursor_row page) cells) page p.cursor_row p
+    sound (λ e. ap (λ (w : Bool). w && not (ends_blank cells)) (last_unwrapped page p e))
 
 pub page_if : (b : Bool) (x y : Page) → (b ≡ true → IsPage x) → (b ≡ false → IsPage y) → IsPage (if b then x else y)
 page_if true x y f g = f refl
@@ -145,37 +163,50 @@ page_if false x y f g = g refl
 
 -- ---- rows among each other
 
-pub length-moved_rows : (width : ℕ) (source : ℕ → ℕ) (rows : List RowValue) → length (moved_rows width source rows) ≡ length rows
+pub length-moved_rows : (width : ℕ) (source : ℕ → ℕ) (rows : List RowValue) →
+    length (moved_rows width source rows) ≡ length rows
 unfolding moved_rows
 length-moved_rows width source rows = length-map-range_with_len (λ r. row_or width rows (source r)) 0 (length rows)
 
-pub row_or-moved_rows : (width : ℕ) (source : ℕ → ℕ) (rows : List RowValue) (r : ℕ) → r < length rows → row_or width (moved_rows width source rows) r ≡ row_or width rows (source r)
+pub row_or-moved_rows : (width : ℕ) (source : ℕ → ℕ) (rows : List RowValue) (r : ℕ) →
+    r < length rows → row_or width (moved_rows width source rows) r ≡ row_or width rows (source r)
 unfolding moved_rows
-row_or-moved_rows width source rows r h = get_or-map-range_with_len (λ r. row_or width rows (source r)) 0 (length rows) r r (blank_row default_attrs width) h (omega arith)
+row_or-moved_rows width source rows r h =
+    get_or-map-range_with_len (λ r. row_or width rows (source r)) 0
+    (length rows) r r (blank_row default_attrs width) h (omega arith)
 
-pub All-moved_rows : (width : ℕ) (source : ℕ → ℕ) (rows : List RowValue) → All (IsRow width) rows → All (IsRow width) (moved_rows width source rows)
-All-moved_rows width source rows h = All-from_get_or (IsRow width) (moved_rows width source rows) (blank_row default_attrs width) (λ r lt.
+pub All-moved_rows : (width : ℕ) (source : ℕ → ℕ) (rows : List RowValue) →
+    All (IsRow width) rows → All (IsRow width) (moved_rows width source rows)
+All-moved_rows width source rows h =
+    All-from_get_or (IsRow width) (moved_rows width source rows) (blank_row default_attrs width) (λ r lt.
     let i : r < length rows = omega (arith, length-moved_rows width source rows) in
     subst (IsRow width) (sym (row_or-moved_rows width source rows r i)) (IsRow-row_or width rows (source r) h))
 
 -- a row below the region stays, and one that moves past its end is blank
-up_last : (height top bottom n : ℕ) → bottom < height → (up_source height top bottom n (height - 1) ≡ height - 1) ⊎ (up_source height top bottom n (height - 1) ≡ height)
+up_last : (height top bottom n : ℕ) → bottom < height →
+    (up_source height top bottom n (height - 1) ≡ height - 1) ⊎ (up_source height top bottom n (height - 1) ≡ height)
 up_last height top bottom n h = elim (cases_eq (up_source height top bottom n (height - 1)) (height - 1)) [
   | inl e ↦ inl e
   | inr ne ↦ inr (grind (arith, nat_tests))
 ]
 
-pub page_rows_up : (top bottom n : ℕ) (page : Page) → bottom < length page.rows → IsPage page → IsPage (record page { rows = rows_up page.width top bottom n page.rows })
+pub page_rows_up : (top bottom n : ℕ) (page : Page) → bottom < length page.rows →
+    IsPage page → IsPage (record page { rows = rows_up page.width top bottom n page.rows })
 page_rows_up top bottom n page h p =
     let height = length page.rows in
     let source = up_source height top bottom n in
     let lt : height - 1 < height = omega (arith, p.cursor_row) in
     let moved = row_or-moved_rows page.width source page.rows (height - 1) lt in
-    let last : (row_or page.width page.rows (source (height - 1))).wrapped ≡ false = elim (up_last height top bottom n h) [
+    let last : (row_or page.width page.rows (source (height - 1))).wrapped ≡ false =
+    elim (up_last height top bottom n h) [
       | inl e ↦ ap (λ (r : ℕ). (row_or page.width page.rows r).wrapped) e ∙ p.last
-      | inr e ↦ ap (λ (r : ℕ). (row_or page.width page.rows r).wrapped) e ∙ ap (λ (row : RowValue). row.wrapped) (get_or_past page.rows height (blank_row default_attrs page.width) (omega arith))
+      | inr e ↦
+          ap (λ (r : ℕ). (row_or page.width page.rows r).wrapped) e
+          ∙ ap (λ (row : RowValue). row.wrapped)
+          (get_or_past page.rows height (blank_row default_attrs page.width) (omega arith))
     ] in
-    page_of_rows (rows_up page.width top bottom n page.rows) page (length-moved_rows page.width source page.rows) (All-moved_rows page.width source page.rows p.rows)
+    page_of_rows (rows_up page.width top bottom n page.rows) page
+    (length-moved_rows page.width source page.rows) (All-moved_rows page.width source page.rows p.rows)
     (ap (λ (row : RowValue). row.wrapped) moved ∙ last) p
 
 pub page_scrolled_up : (n : ℕ) (page : Page) → IsPage page → IsPage (scrolled_up n page)
@@ -184,34 +215,49 @@ page_scrolled_up n page p = page_rows_up page.top page.bottom n page p.region_en
 pub page_line_feed : (page : Page) → IsPage page → IsPage (line_feed page)
 unfolding line_feed
 page_line_feed page p =
-    page_if (at_bottom page) (scrolled_up 1 page) (if nat_lt (page.row + 1) (length page.rows) then record page { row = page.row + 1 } else page) (λ e. page_scrolled_up 1 page p) (λ e.
-    page_if (nat_lt (page.row + 1) (length page.rows)) (record page { row = page.row + 1 }) page (λ t. page_at (page.row + 1) page.column page (ltb-true (page.row + 1) (length page.rows) t) p.cursor_column p) (λ f. p))
+    page_if (at_bottom page) (scrolled_up 1 page)
+    (if nat_lt (page.row + 1) (length page.rows) then record page { row = page.row + 1 } else page)
+    (λ e. page_scrolled_up 1 page p) (λ e.
+    page_if (nat_lt (page.row + 1) (length page.rows)) (record page { row = page.row + 1 }) page
+    (λ t. page_at (page.row + 1) page.column page (ltb-true (page.row + 1) (length page.rows) t) p.cursor_column p)
+    (λ f. p))
 
 -- ---- erasing
 
-pub page_erased_columns : (c n : ℕ) (attrs : Attrs) (page : Page) → c + n ≤ page.width → IsPage page → IsPage (erased_columns c n attrs page)
-page_erased_columns c n attrs page h p = page_cursor_cells _ page p (IsRow-erased page.width (cursor_row page) c n attrs h (IsRow-cursor_row page p))
+pub page_erased_columns : (c n : ℕ) (attrs : Attrs) (page : Page) →
+    c + n ≤ page.width → IsPage page → IsPage (erased_columns c n attrs page)
+page_erased_columns c n attrs page h p =
+    page_cursor_cells _ page p (IsRow-erased page.width (cursor_row page) c n attrs h (IsRow-cursor_row page p))
 
 pub page_erased_chars : (n : ℕ) (attrs : Attrs) (page : Page) → IsPage page → IsPage (erased_chars n attrs page)
 unfolding erased_chars
 page_erased_chars n attrs page p =
     let h = p.cursor_column in
-    page_if ((n == 0) || (page.column == page.width)) page (erased_columns page.column (min n (page.width - page.column)) attrs page) (λ e. p) (λ e. page_erased_columns page.column (min n (page.width - page.column)) attrs page (omega arith) p)
+    page_if ((n == 0) || (page.column == page.width)) page
+    (erased_columns page.column (min n (page.width - page.column)) attrs page) (λ e. p)
+    (λ e. page_erased_columns page.column (min n (page.width - page.column)) attrs page (omega arith) p)
 
 pub page_erased_rest : (attrs : Attrs) (page : Page) → IsPage page → IsPage (erased_rest attrs page)
 unfolding erased_rest
 page_erased_rest attrs page p =
     let h = p.cursor_column in
-    page_if (page.column == page.width) page (erased_columns page.column (page.width - page.column) attrs page) (λ e. p) (λ e. page_erased_columns page.column (page.width - page.column) attrs page (omega arith) p)
+    page_if (page.column == page.width) page (erased_columns page.column (page.width - page.column) attrs page)
+    (λ e. p) (λ e. page_erased_columns page.column (page.width - page.column) attrs page (omega arith) p)
 
-blanked_last : (rows : List RowValue) (r : ℕ) (blank d : RowValue) → r < length rows → blank.wrapped ≡ false → (get_or rows (length rows - 1) d).wrapped ≡ false →
+blanked_last : (rows : List RowValue) (r : ℕ) (blank d : RowValue) → r < length rows →
+    blank.wrapped ≡ false → (get_or rows (length rows - 1) d).wrapped ≡ false →
     (get_or (take (r + 1) rows ++ replicate (length rows - (r + 1)) blank) (length rows - 1) d).wrapped ≡ false
 blanked_last rows r blank d h b old = elim (cases_eq (r + 1) (length rows)) [
   | inl e ↦
-      rw (get_or_append_left (take (r + 1) rows) (replicate (length rows - (r + 1)) blank) d (length rows - 1) (omega (arith, length-take (r + 1) rows)), get_or-take (r + 1) rows (length rows - 1) d (omega arith)) old
+      rw (
+        get_or_append_left (take (r + 1) rows) (replicate (length rows - (r + 1)) blank)
+            d (length rows - 1) (omega (arith, length-take (r + 1) rows)),
+        get_or-take (r + 1) rows (length rows - 1) d (omega arith),
+      ) old
   | inr ne ↦
       rw (
-        get_or-append_right (take (r + 1) rows) (replicate (length rows - (r + 1)) blank) (r + 1) (length rows - 1) d (omega (arith, length-take (r + 1) rows)) (omega arith),
+        get_or-append_right (take (r + 1) rows) (replicate (length rows - (r + 1)) blank)
+            (r + 1) (length rows - 1) d (omega (arith, length-take (r + 1) rows)) (omega arith),
         get_or-replicate (length rows - (r + 1)) (length rows - 1 - (r + 1)) blank d (omega arith),
       ) b
 ]
@@ -222,8 +268,15 @@ page_blanked_below attrs page p =
     let blank = blank_row attrs page.width in
     let below = replicate (length page.rows - (page.row + 1)) blank in
     page_of_rows (take (page.row + 1) page.rows ++ below) page
-    (omega (arith, length-append (take (page.row + 1) page.rows) below, length-take (page.row + 1) page.rows, length-replicate (length page.rows - (page.row + 1)) blank))
-    (All-append (IsRow page.width) (take (page.row + 1) page.rows) below (All-take (IsRow page.width) (page.row + 1) page.rows p.rows) (All-replicate (IsRow page.width) (length page.rows - (page.row + 1)) blank (IsRow-blank_row attrs page.width)))
+    (omega (
+      arith,
+      length-append (take (page.row + 1) page.rows) below,
+      length-take (page.row + 1) page.rows,
+      length-replicate (length page.rows - (page.row + 1)) blank,
+    ))
+    (All-append (IsRow page.width) (take (page.row + 1) page.rows)
+    below (All-take (IsRow page.width) (page.row + 1) page.rows p.rows)
+    (All-replicate (IsRow page.width) (length page.rows - (page.row + 1)) blank (IsRow-blank_row attrs page.width)))
     (blanked_last page.rows page.row blank (blank_row default_attrs page.width) h refl p.last) p
 
 pub page_erased_below : (attrs : Attrs) (page : Page) → IsPage page → IsPage (erased_below attrs page)
@@ -232,7 +285,8 @@ page_erased_below attrs page p = page_blanked_below attrs (erased_rest attrs pag
 
 -- ---- a fresh page
 
-pub page_blank : (height width : ℕ) → 0 < height → height < 2 ^ 16 → 0 < width → width < 2 ^ 16 → IsPage (blank_page height width)
+pub page_blank : (height width : ℕ) → 0 < height → height < 2 ^ 16 →
+    0 < width → width < 2 ^ 16 → IsPage (blank_page height width)
 page_blank height width h hh w ww =
     let blank = blank_row default_attrs width in
     let l = length-replicate height blank in
@@ -247,7 +301,8 @@ page_blank height width h hh w ww =
       region = inr (refl, rw l (omega arith));
       region_end = rw l (omega arith);
       rows = All-replicate (IsRow width) height blank (IsRow-blank_row default_attrs width);
-      last = rw l (ap (λ (row : RowValue). row.wrapped) (get_or-replicate height (height - 1) blank blank (omega arith)));
+      last =
+          rw l (ap (λ (row : RowValue). row.wrapped) (get_or-replicate height (height - 1) blank blank (omega arith)));
     }
 
 -- the cursor's row on a page, and what is erased in it

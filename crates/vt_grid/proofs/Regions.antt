@@ -1,19 +1,23 @@
 -- Moves that regard the scroll region, and the region itself, leave a page.
-use Rattle.std.proofs.Common.{◌≡◌, ℕ, ◌+◌, ◌-◌, ◌*◌, ◌/◌, ◌<◌, ◌≤◌, ◌⊎◌, nat_lt, min, max, Bool, true, false, length, refl, inl, inr, arith}
+use Rattle.std.proofs.Common.{◌≡◌, ℕ, ◌+◌, ◌-◌, ◌*◌, ◌/◌, ◌<◌, ◌≤◌, ◌⊎◌, nat_lt, min}
+use Rattle.std.proofs.Common.{max, Bool, true, false, length, refl, inl, inr, arith}
 use Rattle.std.specs.Prelude.{if◌then◌else◌}
 use Rattle.std.proofs.lemmas.Bool.{ltb-true}
 use Rattle.std.proofs.lemmas.Bool.Decides.{nat_tests}
 use Rattle.vt_grid.specs.Page.{Page, IsPage}
-use Rattle.vt_grid.specs.Regions.{in_region, last_row, moved_up, moved_down, next_line, previous_line, moved_to_column, moved_to_row, tabbed, region_set, origin_set}
+use Rattle.vt_grid.specs.Regions.{in_region, last_row, moved_up, moved_down, next_line, previous_line}
+use Rattle.vt_grid.specs.Regions.{moved_to_column, moved_to_row, tabbed, region_set, origin_set}
 use Rattle.vt_grid.proofs.Pages.{page_at, page_if, page_carriage_return, page_moved_to}
 
 -- ---- the cursor
 
-up_inside : (b : Bool) (row n top height : ℕ) → (b ≡ true → top ≤ row) → row < height → max (row - n) (if b then top else 0) < height
+up_inside : (b : Bool) (row n top height : ℕ) → (b ≡ true → top ≤ row) →
+    row < height → max (row - n) (if b then top else 0) < height
 up_inside true row n top height h lt = let above = h refl in omega arith
 up_inside false row n top height h lt = omega arith
 
-down_inside : (b : Bool) (row n bottom height : ℕ) → bottom < height → row < height → min (row + n) (if b then bottom else height - 1) < height
+down_inside : (b : Bool) (row n bottom height : ℕ) → bottom < height →
+    row < height → min (row + n) (if b then bottom else height - 1) < height
 down_inside true row n bottom height h lt = omega arith
 down_inside false row n bottom height h lt = omega arith
 
@@ -21,12 +25,14 @@ pub page_moved_up : (n : ℕ) (page : Page) → IsPage page → IsPage (moved_up
 unfolding moved_up
 page_moved_up n page p =
     let above : in_region page ≡ true → page.top ≤ page.row = λ t. grind (arith, nat_tests) in
-    page_at (max (page.row - n) (if in_region page then page.top else 0)) page.column page (up_inside (in_region page) page.row n page.top (length page.rows) above p.cursor_row) p.cursor_column p
+    page_at (max (page.row - n) (if in_region page then page.top else 0)) page.column page
+    (up_inside (in_region page) page.row n page.top (length page.rows) above p.cursor_row) p.cursor_column p
 
 pub page_moved_down : (n : ℕ) (page : Page) → IsPage page → IsPage (moved_down n page)
 unfolding moved_down
 page_moved_down n page p =
-    page_at (min (page.row + n) (if in_region page then page.bottom else last_row page)) page.column page (down_inside (in_region page) page.row n page.bottom (length page.rows) p.region_end p.cursor_row) p.cursor_column p
+    page_at (min (page.row + n) (if in_region page then page.bottom else last_row page)) page.column page
+    (down_inside (in_region page) page.row n page.bottom (length page.rows) p.region_end p.cursor_row) p.cursor_column p
 
 pub page_next_line : (n : ℕ) (page : Page) → IsPage page → IsPage (next_line n page)
 page_next_line n page p = page_carriage_return (moved_down n page) (page_moved_down n page p)
@@ -38,14 +44,17 @@ pub page_moved_to_column : (c : ℕ) (page : Page) → IsPage page → IsPage (m
 page_moved_to_column c page p = page_at page.row (min c (page.width - 1)) page p.cursor_row (omega arith) p
 
 pub page_moved_to_row : (r : ℕ) (page : Page) → IsPage page → IsPage (moved_to_row r page)
-page_moved_to_row r page p = let h = p.cursor_row in page_at (min r (last_row page)) page.column page (omega arith) p.cursor_column p
+page_moved_to_row r page p =
+    let h = p.cursor_row in page_at (min r (last_row page)) page.column page (omega arith) p.cursor_column p
 
 pub page_tabbed : (page : Page) → IsPage page → IsPage (tabbed page)
-page_tabbed page p = page_at page.row (min ((page.column / 8 + 1) * 8) (page.width - 1)) page p.cursor_row (omega arith) p
+page_tabbed page p =
+    page_at page.row (min ((page.column / 8 + 1) * 8) (page.width - 1)) page p.cursor_row (omega arith) p
 
 -- ---- the region and origin mode
 
-pub page_region : (top bottom : ℕ) (page : Page) → bottom < length page.rows → (top < bottom) ⊎ ((top ≡ 0) × (bottom + 1 ≡ length page.rows)) → IsPage page →
+pub page_region : (top bottom : ℕ) (page : Page) → bottom < length page.rows →
+    (top < bottom) ⊎ ((top ≡ 0) × (bottom + 1 ≡ length page.rows)) → IsPage page →
     IsPage (record page { top = top; bottom = bottom; row = top; column = 0 })
 page_region top bottom page inside region p = record {
   has_columns = p.has_columns;
@@ -69,7 +78,8 @@ unfolding region_set
 page_region_set top bottom page p =
     let end = min bottom (last_row page) in
     let h = p.cursor_row in
-    page_if (nat_lt top end) (record page { top = top; bottom = end; row = top; column = 0 }) (record page { top = 0; bottom = last_row page; row = 0; column = 0 })
+    page_if (nat_lt top end) (record page { top = top; bottom = end; row = top; column = 0 })
+    (record page { top = 0; bottom = last_row page; row = 0; column = 0 })
     (λ t. page_region top end page (omega arith) (inl (ltb-true top end t)) p)
     (λ f. page_region 0 (last_row page) page (omega arith) (inr (refl, omega arith)) p)
 

@@ -28,7 +28,8 @@ abbrev one : ℕ → RowValue
 one c = row (n c ∷ []) false
 
 abbrev above : List RowValue → (capacity theoretical offset : ℕ) → Scrollback
-above rows capacity theoretical offset = record { rows = rows; capacity = capacity; theoretical = theoretical; offset = offset }
+above rows capacity theoretical offset =
+    record { rows = rows; capacity = capacity; theoretical = theoretical; offset = offset }
 
 -- a page with a region, the cursor and the saved one
 abbrev page : List RowValue → (row column saved_row saved_column top bottom width : ℕ) → Page
@@ -46,25 +47,30 @@ page rows row column saved_row saved_column top bottom width = record {
 }
 
 -- two of the rows that left come back, and the older one was lost; a last row is blank
-more_rows : page_resized 5 4 (above (one 2 ∷ []) 1 2 0) (page (four 3 ∷ four 4 ∷ []) 1 1 0 2 0 1 4) ≡ page (none ∷ four 2 ∷ four 3 ∷ four 4 ∷ none ∷ []) 3 1 2 2 0 4 4
+more_rows : page_resized 5 4 (above (one 2 ∷ []) 1 2 0) (page (four 3 ∷ four 4 ∷ []) 1 1 0 2 0 1 4)
+    ≡ page (none ∷ four 2 ∷ four 3 ∷ four 4 ∷ none ∷ []) 3 1 2 2 0 4 4
 unfolding page_resized window resized moved
 more_rows = refl
 
-both_came_back : scrollback_resized 5 (page (four 3 ∷ four 4 ∷ []) 1 1 0 2 0 1 4) (above (one 2 ∷ []) 1 2 1) ≡ above [] 1 0 0
+both_came_back : scrollback_resized 5 (page (four 3 ∷ four 4 ∷ []) 1 1 0 2 0 1 4) (above (one 2 ∷ []) 1 2 1)
+    ≡ above [] 1 0 0
 unfolding scrollback_resized
 both_came_back = refl
 
 -- of three rows that left there is room for one: the newest comes back
-one_came_back : page_resized 3 1 (above (one 1 ∷ one 2 ∷ []) 2 3 0) (page (one 3 ∷ one 4 ∷ []) 0 0 1 0 0 1 1) ≡ page (one 2 ∷ one 3 ∷ one 4 ∷ []) 1 0 2 0 0 2 1
+one_came_back : page_resized 3 1 (above (one 1 ∷ one 2 ∷ []) 2 3 0) (page (one 3 ∷ one 4 ∷ []) 0 0 1 0 0 1 1)
+    ≡ page (one 2 ∷ one 3 ∷ one 4 ∷ []) 1 0 2 0 0 2 1
 unfolding page_resized window resized moved
 one_came_back = refl
 
-two_are_left : scrollback_resized 3 (page (one 3 ∷ one 4 ∷ []) 0 0 1 0 0 1 1) (above (one 1 ∷ one 2 ∷ []) 2 3 0) ≡ above (one 1 ∷ []) 2 2 0
+two_are_left : scrollback_resized 3 (page (one 3 ∷ one 4 ∷ []) 0 0 1 0 0 1 1) (above (one 1 ∷ one 2 ∷ []) 2 3 0)
+    ≡ above (one 1 ∷ []) 2 2 0
 unfolding scrollback_resized
 two_are_left = refl
 
 -- no row is below the cursor: the first one leaves, and the region is the whole page
-first_leaves : page_resized 2 4 (no_scrollback 0) (page (four 1 ∷ four 2 ∷ four 3 ∷ []) 2 1 1 0 1 2 4) ≡ page (four 2 ∷ four 3 ∷ []) 1 1 0 0 0 1 4
+first_leaves : page_resized 2 4 (no_scrollback 0) (page (four 1 ∷ four 2 ∷ four 3 ∷ []) 2 1 1 0 1 2 4)
+    ≡ page (four 2 ∷ four 3 ∷ []) 1 1 0 0 0 1 4
 unfolding page_resized window resized moved
 first_leaves = refl
 
@@ -72,12 +78,14 @@ first_is_reported : resize_reports 2 (page (four 1 ∷ four 2 ∷ four 3 ∷ [])
 unfolding same_attrs same_color
 first_is_reported = refl
 
-first_counts : scrollback_resized 2 (page (four 1 ∷ four 2 ∷ four 3 ∷ []) 2 1 1 0 1 2 4) (no_scrollback 0) ≡ above [] 0 1 0
+first_counts : scrollback_resized 2 (page (four 1 ∷ four 2 ∷ four 3 ∷ []) 2 1 1 0 1 2 4) (no_scrollback 0)
+    ≡ above [] 0 1 0
 unfolding scrollback_resized kept_after grown_in_view same_attrs same_color
 first_counts = refl
 
 -- rows below the cursor go first, and none leaves; a saved cursor among them ends in the last row
-last_goes : page_resized 2 4 (no_scrollback 0) (page (four 1 ∷ four 2 ∷ four 3 ∷ []) 0 0 2 3 0 2 4) ≡ page (four 1 ∷ four 2 ∷ []) 0 0 1 3 0 1 4
+last_goes : page_resized 2 4 (no_scrollback 0) (page (four 1 ∷ four 2 ∷ four 3 ∷ []) 0 0 2 3 0 2 4)
+    ≡ page (four 1 ∷ four 2 ∷ []) 0 0 1 3 0 1 4
 unfolding page_resized window resized moved
 last_goes = refl
 
@@ -85,23 +93,30 @@ none_is_reported : resize_reports 2 (page (four 1 ∷ four 2 ∷ four 3 ∷ []) 
 none_is_reported = refl
 
 -- one row is below the cursor, and one more leaves; a saved cursor in it stays in the first row
-both_ends : page_resized 1 4 (no_scrollback 1) (page (four 1 ∷ four 2 ∷ four 3 ∷ []) 1 0 0 0 0 2 4) ≡ page (four 2 ∷ []) 0 0 0 0 0 0 4
+both_ends : page_resized 1 4 (no_scrollback 1) (page (four 1 ∷ four 2 ∷ four 3 ∷ []) 1 0 0 0 0 2 4)
+    ≡ page (four 2 ∷ []) 0 0 0 0 0 0 4
 unfolding page_resized window resized moved
 both_ends = refl
 
 -- a cut through a pair leaves a blank, and the flags of all rows fall; the cursors stay on the page
-cut : page_resized 2 3 (no_scrollback 0) (page (row (n 1 ∷ n 2 ∷ w 3 ∷ right_half ∷ []) true ∷ four 4 ∷ []) 0 4 1 3 0 1 4)
-    ≡ page (row (n 1 ∷ n 2 ∷ default_blank ∷ []) false ∷ row (n 4 ∷ default_blank ∷ default_blank ∷ []) false ∷ []) 0 2 1 2 0 1 3
+cut : page_resized 2 3 (no_scrollback 0)
+    (page (row (n 1 ∷ n 2 ∷ w 3 ∷ right_half ∷ []) true ∷ four 4 ∷ []) 0 4 1 3 0 1 4)
+    ≡ page (row (n 1 ∷ n 2 ∷ default_blank ∷ []) false ∷ row (n 4 ∷ default_blank ∷ default_blank ∷ []) false ∷ [])
+    0 2 1 2 0 1 3
 unfolding page_resized window resized moved
 cut = refl
 
 -- a wider page: the flag falls, and a column that was pending is on the page
 grown : page_resized 2 5 (no_scrollback 0) (page (row (n 1 ∷ n 2 ∷ n 3 ∷ n 4 ∷ []) true ∷ four 4 ∷ []) 0 4 1 3 0 1 4)
-    ≡ page (row (n 1 ∷ n 2 ∷ n 3 ∷ n 4 ∷ default_blank ∷ []) false ∷ row (n 4 ∷ default_blank ∷ default_blank ∷ default_blank ∷ default_blank ∷ []) false ∷ []) 0 4 1 3 0 1 5
+    ≡ page (row (n 1 ∷ n 2 ∷ n 3 ∷ n 4 ∷ default_blank ∷ []) false
+    ∷ row (n 4 ∷ default_blank ∷ default_blank ∷ default_blank ∷ default_blank ∷ []) false ∷ [])
+    0 4 1 3 0 1 5
 unfolding page_resized window resized moved
 grown = refl
 
 -- as wide as before: a row goes on as before, but not the last one
-last_flag_falls : page_resized 2 1 (no_scrollback 0) (page (row (n 1 ∷ []) true ∷ row (n 2 ∷ []) true ∷ one 3 ∷ []) 0 1 0 0 0 2 1) ≡ page (row (n 1 ∷ []) true ∷ one 2 ∷ []) 0 0 0 0 0 1 1
+last_flag_falls : page_resized 2 1 (no_scrollback 0)
+    (page (row (n 1 ∷ []) true ∷ row (n 2 ∷ []) true ∷ one 3 ∷ []) 0 1 0 0 0 2 1)
+    ≡ page (row (n 1 ∷ []) true ∷ one 2 ∷ []) 0 0 0 0 0 1 1
 unfolding page_resized window resized moved
 last_flag_falls = refl

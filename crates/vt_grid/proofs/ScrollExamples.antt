@@ -23,7 +23,8 @@ abbrev two : ℕ → RowValue
 two c = row (n c ∷ default_blank ∷ []) false
 
 abbrev above : List RowValue → (capacity theoretical offset : ℕ) → Scrollback
-above rows capacity theoretical offset = record { rows = rows; capacity = capacity; theoretical = theoretical; offset = offset }
+above rows capacity theoretical offset =
+    record { rows = rows; capacity = capacity; theoretical = theoretical; offset = offset }
 
 -- the row before and the first of two rows are too many
 one_is_kept : pushed 5 2 (two 1 ∷ two 2 ∷ []) (above (one 26 ∷ []) 1 1 0) ≡ above (one 2 ∷ []) 1 3 0
@@ -63,17 +64,20 @@ unfolding kept_after grown_in_view resized moved same_attrs same_color
 view_at_its_end = refl
 
 -- a row that goes on is as long as the page was wide; grown, it goes on no more
-goes_on_no_more : viewed 5 3 1 (above (row (n 1 ∷ n 2 ∷ []) true ∷ []) 4 1 0) ≡ above (row (n 1 ∷ n 2 ∷ default_blank ∷ []) false ∷ []) 4 1 1
+goes_on_no_more : viewed 5 3 1 (above (row (n 1 ∷ n 2 ∷ []) true ∷ []) 4 1 0)
+    ≡ above (row (n 1 ∷ n 2 ∷ default_blank ∷ []) false ∷ []) 4 1 1
 unfolding viewed grown_in_view resized moved
 goes_on_no_more = refl
 
 -- no more rows than there are come into view, and none of them is cut
-at_most_all : viewed 5 1 9 (above (one 1 ∷ row (w 2 ∷ right_half ∷ []) false ∷ []) 4 2 0) ≡ above (one 1 ∷ row (w 2 ∷ right_half ∷ []) false ∷ []) 4 2 2
+at_most_all : viewed 5 1 9 (above (one 1 ∷ row (w 2 ∷ right_half ∷ []) false ∷ []) 4 2 0)
+    ≡ above (one 1 ∷ row (w 2 ∷ right_half ∷ []) false ∷ []) 4 2 2
 unfolding viewed grown_in_view
 at_most_all = refl
 
 -- above the page stand the newest rows, as many as are in view
-shown_above : visible (above (one 1 ∷ one 2 ∷ one 3 ∷ []) 4 3 2) (two 7 ∷ two 8 ∷ two 9 ∷ []) ≡ one 2 ∷ one 3 ∷ two 7 ∷ []
+shown_above : visible (above (one 1 ∷ one 2 ∷ one 3 ∷ []) 4 3 2) (two 7 ∷ two 8 ∷ two 9 ∷ [])
+    ≡ one 2 ∷ one 3 ∷ two 7 ∷ []
 shown_above = refl
 
 -- of more rows than the page has the upper ones

@@ -1,38 +1,61 @@
 -- Rows are taken over, and rows come into view: the whole scrollback.
-use Rattle.std.proofs.Common.{◌≡◌, ℕ, ◌+◌, ◌-◌, ◌<◌, ◌≤◌, ◌==◌, nat_lt, min, List, [], ◌∷◌, ◌++◌, length, take, drop, map, replicate, refl, sym, ap, subst, ◌∙◌, arith}
+use Rattle.std.proofs.Common.{◌≡◌, ℕ, ◌+◌, ◌-◌, ◌<◌, ◌≤◌, ◌==◌, nat_lt, min, List, [], ◌∷◌, ◌++◌}
+use Rattle.std.proofs.Common.{length, take, drop, map, replicate, refl, sym, ap, subst, ◌∙◌, arith}
 use Rattle.std.specs.Prelude.{All, if◌then◌else◌}
 use Rattle.std.specs.List.{FoldsTo}
 use Rattle.std.proofs.lemmas.Bool.{cond_both}
-use Rattle.std.proofs.lemmas.List.{append-nil, drop-append-le, take-append-le, take_all, drop_all, length-append, length-drop, length-take, length-map, length-replicate, nil_from_length}
-use Rattle.std.proofs.lemmas.List.Elements.{All-append, All-drop, All-take, All-map, All-replicate, All-same, All-weaker}
+use Rattle.std.proofs.lemmas.List.{append-nil, drop-append-le, take-append-le, take_all, drop_all, length-append}
+use Rattle.std.proofs.lemmas.List.{length-drop, length-take, length-map, length-replicate, nil_from_length}
+use Rattle.std.proofs.lemmas.List.Elements.{All-append, All-drop, All-take, All-map}
+use Rattle.std.proofs.lemmas.List.Elements.{All-replicate, All-same, All-weaker}
 use Rattle.vt_cells.specs.Attrs.{default_attrs}
 use Rattle.vt_rows.specs.Row.{RowValue, IsRow, blank_row, resized_row, trimmed_row}
 use Rattle.vt_rows.proofs.Moves.{IsRow-resized_row}
 use Rattle.vt_rows.proofs.Rows.{IsRow-blank_row}
-use Rattle.vt_grid.specs.Scrollback.{Scrollback, IsScrollback, last_of, before_last, stacked, greatest, kept_after, grown_row, grown_in_view, pushed, reported, viewed, narrow_rows}
+use Rattle.vt_grid.specs.Scrollback.{Scrollback, IsScrollback, last_of, before_last, stacked, greatest, kept_after}
+use Rattle.vt_grid.specs.Scrollback.{grown_row, grown_in_view, pushed, reported, viewed, narrow_rows}
 use Rattle.vt_grid.specs.Spare.{AreSpare, window_from, grown_from, in_view}
 use Rattle.vt_grid.proofs.Stacking.{All-stacked, IsScrollback-kept_after, length-stacked}
 
 -- ---- rows in view grow
 
-IsRow-grown_row : (w : ℕ) (row : RowValue) → IsRow (length row.cells) row → IsRow (length (grown_row w row).cells) (grown_row w row)
+IsRow-grown_row : (w : ℕ) (row : RowValue) → IsRow (length row.cells) row →
+    IsRow (length (grown_row w row).cells) (grown_row w row)
 IsRow-grown_row w row r =
     cond_both (nat_lt (length row.cells) w) (resized_row w row) row (λ x. IsRow (length x.cells) x)
-    (λ _. let s = IsRow-resized_row (length row.cells) w row r in subst (λ (n : ℕ). IsRow n (resized_row w row)) (sym s.columns) s) (λ _. r)
+    (λ _. let s =
+    IsRow-resized_row (length row.cells) w row r in subst (λ (n : ℕ). IsRow n (resized_row w row)) (sym s.columns) s)
+    (λ _. r)
 
-length-grown_from : (first h w : ℕ) (rows : List RowValue) → first ≤ length rows → length (grown_from first h w rows) ≡ length rows
+length-grown_from : (first h w : ℕ) (rows : List RowValue) →
+    first ≤ length rows → length (grown_from first h w rows) ≡ length rows
 length-grown_from first h w rows f =
-    omega (arith, length-append (take first rows) (map (grown_row w) (window_from first h rows) ++ drop (first + h) rows), length-append (map (grown_row w) (window_from first h rows)) (drop (first + h) rows), length-take first rows, length-map (window_from first h rows) (grown_row w), length-take h (drop first rows), length-drop first rows, length-drop (first + h) rows)
+    omega (
+      arith,
+      length-append (take first rows) (map (grown_row w) (window_from first h rows) ++ drop (first + h) rows),
+      length-append (map (grown_row w) (window_from first h rows)) (drop (first + h) rows),
+      length-take first rows,
+      length-map (window_from first h rows) (grown_row w),
+      length-take h (drop first rows),
+      length-drop first rows,
+      length-drop (first + h) rows,
+    )
 
-All-grown_from : (first h w : ℕ) (rows : List RowValue) → All (λ row. IsRow (length row.cells) row) rows → All (λ row. IsRow (length row.cells) row) (grown_from first h w rows)
+All-grown_from : (first h w : ℕ) (rows : List RowValue) → All (λ row. IsRow (length row.cells) row) rows →
+    All (λ row. IsRow (length row.cells) row) (grown_from first h w rows)
 All-grown_from first h w rows all =
     let P : RowValue → Type 0 = λ row. IsRow (length row.cells) row in
     let window : All P (window_from first h rows) = All-take P h (drop first rows) (All-drop P first rows all) in
-    let grown : All P (map (grown_row w) (window_from first h rows)) = All-map P (grown_row w) (window_from first h rows) (All-weaker P (λ row. P (grown_row w row)) (IsRow-grown_row w) (window_from first h rows) window) in
-    All-append P (take first rows) (map (grown_row w) (window_from first h rows) ++ drop (first + h) rows) (All-take P first rows all)
-    (All-append P (map (grown_row w) (window_from first h rows)) (drop (first + h) rows) grown (All-drop P (first + h) rows all))
+    let grown : All P (map (grown_row w) (window_from first h rows)) =
+    All-map P (grown_row w) (window_from first h rows)
+    (All-weaker P (λ row. P (grown_row w row)) (IsRow-grown_row w) (window_from first h rows) window) in
+    All-append P (take first rows)
+    (map (grown_row w) (window_from first h rows) ++ drop (first + h) rows) (All-take P first rows all)
+    (All-append P (map (grown_row w) (window_from first h rows))
+    (drop (first + h) rows) grown (All-drop P (first + h) rows all))
 
-pub IsScrollback-grown_in_view : (h w : ℕ) (above : Scrollback) → IsScrollback above → IsScrollback (grown_in_view h w above)
+pub IsScrollback-grown_in_view : (h w : ℕ) (above : Scrollback) →
+    IsScrollback above → IsScrollback (grown_in_view h w above)
 unfolding grown_in_view
 IsScrollback-grown_in_view h w above a =
     let n = length-grown_from (length above.rows - above.offset) h w above.rows (omega arith) in
@@ -46,81 +69,129 @@ IsScrollback-grown_in_view h w above a =
 
 pub IsScrollback-viewed : (h w n : ℕ) (above : Scrollback) → IsScrollback above → IsScrollback (viewed h w n above)
 unfolding viewed
-IsScrollback-viewed h w n above a = IsScrollback-grown_in_view h w (record above { offset = min n (length above.rows) }) (record { kept = a.kept; in_view = omega arith; sound = a.sound })
+IsScrollback-viewed h w n above a =
+    IsScrollback-grown_in_view h w (record above { offset = min n (length above.rows) })
+    (record { kept = a.kept; in_view = omega arith; sound = a.sound })
 
-pub viewed_is : (h w n offset : ℕ) (above : Scrollback) (rows : List RowValue) → offset ≡ min n (length above.rows) → rows ≡ grown_from (length above.rows - offset) h w above.rows →
-    record { rows = rows; capacity = above.capacity; theoretical = above.theoretical; offset = offset } ≡ viewed h w n above
+pub viewed_is : (h w n offset : ℕ) (above : Scrollback) (rows : List RowValue) →
+    offset ≡ min n (length above.rows) → rows ≡ grown_from (length above.rows - offset) h w above.rows →
+    record { rows = rows; capacity = above.capacity; theoretical = above.theoretical; offset = offset }
+    ≡ viewed h w n above
 unfolding viewed grown_in_view
 viewed_is h w n offset above rows e f =
-    let g : rows ≡ grown_from (length above.rows - min n (length above.rows)) h w above.rows = f ∙ ap (λ (m : ℕ). grown_from (length above.rows - m) h w above.rows) e in
+    let g : rows ≡ grown_from (length above.rows - min n (length above.rows)) h w above.rows =
+    f ∙ ap (λ (m : ℕ). grown_from (length above.rows - m) h w above.rows) e in
     λ i. record { rows = g i; capacity = above.capacity; theoretical = above.theoretical; offset = e i }
 
 -- ---- rows are taken over
 
-pub pushed_some : (h w : ℕ) (gone : List RowValue) (above : Scrollback) → 0 < length gone → pushed h w gone above ≡ grown_in_view h w (kept_after gone above)
+pub pushed_some : (h w : ℕ) (gone : List RowValue) (above : Scrollback) →
+    0 < length gone → pushed h w gone above ≡ grown_in_view h w (kept_after gone above)
 pushed_some h w [] above s = absurd (omega arith)
 pushed_some h w (row ∷ gone) above s = refl
 
-pub reported_some : (gone : List RowValue) (above : Scrollback) → 0 < length gone → reported gone above ≡ before_last above.capacity (stacked gone above)
+pub reported_some : (gone : List RowValue) (above : Scrollback) → 0 < length gone →
+    reported gone above ≡ before_last above.capacity (stacked gone above)
 reported_some [] above h = absurd (omega arith)
 reported_some (row ∷ gone) above h = refl
 
-pub IsScrollback-pushed : (h w : ℕ) (gone : List RowValue) (above : Scrollback) → All (IsRow w) gone → IsScrollback above → IsScrollback (pushed h w gone above)
+pub IsScrollback-pushed : (h w : ℕ) (gone : List RowValue) (above : Scrollback) →
+    All (IsRow w) gone → IsScrollback above → IsScrollback (pushed h w gone above)
 IsScrollback-pushed h w [] above g a = a
-IsScrollback-pushed h w (row ∷ gone) above g a = IsScrollback-grown_in_view h w (kept_after (row ∷ gone) above) (IsScrollback-kept_after w (row ∷ gone) above g a)
+IsScrollback-pushed h w (row ∷ gone) above g a =
+    IsScrollback-grown_in_view h w (kept_after (row ∷ gone) above) (IsScrollback-kept_after w (row ∷ gone) above g a)
 
-kept_is : (gone : List RowValue) (above : Scrollback) (rows : List RowValue) (theoretical offset : ℕ) → rows ≡ last_of above.capacity (stacked gone above) → theoretical ≡ min (above.theoretical + length gone) greatest →
+kept_is : (gone : List RowValue) (above : Scrollback) (rows : List RowValue) (theoretical offset : ℕ) →
+    rows ≡ last_of above.capacity (stacked gone above) → theoretical ≡ min (above.theoretical + length gone) greatest →
     offset ≡ (if above.offset == 0 then 0 else min (above.offset + length gone) (length rows)) →
-    record { rows = rows; capacity = above.capacity; theoretical = theoretical; offset = offset } ≡ kept_after gone above
+    record { rows = rows; capacity = above.capacity; theoretical = theoretical; offset = offset }
+    ≡ kept_after gone above
 unfolding kept_after
 kept_is gone above rows theoretical offset e t o =
-    let p = o ∙ ap (λ (xs : List RowValue). if above.offset == 0 then 0 else min (above.offset + length gone) (length xs)) e in
+    let p =
+    o ∙ ap (λ (xs : List RowValue). if above.offset == 0 then 0 else min (above.offset + length gone) (length xs)) e in
     λ i. record { rows = e i; capacity = above.capacity; theoretical = t i; offset = p i }
 
 -- what the steps of the code leave
-pub kept_by_steps : (gone : List RowValue) (above : Scrollback) (before kept : List RowValue) (theoretical offset len : ℕ) →
-    before ≡ above.rows → kept ≡ last_of above.capacity (before ++ map trimmed_row gone) → theoretical ≡ min (above.theoretical + length gone) greatest → len ≡ length kept →
+pub kept_by_steps : (gone : List RowValue) (above : Scrollback)
+    (before kept : List RowValue) (theoretical offset len : ℕ) →
+    before ≡ above.rows → kept ≡ last_of above.capacity (before ++ map trimmed_row gone) →
+    theoretical ≡ min (above.theoretical + length gone) greatest → len ≡ length kept →
     offset ≡ (if above.offset == 0 then 0 else min (above.offset + length gone) len) →
-    record { rows = kept; capacity = above.capacity; theoretical = theoretical; offset = offset } ≡ kept_after gone above
+    record { rows = kept; capacity = above.capacity; theoretical = theoretical; offset = offset }
+    ≡ kept_after gone above
 kept_by_steps gone above before kept theoretical offset len b e t l o =
-    let stacks : kept ≡ last_of above.capacity (stacked gone above) = e ∙ ap (λ (xs : List RowValue). last_of above.capacity (xs ++ map trimmed_row gone)) b in
-    kept_is gone above kept theoretical offset stacks t (o ∙ ap (λ (n : ℕ). if above.offset == 0 then 0 else min (above.offset + length gone) n) l)
+    let stacks : kept ≡ last_of above.capacity (stacked gone above) =
+    e ∙ ap (λ (xs : List RowValue). last_of above.capacity (xs ++ map trimmed_row gone)) b in
+    kept_is gone above kept theoretical offset stacks t
+    (o ∙ ap (λ (n : ℕ). if above.offset == 0 then 0 else min (above.offset + length gone) n) l)
 
-pub told_by_steps : {S : Type 0} (leaves : S → RowValue → S → Type 0) (gone : List RowValue) (above : Scrollback) (before : List RowValue) (old new : S) → 0 < length gone →
-    before ≡ above.rows → FoldsTo leaves old (before_last above.capacity (before ++ map trimmed_row gone)) new → FoldsTo leaves old (reported gone above) new
+pub told_by_steps : {S : Type 0} (leaves : S → RowValue → S → Type 0)
+    (gone : List RowValue) (above : Scrollback) (before : List RowValue) (old new : S) →
+    0 < length gone →
+    before ≡ above.rows → FoldsTo leaves old (before_last above.capacity (before ++ map trimmed_row gone)) new →
+    FoldsTo leaves old (reported gone above) new
 told_by_steps leaves gone above before old new s b told =
-    let all = ap (λ (xs : List RowValue). before_last above.capacity (xs ++ map trimmed_row gone)) b ∙ sym (reported_some gone above s) in
+    let all = ap (λ (xs : List RowValue). before_last above.capacity (xs ++ map trimmed_row gone)) b
+    ∙ sym (reported_some gone above s) in
     subst (λ (rows : List RowValue). FoldsTo leaves old rows new) all told
 
-pub pushed_is : (h w : ℕ) (gone : List RowValue) (above : Scrollback) (kept rows : List RowValue) (theoretical offset : ℕ) → 0 < length gone →
-    record { rows = kept; capacity = above.capacity; theoretical = theoretical; offset = offset } ≡ kept_after gone above → rows ≡ grown_from (length kept - offset) h w kept →
-    record { rows = rows; capacity = above.capacity; theoretical = theoretical; offset = offset } ≡ pushed h w gone above
+pub pushed_is : (h w : ℕ) (gone : List RowValue) (above : Scrollback)
+    (kept rows : List RowValue) (theoretical offset : ℕ) →
+    0 < length gone →
+    record { rows = kept; capacity = above.capacity; theoretical = theoretical; offset = offset }
+    ≡ kept_after gone above →
+    rows ≡ grown_from (length kept - offset) h w kept →
+    record { rows = rows; capacity = above.capacity; theoretical = theoretical; offset = offset }
+    ≡ pushed h w gone above
 unfolding grown_in_view
 pushed_is h w gone above kept rows theoretical offset s e f =
-    let g : record { rows = rows; capacity = above.capacity; theoretical = theoretical; offset = offset } ≡ grown_in_view h w (record { rows = kept; capacity = above.capacity; theoretical = theoretical; offset = offset })
+    let g : record { rows = rows; capacity = above.capacity; theoretical = theoretical; offset = offset }
+    ≡ grown_in_view h w (record { rows = kept; capacity = above.capacity; theoretical = theoretical; offset = offset })
     = λ i. record { rows = f i; capacity = above.capacity; theoretical = theoretical; offset = offset } in
     g ∙ (ap (grown_in_view h w) e ∙ sym (pushed_some h w gone above s))
 
-pub All-kept : (w c : ℕ) (gone rows before kept : List RowValue) → All (IsRow w) gone → All (λ row. IsRow (length row.cells) row) rows → before ≡ rows → kept ≡ last_of c (before ++ map trimmed_row gone) → All (λ row. IsRow (length row.cells) row) kept
+pub All-kept : (w c : ℕ) (gone rows before kept : List RowValue) → All (IsRow w) gone →
+    All (λ row. IsRow (length row.cells) row) rows → before ≡ rows →
+    kept ≡ last_of c (before ++ map trimmed_row gone) → All (λ row. IsRow (length row.cells) row) kept
 All-kept w c gone rows before kept g r b e =
     let P : RowValue → Type 0 = λ row. IsRow (length row.cells) row in
-    let stacks : kept ≡ last_of c (rows ++ map trimmed_row gone) = e ∙ ap (λ (xs : List RowValue). last_of c (xs ++ map trimmed_row gone)) b in
-    All-same P kept (last_of c (rows ++ map trimmed_row gone)) stacks (All-drop P (length (rows ++ map trimmed_row gone) - c) (rows ++ map trimmed_row gone) (All-stacked w gone rows g r))
+    let stacks : kept ≡ last_of c (rows ++ map trimmed_row gone) =
+    e ∙ ap (λ (xs : List RowValue). last_of c (xs ++ map trimmed_row gone)) b in
+    All-same P kept (last_of c (rows ++ map trimmed_row gone)) stacks
+    (All-drop P (length (rows ++ map trimmed_row gone) - c)
+    (rows ++ map trimmed_row gone) (All-stacked w gone rows g r))
 
 -- the blank rows that stand in the places of those that left
-pub All-blanks : (w width n : ℕ) (rows blanks : List RowValue) → rows ≡ blanks → blanks ≡ replicate n (blank_row default_attrs width) → width ≡ w → All (IsRow w) rows
+pub All-blanks : (w width n : ℕ) (rows blanks : List RowValue) → rows ≡ blanks →
+    blanks ≡ replicate n (blank_row default_attrs width) → width ≡ w → All (IsRow w) rows
 All-blanks w width n rows blanks r e c =
-    let all : rows ≡ replicate n (blank_row default_attrs w) = r ∙ (e ∙ ap (λ (m : ℕ). replicate n (blank_row default_attrs m)) c) in
-    All-same (IsRow w) rows (replicate n (blank_row default_attrs w)) all (All-replicate (IsRow w) n (blank_row default_attrs w) (IsRow-blank_row default_attrs w))
+    let all : rows ≡ replicate n (blank_row default_attrs w) =
+    r ∙ (e ∙ ap (λ (m : ℕ). replicate n (blank_row default_attrs m)) c) in
+    All-same (IsRow w) rows (replicate n (blank_row default_attrs w)) all
+    (All-replicate (IsRow w) n (blank_row default_attrs w) (IsRow-blank_row default_attrs w))
 
-pub spare_made : (w width h n : ℕ) (gone : List RowValue) (above : Scrollback) (kept : List RowValue) (theoretical offset : ℕ) (spare : List RowValue) →
-    record { rows = kept; capacity = above.capacity; theoretical = theoretical; offset = offset } ≡ kept_after gone above → narrow_rows w (in_view h (kept_after gone above)) ≤ n → spare ≡ replicate n (blank_row default_attrs width) → width ≡ w →
+pub spare_made : (w width h n : ℕ) (gone : List RowValue) (above : Scrollback)
+    (kept : List RowValue) (theoretical offset : ℕ) (spare : List RowValue) →
+    record { rows = kept; capacity = above.capacity; theoretical = theoretical; offset = offset }
+    ≡ kept_after gone above →
+    narrow_rows w (in_view h (kept_after gone above)) ≤ n → spare ≡ replicate n (blank_row default_attrs width) →
+    width ≡ w →
     AreSpare w (window_from (length kept - offset) h kept) spare
 spare_made w width h n gone above kept theoretical offset spare e m s c =
-    let all : spare ≡ replicate n (blank_row default_attrs w) = s ∙ ap (λ (k : ℕ). replicate n (blank_row default_attrs k)) c in
+    let all : spare ≡ replicate n (blank_row default_attrs w) =
+    s ∙ ap (λ (k : ℕ). replicate n (blank_row default_attrs k)) c in
     record {
-      blank = All-same (λ row. row ≡ blank_row default_attrs w) spare (replicate n (blank_row default_attrs w)) all (All-replicate (λ row. row ≡ blank_row default_attrs w) n (blank_row default_attrs w) refl);
-      enough = omega (arith, m, ap (λ (a : Scrollback). narrow_rows w (in_view h a)) e, ap length all, length-replicate n (blank_row default_attrs w));
+      blank =
+          All-same (λ row. row ≡ blank_row default_attrs w) spare (replicate n (blank_row default_attrs w))
+          all (All-replicate (λ row. row ≡ blank_row default_attrs w) n (blank_row default_attrs w) refl);
+      enough = omega (
+        arith,
+        m,
+        ap (λ (a : Scrollback). narrow_rows w (in_view h a)) e,
+        ap length all,
+        length-replicate n (blank_row default_attrs w),
+      );
     }
 
 -- ---- one row drives out the oldest, and none is in view
@@ -129,39 +200,67 @@ nothing_grows : (first h w : ℕ) (rows : List RowValue) → length rows ≤ fir
 nothing_grows first h w rows f =
     let none : map (grown_row w) (window_from first h rows) ++ drop (first + h) rows ≡ [] =
     nil_from_length (map (grown_row w) (window_from first h rows) ++ drop (first + h) rows)
-    (omega (arith, length-append (map (grown_row w) (window_from first h rows)) (drop (first + h) rows), length-map (window_from first h rows) (grown_row w), length-take h (drop first rows), length-drop first rows, length-drop (first + h) rows)) in
-    sym (ap (λ (xs : List RowValue). take first rows ++ xs) none ∙ (append-nil (take first rows) ∙ take_all first rows f))
+    (omega (
+      arith,
+      length-append (map (grown_row w) (window_from first h rows)) (drop (first + h) rows),
+      length-map (window_from first h rows) (grown_row w),
+      length-take h (drop first rows),
+      length-drop first rows,
+      length-drop (first + h) rows,
+    )) in
+    sym
+    (ap (λ (xs : List RowValue). take first rows ++ xs) none ∙ (append-nil (take first rows) ∙ take_all first rows f))
 
-pub turned_is : (h w : ℕ) (gone : List RowValue) (above : Scrollback) (rows : List RowValue) (theoretical : ℕ) → length above.rows ≡ above.capacity → 0 < above.capacity → above.offset ≡ 0 → length gone ≡ 1 →
+pub turned_is : (h w : ℕ) (gone : List RowValue) (above : Scrollback) (rows : List RowValue) (theoretical : ℕ) →
+    length above.rows ≡ above.capacity → 0 < above.capacity → above.offset ≡ 0 → length gone ≡ 1 →
     rows ≡ drop 1 above.rows ++ map trimmed_row gone → theoretical ≡ min (above.theoretical + length gone) greatest →
-    record { rows = rows; capacity = above.capacity; theoretical = theoretical; offset = above.offset } ≡ pushed h w gone above
+    record { rows = rows; capacity = above.capacity; theoretical = theoretical; offset = above.offset }
+    ≡ pushed h w gone above
 turned_is h w gone above rows theoretical f c o n e t =
     let one : 1 ≡ length (stacked gone above) - above.capacity = omega (arith, length-stacked gone above) in
     let stacks : rows ≡ last_of above.capacity (stacked gone above) =
-    e ∙ (sym (drop-append-le 1 above.rows (map trimmed_row gone) (omega arith)) ∙ ap (λ (m : ℕ). drop m (stacked gone above)) one) in
-    let offset : above.offset ≡ (if above.offset == 0 then 0 else min (above.offset + length gone) (length rows)) = grind (arith, o) in
-    pushed_is h w gone above rows rows theoretical above.offset (omega arith) (kept_is gone above rows theoretical above.offset stacks t offset)
+    e
+    ∙ (sym (drop-append-le 1 above.rows (map trimmed_row gone) (omega arith))
+    ∙ ap (λ (m : ℕ). drop m (stacked gone above)) one) in
+    let offset : above.offset ≡ (if above.offset == 0 then 0 else min (above.offset + length gone) (length rows)) =
+    grind (arith, o) in
+    pushed_is h w gone above rows rows theoretical above.offset (omega arith)
+    (kept_is gone above rows theoretical above.offset stacks t offset)
     (nothing_grows (length rows - above.offset) h w rows (omega arith))
 
-pub turned_reports : (gone : List RowValue) (above : Scrollback) → length above.rows ≡ above.capacity → 0 < above.capacity → length gone ≡ 1 → reported gone above ≡ take 1 above.rows
+pub turned_reports : (gone : List RowValue) (above : Scrollback) → length above.rows ≡ above.capacity →
+    0 < above.capacity → length gone ≡ 1 → reported gone above ≡ take 1 above.rows
 turned_reports gone above f c n =
     let one : length (stacked gone above) - above.capacity ≡ 1 = omega (arith, length-stacked gone above) in
-    reported_some gone above (omega arith) ∙ (ap (λ (m : ℕ). take m (stacked gone above)) one ∙ take-append-le 1 above.rows (map trimmed_row gone) (omega arith))
+    reported_some gone above (omega arith)
+    ∙ (ap (λ (m : ℕ). take m (stacked gone above)) one
+    ∙ take-append-le 1 above.rows (map trimmed_row gone) (omega arith))
 
 -- ---- nothing is kept
 
-pub passed_is : (h w : ℕ) (gone : List RowValue) (above : Scrollback) (theoretical : ℕ) → IsScrollback above → above.capacity ≡ 0 → 0 < length gone → theoretical ≡ min (above.theoretical + length gone) greatest →
-    record { rows = above.rows; capacity = above.capacity; theoretical = theoretical; offset = above.offset } ≡ pushed h w gone above
+pub passed_is : (h w : ℕ) (gone : List RowValue) (above : Scrollback) (theoretical : ℕ) → IsScrollback above →
+    above.capacity ≡ 0 → 0 < length gone → theoretical ≡ min (above.theoretical + length gone) greatest →
+    record { rows = above.rows; capacity = above.capacity; theoretical = theoretical; offset = above.offset }
+    ≡ pushed h w gone above
 passed_is h w gone above theoretical a z s t =
     let none : above.rows ≡ [] = nil_from_length above.rows (omega (arith, a.kept)) in
-    let all : above.rows ≡ last_of above.capacity (stacked gone above) = none ∙ sym (drop_all (length (stacked gone above) - above.capacity) (stacked gone above) (omega arith)) in
-    let offset : above.offset ≡ (if above.offset == 0 then 0 else min (above.offset + length gone) (length above.rows)) = grind (arith, a.in_view, a.kept) in
+    let all : above.rows ≡ last_of above.capacity (stacked gone above) =
+    none ∙ sym (drop_all (length (stacked gone above) - above.capacity) (stacked gone above) (omega arith)) in
+    let offset : above.offset
+    ≡ (if above.offset == 0 then 0 else min (above.offset + length gone) (length above.rows)) =
+    grind (arith, a.in_view, a.kept) in
     let nothing : ℕ → List RowValue = λ n. [] in
-    pushed_is h w gone above above.rows above.rows theoretical above.offset s (kept_is gone above above.rows theoretical above.offset all t offset)
-    (none ∙ sym (nil_from_length (grown_from (length above.rows - above.offset) h w above.rows) (length-grown_from (length above.rows - above.offset) h w above.rows (omega arith) ∙ omega (arith, a.kept))))
+    pushed_is h w gone above above.rows above.rows theoretical above.offset
+    s (kept_is gone above above.rows theoretical above.offset all t offset)
+    (none
+    ∙ sym (nil_from_length (grown_from (length above.rows - above.offset) h w above.rows)
+    (length-grown_from (length above.rows - above.offset) h w above.rows (omega arith) ∙ omega (arith, a.kept))))
 
-pub passed_reports : (gone : List RowValue) (above : Scrollback) → IsScrollback above → above.capacity ≡ 0 → 0 < length gone → reported gone above ≡ map trimmed_row gone
+pub passed_reports : (gone : List RowValue) (above : Scrollback) → IsScrollback above →
+    above.capacity ≡ 0 → 0 < length gone → reported gone above ≡ map trimmed_row gone
 passed_reports gone above a z s =
     let none : above.rows ≡ [] = nil_from_length above.rows (omega (arith, a.kept)) in
-    let whole : stacked gone above ≡ map trimmed_row gone = ap (λ (xs : List RowValue). xs ++ map trimmed_row gone) none in
-    reported_some gone above s ∙ (take_all (length (stacked gone above) - above.capacity) (stacked gone above) (omega arith) ∙ whole)
+    let whole : stacked gone above ≡ map trimmed_row gone =
+    ap (λ (xs : List RowValue). xs ++ map trimmed_row gone) none in
+    reported_some gone above s
+    ∙ (take_all (length (stacked gone above) - above.capacity) (stacked gone above) (omega arith) ∙ whole)

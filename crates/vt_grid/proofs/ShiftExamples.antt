@@ -7,7 +7,8 @@ use Rattle.vt_rows.specs.Row.{RowValue}
 use Rattle.vt_grid.specs.Page.{Page, blank_page, moved_rows}
 use Rattle.vt_grid.specs.Moves.{moved_to}
 use Rattle.vt_grid.specs.Regions.{moved_up, moved_down, tabbed, region_set, origin_set}
-use Rattle.vt_grid.specs.Shifts.{scrolled_down, reverse_index, lines_inserted, lines_deleted, chars_inserted, chars_deleted}
+use Rattle.vt_grid.specs.Shifts.{scrolled_down, reverse_index, lines_inserted}
+use Rattle.vt_grid.specs.Shifts.{lines_deleted, chars_inserted, chars_deleted}
 use Rattle.vt_grid.specs.Erasing.{erased_chars, erased_start, erased_above}
 
 abbrev n : ℕ → CellValue
@@ -35,7 +36,8 @@ bare = row (default_blank ∷ default_blank ∷ [])
 
 -- these rows, the cursor, and a region
 abbrev paged : List RowValue → (r c width top bottom : ℕ) → Page
-paged rows r c width top bottom = record (blank_page (length rows) width) { rows = rows; row = r; column = c; top = top; bottom = bottom }
+paged rows r c width top bottom =
+    record (blank_page (length rows) width) { rows = rows; row = r; column = c; top = top; bottom = bottom }
 
 -- ---- rows
 
@@ -44,34 +46,41 @@ index_above : reverse_index (paged (one 1 ∷ one 2 ∷ one 3 ∷ []) 0 0 2 1 2)
 unfolding reverse_index moved_rows
 index_above = refl
 
-index_between : reverse_index (paged (one 1 ∷ one 2 ∷ one 3 ∷ one 4 ∷ []) 1 2 2 2 3) ≡ paged (one 1 ∷ one 2 ∷ one 3 ∷ one 4 ∷ []) 0 2 2 2 3
+index_between : reverse_index (paged (one 1 ∷ one 2 ∷ one 3 ∷ one 4 ∷ []) 1 2 2 2 3)
+    ≡ paged (one 1 ∷ one 2 ∷ one 3 ∷ one 4 ∷ []) 0 2 2 2 3
 unfolding reverse_index moved_rows
 index_between = refl
 
 -- the flag travels with its row, and falls at the region's bottom
-line_inserted : lines_inserted 1 (paged (on (n 1 ∷ n 2 ∷ []) ∷ one 3 ∷ []) 0 0 2 0 1) ≡ paged (bare ∷ two 1 2 ∷ []) 0 0 2 0 1
+line_inserted : lines_inserted 1 (paged (on (n 1 ∷ n 2 ∷ []) ∷ one 3 ∷ []) 0 0 2 0 1)
+    ≡ paged (bare ∷ two 1 2 ∷ []) 0 0 2 0 1
 unfolding lines_inserted moved_rows
 line_inserted = refl
 
-line_inserted_between : lines_inserted 1 (paged (on (n 1 ∷ n 2 ∷ []) ∷ on (n 3 ∷ n 4 ∷ []) ∷ one 5 ∷ one 6 ∷ []) 1 1 2 0 3)
+line_inserted_between : lines_inserted 1
+    (paged (on (n 1 ∷ n 2 ∷ []) ∷ on (n 3 ∷ n 4 ∷ []) ∷ one 5 ∷ one 6 ∷ []) 1 1 2 0 3)
     ≡ paged (on (n 1 ∷ n 2 ∷ []) ∷ bare ∷ on (n 3 ∷ n 4 ∷ []) ∷ one 5 ∷ []) 1 1 2 0 3
 unfolding lines_inserted moved_rows
 line_inserted_between = refl
 
-line_outside : lines_inserted 1 (paged (one 1 ∷ one 2 ∷ one 3 ∷ []) 0 0 2 1 2) ≡ paged (one 1 ∷ one 2 ∷ one 3 ∷ []) 0 0 2 1 2
+line_outside : lines_inserted 1 (paged (one 1 ∷ one 2 ∷ one 3 ∷ []) 0 0 2 1 2)
+    ≡ paged (one 1 ∷ one 2 ∷ one 3 ∷ []) 0 0 2 1 2
 unfolding lines_inserted moved_rows
 line_outside = refl
 
 -- more than there are leave blank rows, and what stands below the region stays
-lines_gone : lines_deleted 9 (paged (one 1 ∷ one 2 ∷ one 3 ∷ one 4 ∷ []) 1 2 2 0 2) ≡ paged (one 1 ∷ bare ∷ bare ∷ one 4 ∷ []) 1 2 2 0 2
+lines_gone : lines_deleted 9 (paged (one 1 ∷ one 2 ∷ one 3 ∷ one 4 ∷ []) 1 2 2 0 2)
+    ≡ paged (one 1 ∷ bare ∷ bare ∷ one 4 ∷ []) 1 2 2 0 2
 unfolding lines_deleted moved_rows
 lines_gone = refl
 
-line_deleted : lines_deleted 1 (paged (one 1 ∷ on (n 2 ∷ n 3 ∷ []) ∷ one 4 ∷ []) 0 0 2 0 2) ≡ paged (on (n 2 ∷ n 3 ∷ []) ∷ one 4 ∷ bare ∷ []) 0 0 2 0 2
+line_deleted : lines_deleted 1 (paged (one 1 ∷ on (n 2 ∷ n 3 ∷ []) ∷ one 4 ∷ []) 0 0 2 0 2)
+    ≡ paged (on (n 2 ∷ n 3 ∷ []) ∷ one 4 ∷ bare ∷ []) 0 0 2 0 2
 unfolding lines_deleted moved_rows
 line_deleted = refl
 
-region_down : scrolled_down 1 (paged (one 1 ∷ on (n 2 ∷ n 3 ∷ []) ∷ on (n 4 ∷ n 5 ∷ []) ∷ one 6 ∷ []) 0 2 2 1 2) ≡ paged (one 1 ∷ bare ∷ two 2 3 ∷ one 6 ∷ []) 0 2 2 1 2
+region_down : scrolled_down 1 (paged (one 1 ∷ on (n 2 ∷ n 3 ∷ []) ∷ on (n 4 ∷ n 5 ∷ []) ∷ one 6 ∷ []) 0 2 2 1 2)
+    ≡ paged (one 1 ∷ bare ∷ two 2 3 ∷ one 6 ∷ []) 0 2 2 1 2
 unfolding moved_rows
 region_down = refl
 
@@ -82,19 +91,22 @@ half_deleted : chars_deleted 1 (paged (row (n 0x61 ∷ wide ∷ right_half ∷ n
 unfolding deleted moved
 half_deleted = refl
 
-inserted_behind : chars_inserted 1 (paged (row (wide ∷ right_half ∷ n 1 ∷ n 2 ∷ []) ∷ []) 0 1 4 0 0) ≡ paged (row (wide ∷ right_half ∷ default_blank ∷ n 1 ∷ []) ∷ []) 0 1 4 0 0
+inserted_behind : chars_inserted 1 (paged (row (wide ∷ right_half ∷ n 1 ∷ n 2 ∷ []) ∷ []) 0 1 4 0 0)
+    ≡ paged (row (wide ∷ right_half ∷ default_blank ∷ n 1 ∷ []) ∷ []) 0 1 4 0 0
 unfolding inserted moved
 inserted_behind = refl
 
 -- at a pending wrap no column moves, and the flag falls
-pending_inserted : chars_inserted 1 (paged (on (n 1 ∷ n 2 ∷ []) ∷ one 3 ∷ []) 0 2 2 0 1) ≡ paged (two 1 2 ∷ one 3 ∷ []) 0 2 2 0 1
+pending_inserted : chars_inserted 1 (paged (on (n 1 ∷ n 2 ∷ []) ∷ one 3 ∷ []) 0 2 2 0 1)
+    ≡ paged (two 1 2 ∷ one 3 ∷ []) 0 2 2 0 1
 unfolding inserted moved
 pending_inserted = refl
 
 -- ---- the cursor and the region
 
 -- in origin mode the cursor stays in the region
-stays_in_region : moved_to 3 3 (origin_set true (region_set 1 2 (blank_page 4 4))) ≡ record (blank_page 4 4) { row = 2; column = 3; top = 1; bottom = 2; origin = true }
+stays_in_region : moved_to 3 3 (origin_set true (region_set 1 2 (blank_page 4 4)))
+    ≡ record (blank_page 4 4) { row = 2; column = 3; top = 1; bottom = 2; origin = true }
 unfolding region_set
 stays_in_region = refl
 
@@ -107,15 +119,18 @@ region_to_end : region_set 2 9 (blank_page 4 4) ≡ record (blank_page 4 4) { ro
 unfolding region_set
 region_to_end = refl
 
-up_within : moved_up 9 (record (region_set 1 2 (blank_page 4 4)) { row = 2; column = 4 }) ≡ record (blank_page 4 4) { row = 1; column = 4; top = 1; bottom = 2 }
+up_within : moved_up 9 (record (region_set 1 2 (blank_page 4 4)) { row = 2; column = 4 })
+    ≡ record (blank_page 4 4) { row = 1; column = 4; top = 1; bottom = 2 }
 unfolding moved_up region_set
 up_within = refl
 
-up_from_below : moved_up 9 (record (region_set 1 2 (blank_page 4 4)) { row = 3 }) ≡ record (blank_page 4 4) { row = 0; top = 1; bottom = 2 }
+up_from_below : moved_up 9 (record (region_set 1 2 (blank_page 4 4)) { row = 3 })
+    ≡ record (blank_page 4 4) { row = 0; top = 1; bottom = 2 }
 unfolding moved_up region_set
 up_from_below = refl
 
-down_from_above : moved_down 9 (record (region_set 1 2 (blank_page 4 4)) { row = 0 }) ≡ record (blank_page 4 4) { row = 3; top = 1; bottom = 2 }
+down_from_above : moved_down 9 (record (region_set 1 2 (blank_page 4 4)) { row = 0 })
+    ≡ record (blank_page 4 4) { row = 3; top = 1; bottom = 2 }
 unfolding moved_down region_set
 down_from_above = refl
 
@@ -128,19 +143,23 @@ tab_last = refl
 -- ---- erasing
 
 -- at a pending wrap the whole row, and its flag falls
-start_pending : erased_start default_attrs (paged (on (n 1 ∷ n 2 ∷ []) ∷ one 3 ∷ []) 0 2 2 0 1) ≡ paged (bare ∷ one 3 ∷ []) 0 2 2 0 1
+start_pending : erased_start default_attrs (paged (on (n 1 ∷ n 2 ∷ []) ∷ one 3 ∷ []) 0 2 2 0 1)
+    ≡ paged (bare ∷ one 3 ∷ []) 0 2 2 0 1
 unfolding erased_start put_cells
 start_pending = refl
 
-start_half : erased_start default_attrs (paged (row (wide ∷ right_half ∷ n 1 ∷ []) ∷ []) 0 0 3 0 0) ≡ paged (row (default_blank ∷ default_blank ∷ n 1 ∷ []) ∷ []) 0 0 3 0 0
+start_half : erased_start default_attrs (paged (row (wide ∷ right_half ∷ n 1 ∷ []) ∷ []) 0 0 3 0 0)
+    ≡ paged (row (default_blank ∷ default_blank ∷ n 1 ∷ []) ∷ []) 0 0 3 0 0
 unfolding erased_start put_cells
 start_half = refl
 
-above : erased_above default_attrs (paged (on (n 1 ∷ n 2 ∷ []) ∷ two 3 4 ∷ one 5 ∷ []) 1 0 2 0 2) ≡ paged (bare ∷ row (default_blank ∷ n 4 ∷ []) ∷ one 5 ∷ []) 1 0 2 0 2
+above : erased_above default_attrs (paged (on (n 1 ∷ n 2 ∷ []) ∷ two 3 4 ∷ one 5 ∷ []) 1 0 2 0 2)
+    ≡ paged (bare ∷ row (default_blank ∷ n 4 ∷ []) ∷ one 5 ∷ []) 1 0 2 0 2
 unfolding erased_above erased_start put_cells
 above = refl
 
 -- no columns, also on a right half
-none_erased : erased_chars 0 default_attrs (paged (row (wide ∷ right_half ∷ []) ∷ []) 0 1 2 0 0) ≡ paged (row (wide ∷ right_half ∷ []) ∷ []) 0 1 2 0 0
+none_erased : erased_chars 0 default_attrs (paged (row (wide ∷ right_half ∷ []) ∷ []) 0 1 2 0 0)
+    ≡ paged (row (wide ∷ right_half ∷ []) ∷ []) 0 1 2 0 0
 unfolding erased_chars
 none_erased = refl

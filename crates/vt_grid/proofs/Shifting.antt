@@ -12,25 +12,33 @@ use Rattle.vt_rows.proofs.Rows.{IsRow-wrapped}
 use Rattle.vt_rows.proofs.Moves.{IsRow-inserted_row, IsRow-deleted_row}
 use Rattle.vt_grid.specs.Page.{Page, IsPage, row_or, cursor_row, moved_rows, rows_up}
 use Rattle.vt_grid.specs.Regions.{in_region}
-use Rattle.vt_grid.specs.Shifts.{down_source, unflagged, rows_down, scrolled_down, reverse_index, lines_inserted, lines_deleted, chars_inserted, chars_deleted}
-use Rattle.vt_grid.proofs.Pages.{page_at, page_if, page_of_rows, page_with_row, page_rows_up, IsRow-row_or, IsRow-cursor_row, length-moved_rows, row_or-moved_rows, All-moved_rows}
+use Rattle.vt_grid.specs.Shifts.{down_source, unflagged, rows_down, scrolled_down, reverse_index}
+use Rattle.vt_grid.specs.Shifts.{lines_inserted, lines_deleted, chars_inserted, chars_deleted}
+use Rattle.vt_grid.proofs.Pages.{page_at, page_if, page_of_rows, page_with_row, page_rows_up, IsRow-row_or}
+use Rattle.vt_grid.proofs.Pages.{IsRow-cursor_row, length-moved_rows, row_or-moved_rows, All-moved_rows}
 use Rattle.vt_grid.proofs.Prints.{region_order}
 
 -- ---- rows that move down
 
-pub length-rows_down : (width top bottom n : ℕ) (rows : List RowValue) → length (rows_down width top bottom n rows) ≡ length rows
+pub length-rows_down : (width top bottom n : ℕ) (rows : List RowValue) →
+    length (rows_down width top bottom n rows) ≡ length rows
 length-rows_down width top bottom n rows =
     let source = down_source (length rows) top bottom n in
     let moved = moved_rows width source rows in
-    length-set moved bottom (record (row_or width moved bottom) { wrapped = false }) ∙ length-moved_rows width source rows
+    length-set moved bottom (record (row_or width moved bottom) { wrapped = false })
+    ∙ length-moved_rows width source rows
 
-All-unflagged : (width r : ℕ) (rows : List RowValue) → All (IsRow width) rows → All (IsRow width) (unflagged width r rows)
+All-unflagged : (width r : ℕ) (rows : List RowValue) →
+    All (IsRow width) rows → All (IsRow width) (unflagged width r rows)
 All-unflagged width r rows h =
     let row = row_or width rows r in
-    All-set (IsRow width) rows r (record row { wrapped = false }) (IsRow-wrapped width row false (λ e. cc) (IsRow-row_or width rows r h)) h
+    All-set (IsRow width) rows r (record row { wrapped = false })
+    (IsRow-wrapped width row false (λ e. cc) (IsRow-row_or width rows r h)) h
 
 -- the last row is the region's bottom, which has no flag, or it stays
-down_last : (width top bottom n : ℕ) (rows : List RowValue) → bottom < length rows → (row_or width rows (length rows - 1)).wrapped ≡ false → (row_or width (rows_down width top bottom n rows) (length rows - 1)).wrapped ≡ false
+down_last : (width top bottom n : ℕ) (rows : List RowValue) →
+    bottom < length rows → (row_or width rows (length rows - 1)).wrapped ≡ false →
+    (row_or width (rows_down width top bottom n rows) (length rows - 1)).wrapped ≡ false
 down_last width top bottom n rows h old =
     let source = down_source (length rows) top bottom n in
     let moved = moved_rows width source rows in
@@ -38,19 +46,25 @@ down_last width top bottom n rows h old =
     let blank = blank_row default_attrs width in
     let bare = record (row_or width moved bottom) { wrapped = false } in
     elim (cases_eq bottom (length rows - 1)) [
-      | inl e ↦ ap (λ (row : RowValue). row.wrapped) (get_or-set_at moved bottom (length rows - 1) bare blank (sym e) (omega arith))
+      | inl e ↦
+          ap (λ (row : RowValue). row.wrapped)
+          (get_or-set_at moved bottom (length rows - 1) bare blank (sym e) (omega arith))
       | inr ne ↦
           let stays : source (length rows - 1) ≡ length rows - 1 = grind (arith, nat_tests) in
-          ap (λ (row : RowValue). row.wrapped) (get_or-set_other moved bottom (length rows - 1) bare blank (λ e. ne (sym e))
-          ∙ (row_or-moved_rows width source rows (length rows - 1) (omega arith) ∙ ap (λ (r : ℕ). row_or width rows r) stays))
+          ap (λ (row : RowValue). row.wrapped)
+          (get_or-set_other moved bottom (length rows - 1) bare blank (λ e. ne (sym e))
+          ∙ (row_or-moved_rows width source rows (length rows - 1) (omega arith)
+          ∙ ap (λ (r : ℕ). row_or width rows r) stays))
           ∙ old
     ]
 
-pub page_rows_down : (top bottom n : ℕ) (page : Page) → bottom < length page.rows → IsPage page → IsPage (record page { rows = rows_down page.width top bottom n page.rows })
+pub page_rows_down : (top bottom n : ℕ) (page : Page) → bottom < length page.rows →
+    IsPage page → IsPage (record page { rows = rows_down page.width top bottom n page.rows })
 page_rows_down top bottom n page h p =
     let source = down_source (length page.rows) top bottom n in
     page_of_rows (rows_down page.width top bottom n page.rows) page (length-rows_down page.width top bottom n page.rows)
-    (All-unflagged page.width bottom (moved_rows page.width source page.rows) (All-moved_rows page.width source page.rows p.rows))
+    (All-unflagged page.width bottom (moved_rows page.width source page.rows)
+    (All-moved_rows page.width source page.rows p.rows))
     (down_last page.width top bottom n page.rows h p.last) p
 
 pub page_scrolled_down : (n : ℕ) (page : Page) → IsPage page → IsPage (scrolled_down n page)
@@ -60,7 +74,8 @@ pub page_reverse_index : (page : Page) → IsPage page → IsPage (reverse_index
 unfolding reverse_index
 page_reverse_index page p =
     let h = p.cursor_row in
-    page_if ((page.row == page.top) || (page.row == 0)) (scrolled_down 1 page) (record page { row = page.row - 1 }) (λ t. page_scrolled_down 1 page p)
+    page_if ((page.row == page.top) || (page.row == 0)) (scrolled_down 1 page)
+    (record page { row = page.row - 1 }) (λ t. page_scrolled_down 1 page p)
     (λ f. page_at (page.row - 1) page.column page (omega arith) p.cursor_column p)
 
 -- ---- lines
@@ -68,22 +83,26 @@ page_reverse_index page p =
 pub page_lines_inserted : (n : ℕ) (page : Page) → IsPage page → IsPage (lines_inserted n page)
 unfolding lines_inserted
 page_lines_inserted n page p =
-    page_if (in_region page) (record page { rows = rows_down page.width page.row page.bottom n page.rows }) page (λ t. page_rows_down page.row page.bottom n page p.region_end p) (λ f. p)
+    page_if (in_region page) (record page { rows = rows_down page.width page.row page.bottom n page.rows })
+    page (λ t. page_rows_down page.row page.bottom n page p.region_end p) (λ f. p)
 
 pub page_lines_deleted : (n : ℕ) (page : Page) → IsPage page → IsPage (lines_deleted n page)
 unfolding lines_deleted
 page_lines_deleted n page p =
-    page_if (in_region page) (record page { rows = rows_up page.width page.row page.bottom n page.rows }) page (λ t. page_rows_up page.row page.bottom n page p.region_end p) (λ f. p)
+    page_if (in_region page) (record page { rows = rows_up page.width page.row page.bottom n page.rows })
+    page (λ t. page_rows_up page.row page.bottom n page p.region_end p) (λ f. p)
 
 -- ---- characters
 
 pub page_chars_inserted : (n : ℕ) (page : Page) → IsPage page → IsPage (chars_inserted n page)
 page_chars_inserted n page p =
-    page_with_row page.row (inserted_row page.column n (cursor_row page)) page p.cursor_row p (IsRow-inserted_row page.width page.column n (cursor_row page) (IsRow-cursor_row page p)) (λ e. refl)
+    page_with_row page.row (inserted_row page.column n (cursor_row page)) page p.cursor_row p
+    (IsRow-inserted_row page.width page.column n (cursor_row page) (IsRow-cursor_row page p)) (λ e. refl)
 
 pub page_chars_deleted : (n : ℕ) (page : Page) → IsPage page → IsPage (chars_deleted n page)
 page_chars_deleted n page p =
-    page_with_row page.row (deleted_row page.column n (cursor_row page)) page p.cursor_row p (IsRow-deleted_row page.width page.column n (cursor_row page) (IsRow-cursor_row page p)) (λ e. refl)
+    page_with_row page.row (deleted_row page.column n (cursor_row page)) page p.cursor_row p
+    (IsRow-deleted_row page.width page.column n (cursor_row page) (IsRow-cursor_row page p)) (λ e. refl)
 
 -- rows that move down
 pub ruleset moving_down = (page_reverse_index, page_lines_inserted, region_order)

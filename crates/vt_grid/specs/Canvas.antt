@@ -1,10 +1,12 @@
--- What a redraw works on: the active page with the current attributes and whether the cursor is hidden, and what its operations draw.
+-- What a redraw works on: the active page with the current attributes and whether the cursor is hidden, and what its
+-- operations draw.
 use Rattle.std.specs.Prelude.{ℕ, Bool, List, [], ◌∷◌, Option, Some, None, chars, zero, suc, if◌then◌else◌}
 use Rattle.vt_cells.specs.Attrs.{default_attrs, changed_attrs, Attrs}
 use Rattle.vt_cells.specs.Op.{Op, Hide, ClearAttrs, MoveTo, MoveRight, NextRow, LineFeed, Backspace}
 use Rattle.vt_cells.specs.Op.{EraseBelow, EraseRest, EraseChars, SaveCursor, RestoreCursor, ChangeAttrs, Print}
 use Rattle.vt_grid.specs.Page.{Page}
-use Rattle.vt_grid.specs.Moves.{carriage_return, moved_left, moved_right, moved_to, line_feed, feeds_out, cursor_saved, cursor_restored}
+use Rattle.vt_grid.specs.Moves.{carriage_return, moved_left, moved_right, moved_to}
+use Rattle.vt_grid.specs.Moves.{line_feed, feeds_out, cursor_saved, cursor_restored}
 use Rattle.vt_grid.specs.Erasing.{erased_below, erased_rest, erased_chars}
 use Rattle.vt_grid.specs.Printing.{printed, pushes}
 
@@ -16,7 +18,8 @@ pub record Canvas : Type 0 where
 
 -- a character drawn, unless that scrolls a row off the page
 abbrev pub drawn_char : ℕ → Canvas → Option Canvas
-drawn_char c canvas = if pushes c canvas.page then None else Some (record canvas { page = printed c canvas.attrs canvas.page })
+drawn_char c canvas =
+    if pushes c canvas.page then None else Some (record canvas { page = printed c canvas.attrs canvas.page })
 
 -- one step after the other, as far as there is a canvas
 abbrev pub and_then : {A B : Type 0} → (A → Option B) → Option A → Option B
@@ -31,7 +34,8 @@ drawn_text (c ∷ cs) canvas = and_then (drawn_text cs) (drawn_char c canvas)
 abbrev pub fed : Canvas → Option Canvas
 fed canvas = if feeds_out canvas.page then None else Some (record canvas { page = line_feed canvas.page })
 
--- what an operation draws; none where it would scroll a row off the page. The attributes are saved and restored with the cursor
+-- what an operation draws; none where it would scroll a row off the page.
+-- The attributes are saved and restored with the cursor
 abbrev pub drawn : Op → Canvas → Option Canvas
 drawn (Hide hidden) canvas = Some (record canvas { hidden = hidden })
 drawn ClearAttrs canvas = Some (record canvas { attrs = default_attrs })

@@ -7,15 +7,19 @@ use Rattle.vt_grid.specs.Page.{Page, cursor_row, with_row}
 
 -- n columns of the cursor's row from column c on are erased
 abbrev pub erased_columns : ℕ → ℕ → Attrs → Page → Page
-erased_columns c n attrs page = with_row page.row (with_cells (cursor_row page) (erased c n attrs (cursor_row page).cells)) page
+erased_columns c n attrs page =
+    with_row page.row (with_cells (cursor_row page) (erased c n attrs (cursor_row page).cells)) page
 
 -- n columns from the cursor on, at most to the end (ECH); at a pending wrap nothing, and none for 0
 unfoldable pub erased_chars : ℕ → Attrs → Page → Page
-erased_chars n attrs page = if (n == 0) || (page.column == page.width) then page else erased_columns page.column (min n (page.width - page.column)) attrs page
+erased_chars n attrs page =
+    if (n == 0) || (page.column == page.width) then page
+    else erased_columns page.column (min n (page.width - page.column)) attrs page
 
 -- from the cursor to the end of the row (EL 0); at a pending wrap nothing
 unfoldable pub erased_rest : Attrs → Page → Page
-erased_rest attrs page = if page.column == page.width then page else erased_columns page.column (page.width - page.column) attrs page
+erased_rest attrs page =
+    if page.column == page.width then page else erased_columns page.column (page.width - page.column) attrs page
 
 -- the rows below the cursor's become blank
 abbrev pub blanked_below : Attrs → Page → Page
@@ -37,7 +41,8 @@ erased_row attrs page = with_row page.row (blank_row attrs page.width) page
 
 -- the rows above the cursor's become blank
 abbrev pub blanked_above : Attrs → Page → Page
-blanked_above attrs page = record page { rows = replicate page.row (blank_row attrs page.width) ++ drop page.row page.rows }
+blanked_above attrs page =
+    record page { rows = replicate page.row (blank_row attrs page.width) ++ drop page.row page.rows }
 
 -- from the page's begin through the cursor (ED 1)
 unfoldable pub erased_above : Attrs → Page → Page

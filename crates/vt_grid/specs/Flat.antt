@@ -30,7 +30,8 @@ line_at lines r = slice_index_or lines r no_line
 pub record IsTable (width : ℕ) (cells : List CellValue) (lines : List Line) : Type 0 where
   pub filled : length cells ≡ length lines * width
   pub inside : (r : ℕ) → r < length lines → (line_at lines r).place < length lines
-  pub distinct : (r s : ℕ) → r < length lines → s < length lines → (line_at lines r).place ≡ (line_at lines s).place → r ≡ s
+  pub distinct : (r s : ℕ) → r < length lines → s < length lines →
+      (line_at lines r).place ≡ (line_at lines s).place → r ≡ s
 
 abbrev pub rows_of : Flat → List RowValue
 rows_of flat = rows_in flat.width flat.cells.items flat.lines.items

@@ -1,5 +1,6 @@
 -- What the fields of a grid are together; for its model and private contracts only.
-use Rattle.std.specs.Prelude.{◌≡◌, ℕ, ◌+◌, ◌-◌, ◌<◌, nat_le, nat_lt, Bool, true, false, List, [], length, slice_index_or, Some, zero, if◌then◌else◌}
+use Rattle.std.specs.Prelude.{◌≡◌, ℕ, ◌+◌, ◌-◌, ◌<◌, nat_le, nat_lt, Bool, true, false, List}
+use Rattle.std.specs.Prelude.{[], length, slice_index_or, Some, zero, if◌then◌else◌}
 use Rattle.vt_cells.specs.Attrs.{Attrs}
 use Rattle.vt_cells.specs.declared.pos.Pos.{Pos}
 use Rattle.vt_cells.specs.Cell.{CellValue, is_wide, is_blank, is_right_half, widened, IsCell}
@@ -57,8 +58,12 @@ abbrev pub mark_out : ℕ → Attrs → Page → List RowValue
 mark_out mark attrs page = if carries mark page then fed_out (left_by (Some zero) attrs page) else []
 
 -- what row k of a page of another size becomes, which is blank before: one of the newest rows above, or one of the page
-abbrev pub refilled : (down up : ℕ) → (above rows : List RowValue) → (blank : RowValue) → (k : ℕ) → (d : RowValue) → RowValue
+abbrev pub refilled : (down up : ℕ) → (above rows : List RowValue) →
+    (blank : RowValue) → (k : ℕ) → (d : RowValue) → RowValue
 refilled down up above rows blank k d =
-    if nat_lt k up then (if nat_le up (length above + k) then resized_row (length blank.cells) (slice_index_or above (length above + k - up) d) else blank)
-    else if nat_lt (down + (k - up)) (length rows) then resized_row (length blank.cells) (slice_index_or rows (down + (k - up)) d)
+    if nat_lt k up
+    then (if nat_le up (length above + k)
+    then resized_row (length blank.cells) (slice_index_or above (length above + k - up) d) else blank)
+    else if nat_lt (down + (k - up)) (length rows)
+    then resized_row (length blank.cells) (slice_index_or rows (down + (k - up)) d)
     else blank

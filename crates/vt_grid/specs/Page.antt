@@ -1,5 +1,7 @@
--- A page: rows of one width, a cursor, a scroll region, origin mode, and what was saved (VT510 manual, DECSC, DECSTBM, DECOM).
-use Rattle.std.specs.Prelude.{◌≡◌, ℕ, ◌+◌, ◌-◌, ◌<◌, ◌≤◌, ◌^◌, ◌⊎◌, nat_le, ◌&&◌, Bool, false, List, length, replicate, map, slice_index_or, slice_set, All, if◌then◌else◌}
+-- A page: rows of one width, a cursor, a scroll region, origin mode,
+-- and what was saved (VT510 manual, DECSC, DECSTBM, DECOM).
+use Rattle.std.specs.Prelude.{◌≡◌, ℕ, ◌+◌, ◌-◌, ◌<◌, ◌≤◌, ◌^◌, ◌⊎◌, nat_le, ◌&&◌, Bool, false, List}
+use Rattle.std.specs.Prelude.{length, replicate, map, slice_index_or, slice_set, All, if◌then◌else◌}
 use Rattle.std.specs.List.{range_with_len}
 use Rattle.vt_cells.specs.Attrs.{default_attrs}
 use Rattle.vt_cells.specs.Cell.{CellValue}
@@ -92,7 +94,8 @@ moved_rows width source rows = by_row (length rows) (λ r. row_or width rows (so
 
 -- rows from top to bottom move up by n
 abbrev pub up_source : ℕ → ℕ → ℕ → ℕ → ℕ → ℕ
-up_source past top bottom n r = if nat_le top r && nat_le r bottom then (if nat_le (r + n) bottom then r + n else past) else r
+up_source past top bottom n r =
+    if nat_le top r && nat_le r bottom then (if nat_le (r + n) bottom then r + n else past) else r
 
 abbrev pub rows_up : ℕ → ℕ → ℕ → ℕ → List RowValue → List RowValue
 rows_up width top bottom n rows = moved_rows width (up_source (length rows) top bottom n) rows

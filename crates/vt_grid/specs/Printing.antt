@@ -1,5 +1,7 @@
--- Printing a character: its width decides whether the cursor wraps first, and what becomes of its neighbours (VT510 manual, DECAWM set).
-use Rattle.std.specs.Prelude.{ℕ, ◌+◌, ◌-◌, ◌==◌, ◌&&◌, nat_lt, not, Bool, true, false, List, length, Option, Some, None, zero, suc, if◌then◌else◌}
+-- Printing a character: its width decides whether the cursor wraps first,
+-- and what becomes of its neighbours (VT510 manual, DECAWM set).
+use Rattle.std.specs.Prelude.{ℕ, ◌+◌, ◌-◌, ◌==◌, ◌&&◌, nat_lt, not, Bool, true, false, List}
+use Rattle.std.specs.Prelude.{length, Option, Some, None, zero, suc, if◌then◌else◌}
 use Rattle.std.specs.Char.{encode_utf8}
 use Rattle.vt_cells.specs.Cell.{CellValue, text_of, is_wide, is_blank, is_right_half, marked}
 use Rattle.vt_cells.specs.Glyph.{columns_of, is_selector, is_wide_text, has_room}
@@ -31,10 +33,12 @@ abbrev pub flagged_left : Option ℕ → Bool → Page → Page
 flagged_left (Some r) goes_on page = flagged r goes_on page
 flagged_left None goes_on page = page
 
--- a wrap: to column 0 by a line feed; the row that was left goes on exactly if its last column was not blank and the cursor is now directly below it
+-- a wrap: to column 0 by a line feed; the row that was left goes on exactly if its last column was not blank and the
+-- cursor is now directly below it
 unfoldable pub wrapped_page : Page → Page
 wrapped_page page =
-    record (flagged_left (left_row page) (goes_down page && not (ends_blank (cursor_row page).cells)) (line_feed page)) { column = 0 }
+    record (flagged_left (left_row page) (goes_down page && not (ends_blank (cursor_row page).cells)) (line_feed page))
+    { column = 0 }
 
 -- there is no room for this many columns at the cursor
 abbrev pub lacks_room : ℕ → Page → Bool
@@ -46,13 +50,16 @@ room_made columns page = if lacks_room columns page then wrapped_page page else 
 -- a glyph at the cursor, which moves behind it
 abbrev pub glyph_put : List ℕ → Bool → Attrs → Page → Page
 glyph_put text false attrs page =
-    record (with_cursor_cells (put_narrow page.column text attrs (cursor_row page).cells) page) { column = page.column + 1 }
+    record (with_cursor_cells (put_narrow page.column text attrs (cursor_row page).cells) page)
+    { column = page.column + 1 }
 glyph_put text true attrs page =
-    record (with_cursor_cells (put_wide page.column text attrs (cursor_row page).cells) page) { column = page.column + 2 }
+    record (with_cursor_cells (put_wide page.column text attrs (cursor_row page).cells) page)
+    { column = page.column + 2 }
 
 -- the column of the glyph before the cursor: the left half where a right half stands before it
 abbrev pub mark_column : Page → ℕ
-mark_column page = if is_right_half (at (cursor_row page).cells (page.column - 1)) then page.column - 2 else page.column - 1
+mark_column page =
+    if is_right_half (at (cursor_row page).cells (page.column - 1)) then page.column - 2 else page.column - 1
 
 -- the cell before the cursor, a blank as a space, has room for a mark
 abbrev pub takes_mark : CellValue → Bool
@@ -91,7 +98,8 @@ mark_put k mark page = with_cursor_cells (marked_at k mark (cursor_row page).cel
 unfoldable pub carried : ℕ → Attrs → Page → Page
 carried mark attrs page =
     let k = mark_column page in
-    glyph_put (text_of (marked mark (at (cursor_row page).cells k))) true attrs (wrapped_page (lifted_page k attrs page))
+    glyph_put (text_of (marked mark (at (cursor_row page).cells k)))
+    true attrs (wrapped_page (lifted_page k attrs page))
 
 -- the glyph at column k, which got U+FE0F, becomes wide in place
 unfoldable pub made_wide : ℕ → Attrs → Page → Page
@@ -124,7 +132,8 @@ abbrev pub printed_by : Option ℕ → ℕ → Attrs → Page → Page
 printed_by None c attrs page = page
 printed_by (Some zero) c attrs page = if page.column == 0 then page else mark_printed c attrs page
 printed_by (Some (suc zero)) c attrs page = glyph_put (encode_utf8 c) false attrs (room_made 1 page)
-printed_by (Some (suc (suc n))) c attrs page = if nat_lt 1 page.width then glyph_put (encode_utf8 c) true attrs (room_made 2 page) else page
+printed_by (Some (suc (suc n))) c attrs page =
+    if nat_lt 1 page.width then glyph_put (encode_utf8 c) true attrs (room_made 2 page) else page
 
 -- a character is printed
 abbrev pub printed : ℕ → Attrs → Page → Page

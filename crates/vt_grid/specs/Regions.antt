@@ -1,4 +1,5 @@
--- Further moves of the cursor, some of which regard the scroll region, and the region itself (VT510 manual: CUU, CUD, CNL, CPL, CHA, HPA, VPA, HT, DECSTBM, DECOM).
+-- Further moves of the cursor, some of which regard the scroll region, and the region itself (VT510 manual: CUU, CUD,
+-- CNL, CPL, CHA, HPA, VPA, HT, DECSTBM, DECOM).
 use Rattle.std.specs.Prelude.{ℕ, ◌+◌, ◌-◌, ◌*◌, ◌/◌, ◌&&◌, nat_le, nat_lt, Bool, length, min, max, if◌then◌else◌}
 use Rattle.vt_grid.specs.Page.{Page}
 use Rattle.vt_grid.specs.Moves.{carriage_return, moved_to}
@@ -36,7 +37,8 @@ moved_to_row r page = record page { row = min r (last_row page) }
 abbrev pub tabbed : Page → Page
 tabbed page = record page { column = min ((page.column / 8 + 1) * 8) (page.width - 1) }
 
--- the region becomes the rows from top to bottom, or the whole page where these are not at least two rows; the cursor goes to its first place (DECSTBM)
+-- the region becomes the rows from top to bottom, or the whole page where these are not at least two rows; the cursor
+-- goes to its first place (DECSTBM)
 unfoldable pub region_set : ℕ → ℕ → Page → Page
 region_set top bottom page =
     if nat_lt top (min bottom (last_row page))

@@ -14,12 +14,13 @@ leaving height page = (length page.rows - height) - (length page.rows - (page.ro
 abbrev pub returning : ℕ → Scrollback → Page → ℕ
 returning height above page = min (height - length page.rows) above.theoretical
 
--- `height` rows of one list, those above the page and then its own: from `down` rows below the page's first row on, or from `up`
--- rows above it. Before this list stand rows that were lost, and behind it none: both are blank.
+-- `height` rows of one list, those above the page and then its own: from `down` rows below the page's first row on, or
+-- from `up` rows above it. Before this list stand rows that were lost, and behind it none: both are blank.
 -- With one row above, two of the page and `up` 2, five rows are: a lost one, the one above, the two of the page, none
 unfoldable pub window : (width height down up : ℕ) → (above rows : List RowValue) → List RowValue
 window width height down up above rows =
-    by_row height (λ k. if nat_lt (length above + down + k) up then blank_row default_attrs width else row_or width (above ++ rows) (length above + down + k - up))
+    by_row height (λ k. if nat_lt (length above + down + k) up then blank_row default_attrs width
+    else row_or width (above ++ rows) (length above + down + k - up))
 
 -- each row cut or grown; the last one goes on no more
 abbrev pub rows_resized : ℕ → List RowValue → List RowValue
@@ -51,7 +52,8 @@ out_of_view above = record above { offset = 0 }
 
 -- the newest n of the rows that left go back, and count no more
 abbrev pub taken_back : ℕ → Scrollback → Scrollback
-taken_back n above = record above { rows = take (length above.rows - n) above.rows; theoretical = above.theoretical - n }
+taken_back n above =
+    record above { rows = take (length above.rows - n) above.rows; theoretical = above.theoretical - n }
 
 -- scrollback above a page that gets this height
 unfoldable pub scrollback_resized : ℕ → Page → Scrollback → Scrollback

@@ -1,9 +1,11 @@
 -- Scrollback: the rows that left a page at its top, as far as they are kept (xterm's saved lines).
-use Rattle.std.specs.Prelude.{◌≡◌, ℕ, ◌+◌, ◌-◌, ◌==◌, ◌≤◌, ◌<◌, nat_lt, List, [], ◌∷◌, ◌++◌, length, All, take, drop, map, min, if◌then◌else◌}
+use Rattle.std.specs.Prelude.{◌≡◌, ℕ, ◌+◌, ◌-◌, ◌==◌, ◌≤◌, ◌<◌, nat_lt, List, [], ◌∷◌}
+use Rattle.std.specs.Prelude.{◌++◌, length, All, take, drop, map, min, if◌then◌else◌}
 use Rattle.std.specs.List.{FoldsTo}
 use Rattle.vt_rows.specs.Row.{RowValue, IsRow, resized_row, trimmed_row}
 
--- the rows, older first; how many are kept at most; how many there would be without that limit; by how many a screen is scrolled back
+-- the rows, older first; how many are kept at most; how many there would be without that limit;
+-- by how many a screen is scrolled back
 pub record Scrollback : Type 0 where
   pub rows : List RowValue
   pub capacity : ℕ
@@ -58,7 +60,11 @@ narrow_rows width (row ∷ rows) = (if nat_lt (length row.cells) width then 1 el
 unfoldable pub grown_in_view : (height width : ℕ) → Scrollback → Scrollback
 grown_in_view height width above =
     let first = length above.rows - above.offset in
-    record above { rows = take first above.rows ++ (map (grown_row width) (take height (drop first above.rows)) ++ drop (first + height) above.rows) }
+    record above {
+      rows =
+          take first above.rows
+          ++ (map (grown_row width) (take height (drop first above.rows)) ++ drop (first + height) above.rows);
+    }
 
 -- rows left the page of this height and width at its top
 abbrev pub pushed : (height width : ℕ) → List RowValue → Scrollback → Scrollback
@@ -75,8 +81,10 @@ abbrev pub TakesMemory : List RowValue → Scrollback → Type 0
 TakesMemory gone above = (0 < length gone) × (0 < above.capacity)
 
 -- rows left: what scrollback is then, and what was reported one by one
-abbrev pub Sends : {S : Type 0} → (S → RowValue → S → Type 0) → (height width : ℕ) → List RowValue → Scrollback → S → Scrollback → S → Type 0
-Sends leaves height width gone above old after new = (after ≡ pushed height width gone above) × FoldsTo leaves old (reported gone above) new
+abbrev pub Sends : {S : Type 0} → (S → RowValue → S → Type 0) →
+    (height width : ℕ) → List RowValue → Scrollback → S → Scrollback → S → Type 0
+Sends leaves height width gone above old after new =
+    (after ≡ pushed height width gone above) × FoldsTo leaves old (reported gone above) new
 
 -- a screen of this height and width is scrolled back by n rows, at most by all (the offset)
 unfoldable pub viewed : (height width : ℕ) → ℕ → Scrollback → Scrollback
@@ -90,6 +98,7 @@ ViewTakesMemory height width n above = 0 < narrow_rows width (take height (last_
 abbrev pub cleared : Scrollback → Scrollback
 cleared above = no_scrollback above.capacity
 
--- the rows that a screen shows: the newest of scrollback, as many as the offset, and the page's below them, in all as many as the page has
+-- the rows that a screen shows: the newest of scrollback, as many as the offset, and the page's below them,
+-- in all as many as the page has
 abbrev pub visible : Scrollback → List RowValue → List RowValue
 visible above rows = take (length rows) (last_of above.offset above.rows ++ rows)

@@ -10,7 +10,8 @@ window_from first height rows = take height (drop first rows)
 
 -- these rows are grown
 abbrev pub grown_from : (first height width : ℕ) → List RowValue → List RowValue
-grown_from first height width rows = take first rows ++ (map (grown_row width) (window_from first height rows) ++ drop (first + height) rows)
+grown_from first height width rows =
+    take first rows ++ (map (grown_row width) (window_from first height rows) ++ drop (first + height) rows)
 
 -- the rows of scrollback that a screen of this height shows
 abbrev pub in_view : ℕ → Scrollback → List RowValue

@@ -13,4 +13,5 @@ printed_text (c ∷ text) attrs page = printed_text text attrs (printed c attrs 
 -- narrow glyphs at the cursor, which moves behind them
 abbrev pub text_put : List ℕ → Attrs → Page → Page
 text_put text attrs page =
-    record (with_cursor_cells (put_text page.column text attrs (cursor_row page).cells) page) { column = page.column + length text }
+    record (with_cursor_cells (put_text page.column text attrs (cursor_row page).cells) page)
+    { column = page.column + length text }

@@ -1,7 +1,8 @@
 //! One vector with the cells of all rows, and a table that says where each row
 //! is.
 
-ghost use Rattle.std.specs.Prelude.{◌≡◌, ◌≢◌, ◌+◌, ◌*◌, ◌<◌, ◌≤◌, ◌^◌, ◌&&◌, ◌⊎◌, ℕ, IfOk, false, length, not, slice_index_or, slice_set};
+ghost use Rattle.std.specs.Prelude.{◌≡◌, ◌≢◌, ◌+◌, ◌*◌, ◌<◌, ◌≤◌, ◌^◌, ◌&&◌, ◌⊎◌, ℕ, IfOk};
+ghost use Rattle.std.specs.Prelude.{false, length, not, slice_index_or, slice_set};
 ghost use Rattle.std.specs.List.{slice_range};
 ghost use Rattle.vt_cells.specs.Attrs.{default_attrs};
 ghost use Rattle.vt_cells.specs.Refusals.{OnlyOutOfMemory};
@@ -80,7 +81,8 @@ impl Flat {
         ensures end { result.1 ≡ result.0 + self.now.width }
         ensures inside { result.1 ≤ length self.now.cells.items }
         ensures line { row < length self.now.lines.items }
-        ensures row { slice_range self.now.cells.items result.0 result.1 ≡ (row_or self.now.width (rows_of self.now) row).cells }
+        ensures row { slice_range self.now.cells.items result.0 result.1
+            ≡ (row_or self.now.width (rows_of self.now) row).cells }
     {
         let start = usize::from(self.lines[row].place) * usize::from(self.width);
         (start, start + usize::from(self.width))
@@ -102,7 +104,8 @@ impl Flat {
         requires { row < length self.old.lines.items }
         ensures cells { self.new.cells ≡ self.old.cells }
         ensures width { self.new.width ≡ self.old.width }
-        ensures lines { self.new.lines.items ≡ slice_set self.old.lines.items row (record (line_at self.old.lines.items row) { wrapped = wrapped }) }
+        ensures lines { self.new.lines.items
+            ≡ slice_set self.old.lines.items row (record (line_at self.old.lines.items row) { wrapped = wrapped }) }
     {
         self.lines[row].wrapped = wrapped;
     }
@@ -116,7 +119,8 @@ impl Flat {
         ensures cells { self.new.cells ≡ self.old.cells }
         ensures width { self.new.width ≡ self.old.width }
         ensures len { length self.new.lines.items ≡ length self.old.lines.items }
-        ensures lines { (k : ℕ) → line_at self.new.lines.items k ≡ line_at self.old.lines.items (turn_source from to count k) }
+        ensures lines { (k : ℕ) →
+            line_at self.new.lines.items k ≡ line_at self.old.lines.items (turn_source from to count k) }
     {
         turn(&mut self.lines, from, to, count);
     }
@@ -127,11 +131,15 @@ impl Flat {
     pub fn blank(&mut self, row: usize, attrs: Attrs)
         requires flat { IsFlat self.old }
         requires inside { row < length (rows_of self.old) }
-        ensures own { cells_at self.old.width self.new.cells.items (line_at self.old.lines.items row).place ≡ blanks attrs self.old.width }
-        ensures others { (place : ℕ) → place < length self.old.lines.items → place ≢ (line_at self.old.lines.items row).place → cells_at self.old.width self.new.cells.items place ≡ cells_at self.old.width self.old.cells.items place }
+        ensures own { cells_at self.old.width self.new.cells.items (line_at self.old.lines.items row).place
+            ≡ blanks attrs self.old.width }
+        ensures others { (place : ℕ) → place < length self.old.lines.items →
+            place ≢ (line_at self.old.lines.items row).place →
+            cells_at self.old.width self.new.cells.items place ≡ cells_at self.old.width self.old.cells.items place }
         ensures len { length self.new.cells.items ≡ length self.old.cells.items }
         ensures width { self.new.width ≡ self.old.width }
-        ensures lines { self.new.lines.items ≡ slice_set self.old.lines.items row (record (line_at self.old.lines.items row) { wrapped = false }) }
+        ensures lines { self.new.lines.items
+            ≡ slice_set self.old.lines.items row (record (line_at self.old.lines.items row) { wrapped = false }) }
     {
         let (start, end) = self.part(row);
         cells::clear(&mut self.cells[start..end], attrs);

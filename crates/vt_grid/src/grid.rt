@@ -40,9 +40,11 @@ impl Model for Grid {
 
     ghost Value = { Page };
 
-    ghost view = { λ g. page_of g.sheet g.pos g.saved_pos g.scroll_top g.scroll_bottom g.origin_mode g.saved_origin_mode };
+    ghost view = { λ g. page_of g.sheet g.pos g.saved_pos g.scroll_top
+        g.scroll_bottom g.origin_mode g.saved_origin_mode };
 
-    ghost invariant = { λ g. IsSized g.size.rows g.size.cols (page_of g.sheet g.pos g.saved_pos g.scroll_top g.scroll_bottom g.origin_mode g.saved_origin_mode) };
+    ghost invariant = { λ g. IsSized g.size.rows g.size.cols
+        (page_of g.sheet g.pos g.saved_pos g.scroll_top g.scroll_bottom g.origin_mode g.saved_origin_mode) };
 }
 
 impl Grid {

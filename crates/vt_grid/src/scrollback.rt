@@ -1,14 +1,17 @@
 //! The rows that left a page at its top, as far as they are kept (xterm's
 //! saved lines).
 
-ghost use Rattle.std.specs.Prelude.{◌≡◌, ◌+◌, ◌-◌, ◌^◌, ◌==◌, ◌<◌, ◌≤◌, ◌↔◌, ◌&&◌, ◌++◌, ◌∷◌, [], ℕ, List, All, IfOk, IfSome, IsErr, IsSome, OnErr, OnOk, if◌then◌else◌, length, min, nat_le, nat_lt, slice_index_or, take};
+ghost use Rattle.std.specs.Prelude.{◌≡◌, ◌+◌, ◌-◌, ◌^◌, ◌==◌, ◌<◌, ◌≤◌, ◌↔◌, ◌&&◌, ◌++◌, ◌∷◌, [], ℕ};
+ghost use Rattle.std.specs.Prelude.{List, All, IfOk, IfSome, IsErr, IsSome, OnErr, OnOk, if◌then◌else◌};
+ghost use Rattle.std.specs.Prelude.{length, min, nat_le, nat_lt, slice_index_or, take};
 ghost use Rattle.std.specs.List.{FoldsTo};
 ghost use Rattle.std.specs.VecDeque.{deque_capacity, deque_len};
 ghost use Rattle.vt_cells.specs.Attrs.{default_attrs};
 ghost use Rattle.vt_cells.specs.Refusals.{OnlyOutOfMemory};
 ghost use Rattle.vt_rows.specs.Row.{RowValue, IsRow, blank_row, resized_row};
 ghost use Rattle.vt_grid.specs.Resize.{out_of_view, taken_back};
-ghost use Rattle.vt_grid.specs.Scrollback.{IsScrollback, Sends, TakesMemory, ViewTakesMemory, before_last, cleared, grown_row, kept_after, last_of, narrow_rows, no_scrollback, viewed, visible};
+ghost use Rattle.vt_grid.specs.Scrollback.{IsScrollback, Sends, TakesMemory, ViewTakesMemory, before_last, cleared};
+ghost use Rattle.vt_grid.specs.Scrollback.{grown_row, kept_after, last_of, narrow_rows, no_scrollback, viewed, visible};
 ghost use Rattle.vt_grid.specs.Spare.{AreSpare, grown_from, in_view, window_from};
 
 use crate::row_lists::{
@@ -42,9 +45,11 @@ impl Model for Scrollback {
 
     ghost Value = { Scrollback };
 
-    ghost view = { λ s. record { rows = s.rows.items; capacity = s.capacity; theoretical = s.theoretical; offset = s.offset } };
+    ghost view = { λ s.
+        record { rows = s.rows.items; capacity = s.capacity; theoretical = s.theoretical; offset = s.offset } };
 
-    ghost invariant = { λ s. IsScrollback (record { rows = s.rows.items; capacity = s.capacity; theoretical = s.theoretical; offset = s.offset }) };
+    ghost invariant = { λ s. IsScrollback
+        (record { rows = s.rows.items; capacity = s.capacity; theoretical = s.theoretical; offset = s.offset }) };
 }
 
 impl Scrollback {
@@ -130,7 +135,8 @@ impl Scrollback {
         requires inside { count ≤ length page.now.rows }
         requires width { size.cols ≡ page.now.width }
         requires sound { All (IsRow page.now.width) page.now.rows }
-        ensures sent { OnOk result (Sends L.leaves size.rows size.cols (take count page.now.rows) self.old leaving.old self.new leaving.new) }
+        ensures sent { OnOk result
+            (Sends L.leaves size.rows size.cols (take count page.now.rows) self.old leaving.old self.new leaving.new) }
         ensures err { OnErr result ((self.new ≡ self.old) × (leaving.new ≡ leaving.old)) }
         ensures grows { IsErr result → TakesMemory (take count page.now.rows) self.old }
         ensures memory { OnlyOutOfMemory result }
@@ -162,7 +168,8 @@ impl Scrollback {
         requires inside { count ≤ length page.now.rows }
         requires width { size.cols ≡ page.now.width }
         requires sound { All (IsRow page.now.width) page.now.rows }
-        ensures sent { OnOk result (Sends L.leaves size.rows size.cols (take count page.now.rows) (out_of_view self.old) leaving.old self.new leaving.new) }
+        ensures sent { OnOk result (Sends L.leaves size.rows size.cols
+            (take count page.now.rows) (out_of_view self.old) leaving.old self.new leaving.new) }
         ensures err { OnErr result ((self.new ≡ self.old) × (leaving.new ≡ leaving.old)) }
         ensures grows { IsErr result → TakesMemory (take count page.now.rows) self.old }
         ensures memory { OnlyOutOfMemory result }
@@ -189,7 +196,12 @@ impl Scrollback {
         ensures above { self.new ≡ taken_back up self.old }
         ensures len { length page.new.rows ≡ length page.old.rows }
         ensures width { page.new.width ≡ page.old.width }
-        ensures by_index { (k : ℕ) (d : RowValue) → k < length page.old.rows → slice_index_or page.new.rows k d ≡ (if nat_lt k up && nat_le up (length self.old.rows + k) then resized_row (length (slice_index_or page.old.rows k d).cells) (slice_index_or self.old.rows (length self.old.rows + k - up) d) else slice_index_or page.old.rows k d) }
+        ensures by_index { (k : ℕ) (d : RowValue) → k < length page.old.rows →
+            slice_index_or page.new.rows k d
+            ≡ (if nat_lt k up && nat_le up (length self.old.rows + k)
+            then resized_row (length (slice_index_or page.old.rows k d).cells)
+            (slice_index_or self.old.rows (length self.old.rows + k - up) d)
+            else slice_index_or page.old.rows k d) }
     {
         self.theoretical = self.theoretical.saturating_sub(up);
         give_rows(&mut self.rows, page, up);
@@ -201,7 +213,8 @@ impl Scrollback {
         requires some { 0 < count }
         requires inside { count ≤ length page.now.rows }
         requires sound { All (IsRow page.now.width) page.now.rows }
-        ensures { (height width : ℕ) → Sends L.leaves height width (take count page.now.rows) self.old leaving.old self.new leaving.new }
+        ensures { (height width : ℕ) →
+            Sends L.leaves height width (take count page.now.rows) self.old leaving.old self.new leaving.new }
     {
         report_trimmed(page, count, leaving);
         self.theoretical = self.theoretical.saturating_add(count);
@@ -215,7 +228,8 @@ impl Scrollback {
         requires hidden { self.old.offset ≡ 0 }
         requires inside { 0 < length page.now.rows }
         requires sound { All (IsRow page.now.width) page.now.rows }
-        ensures sent { OnOk result ((height width : ℕ) → Sends L.leaves height width (take 1 page.now.rows) self.old leaving.old self.new leaving.new) }
+        ensures sent { OnOk result ((height width : ℕ) →
+            Sends L.leaves height width (take 1 page.now.rows) self.old leaving.old self.new leaving.new) }
         ensures err { OnErr result ((self.new ≡ self.old) × (leaving.new ≡ leaving.old)) }
         ensures memory { OnlyOutOfMemory result }
     {
@@ -237,7 +251,8 @@ impl Scrollback {
         requires sound { All (IsRow page.now.width) page.now.rows }
         requires some { 0 < count }
         requires kept { 0 < self.old.capacity }
-        ensures sent { OnOk result (Sends L.leaves size.rows size.cols (take count page.now.rows) self.old leaving.old self.new leaving.new) }
+        ensures sent { OnOk result
+            (Sends L.leaves size.rows size.cols (take count page.now.rows) self.old leaving.old self.new leaving.new) }
         ensures err { OnErr result ((self.new ≡ self.old) × (leaving.new ≡ leaving.old)) }
         ensures memory { OnlyOutOfMemory result }
     {
@@ -260,7 +275,8 @@ impl Scrollback {
     /// rows have been taken over.
     fn growths(&self, count: usize, size: Size) -> usize
         requires { count < 2 ^ 63 }
-        ensures { (gone : List RowValue) → length gone ≡ count → narrow_rows size.cols (in_view size.rows (kept_after gone self.now)) ≤ result }
+        ensures { (gone : List RowValue) → length gone ≡ count →
+            narrow_rows size.cols (in_view size.rows (kept_after gone self.now)) ≤ result }
     {
         if self.offset == 0 {
             return 0;
@@ -313,7 +329,8 @@ impl Scrollback {
     pub fn visible_row<'a>(&'a self, page: &'a Sheet, row: u16) -> Option<RowContents<'a>>
         requires { All (IsRow page.now.width) page.now.rows }
         ensures inside { IsSome result ↔ (row < length page.now.rows) }
-        ensures value { (d : RowValue) → IfSome result (λ found. found ≡ slice_index_or (visible self.now page.now.rows) row d) }
+        ensures value { (d : RowValue) →
+            IfSome result (λ found. found ≡ slice_index_or (visible self.now page.now.rows) row d) }
     {
         let row = usize::from(row);
         if row >= page.len() {
@@ -353,7 +370,8 @@ impl Scrollback {
 fn push_rows<L: Leaving>(gone: Vec<Row>, kept: &mut VecDeque<Row>, capacity: usize, leaving: &mut L)
     requires some { 0 < capacity }
     requires inside { length kept.old.items ≤ capacity }
-    requires room { length kept.old.items + min (length gone.items) (capacity - length kept.old.items) ≤ deque_capacity kept.old }
+    requires room { length kept.old.items + min (length gone.items) (capacity - length kept.old.items)
+        ≤ deque_capacity kept.old }
     requires sound { All (λ row. IsRow (length row.cells) row) gone.items }
     requires sound_kept { All (λ row. IsRow (length row.cells) row) kept.old.items }
     ensures rows { kept.new.items ≡ last_of capacity (kept.old.items ++ gone.items) }
@@ -393,7 +411,12 @@ fn give_rows(kept: &mut VecDeque<Row>, page: &mut Sheet, up: usize)
     ensures kept { kept.new.items ≡ take (length kept.old.items - up) kept.old.items }
     ensures len { length page.new.rows ≡ length page.old.rows }
     ensures width { page.new.width ≡ page.old.width }
-    ensures by_index { (k : ℕ) (d : RowValue) → k < length page.old.rows → slice_index_or page.new.rows k d ≡ (if nat_lt k up && nat_le up (length kept.old.items + k) then resized_row (length (slice_index_or page.old.rows k d).cells) (slice_index_or kept.old.items (length kept.old.items + k - up) d) else slice_index_or page.old.rows k d) }
+    ensures by_index { (k : ℕ) (d : RowValue) → k < length page.old.rows →
+        slice_index_or page.new.rows k d
+        ≡ (if nat_lt k up && nat_le up (length kept.old.items + k)
+        then resized_row (length (slice_index_or page.old.rows k d).cells)
+        (slice_index_or kept.old.items (length kept.old.items + k - up) d)
+        else slice_index_or page.old.rows k d) }
 {
     let mut k = up;
     while k > 0 {
@@ -444,7 +467,8 @@ fn narrow(row: &Row, columns: usize) -> usize
 fn grow_in_view(rows: &mut VecDeque<Row>, offset: usize, size: Size, mut spare: Vec<Row>)
     requires inside { offset ≤ length rows.old.items }
     requires sound { All (λ row. IsRow (length row.cells) row) rows.old.items }
-    requires spare { AreSpare size.cols (window_from (length rows.old.items - offset) size.rows rows.old.items) spare.items }
+    requires spare { AreSpare size.cols
+        (window_from (length rows.old.items - offset) size.rows rows.old.items) spare.items }
     ensures { rows.new.items ≡ grown_from (length rows.old.items - offset) size.rows size.cols rows.old.items }
 {
     let len = rows.len();
@@ -460,7 +484,8 @@ fn grow_row(row: &mut Row, columns: usize, spare: &mut Vec<Row>)
     requires sound { IsRow (length row.old.cells) row.old }
     requires spare { AreSpare columns (row.old ∷ []) spare.old.items }
     ensures row { row.new ≡ grown_row columns row.old }
-    ensures spare { (rows : List RowValue) → AreSpare columns (row.old ∷ rows) spare.old.items → AreSpare columns rows spare.new.items }
+    ensures spare { (rows : List RowValue) → AreSpare columns (row.old ∷ rows) spare.old.items →
+        AreSpare columns rows spare.new.items }
 {
     if row.cols() >= columns {
         return;

@@ -1,10 +1,13 @@
 //! The rows of a page, without its cursor.
 
-ghost use Rattle.std.specs.Prelude.{◌≡◌, ◌≢◌, ◌+◌, ◌-◌, ◌^◌, ◌&&◌, ◌++◌, ◌<◌, ◌≤◌, ◌↔◌, ℕ, IfOk, IfSome, IsErr, IsSome, OnErr, OnOk, Some, All, true, false, encode_utf8, if◌then◌else◌, length, min, nat_le, nat_lt, replicate, slice_index_or, slice_set, take, drop};
+ghost use Rattle.std.specs.Prelude.{◌≡◌, ◌≢◌, ◌+◌, ◌-◌, ◌^◌, ◌&&◌, ◌++◌, ◌<◌, ◌≤◌, ◌↔◌, ℕ, IfOk, IfSome, IsErr};
+ghost use Rattle.std.specs.Prelude.{IsSome, OnErr, OnOk, Some, All, true, false, encode_utf8, if◌then◌else◌, length};
+ghost use Rattle.std.specs.Prelude.{min, nat_le, nat_lt, replicate, slice_index_or, slice_set, take, drop};
 ghost use Rattle.vt_cells.specs.Cell.{IsCell, attrs_of, is_blank, is_right_half, is_wide, text_of, widened};
 ghost use Rattle.vt_cells.specs.Glyph.{columns_of};
 ghost use Rattle.vt_cells.specs.Refusals.{OnlyOutOfMemory};
-ghost use Rattle.vt_rows.specs.Cells.{IsPaired, at, ends_blank, erased, marked_at, narrowed_at, put_narrow, put_wide, widened_at};
+ghost use Rattle.vt_rows.specs.Cells.{IsPaired, at, ends_blank, erased, marked_at};
+ghost use Rattle.vt_rows.specs.Cells.{narrowed_at, put_narrow, put_wide, widened_at};
 ghost use Rattle.vt_rows.specs.Row.{RowValue, IsRow, blank_row, deleted_row, inserted_row};
 ghost use Rattle.vt_rows.specs.Texts.{IsPrintableText, put_text};
 ghost use Rattle.vt_grid.specs.Page.{rows_up};
@@ -156,7 +159,8 @@ impl Sheet {
         requires column { col < length (sheet_row self.old row).cells }
         requires reported { c ≢ 0xFFFD }
         requires columns { columns_of c ≡ Some 1 }
-        ensures { self.new ≡ with_row_cells row (put_narrow col (encode_utf8 c) attrs (sheet_row self.old row).cells) self.old }
+        ensures { self.new
+            ≡ with_row_cells row (put_narrow col (encode_utf8 c) attrs (sheet_row self.old row).cells) self.old }
     {
         let row = usize::from(row);
         let goes_on = self.flat.wrapped(row);
@@ -194,7 +198,8 @@ impl Sheet {
         requires column { col + 1 < length (sheet_row self.old row).cells }
         requires reported { c ≢ 0xFFFD }
         requires columns { columns_of c ≡ Some 2 }
-        ensures { self.new ≡ with_row_cells row (put_wide col (encode_utf8 c) attrs (sheet_row self.old row).cells) self.old }
+        ensures { self.new
+            ≡ with_row_cells row (put_wide col (encode_utf8 c) attrs (sheet_row self.old row).cells) self.old }
     {
         let row = usize::from(row);
         let goes_on = self.flat.wrapped(row);
@@ -282,7 +287,9 @@ impl Sheet {
     pub fn put_back(&mut self, row: u16, col: u16, cell: Cell, goes_on: bool)
         requires inside { row < length self.old.rows }
         requires column { col < length (sheet_row self.old row).cells }
-        ensures { self.new ≡ with_sheet_row row (record { cells = slice_set (sheet_row self.old row).cells col cell; wrapped = goes_on }) self.old }
+        ensures { self.new
+            ≡ with_sheet_row row
+            (record { cells = slice_set (sheet_row self.old row).cells col cell; wrapped = goes_on }) self.old }
     {
         let row = usize::from(row);
         let (start, end) = self.flat.part(row);
@@ -297,7 +304,8 @@ impl Sheet {
         requires paired { IsPaired (sheet_row self.old row).cells }
         requires column { col + 1 < length (sheet_row self.old row).cells }
         requires wide { is_wide cell ≡ true }
-        ensures { self.new ≡ with_row_cells row (put_wide col (text_of cell) (attrs_of cell) (sheet_row self.old row).cells) self.old }
+        ensures { self.new
+            ≡ with_row_cells row (put_wide col (text_of cell) (attrs_of cell) (sheet_row self.old row).cells) self.old }
     {
         let row = usize::from(row);
         let goes_on = self.flat.wrapped(row);
@@ -314,7 +322,8 @@ impl Sheet {
         requires paired { IsPaired (sheet_row self.old row).cells }
         requires some { from < to }
         requires columns { to ≤ length (sheet_row self.old row).cells }
-        ensures { self.new ≡ with_row_cells row (erased from (to - from) attrs (sheet_row self.old row).cells) self.old }
+        ensures { self.new
+            ≡ with_row_cells row (erased from (to - from) attrs (sheet_row self.old row).cells) self.old }
     {
         let row = usize::from(row);
         let goes_on = self.flat.wrapped(row);
@@ -364,7 +373,8 @@ impl Sheet {
     /// Makes all rows blank.
     pub fn clear_all(&mut self, attrs: Attrs)
         requires sound { All (IsRow self.old.width) self.old.rows }
-        ensures { self.new ≡ record self.old { rows = replicate (length self.old.rows) (blank_row attrs self.old.width) } }
+        ensures { self.new
+            ≡ record self.old { rows = replicate (length self.old.rows) (blank_row attrs self.old.width) } }
     {
         let end = self.len();
         self.clear_rows(0, end, attrs);
@@ -374,7 +384,8 @@ impl Sheet {
     pub fn clear_above(&mut self, row: u16, attrs: Attrs)
         requires inside { row < length self.old.rows }
         requires sound { All (IsRow self.old.width) self.old.rows }
-        ensures { self.new ≡ record self.old { rows = replicate row (blank_row attrs self.old.width) ++ drop row self.old.rows } }
+        ensures { self.new
+            ≡ record self.old { rows = replicate row (blank_row attrs self.old.width) ++ drop row self.old.rows } }
     {
         self.clear_rows(0, usize::from(row), attrs);
     }
@@ -383,7 +394,12 @@ impl Sheet {
     pub fn clear_below(&mut self, row: u16, attrs: Attrs)
         requires inside { row < length self.old.rows }
         requires sound { All (IsRow self.old.width) self.old.rows }
-        ensures { self.new ≡ record self.old { rows = take (row + 1) self.old.rows ++ replicate (length self.old.rows - (row + 1)) (blank_row attrs self.old.width) } }
+        ensures { self.new
+            ≡ record self.old {
+              rows =
+                  take (row + 1) self.old.rows
+                  ++ replicate (length self.old.rows - (row + 1)) (blank_row attrs self.old.width);
+            } }
     {
         let end = self.len();
         self.clear_rows(usize::from(row) + 1, end, attrs);
@@ -442,8 +458,10 @@ impl Sheet {
         requires inside { bottom < length self.old.rows }
         requires width { size.cols ≡ self.old.width }
         requires sound { All (IsRow self.old.width) self.old.rows }
-        ensures rows { OnOk result (self.new ≡ record self.old { rows = rows_up self.old.width 0 bottom count self.old.rows }) }
-        ensures sent { OnOk result (Sends L.leaves size.rows size.cols (take (min count (bottom + 1)) self.old.rows) above.old leaving.old above.new leaving.new) }
+        ensures rows { OnOk result
+            (self.new ≡ record self.old { rows = rows_up self.old.width 0 bottom count self.old.rows }) }
+        ensures sent { OnOk result (Sends L.leaves size.rows size.cols
+            (take (min count (bottom + 1)) self.old.rows) above.old leaving.old above.new leaving.new) }
         ensures err { OnErr result ((self.new ≡ self.old) × ((above.new ≡ above.old) × (leaving.new ≡ leaving.old))) }
         ensures grows { IsErr result → TakesMemory (take (min count (bottom + 1)) self.old.rows) above.old }
         ensures memory { OnlyOutOfMemory result }
@@ -460,7 +478,10 @@ impl Sheet {
         requires inside { to ≤ length self.old.rows }
         ensures len { length self.new.rows ≡ length self.old.rows }
         ensures width { self.new.width ≡ self.old.width }
-        ensures by_index { (k : ℕ) (d : RowValue) → k < length self.old.rows → slice_index_or self.new.rows k d ≡ (if nat_le from k && nat_lt k to then blank_row attrs self.old.width else slice_index_or self.old.rows k d) }
+        ensures by_index { (k : ℕ) (d : RowValue) → k < length self.old.rows →
+            slice_index_or self.new.rows k d
+            ≡ (if nat_le from k && nat_lt k to then blank_row attrs self.old.width
+            else slice_index_or self.old.rows k d) }
     {
         for row in from..to {
             self.clear_row(row, attrs);

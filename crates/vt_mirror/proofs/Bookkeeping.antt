@@ -1,5 +1,6 @@
 -- Viewers that come, go and are told.
-use Rattle.std.proofs.Common.{◌≡◌, ◌≢◌, ℕ, ◌+◌, ◌≤◌, ◌==◌, Bool, true, false, List, [], Option, Some, None, refl, sym, ap, subst, ◌∙◌, arith}
+use Rattle.std.proofs.Common.{◌≡◌, ◌≢◌, ℕ, ◌+◌, ◌≤◌, ◌==◌, Bool, true, false, List, []}
+use Rattle.std.proofs.Common.{Option, Some, None, refl, sym, ap, subst, ◌∙◌, arith}
 use Rattle.std.proofs.lemmas.Bool.{false≢true}
 use Rattle.std.proofs.lemmas.Bool.Decides.{nat_tests}
 use Rattle.std.specs.BTreeMap as map
@@ -39,11 +40,14 @@ pub none_some : {A : Type 0} (x : A) → None ≡ Some x → ⊥
 none_some x e = cc
 
 -- viewers after one of them, or what is noted for it, changed
-pub put_viewers : (old new : ViewersValue) (v : ℕ) (is : Bool) (note : Option ScreenValue) → Puts old v is note new → AreViewers old
-    → (is ≡ true → v + 1 ≤ next_number new.last) → next_number old.last ≤ next_number new.last → (is ≡ false → note ≡ None) → AreViewers new
+pub put_viewers : (old new : ViewersValue) (v : ℕ) (is : Bool) (note : Option ScreenValue)
+    → Puts old v is note new → AreViewers old
+    → (is ≡ true → v + 1 ≤ next_number new.last) → next_number old.last ≤ next_number new.last
+    → (is ≡ false → note ≡ None) → AreViewers new
 put_viewers old new v is note p a given more none = record {
   numbers = λ q h. by_number v q
-      (λ e. subst (λ (k : ℕ). k + 1 ≤ next_number new.last) (sym e) (given (sym p.here ∙ ap (is_viewer new) (sym e) ∙ h)))
+      (λ e. subst (λ (k : ℕ). k + 1 ≤ next_number new.last) (sym e)
+      (given (sym p.here ∙ ap (is_viewer new) (sym e) ∙ h)))
       (λ n. omega (arith, more, a.numbers q (sym (p.others q n) ∙ h)));
   notes = λ q s h. by_number v q
       (λ e. ap (is_viewer new) e ∙ (p.here ∙ yes is none (sym p.note_here ∙ (ap (note_of new) (sym e) ∙ h))))
@@ -70,7 +74,9 @@ new_number old v a e = by_test (is_viewer old v) refl where
   by_test true h = absurd (too_many (a.numbers v h))
   by_test false h = h
 
-pub joined : (old : ViewersValue) (v : ℕ) (was is : BTreeSet ℕ) → old.numbers ≡ was.keys → set.Updates nat_cmp was is v true → AreViewers old → v ≡ next_number old.last → Puts old v true None (record old { last = Some v; numbers = is.keys })
+pub joined : (old : ViewersValue) (v : ℕ) (was is : BTreeSet ℕ) → old.numbers ≡ was.keys →
+    set.Updates nat_cmp was is v true → AreViewers old → v ≡ next_number old.last →
+    Puts old v true None (record old { last = Some v; numbers = is.keys })
 joined old v was is e u a n = record {
   here = u.1;
   note_here = no_note old v a (new_number old v a n);
@@ -78,36 +84,53 @@ joined old v was is e u a n = record {
   other_notes = λ q h. refl;
 }
 
-pub joined_viewers : (old : ViewersValue) (v : ℕ) (was is : BTreeSet ℕ) → old.numbers ≡ was.keys → set.Updates nat_cmp was is v true → AreViewers old → v ≡ next_number old.last → AreViewers (record old { last = Some v; numbers = is.keys })
+pub joined_viewers : (old : ViewersValue) (v : ℕ) (was is : BTreeSet ℕ) →
+    old.numbers ≡ was.keys → set.Updates nat_cmp was is v true → AreViewers old →
+    v ≡ next_number old.last → AreViewers (record old { last = Some v; numbers = is.keys })
 joined_viewers old v was is e u a n =
-    put_viewers old (record old { last = Some v; numbers = is.keys }) v true None (joined old v was is e u a n) a (λ _. omega arith) (omega (arith, n)) (λ _. refl)
+    put_viewers old (record old { last = Some v; numbers = is.keys }) v true None
+    (joined old v was is e u a n) a (λ _. omega arith) (omega (arith, n)) (λ _. refl)
 
-pub left : (old : ViewersValue) (v : ℕ) (was is : BTreeSet ℕ) (had has : BTreeMap ℕ ScreenValue) → old.numbers ≡ was.keys → old.notes ≡ had.entries → set.UpdatesBy nat_cmp (nat_cmp v) was is false → map.UpdatesBy nat_cmp (nat_cmp v) had has None
+pub left : (old : ViewersValue) (v : ℕ) (was is : BTreeSet ℕ) (had has : BTreeMap ℕ ScreenValue)
+    → old.numbers ≡ was.keys → old.notes ≡ had.entries
+    → set.UpdatesBy nat_cmp (nat_cmp v) was is false → map.UpdatesBy nat_cmp (nat_cmp v) had has None
     → Puts old v false None (record old { numbers = is.keys; notes = has.entries })
 left old v was is had has e f u w = record {
   here = u.1;
   note_here = w.1;
   others = λ q h. u.2 q (at_other v q h) ∙ ap (λ (keys : List ℕ). is_viewer (record old { numbers = keys }) q) (sym e);
-  other_notes = λ q h. w.2 q (at_other v q h) ∙ ap (λ (entries : List (ℕ × ScreenValue)). note_of (record old { notes = entries }) q) (sym f);
+  other_notes =
+      λ q h. w.2 q (at_other v q h)
+      ∙ ap (λ (entries : List (ℕ × ScreenValue)). note_of (record old { notes = entries }) q) (sym f);
 }
 
-pub left_viewers : (old : ViewersValue) (v : ℕ) (was is : BTreeSet ℕ) (had has : BTreeMap ℕ ScreenValue) → old.numbers ≡ was.keys → old.notes ≡ had.entries → set.UpdatesBy nat_cmp (nat_cmp v) was is false → map.UpdatesBy nat_cmp (nat_cmp v) had has None
+pub left_viewers : (old : ViewersValue) (v : ℕ) (was is : BTreeSet ℕ) (had has : BTreeMap ℕ ScreenValue)
+    → old.numbers ≡ was.keys → old.notes ≡ had.entries
+    → set.UpdatesBy nat_cmp (nat_cmp v) was is false → map.UpdatesBy nat_cmp (nat_cmp v) had has None
     → AreViewers old → AreViewers (record old { numbers = is.keys; notes = has.entries })
 left_viewers old v was is had has e f u w a =
     let new : ViewersValue = record old { numbers = is.keys; notes = has.entries } in
-    put_viewers old new v false None (left old v was is had has e f u w) a (λ h. absurd (false≢true h)) (omega arith) (λ _. refl)
+    put_viewers old new v false None (left old v was is had has e f u w)
+    a (λ h. absurd (false≢true h)) (omega arith) (λ _. refl)
 
-pub told : (old : ViewersValue) (v : ℕ) (screen : ScreenValue) (had has : BTreeMap ℕ ScreenValue) → old.notes ≡ had.entries → map.Updates nat_cmp had has v (Some screen) → is_viewer old v ≡ true → Puts old v true (Some screen) (record old { notes = has.entries })
+pub told : (old : ViewersValue) (v : ℕ) (screen : ScreenValue) (had has : BTreeMap ℕ ScreenValue) →
+    old.notes ≡ had.entries → map.Updates nat_cmp had has v (Some screen) →
+    is_viewer old v ≡ true → Puts old v true (Some screen) (record old { notes = has.entries })
 told old v screen had has f w is = record {
   here = is;
   note_here = w.1;
   others = λ q h. refl;
-  other_notes = λ q h. w.2 q (at_other v q h) ∙ ap (λ (entries : List (ℕ × ScreenValue)). note_of (record old { notes = entries }) q) (sym f);
+  other_notes =
+      λ q h. w.2 q (at_other v q h)
+      ∙ ap (λ (entries : List (ℕ × ScreenValue)). note_of (record old { notes = entries }) q) (sym f);
 }
 
-pub told_viewers : (old : ViewersValue) (v : ℕ) (screen : ScreenValue) (had has : BTreeMap ℕ ScreenValue) → old.notes ≡ had.entries → map.Updates nat_cmp had has v (Some screen) → is_viewer old v ≡ true → AreViewers old → AreViewers (record old { notes = has.entries })
+pub told_viewers : (old : ViewersValue) (v : ℕ) (screen : ScreenValue) (had has : BTreeMap ℕ ScreenValue) →
+    old.notes ≡ had.entries → map.Updates nat_cmp had has v (Some screen) →
+    is_viewer old v ≡ true → AreViewers old → AreViewers (record old { notes = has.entries })
 told_viewers old v screen had has f w is a =
-    put_viewers old (record old { notes = has.entries }) v true (Some screen) (told old v screen had has f w is) a (λ _. a.numbers v is) (omega arith) (λ h. absurd (false≢true (sym h)))
+    put_viewers old (record old { notes = has.entries }) v true (Some screen)
+    (told old v screen had has f w is) a (λ _. a.numbers v is) (omega arith) (λ h. absurd (false≢true (sym h)))
 
 -- as it was, where memory is refused
 pub if_refused : {A E : Type 0} (r : Result A E) (P : Type 0) → is_err r ≡ true → OnErr r P → P

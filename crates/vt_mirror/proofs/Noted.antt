@@ -20,34 +20,54 @@ pub own_size : (a : Page) → SameSize a a
 own_size a = record { width = refl; height = refl }
 
 -- the parser changed, but for its size, and the viewers didn't
-pub noted_parser : (old new : MirrorValue) → new.viewers ≡ old.viewers → SameSize new.parser.screen.page old.parser.screen.page → IsMirror old → IsMirror new
+pub noted_parser : (old new : MirrorValue) → new.viewers ≡ old.viewers →
+    SameSize new.parser.screen.page old.parser.screen.page → IsMirror old → IsMirror new
 noted_parser old new same size m viewer screen e =
-    size_through new.parser.screen.page old.parser.screen.page screen.page size (m viewer screen (ap (λ (v : ViewersValue). note_of v viewer) (sym same) ∙ e))
+    size_through new.parser.screen.page old.parser.screen.page screen.page size
+    (m viewer screen (ap (λ (v : ViewersValue). note_of v viewer) (sym same) ∙ e))
 
 -- nothing is noted
 pub noted_none : (mirror : MirrorValue) → mirror.viewers.notes ≡ [] → IsMirror mirror
-noted_none mirror none viewer screen e = absurd (none_some screen (ap (λ (notes : List (ℕ × ScreenValue)). note_of (record (mirror.viewers) { notes = notes }) viewer) (sym none) ∙ e))
+noted_none mirror none viewer screen e =
+    absurd (none_some screen (ap
+    (λ (notes : List (ℕ × ScreenValue)). note_of (record (mirror.viewers) { notes = notes }) viewer) (sym none)
+    ∙ e))
 
 -- what is noted for one viewer changed
-pub noted_put : (old new : MirrorValue) (v : ℕ) (is : Bool) (noted : Option ScreenValue) → new.parser ≡ old.parser → Puts old.viewers v is noted new.viewers
-    → ((screen : ScreenValue) → noted ≡ Some screen → SameSize old.parser.screen.page screen.page) → IsMirror old → IsMirror new
+pub noted_put : (old new : MirrorValue) (v : ℕ) (is : Bool) (noted : Option ScreenValue)
+    → new.parser ≡ old.parser → Puts old.viewers v is noted new.viewers
+    → ((screen : ScreenValue) → noted ≡ Some screen → SameSize old.parser.screen.page screen.page)
+    → IsMirror old → IsMirror new
 noted_put old new v is noted same p size m viewer screen e =
     subst (λ (parser : Parsing (Unit {0})). SameSize parser.screen.page screen.page) (sym same)
     (by_number v viewer
     (λ here. size screen (sym p.note_here ∙ (ap (note_of new.viewers) (sym here) ∙ e)))
     (λ other. m viewer screen (sym (p.other_notes viewer other) ∙ e)))
 
-pub noted_same : (old new : MirrorValue) → new.parser ≡ old.parser → new.viewers ≡ old.viewers → IsMirror old → IsMirror new
+pub noted_same : (old new : MirrorValue) → new.parser ≡ old.parser →
+    new.viewers ≡ old.viewers → IsMirror old → IsMirror new
 noted_same old new same viewers m =
-    noted_parser old new viewers (subst (λ (parser : Parsing (Unit {0})). SameSize parser.screen.page old.parser.screen.page) (sym same) (own_size old.parser.screen.page)) m
+    noted_parser old new viewers (subst
+    (λ (parser : Parsing (Unit {0})). SameSize parser.screen.page old.parser.screen.page)
+    (sym same) (own_size old.parser.screen.page))
+    m
 
-pub noted_join : (old new : MirrorValue) (answer : Result ℕ Error) → new.parser ≡ old.parser → JoinsMirror old.viewers answer new.viewers → IsMirror old → IsMirror new
-noted_join old new (Ok viewer) same j m = noted_put old new viewer true None same j.puts (λ screen e. absurd (none_some screen e)) m
+pub noted_join : (old new : MirrorValue) (answer : Result ℕ Error) → new.parser ≡ old.parser →
+    JoinsMirror old.viewers answer new.viewers → IsMirror old → IsMirror new
+noted_join old new (Ok viewer) same j m =
+    noted_put old new viewer true None same j.puts (λ screen e. absurd (none_some screen e)) m
 noted_join old new (Err error) same j m = noted_same old new same j.refused m
 
-pub noted_leave : (old new : MirrorValue) (viewer : ℕ) (answer : Bool) → new.parser ≡ old.parser → Leaves old.viewers viewer answer new.viewers → IsMirror old → IsMirror new
-noted_leave old new viewer answer same l m = noted_put old new viewer false None same l.puts (λ screen e. absurd (none_some screen e)) m
+pub noted_leave : (old new : MirrorValue) (viewer : ℕ) (answer : Bool) → new.parser ≡ old.parser →
+    Leaves old.viewers viewer answer new.viewers → IsMirror old → IsMirror new
+noted_leave old new viewer answer same l m =
+    noted_put old new viewer false None same l.puts (λ screen e. absurd (none_some screen e)) m
 
 -- a copy of the mirror's screen is noted
-pub noted_copy : (old new : MirrorValue) (v : ℕ) (copy : ScreenValue) → new.parser ≡ old.parser → Puts old.viewers v true (Some copy) new.viewers → copy ≡ old.parser.screen → IsMirror old → IsMirror new
-noted_copy old new v copy same p is m = noted_put old new v true (Some copy) same p (λ screen e. subst (λ (s : ScreenValue). SameSize old.parser.screen.page s.page) (same_some copy screen e) (subst (λ (s : ScreenValue). SameSize old.parser.screen.page s.page) (sym is) (own_size old.parser.screen.page))) m
+pub noted_copy : (old new : MirrorValue) (v : ℕ) (copy : ScreenValue) → new.parser ≡ old.parser →
+    Puts old.viewers v true (Some copy) new.viewers → copy ≡ old.parser.screen → IsMirror old → IsMirror new
+noted_copy old new v copy same p is m =
+    noted_put old new v true (Some copy) same p
+    (λ screen e. subst (λ (s : ScreenValue). SameSize old.parser.screen.page s.page) (same_some copy screen e)
+    (subst (λ (s : ScreenValue). SameSize old.parser.screen.page s.page) (sym is) (own_size old.parser.screen.page)))
+    m

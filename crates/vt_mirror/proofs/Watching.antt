@@ -1,5 +1,6 @@
 -- A viewer shows the screen as it was at its last update.
-use Rattle.std.proofs.Common.{◌≡◌, ◌≢◌, ℕ, ◌<◌, ◌+◌, zero, Bool, true, false, List, [], ◌∷◌, length, Option, Some, None, refl, sym, ap, subst, ◌∙◌, arith}
+use Rattle.std.proofs.Common.{◌≡◌, ◌≢◌, ℕ, ◌<◌, ◌+◌, zero, Bool, true, false, List, [], ◌∷◌}
+use Rattle.std.proofs.Common.{length, Option, Some, None, refl, sym, ap, subst, ◌∙◌, arith}
 use Rattle.std.specs.Prelude.{Result, Ok, Err, IfSome, string_bytes}
 use Rattle.std.specs.List.{FoldsTo}
 use Rattle.vt_cells.specs.declared.error.Error.{Error}
@@ -16,10 +17,13 @@ use Rattle.vt_screen.proofs.Viewing.{same_shown}
 use Rattle.vt100.specs.Parser.{Parsing}
 use Rattle.vt100.specs.Pieces.{HasRead, IsPlainParser}
 use Rattle.vt100.proofs.Pieces.{read_pieces}
-use Rattle.vt_mirror.specs.Calls.{Answers, Asks, IsDiff, IsFull, IsUpdate, JoinsMirror, Leaves, Processes, Redraws, Resizes, Tells}
+use Rattle.vt_mirror.specs.Calls.{Answers, Asks, IsDiff, IsFull, IsUpdate, JoinsMirror}
+use Rattle.vt_mirror.specs.Calls.{Leaves, Processes, Redraws, Resizes, Tells}
 use Rattle.vt_mirror.specs.Mirror.{MirrorValue}
 use Rattle.vt_mirror.specs.Viewers.{Puts, ViewersValue, next_number, note_of}
-use Rattle.vt_mirror.specs.Watching.{Ask, CountUp, Does, Watches, Goes, IsFresh, IsLeft, IsNew, IsTakenBy, Join, Leave, MirrorCall, Process, ReadsText, Sees, SetSize, ShowsSeen, TakesUpdate, TakesSize, Watching, numbers_given}
+use Rattle.vt_mirror.specs.Watching.{Ask, CountUp, Does, Watches, Goes, IsFresh, IsLeft, IsNew, IsTakenBy}
+use Rattle.vt_mirror.specs.Watching.{Join, Leave, MirrorCall, Process, ReadsText, Sees, SetSize, ShowsSeen}
+use Rattle.vt_mirror.specs.Watching.{TakesUpdate, TakesSize, Watching, numbers_given}
 use Rattle.vt_mirror.specs.declared.update.Update.{Update}
 use Rattle.vt_mirror.specs.declared.update.Update.TheVariants.{Diff, Full}
 use Rattle.vt_mirror.proofs.Bookkeeping.{by_number, none_some}
@@ -28,7 +32,8 @@ use Rattle.vt100.proofs.Sizing.{resized_is, resized_plain, resized_size}
 -- ---- what is noted for a number whose viewer is told nothing: what was, or nothing
 
 abbrev NotedBefore : ℕ → MirrorValue → MirrorValue → Type 0
-NotedBefore number old new = (screen : ScreenValue) → note_of new.viewers number ≡ Some screen → note_of old.viewers number ≡ Some screen
+NotedBefore number old new =
+    (screen : ScreenValue) → note_of new.viewers number ≡ Some screen → note_of old.viewers number ≡ Some screen
 
 before_same : (number : ℕ) (old new : MirrorValue) → new.viewers ≡ old.viewers → NotedBefore number old new
 before_same number old new same screen e = ap (λ (v : ViewersValue). note_of v number) (sym same) ∙ e
@@ -36,49 +41,65 @@ before_same number old new same screen e = ap (λ (v : ViewersValue). note_of v 
 before_equal : (number : ℕ) (old new : MirrorValue) → new ≡ old → NotedBefore number old new
 before_equal number old new same = before_same number old new (ap (λ (m : MirrorValue). m.viewers) same)
 
-before_none : (number viewer : ℕ) (is : Bool) (old new : MirrorValue) → Puts old.viewers viewer is None new.viewers → NotedBefore number old new
+before_none : (number viewer : ℕ) (is : Bool) (old new : MirrorValue) →
+    Puts old.viewers viewer is None new.viewers → NotedBefore number old new
 before_none number viewer is old new p screen e =
     by_number viewer number
     (λ here. absurd (none_some screen (sym p.note_here ∙ (ap (note_of new.viewers) (sym here) ∙ e))))
     (λ other. sym (p.other_notes number other) ∙ e)
 
-before_resize : (number : ℕ) (old new : MirrorValue) (rows cols : ℕ) (answer : Result (Unit {0}) Error) → Resizes old rows cols answer new → NotedBefore number old new
+before_resize : (number : ℕ) (old new : MirrorValue) (rows cols : ℕ) (answer : Result (Unit {0}) Error) →
+    Resizes old rows cols answer new → NotedBefore number old new
 before_resize number old new rows cols answer r = by_test (has_size rows cols old.parser.screen) refl answer r where
-  by_test : (b : Bool) → has_size rows cols old.parser.screen ≡ b → (answer : Result (Unit {0}) Error) → Resizes old rows cols answer new → NotedBefore number old new
+  by_test : (b : Bool) → has_size rows cols old.parser.screen ≡ b →
+      (answer : Result (Unit {0}) Error) → Resizes old rows cols answer new → NotedBefore number old new
   by_test true e answer r = before_equal number old new (r.same e).1
-  by_test false e (Ok u) r = λ (screen : ScreenValue) noted. absurd (none_some screen (ap (λ (m : MirrorValue). note_of m.viewers number) (sym (r.other e)) ∙ noted))
+  by_test false e (Ok u) r =
+      λ (screen : ScreenValue) noted. absurd
+      (none_some screen (ap (λ (m : MirrorValue). note_of m.viewers number) (sym (r.other e)) ∙ noted))
   by_test false e (Err error) r = before_equal number old new r.refused.1
 
-before_join : (number : ℕ) (old new : MirrorValue) (answer : Result ℕ Error) → JoinsMirror old.viewers answer new.viewers → NotedBefore number old new
+before_join : (number : ℕ) (old new : MirrorValue) (answer : Result ℕ Error) →
+    JoinsMirror old.viewers answer new.viewers → NotedBefore number old new
 before_join number old new (Ok viewer) j = before_none number viewer true old new j.puts
 before_join number old new (Err error) j = before_same number old new j.refused
 
 -- ---- a viewer reads
 
-same_end : {S : Type 0} (text : List ℕ) (p q : Parsing S) (after : ScreenValue) → IsPlainParser p → ReadsText text p q → read (terminal start p.screen) text ≡ Some (terminal start after) → HasRead p (terminal start after) q
+same_end : {S : Type 0} (text : List ℕ) (p q : Parsing S) (after : ScreenValue) → IsPlainParser p → ReadsText text p q →
+    read (terminal start p.screen) text ≡ Some (terminal start after) → HasRead p (terminal start after) q
 same_end text p q after plain t reads =
-    (read_pieces p q t.calls start (terminal start after) plain.is_failed plain.scanner (ap (read (terminal start p.screen)) t.whole ∙ reads) t.reads).1
+    (read_pieces p q t.calls start (terminal start after) plain.is_failed
+    plain.scanner (ap (read (terminal start p.screen)) t.whole ∙ reads) t.reads).1
 
 -- a plain terminal that shows a screen, and whose own screen is one
 record Plainly {S : Type 0} (self : ScreenValue) (viewer : Parsing S) : Type 0 where
   pub plain : IsPlainParser viewer
   pub shows : shown viewer.screen ≡ shown self
 
-reads_redraw : {S : Type 0} (self : ScreenValue) (Reader : ScreenValue → Type 0) (text : List ℕ) (p q : Parsing S) → IsSteady (shown self) → Redraws self Reader text → IsPlainParser p → Reader p.screen → ReadsText text p q → Plainly self q
+reads_redraw : {S : Type 0} (self : ScreenValue) (Reader : ScreenValue → Type 0) (text : List ℕ) (p q : Parsing S) →
+    IsSteady (shown self) → Redraws self Reader text → IsPlainParser p →
+    Reader p.screen → ReadsText text p q → Plainly self q
 reads_redraw self Reader text p q steady r plain reader t =
     let reads = r.quiet steady p.screen reader in
     let all = same_end text p q reads.0 plain t reads.1 in
     let made = r.shows steady p.screen reads.0 reader reads.1 in
     record {
-      plain = record { is_failed = all.is_failed; scanner = all.scanner; screen = subst IsPlain (sym all.screen) made.0 };
+      plain =
+          record { is_failed = all.is_failed; scanner = all.scanner; screen = subst IsPlain (sym all.screen) made.0 };
       shows = ap shown all.screen ∙ made.1;
     }
 
-reads_diff : {S : Type 0} (self prev : ScreenValue) (text : List ℕ) (p q : Parsing S) → IsDiff self prev text → IsSteady (shown self)
+reads_diff : {S : Type 0} (self prev : ScreenValue) (text : List ℕ) (p q : Parsing S)
+    → IsDiff self prev text → IsSteady (shown self)
     → IsScreen p.screen → IsPlainParser p → shown p.screen ≡ shown prev → ReadsText text p q → Plainly self q
 reads_diff self prev text p q diff steady sound plain shows t =
     reads_redraw self (IsReaderOf (shown self) (shown prev)) text p q steady diff.redraws plain (record {
-      is = record { sound = sound; plain = plain.screen; size = subst (SamePictureSize (shown self)) (sym shows) (same_shown self prev diff.size) };
+      is = record {
+        sound = sound;
+        plain = plain.screen;
+        size = subst (SamePictureSize (shown self)) (sym shows) (same_shown self prev diff.size);
+      };
       shows = shows;
     }) t
 
@@ -89,12 +110,15 @@ record Sized {S : Type 0} (rows cols : ℕ) (q : Parsing S) : Type 0 where
   pub wide : q.screen.page.width ≡ cols
   pub tall : length q.screen.page.rows ≡ rows
 
-takes_size : {S : Type 0} (self : ScreenValue) (rows cols : ℕ) (text : List ℕ) (p q : Parsing S) → IsFull self rows cols text → TakesSize rows cols p q → IsScreen p.screen → IsPlainParser p → Sized rows cols q
+takes_size : {S : Type 0} (self : ScreenValue) (rows cols : ℕ) (text : List ℕ) (p q : Parsing S) →
+    IsFull self rows cols text → TakesSize rows cols p q → IsScreen p.screen → IsPlainParser p → Sized rows cols q
 takes_size {S} self rows cols text p q full t sound plain =
     let size = resized_size rows cols p.screen in
     let same : q.screen ≡ resized rows cols p.screen = ap (λ (r : Parsing S). r.screen) t in
     record {
-      sound = subst IsScreen (sym same) (resized_is rows cols p.screen full.has_rows full.few_rows full.has_columns full.few_columns sound);
+      sound =
+          subst IsScreen (sym same)
+          (resized_is rows cols p.screen full.has_rows full.few_rows full.has_columns full.few_columns sound);
       plain = record {
         is_failed = ap (λ (r : Parsing S). r.is_failed) t ∙ plain.is_failed;
         scanner = subst (λ (r : Parsing S). StandsFor r.scanner start) (sym t) plain.scanner;
@@ -104,22 +128,33 @@ takes_size {S} self rows cols text p q full t sound plain =
       tall = ap (λ (s : ScreenValue). length s.page.rows) same ∙ size.1;
     }
 
-reads_full : {S : Type 0} (self : ScreenValue) (rows cols : ℕ) (text : List ℕ) (p sized q : Parsing S) → IsFull self rows cols text → IsSteady (shown self)
+reads_full : {S : Type 0} (self : ScreenValue) (rows cols : ℕ) (text : List ℕ) (p sized q : Parsing S)
+    → IsFull self rows cols text → IsSteady (shown self)
     → IsScreen p.screen → IsPlainParser p → TakesSize rows cols p sized → ReadsText text sized q → Plainly self q
 reads_full self rows cols text p sized q full steady sound plain takes t =
     let s = takes_size self rows cols text p sized full takes sound plain in
     reads_redraw self (IsReader (shown self)) text sized q steady full.redraws s.plain
-    (record { sound = s.sound; plain = s.plain.screen; size = same_shown self sized.screen (record { width = sym (s.wide ∙ full.wide); height = sym (s.tall ∙ full.tall) }) }) t
+    (record {
+      sound = s.sound;
+      plain = s.plain.screen;
+      size =
+          same_shown self sized.screen (record { width = sym (s.wide ∙ full.wide); height = sym (s.tall ∙ full.tall) });
+    })
+    t
 
 sound_after : {S : Type 0} (update : Update) (p q : Parsing S) → TakesUpdate update p q → IsScreen q.screen
 sound_after (Diff text) p q t = t.sound
 sound_after (Full rows cols text) p q t = t.2.sound
 
 -- by what is noted, which the viewer shows
-takes_update : {S : Type 0} (self : ScreenValue) (noted : Option ScreenValue) (update : Update) (p q : Parsing S) → ((prev : ScreenValue) → noted ≡ Some prev → shown p.screen ≡ shown prev)
-    → IsUpdate self noted update → IsSteady (shown self) → IsScreen p.screen → IsPlainParser p → TakesUpdate update p q → Plainly self q
-takes_update self (Some prev) (Diff text) p q shows is steady sound plain t = reads_diff self prev (string_bytes text) p q is steady sound plain (shows prev refl) t
-takes_update self None (Full rows cols text) p q shows is steady sound plain t = reads_full self rows cols (string_bytes text) p t.0 q is steady sound plain t.1 t.2
+takes_update : {S : Type 0} (self : ScreenValue) (noted : Option ScreenValue) (update : Update) (p q : Parsing S)
+    → ((prev : ScreenValue) → noted ≡ Some prev → shown p.screen ≡ shown prev)
+    → IsUpdate self noted update → IsSteady (shown self) → IsScreen p.screen
+    → IsPlainParser p → TakesUpdate update p q → Plainly self q
+takes_update self (Some prev) (Diff text) p q shows is steady sound plain t =
+    reads_diff self prev (string_bytes text) p q is steady sound plain (shows prev refl) t
+takes_update self None (Full rows cols text) p q shows is steady sound plain t =
+    reads_full self rows cols (string_bytes text) p t.0 q is steady sound plain t.1 t.2
 takes_update self (Some prev) (Full rows cols text) p q shows is steady sound plain t = absurd is
 takes_update self None (Diff text) p q shows is steady sound plain t = absurd is
 
@@ -132,49 +167,71 @@ record Holds {S : Type 0} (number : ℕ) (w : Watching S) : Type 0 where
   pub noted : (screen : ScreenValue) → note_of w.mirror.viewers number ≡ Some screen → w.seen ≡ Some screen
   pub shows : IfSome w.seen (λ screen. shown w.viewer.screen ≡ shown screen)
 
-holds_left : {S : Type 0} (number : ℕ) (old new : Watching S) → NotedBefore number old.mirror new.mirror → IsLeft old new → Holds number old → Holds number new
+holds_left : {S : Type 0} (number : ℕ) (old new : Watching S) →
+    NotedBefore number old.mirror new.mirror → IsLeft old new → Holds number old → Holds number new
 holds_left {S} number old new before l h = record {
   sound = subst (λ (p : Parsing S). IsScreen p.screen) (sym l.viewer) h.sound;
   plain = subst IsPlainParser (sym l.viewer) h.plain;
   noted = λ screen e. l.seen ∙ h.noted screen (before screen e);
   shows = subst (λ (p : Parsing S). IfSome new.seen (λ screen. shown p.screen ≡ shown screen)) (sym l.viewer)
-      (subst (λ (o : Option ScreenValue). IfSome o (λ screen. shown old.viewer.screen ≡ shown screen)) (sym l.seen) h.shows);
+      (subst (λ (o : Option ScreenValue). IfSome o (λ screen. shown old.viewer.screen ≡ shown screen))
+      (sym l.seen) h.shows);
 }
 
-holds_own : {S : Type 0} (number : ℕ) (update : Update) (old new : Watching S) → Tells old.mirror number update new.mirror → Sees update old new → Holds number old → Holds number new
+holds_own : {S : Type 0} (number : ℕ) (update : Update) (old new : Watching S) →
+    Tells old.mirror number update new.mirror → Sees update old new → Holds number old → Holds number new
 holds_own {S} number update old new t s h =
     let self = old.mirror.parser.screen in
-    let shows_prev : (prev : ScreenValue) → note_of old.mirror.viewers number ≡ Some prev → shown old.viewer.screen ≡ shown prev
-    = λ prev e. subst (λ (o : Option ScreenValue). IfSome o (λ screen. shown old.viewer.screen ≡ shown screen)) (h.noted prev e) h.shows in
-    let p = takes_update self (note_of old.mirror.viewers number) update old.viewer new.viewer shows_prev t.text s.steady h.sound h.plain s.takes in
+    let shows_prev : (prev : ScreenValue) →
+    note_of old.mirror.viewers number ≡ Some prev → shown old.viewer.screen ≡ shown prev
+    = λ prev e. subst (λ (o : Option ScreenValue). IfSome o (λ screen. shown old.viewer.screen ≡ shown screen))
+    (h.noted prev e) h.shows in
+    let p = takes_update self (note_of old.mirror.viewers number) update
+    old.viewer new.viewer shows_prev t.text s.steady h.sound h.plain s.takes in
     record {
       sound = sound_after update old.viewer new.viewer s.takes;
       plain = p.plain;
       noted = λ screen e. s.seen ∙ (sym t.puts.note_here ∙ e);
-      shows = subst (λ (o : Option ScreenValue). IfSome o (λ screen. shown new.viewer.screen ≡ shown screen)) (sym s.seen) p.shows;
+      shows =
+          subst (λ (o : Option ScreenValue). IfSome o (λ screen. shown new.viewer.screen ≡ shown screen))
+          (sym s.seen) p.shows;
     }
 
-holds_taken : {S : Type 0} (number asked : ℕ) (update : Update) (old new : Watching S) → Tells old.mirror asked update new.mirror → IsTakenBy number asked update old new → Holds number old → Holds number new
+holds_taken : {S : Type 0} (number asked : ℕ) (update : Update) (old new : Watching S) →
+    Tells old.mirror asked update new.mirror →
+    IsTakenBy number asked update old new → Holds number old → Holds number new
 holds_taken {S} number asked update old new t taken h =
     by_number number asked
-    (λ own. holds_own number update old new (subst (λ (n : ℕ). Tells old.mirror n update new.mirror) own t) (taken.own own) h)
-    (λ other. holds_left number old new (λ screen e. sym (t.puts.other_notes number (λ same. other (sym same))) ∙ e) (taken.others other) h)
+    (λ own. holds_own number update old new
+    (subst (λ (n : ℕ). Tells old.mirror n update new.mirror) own t) (taken.own own) h)
+    (λ other. holds_left number old new
+    (λ screen e. sym (t.puts.other_notes number (λ same. other (sym same))) ∙ e) (taken.others other) h)
 
-holds_ask : {S : Type 0} (number asked : ℕ) (answer : Result (Option Update) Error) (old new : Watching S) → Asks old.mirror asked answer new.mirror → Watches number old (Ask asked answer) new → Holds number old → Holds number new
+holds_ask : {S : Type 0} (number asked : ℕ) (answer : Result (Option Update) Error) (old new : Watching S) →
+    Asks old.mirror asked answer new.mirror →
+    Watches number old (Ask asked answer) new → Holds number old → Holds number new
 holds_ask number asked (Ok (Some update)) old new a f h = holds_taken number asked update old new a.answers f h
-holds_ask number asked (Ok None) old new a f h = holds_left number old new (before_equal number old.mirror new.mirror a.answers.1) f h
-holds_ask number asked (Err error) old new a f h = holds_left number old new (before_equal number old.mirror new.mirror a.refused.1) f h
+holds_ask number asked (Ok None) old new a f h =
+    holds_left number old new (before_equal number old.mirror new.mirror a.answers.1) f h
+holds_ask number asked (Err error) old new a f h =
+    holds_left number old new (before_equal number old.mirror new.mirror a.refused.1) f h
 
-holds_call : {S : Type 0} (number : ℕ) (call : MirrorCall) (old new : Watching S) → Does old.mirror call new.mirror → Watches number old call new → Holds number old → Holds number new
-holds_call number (Process bytes answer) old new d f h = holds_left number old new (before_same number old.mirror new.mirror d.viewers) f h
-holds_call number (SetSize rows cols answer) old new d f h = holds_left number old new (before_resize number old.mirror new.mirror rows cols answer d) f h
-holds_call number (Join answer) old new d f h = holds_left number old new (before_join number old.mirror new.mirror answer d.1) f h
-holds_call number (Leave viewer answer) old new d f h = holds_left number old new (before_none number viewer false old.mirror new.mirror d.1.puts) f h
+holds_call : {S : Type 0} (number : ℕ) (call : MirrorCall) (old new : Watching S) →
+    Does old.mirror call new.mirror → Watches number old call new → Holds number old → Holds number new
+holds_call number (Process bytes answer) old new d f h =
+    holds_left number old new (before_same number old.mirror new.mirror d.viewers) f h
+holds_call number (SetSize rows cols answer) old new d f h =
+    holds_left number old new (before_resize number old.mirror new.mirror rows cols answer d) f h
+holds_call number (Join answer) old new d f h =
+    holds_left number old new (before_join number old.mirror new.mirror answer d.1) f h
+holds_call number (Leave viewer answer) old new d f h =
+    holds_left number old new (before_none number viewer false old.mirror new.mirror d.1.puts) f h
 holds_call number (Ask viewer answer) old new d f h = holds_ask number viewer answer old new d f h
 
 -- ---- all calls
 
-holds_all : {S : Type 0} (number : ℕ) (calls : List MirrorCall) (old new : Watching S) → FoldsTo (Goes number) old calls new → Holds number old → Holds number new
+holds_all : {S : Type 0} (number : ℕ) (calls : List MirrorCall) (old new : Watching S) →
+    FoldsTo (Goes number) old calls new → Holds number old → Holds number new
 holds_all {S} number [] old new f h = subst (λ (w : Watching S). Holds number w) f h
 holds_all {S} number (call ∷ calls) old new f h =
     let mid : Watching S = f.0 in
@@ -184,11 +241,18 @@ fresh_holds : {S : Type 0} (number : ℕ) (w : Watching S) → IsFresh w.mirror 
 fresh_holds {S} number w fresh new = record {
   sound = new.sound;
   plain = new.plain;
-  noted = λ screen e. absurd (none_some screen (ap (λ (notes : List (ℕ × ScreenValue)). note_of (record (w.mirror.viewers) { notes = notes }) number) (sym fresh.notes) ∙ e));
-  shows = subst (λ (o : Option ScreenValue). IfSome o (λ screen. shown w.viewer.screen ≡ shown screen)) (sym new.seen) tt;
+  noted =
+      λ screen e. absurd
+      (none_some screen (ap
+      (λ (notes : List (ℕ × ScreenValue)). note_of (record (w.mirror.viewers) { notes = notes }) number)
+      (sym fresh.notes)
+      ∙ e));
+  shows =
+      subst (λ (o : Option ScreenValue). IfSome o (λ screen. shown w.viewer.screen ≡ shown screen)) (sym new.seen) tt;
 }
 
-pub viewer_shows : {S : Type 0} (number : ℕ) (calls : List MirrorCall) (old new : Watching S) → IsFresh old.mirror → IsNew old → FoldsTo (Goes number) old calls new → ShowsSeen new
+pub viewer_shows : {S : Type 0} (number : ℕ) (calls : List MirrorCall) (old new : Watching S) →
+    IsFresh old.mirror → IsNew old → FoldsTo (Goes number) old calls new → ShowsSeen new
 viewer_shows number calls old new fresh is f =
     let h = holds_all number calls old new f (fresh_holds number old fresh is) in
     record { plain = h.plain; shows = h.shows }
@@ -196,28 +260,46 @@ viewer_shows number calls old new fresh is f =
 -- ---- numbers
 
 -- a call that gives no number leaves the last one
-last_stays : (old new : MirrorValue) (n : ℕ) (numbers : List ℕ) → new.viewers.last ≡ old.viewers.last → next_number old.viewers.last ≡ n → CountUp (next_number new.viewers.last) numbers → CountUp n numbers
+last_stays : (old new : MirrorValue) (n : ℕ) (numbers : List ℕ) → new.viewers.last ≡ old.viewers.last →
+    next_number old.viewers.last ≡ n → CountUp (next_number new.viewers.last) numbers → CountUp n numbers
 last_stays old new n numbers same e c = subst (λ (k : ℕ). CountUp k numbers) (ap next_number same ∙ e) c
 
-last_resize : (old new : MirrorValue) (rows cols : ℕ) (answer : Result (Unit {0}) Error) → Resizes old rows cols answer new → new.viewers.last ≡ old.viewers.last
+last_resize : (old new : MirrorValue) (rows cols : ℕ) (answer : Result (Unit {0}) Error) →
+    Resizes old rows cols answer new → new.viewers.last ≡ old.viewers.last
 last_resize old new rows cols answer r = by_test (has_size rows cols old.parser.screen) refl answer r where
-  by_test : (b : Bool) → has_size rows cols old.parser.screen ≡ b → (answer : Result (Unit {0}) Error) → Resizes old rows cols answer new → new.viewers.last ≡ old.viewers.last
+  by_test : (b : Bool) → has_size rows cols old.parser.screen ≡ b → (answer : Result (Unit {0}) Error) →
+      Resizes old rows cols answer new → new.viewers.last ≡ old.viewers.last
   by_test true e answer r = ap (λ (m : MirrorValue). m.viewers.last) (r.same e).1
   by_test false e (Ok u) r = ap (λ (m : MirrorValue). m.viewers.last) (r.other e)
   by_test false e (Err error) r = ap (λ (m : MirrorValue). m.viewers.last) r.refused.1
 
-last_ask : (old new : MirrorValue) (viewer : ℕ) (answer : Result (Option Update) Error) → Asks old viewer answer new → new.viewers.last ≡ old.viewers.last
+last_ask : (old new : MirrorValue) (viewer : ℕ) (answer : Result (Option Update) Error) →
+    Asks old viewer answer new → new.viewers.last ≡ old.viewers.last
 last_ask old new viewer (Ok (Some update)) a = a.answers.last
 last_ask old new viewer (Ok None) a = ap (λ (m : MirrorValue). m.viewers.last) a.answers.1
 last_ask old new viewer (Err error) a = ap (λ (m : MirrorValue). m.viewers.last) a.refused.1
 
-pub numbers_count : (old new : MirrorValue) (calls : List MirrorCall) → FoldsTo Does old calls new → CountUp (next_number old.viewers.last) (numbers_given calls)
+pub numbers_count : (old new : MirrorValue) (calls : List MirrorCall) →
+    FoldsTo Does old calls new → CountUp (next_number old.viewers.last) (numbers_given calls)
 numbers_count old new [] f = tt
-numbers_count old new (Process bytes answer ∷ calls) f = last_stays old f.0 (next_number old.viewers.last) (numbers_given calls) (ap (λ (v : ViewersValue). v.last) f.1.viewers) refl (numbers_count f.0 new calls f.2)
-numbers_count old new (SetSize rows cols answer ∷ calls) f = last_stays old f.0 (next_number old.viewers.last) (numbers_given calls) (last_resize old f.0 rows cols answer f.1) refl (numbers_count f.0 new calls f.2)
+numbers_count old new (Process bytes answer ∷ calls) f =
+    last_stays old f.0 (next_number old.viewers.last) (numbers_given calls)
+    (ap (λ (v : ViewersValue). v.last) f.1.viewers) refl (numbers_count f.0 new calls f.2)
+numbers_count old new (SetSize rows cols answer ∷ calls) f =
+    last_stays old f.0 (next_number old.viewers.last) (numbers_given calls)
+    (last_resize old f.0 rows cols answer f.1) refl (numbers_count f.0 new calls f.2)
 numbers_count old new (Join (Ok viewer) ∷ calls) f =
-    let mid : MirrorValue = f.0 in
-    (f.1.1.number, subst (λ (k : ℕ). CountUp k (numbers_given calls)) (ap next_number f.1.1.last ∙ ap (λ (k : ℕ). k + 1) f.1.1.number) (numbers_count mid new calls f.2))
-numbers_count old new (Join (Err error) ∷ calls) f = last_stays old f.0 (next_number old.viewers.last) (numbers_given calls) (ap (λ (v : ViewersValue). v.last) f.1.1.refused) refl (numbers_count f.0 new calls f.2)
-numbers_count old new (Leave viewer answer ∷ calls) f = last_stays old f.0 (next_number old.viewers.last) (numbers_given calls) f.1.1.last refl (numbers_count f.0 new calls f.2)
-numbers_count old new (Ask viewer answer ∷ calls) f = last_stays old f.0 (next_number old.viewers.last) (numbers_given calls) (last_ask old f.0 viewer answer f.1) refl (numbers_count f.0 new calls f.2)
+    let mid : MirrorValue = f.0 in (
+      f.1.1.number,
+      subst (λ (k : ℕ). CountUp k (numbers_given calls))
+          (ap next_number f.1.1.last ∙ ap (λ (k : ℕ). k + 1) f.1.1.number) (numbers_count mid new calls f.2),
+    )
+numbers_count old new (Join (Err error) ∷ calls) f =
+    last_stays old f.0 (next_number old.viewers.last) (numbers_given calls)
+    (ap (λ (v : ViewersValue). v.last) f.1.1.refused) refl (numbers_count f.0 new calls f.2)
+numbers_count old new (Leave viewer answer ∷ calls) f =
+    last_stays old f.0 (next_number old.viewers.last)
+    (numbers_given calls) f.1.1.last refl (numbers_count f.0 new calls f.2)
+numbers_count old new (Ask viewer answer ∷ calls) f =
+    last_stays old f.0 (next_number old.viewers.last) (numbers_given calls)
+    (last_ask old f.0 viewer answer f.1) refl (numbers_count f.0 new calls f.2)

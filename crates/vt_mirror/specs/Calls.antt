@@ -21,7 +21,8 @@ use Rattle.vt_mirror.specs.declared.update.Update.{Update}
 use Rattle.vt_mirror.specs.declared.update.Update.TheVariants.{Diff, Full}
 
 -- bytes are read as by the parser alone, whose callbacks do nothing; the size stays, and so do the viewers
-pub record Processes (old : MirrorValue) (bytes : List ℕ) (answer : Result (Unit {0}) Error) (new : MirrorValue) : Type 0 where
+pub record Processes (old : MirrorValue) (bytes : List ℕ)
+    (answer : Result (Unit {0}) Error) (new : MirrorValue) : Type 0 where
   pub viewers : new.viewers ≡ old.viewers
   pub size : SameSize new.parser.screen.page old.parser.screen.page
   pub ran : IfOk answer (λ _. Ran quietly old.parser bytes new.parser)
@@ -32,16 +33,23 @@ pub record Processes (old : MirrorValue) (bytes : List ℕ) (answer : Result (Un
   pub harmless : old.parser.is_failed ≡ false → IsHarmless quietly old.parser bytes → answer ≡ Ok tt
 
 -- another size, and nothing is noted any more; the size that it has changes nothing and is never refused
-pub record Resizes (old : MirrorValue) (rows cols : ℕ) (answer : Result (Unit {0}) Error) (new : MirrorValue) : Type 0 where
+pub record Resizes (old : MirrorValue) (rows cols : ℕ)
+    (answer : Result (Unit {0}) Error) (new : MirrorValue) : Type 0 where
   pub same : has_size rows cols old.parser.screen ≡ true → (answer ≡ Ok tt) × (new ≡ old)
-  pub other : has_size rows cols old.parser.screen ≡ false → IfOk answer (λ _. new ≡ record { parser = record (old.parser) { screen = resized rows cols old.parser.screen }; viewers = record (old.viewers) { notes = [] } })
+  pub other : has_size rows cols old.parser.screen ≡ false →
+      IfOk answer (λ _. new
+      ≡ record {
+        parser = record (old.parser) { screen = resized rows cols old.parser.screen };
+        viewers = record (old.viewers) { notes = [] };
+      })
   pub refused : IfErr answer (λ error. (error ≡ OutOfMemory) × (new ≡ old))
 
 -- the greatest number that is given
 abbrev pub greatest : ℕ
 greatest = 2 ^ 64 - 1
 
--- a new viewer gets the next number, and nothing is noted for it yet; behind the greatest number there is none; refused, all is as before
+-- a new viewer gets the next number, and nothing is noted for it yet;
+-- behind the greatest number there is none; refused, all is as before
 pub record JoinsMirror (old : ViewersValue) (answer : Result ℕ Error) (new : ViewersValue) : Type 0 where
   pub number : IfOk answer (λ viewer. viewer ≡ next_number old.last)
   pub last : IfOk answer (λ viewer. new.last ≡ Some viewer)
@@ -75,8 +83,8 @@ pub record IsFull (self : ScreenValue) (rows cols : ℕ) (text : List ℕ) : Typ
   pub is : text ≡ bytes_of_all (redraw (shown self))
   pub redraws : Redraws self (IsReader (shown self)) text
 
--- the difference from a screen of the same size: it is empty where both show the same, and only there, and touches near what differs
--- alone
+-- the difference from a screen of the same size: it is empty where both show the same, and only there, and touches near
+-- what differs alone
 pub record IsDiff (self prev : ScreenValue) (text : List ℕ) : Type 0 where
   pub size : SameSize self.page prev.page
   pub is : text ≡ bytes_of_all (difference (shown self) (shown prev))
@@ -108,7 +116,8 @@ Answers old viewer None new = (is_viewer old.viewers viewer ≡ false) × (new �
 Answers old viewer (Some update) new = Tells old viewer update new
 
 -- an update is asked for; no viewer is answered none and is never refused; refused, all is as before
-pub record Asks (old : MirrorValue) (viewer : ℕ) (answer : Result (Option Update) Error) (new : MirrorValue) : Type 0 where
+pub record Asks (old : MirrorValue) (viewer : ℕ)
+    (answer : Result (Option Update) Error) (new : MirrorValue) : Type 0 where
   pub nobody : is_viewer old.viewers viewer ≡ false → answer ≡ Ok None
   pub answers : IfOk answer (λ update. Answers old viewer update new)
   pub refused : IfErr answer (λ error. (error ≡ OutOfMemory) × (new ≡ old))

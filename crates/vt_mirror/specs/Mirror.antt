@@ -11,4 +11,6 @@ pub record MirrorValue : Type 0 where
 
 -- the screens that are noted have the mirror's size
 abbrev pub IsMirror : MirrorValue → Type 0
-IsMirror mirror = (viewer : ℕ) (screen : ScreenValue) → note_of mirror.viewers viewer ≡ Some screen → SameSize mirror.parser.screen.page screen.page
+IsMirror mirror =
+    (viewer : ℕ) (screen : ScreenValue) → note_of mirror.viewers viewer ≡ Some screen →
+    SameSize mirror.parser.screen.page screen.page

@@ -29,10 +29,12 @@ next_number (Some last) = last + 1
 -- numbers were given, and screens are noted for viewers alone
 pub record AreViewers (viewers : ViewersValue) : Type 0 where
   pub numbers : (viewer : ℕ) → is_viewer viewers viewer ≡ true → viewer + 1 ≤ next_number viewers.last
-  pub notes : (viewer : ℕ) (screen : ScreenValue) → note_of viewers viewer ≡ Some screen → is_viewer viewers viewer ≡ true
+  pub notes : (viewer : ℕ) (screen : ScreenValue) →
+      note_of viewers viewer ≡ Some screen → is_viewer viewers viewer ≡ true
 
 -- whether one number is a viewer's, and what is noted for it, become these; of the other numbers nothing changes
-pub record Puts (old : ViewersValue) (viewer : ℕ) (is : Bool) (note : Option ScreenValue) (new : ViewersValue) : Type 0 where
+pub record Puts (old : ViewersValue) (viewer : ℕ) (is : Bool)
+    (note : Option ScreenValue) (new : ViewersValue) : Type 0 where
   pub here : is_viewer new viewer ≡ is
   pub note_here : note_of new viewer ≡ note
   pub others : (other : ℕ) → other ≢ viewer → is_viewer new other ≡ is_viewer old other

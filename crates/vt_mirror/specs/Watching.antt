@@ -72,7 +72,8 @@ pub record ReadsText {S : Type 0} (text : List ℕ) (old new : Parsing S) : Type
 -- it takes an update: for a full one its size first, and then the text
 abbrev pub TakesUpdate : {S : Type 0} → Update → Parsing S → Parsing S → Type 0
 TakesUpdate {S} (Diff text) old new = ReadsText (string_bytes text) old new
-TakesUpdate {S} (Full rows cols text) old new = (sized : Parsing S) × TakesSize rows cols old sized × ReadsText (string_bytes text) sized new
+TakesUpdate {S} (Full rows cols text) old new =
+    (sized : Parsing S) × TakesSize rows cols old sized × ReadsText (string_bytes text) sized new
 
 -- it takes an update, at which the mirror's screen was steady
 pub record Sees {S : Type 0} (update : Update) (old new : Watching S) : Type 0 where

@@ -60,7 +60,9 @@ impl Mirror {
         scrollback_capacity: usize,
     ) -> Result<Mirror, Error>
         ensures begun { IfOk result (λ mirror. StandsFor mirror.parser.scanner start) }
-        ensures shown { IfOk result (λ mirror. mirror.parser ≡ parsing mirror.parser.scanner (fresh_screen rows.value cols.value scrollback_capacity) mirror.parser.callbacks) }
+        ensures shown { IfOk result (λ mirror. mirror.parser
+            ≡ parsing mirror.parser.scanner
+            (fresh_screen rows.value cols.value scrollback_capacity) mirror.parser.callbacks) }
         ensures last { IfOk result (λ mirror. mirror.viewers.last ≡ None) }
         ensures nobody { IfOk result (λ mirror. mirror.viewers.numbers ≡ []) }
         ensures nothing { IfOk result (λ mirror. mirror.viewers.notes ≡ []) }

@@ -17,7 +17,8 @@ use vt_show::size;
 /// ```
 pub fn arguments(words: &[&str]) -> Option<(NonZeroU16, NonZeroU16, NonZeroU16)>
     ensures some { IfSome result (λ a.
-        AsksToMirror (map (λ word. word.now) words.now) (non_zero_u16_get a.0) (non_zero_u16_get a.1) (non_zero_u16_get a.2)) }
+        AsksToMirror (map (λ word. word.now) words.now) (non_zero_u16_get a.0)
+        (non_zero_u16_get a.1) (non_zero_u16_get a.2)) }
     ensures none { IfNone result ((rows cols every : ℕ) →
         AsksToMirror (map (λ word. word.now) words.now) rows cols every → ⊥) }
 {

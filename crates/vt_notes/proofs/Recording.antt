@@ -13,7 +13,8 @@ record HasWritten (rows : List RowValue) (old new : Recorded) : Type 0 where
   whole : old.is_whole ≡ true
   is : new ≡ with_rows rows old
 
-written : (rows : List RowValue) (old new : Recorded) → (new ≡ with_rows rows old) ⊎ (new.is_whole ≡ false) → new.is_whole ≡ true → HasWritten rows old new
+written : (rows : List RowValue) (old new : Recorded) →
+    (new ≡ with_rows rows old) ⊎ (new.is_whole ≡ false) → new.is_whole ≡ true → HasWritten rows old new
 written rows old new (inl e) w = record { whole = sym (ap (λ (r : Recorded). r.is_whole) e) ∙ w; is = e }
 written rows old new (inr f) w = absurd (false≢true (sym f ∙ w))
 

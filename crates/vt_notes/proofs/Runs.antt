@@ -12,7 +12,14 @@ use Rattle.vt_screen.specs.Screen.{ScreenValue}
 use Rattle.vt_screen.specs.Run as act
 use Rattle.vt_screen.specs.Run.{Hears, Performs, Scrolls, Takes, state}
 use Rattle.vt_screen.specs.Controls.{seen_of, steps_of}
-use Rattle.vt_screen.specs.Steps.{Step, Print, CarriageReturn, LineFeed, ReverseIndex, MoveUp, MoveDown, MoveRight, MoveLeft, NextLine, PreviousLine, Tab, MoveTo, MoveToColumn, MoveToRow, SetRegion, UseOrigin, EraseBelow, EraseAbove, ErasePage, EraseScrollback, EraseRest, EraseStart, EraseRow, EraseChars, InsertChars, DeleteChars, InsertLines, DeleteLines, ScrollUp, ScrollDown, Render, HideCursor, UseApplicationCursor, UseBracketedPaste, SetMouseMode, ClearMouseMode, SetMouseEncoding, ClearMouseEncoding, SetCursorStyle, SaveCursor, RestoreCursor, EnterAlternate, EnterFresh, LeaveAlternate, LeaveRestoring, Reset, UseApplicationKeypad, Tell, reports, scrolled, stepped}
+use Rattle.vt_screen.specs.Steps.{Step, Print, CarriageReturn, LineFeed, ReverseIndex, MoveUp, MoveDown, MoveRight}
+use Rattle.vt_screen.specs.Steps.{MoveLeft, NextLine, PreviousLine, Tab, MoveTo, MoveToColumn, MoveToRow, SetRegion}
+use Rattle.vt_screen.specs.Steps.{UseOrigin, EraseBelow, EraseAbove, ErasePage, EraseScrollback, EraseRest, EraseStart}
+use Rattle.vt_screen.specs.Steps.{EraseRow, EraseChars, InsertChars, DeleteChars, InsertLines, DeleteLines, ScrollUp}
+use Rattle.vt_screen.specs.Steps.{ScrollDown, Render, HideCursor, UseApplicationCursor, UseBracketedPaste, SetMouseMode}
+use Rattle.vt_screen.specs.Steps.{ClearMouseMode, SetMouseEncoding, ClearMouseEncoding, SetCursorStyle, SaveCursor}
+use Rattle.vt_screen.specs.Steps.{RestoreCursor, EnterAlternate, EnterFresh, LeaveAlternate, LeaveRestoring, Reset}
+use Rattle.vt_screen.specs.Steps.{UseApplicationKeypad, Tell, reports, scrolled, stepped}
 use Rattle.vt_screen.specs.Telling.{calls_of, calls_of_all, stepped_all, steps_of_all, steps_in, calls_in, screen_in}
 use Rattle.vt100.specs.Parser.{Parsing, Ran, pieces_joined, parsing, stage}
 use Rattle.vt_rows.proofs.Folds.{folds_then}
@@ -20,7 +27,8 @@ use Rattle.vt100.proofs.Running.{ran_joined}
 use Rattle.vt_notes.specs.Noting.{Noted, NotesIt, nothing_noted, with_call, with_gap}
 
 -- something was done: what it makes of the screen, and that it noted these calls, if none is missing at the end
-pub record Done (a : act.State Noted) (calls : List CallValue) (screen : ScreenValue) (b : act.State Noted) : Type 0 where
+pub record Done (a : act.State Noted) (calls : List CallValue)
+    (screen : ScreenValue) (b : act.State Noted) : Type 0 where
   pub shown : b.screen ≡ screen
   pub complete : b.callbacks.is_complete ≡ true → a.callbacks.is_complete ≡ true
   pub noted : b.callbacks.is_complete ≡ true → b.callbacks.calls ≡ a.callbacks.calls ++ calls
@@ -28,11 +36,15 @@ pub record Done (a : act.State Noted) (calls : List CallValue) (screen : ScreenV
 done_nothing : (a : act.State Noted) → Done a [] a.screen a
 done_nothing a = record { shown = refl; complete = λ all. all; noted = λ all. sym (append-nil a.callbacks.calls) }
 
-done_then : (a j b : act.State Noted) (xs ys : List CallValue) (mid after : ScreenValue) → Done a xs mid j → Done j ys after b → Done a (xs ++ ys) after b
+done_then : (a j b : act.State Noted) (xs ys : List CallValue) (mid after : ScreenValue) →
+    Done a xs mid j → Done j ys after b → Done a (xs ++ ys) after b
 done_then a j b xs ys mid after one two = record {
   shown = two.shown;
   complete = λ all. one.complete (two.complete all);
-  noted = λ all. two.noted all ∙ (ap (λ (calls : List CallValue). calls ++ ys) (one.noted (two.complete all)) ∙ append_assoc a.callbacks.calls xs ys);
+  noted =
+      λ all. two.noted all
+      ∙ (ap (λ (calls : List CallValue). calls ++ ys) (one.noted (two.complete all))
+      ∙ append_assoc a.callbacks.calls xs ys);
 }
 
 -- ---- one step
@@ -46,15 +58,18 @@ done_quietly a b screen e =
       noted = λ all. ap (λ (n : Noted). n.calls) same ∙ sym (append-nil a.callbacks.calls);
     }
 
-was_complete : (call : CallValue) (old new : Noted) → (new ≡ with_call call old) ⊎ (new ≡ with_gap old) → new.is_complete ≡ true → old.is_complete ≡ true
+was_complete : (call : CallValue) (old new : Noted) →
+    (new ≡ with_call call old) ⊎ (new ≡ with_gap old) → new.is_complete ≡ true → old.is_complete ≡ true
 was_complete call old new (inl e) all = sym (ap (λ (n : Noted). n.is_complete) e) ∙ all
 was_complete call old new (inr e) all = absurd (false≢true (sym (ap (λ (n : Noted). n.is_complete) e) ∙ all))
 
-was_noted : (call : CallValue) (old new : Noted) → (new ≡ with_call call old) ⊎ (new ≡ with_gap old) → new.is_complete ≡ true → new.calls ≡ old.calls ++ call ∷ []
+was_noted : (call : CallValue) (old new : Noted) → (new ≡ with_call call old) ⊎ (new ≡ with_gap old) →
+    new.is_complete ≡ true → new.calls ≡ old.calls ++ call ∷ []
 was_noted call old new (inl e) all = ap (λ (n : Noted). n.calls) e
 was_noted call old new (inr e) all = absurd (false≢true (sym (ap (λ (n : Noted). n.is_complete) e) ∙ all))
 
-done_telling : (call : CallValue) (a b : act.State Noted) → NotesIt call a.callbacks a.screen b.callbacks b.screen → Done a (call ∷ []) a.screen b
+done_telling : (call : CallValue) (a b : act.State Noted) →
+    NotesIt call a.callbacks a.screen b.callbacks b.screen → Done a (call ∷ []) a.screen b
 done_telling call a b t = record {
   shown = t.0;
   complete = was_complete call a.callbacks b.callbacks t.1;
@@ -62,18 +77,25 @@ done_telling call a b t = record {
 }
 
 -- rows that are reported
-done_heard : (alternate : Bool) (rows : List RowValue) (old new : Noted) (screen : ScreenValue) → FoldsTo (Hears NotesIt alternate) old rows new → Done (state old screen) (map (λ (row : RowValue). OnScroll row alternate) rows) screen (state new screen)
-done_heard alternate [] old new screen e = subst (λ (n : Noted). Done (state old screen) [] screen (state n screen)) e (done_nothing (state old screen))
+done_heard : (alternate : Bool) (rows : List RowValue) (old new : Noted) (screen : ScreenValue) →
+    FoldsTo (Hears NotesIt alternate) old rows new →
+    Done (state old screen) (map (λ (row : RowValue). OnScroll row alternate) rows) screen (state new screen)
+done_heard alternate [] old new screen e =
+    subst (λ (n : Noted). Done (state old screen) [] screen (state n screen)) e (done_nothing (state old screen))
 done_heard alternate (row ∷ rows) old new screen t =
-    done_then (state old screen) (state t.0 screen) (state new screen) (OnScroll row alternate ∷ []) (map (λ (r : RowValue). OnScroll r alternate) rows) screen screen
-    (done_telling (OnScroll row alternate) (state old screen) (state t.0 screen) (t.1 screen)) (done_heard alternate rows t.0 new screen t.2)
+    done_then (state old screen) (state t.0 screen) (state new screen)
+    (OnScroll row alternate ∷ []) (map (λ (r : RowValue). OnScroll r alternate) rows) screen screen
+    (done_telling (OnScroll row alternate) (state old screen) (state t.0 screen) (t.1 screen))
+    (done_heard alternate rows t.0 new screen t.2)
 
-done_scrolled : (x : Step) (a b : act.State Noted) → Scrolls NotesIt a x b → Done a (map (λ (row : RowValue). OnScroll row a.screen.is_alternate) (reports x a.screen)) (scrolled x a.screen) b
+done_scrolled : (x : Step) (a b : act.State Noted) → Scrolls NotesIt a x b →
+    Done a (map (λ (row : RowValue). OnScroll row a.screen.is_alternate) (reports x a.screen)) (scrolled x a.screen) b
 done_scrolled x a b t =
     let heard = done_heard a.screen.is_alternate (reports x a.screen) a.callbacks b.callbacks a.screen t.heard in
     record { shown = t.screen; complete = heard.complete; noted = heard.noted }
 
-done_step : (x : Step) (a b : act.State Noted) → Takes NotesIt a x b → Done a (calls_of x a.screen) (scrolled x a.screen) b
+done_step : (x : Step) (a b : act.State Noted) → Takes NotesIt a x b →
+    Done a (calls_of x a.screen) (scrolled x a.screen) b
 done_step (Tell call) a b t = done_telling call a b t
 done_step (Print c) a b t = done_scrolled (Print c) a b t
 done_step LineFeed a b t = done_scrolled LineFeed a b t
@@ -125,27 +147,35 @@ done_step (UseApplicationKeypad on) a b t = done_quietly a b (stepped (UseApplic
 
 -- ---- steps and events
 
-done_steps : (steps : List Step) (a b : act.State Noted) → FoldsTo (Takes NotesIt) a steps b → Done a (calls_of_all steps a.screen) (stepped_all steps a.screen) b
+done_steps : (steps : List Step) (a b : act.State Noted) → FoldsTo (Takes NotesIt) a steps b →
+    Done a (calls_of_all steps a.screen) (stepped_all steps a.screen) b
 done_steps [] a b e = subst (λ (s : act.State Noted). Done a [] a.screen s) e (done_nothing a)
 done_steps (x ∷ steps) a b t =
     let one = done_step x a t.0 t.1 in
-    let rest = subst (λ (screen : ScreenValue). Done t.0 (calls_of_all steps screen) (stepped_all steps screen) b) one.shown (done_steps steps t.0 b t.2) in
-    done_then a t.0 b (calls_of x a.screen) (calls_of_all steps (scrolled x a.screen)) (scrolled x a.screen) (stepped_all steps (scrolled x a.screen)) one rest
+    let rest = subst (λ (screen : ScreenValue). Done t.0 (calls_of_all steps screen) (stepped_all steps screen) b)
+    one.shown (done_steps steps t.0 b t.2) in
+    done_then a t.0 b (calls_of x a.screen) (calls_of_all steps (scrolled x a.screen))
+    (scrolled x a.screen) (stepped_all steps (scrolled x a.screen)) one rest
 
 -- the steps of all events are those that the model lists
-same_steps : (events : List Event) (a b : act.State Noted) → FoldsTo (Performs NotesIt) a events b → FoldsTo (Takes NotesIt) a (steps_of_all events a.screen) b
+same_steps : (events : List Event) (a b : act.State Noted) → FoldsTo (Performs NotesIt) a events b →
+    FoldsTo (Takes NotesIt) a (steps_of_all events a.screen) b
 same_steps [] a b e = e
 same_steps (event ∷ events) a b t =
     let steps = steps_of event (seen_of a.screen) in
     let there = (done_steps steps a t.0 t.1).shown in
-    let rest = subst (λ (screen : ScreenValue). FoldsTo (Takes NotesIt) t.0 (steps_of_all events screen) b) there (same_steps events t.0 b t.2) in
+    let rest = subst (λ (screen : ScreenValue). FoldsTo (Takes NotesIt) t.0 (steps_of_all events screen) b)
+    there (same_steps events t.0 b t.2) in
     folds_then (Takes NotesIt) steps (steps_of_all events (stepped_all steps a.screen)) a t.0 b t.1 rest
 
 -- ---- parsers
 
-pub done_run : (old new : Parsing Noted) (bytes : List ℕ) (scan : State) → Ran NotesIt old bytes new → StandsFor old.scanner scan → Done (stage old) (calls_in scan old.screen bytes) (screen_in scan old.screen bytes) (stage new)
+pub done_run : (old new : Parsing Noted) (bytes : List ℕ) (scan : State) →
+    Ran NotesIt old bytes new → StandsFor old.scanner scan →
+    Done (stage old) (calls_in scan old.screen bytes) (screen_in scan old.screen bytes) (stage new)
 done_run old new bytes scan ran stands =
-    done_steps (steps_in scan old.screen bytes) (stage old) (stage new) (same_steps (run scan bytes).events (stage old) (stage new) (ran scan stands).1)
+    done_steps (steps_in scan old.screen bytes) (stage old) (stage new)
+    (same_steps (run scan bytes).events (stage old) (stage new) (ran scan stands).1)
 
 -- ---- a fresh parser that read pieces
 
@@ -153,13 +183,20 @@ pub record HasRead (screen : ScreenValue) (bytes : List ℕ) (new : Parsing Note
   pub shown : new.screen ≡ screen_in start screen bytes
   pub noted : new.callbacks.is_complete ≡ true → new.callbacks.calls ≡ calls_in start screen bytes
 
-pub has_read : (old new : Parsing Noted) (screen : ScreenValue) (pieces : List (List ℕ)) → old ≡ parsing old.scanner screen nothing_noted → StandsFor old.scanner start → FoldsTo (Ran NotesIt) old pieces new → HasRead screen (pieces_joined pieces) new
+pub has_read : (old new : Parsing Noted) (screen : ScreenValue) (pieces : List (List ℕ)) →
+    old ≡ parsing old.scanner screen nothing_noted → StandsFor old.scanner start →
+    FoldsTo (Ran NotesIt) old pieces new → HasRead screen (pieces_joined pieces) new
 has_read old new screen pieces fresh stands runs =
     let done = done_run old new (pieces_joined pieces) start (ran_joined NotesIt old new pieces runs) stands in
     record {
       shown = done.shown ∙ ap (λ (p : Parsing Noted). screen_in start p.screen (pieces_joined pieces)) fresh;
-      noted = λ all. done.noted all ∙ ap (λ (p : Parsing Noted). p.callbacks.calls ++ calls_in start p.screen (pieces_joined pieces)) fresh;
+      noted =
+          λ all. done.noted all
+          ∙ ap (λ (p : Parsing Noted). p.callbacks.calls ++ calls_in start p.screen (pieces_joined pieces)) fresh;
     }
 
-pub read_more : (old mid new : Parsing Noted) (pieces : List (List ℕ)) (piece : List ℕ) → FoldsTo (Ran NotesIt) old pieces mid → Ran NotesIt mid piece new → FoldsTo (Ran NotesIt) old (pieces ++ piece ∷ []) new
-read_more old mid new pieces piece runs ran = folds_then (Ran NotesIt) pieces (piece ∷ []) old mid new runs (new, ran, refl)
+pub read_more : (old mid new : Parsing Noted) (pieces : List (List ℕ)) (piece : List ℕ) →
+    FoldsTo (Ran NotesIt) old pieces mid → Ran NotesIt mid piece new →
+    FoldsTo (Ran NotesIt) old (pieces ++ piece ∷ []) new
+read_more old mid new pieces piece runs ran =
+    folds_then (Ran NotesIt) pieces (piece ∷ []) old mid new runs (new, ran, refl)

@@ -22,6 +22,7 @@ value_of (note.PasteFromClipboard kind) = value.PasteFromClipboard kind.items
 value_of (note.UnhandledChar code) = value.UnhandledChar code
 value_of (note.UnhandledControl byte) = value.UnhandledControl byte
 value_of (note.UnhandledEscape first second byte) = value.UnhandledEscape first second byte
-value_of (note.UnhandledCsi first second groups byte) = value.UnhandledCsi first second (map (λ group. group.items) groups.items) byte
+value_of (note.UnhandledCsi first second groups byte) =
+    value.UnhandledCsi first second (map (λ group. group.items) groups.items) byte
 value_of (note.UnhandledOsc parts) = value.UnhandledOsc (map (λ part. part.items) parts.items)
 value_of (note.OnScroll row alternate) = value.OnScroll (row_of row) alternate

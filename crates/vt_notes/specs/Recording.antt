@@ -18,8 +18,10 @@ nothing_recorded = record { text = []; state = unwritten; is_whole = true }
 
 -- rows behind the capture
 abbrev pub with_rows : List RowValue → Recorded → Recorded
-with_rows rows old = record old { text = old.text ++ basic_texts old.state rows; state = written_after_all old.state rows }
+with_rows rows old =
+    record old { text = old.text ++ basic_texts old.state rows; state = written_after_all old.state rows }
 
--- the row that a call reports of the main page is written behind the capture, or that is known not to be whole; the screen stays
+-- the row that a call reports of the main page is written behind the capture,
+-- or that is known not to be whole; the screen stays
 abbrev pub Records : CallValue → Recorded → ScreenValue → Recorded → ScreenValue → Type 0
 Records call old before new after = (after ≡ before) × ((new ≡ with_rows (row_told call) old) ⊎ (new.is_whole ≡ false))

@@ -16,15 +16,24 @@ ghost use Rattle.vt_screen.specs.Telling.{calls_in, screen_in};
 /// A run whose callbacks note each call: the screen is what the bytes make of it, and where no note
 /// is missing, the new notes are exactly the calls of the bytes, each once and in order.
 pub fn runs()
-    ensures shown { (old new : Parsing Noted) (bytes : List ℕ) (scan : State) → Ran NotesIt old bytes new → StandsFor old.scanner scan → new.screen ≡ screen_in scan old.screen bytes }
-    ensures complete { (old new : Parsing Noted) (bytes : List ℕ) (scan : State) → Ran NotesIt old bytes new → StandsFor old.scanner scan → new.callbacks.is_complete ≡ true → old.callbacks.is_complete ≡ true }
-    ensures noted { (old new : Parsing Noted) (bytes : List ℕ) (scan : State) → Ran NotesIt old bytes new → StandsFor old.scanner scan → new.callbacks.is_complete ≡ true → new.callbacks.calls ≡ old.callbacks.calls ++ calls_in scan old.screen bytes }
+    ensures shown { (old new : Parsing Noted) (bytes : List ℕ) (scan : State) → Ran NotesIt old bytes new →
+        StandsFor old.scanner scan → new.screen ≡ screen_in scan old.screen bytes }
+    ensures complete { (old new : Parsing Noted) (bytes : List ℕ) (scan : State) → Ran NotesIt old bytes new →
+        StandsFor old.scanner scan → new.callbacks.is_complete ≡ true → old.callbacks.is_complete ≡ true }
+    ensures noted { (old new : Parsing Noted) (bytes : List ℕ) (scan : State) →
+        Ran NotesIt old bytes new → StandsFor old.scanner scan → new.callbacks.is_complete ≡ true →
+        new.callbacks.calls ≡ old.callbacks.calls ++ calls_in scan old.screen bytes }
 {}
 
 /// What a recorder has written, with a full capture behind it, is one text, whatever the capacity of
 /// scrollback, in whatever pieces the bytes came, and wherever the screen was scrolled back in
 /// between: that of all rows which the bytes sent off the main page, and then of the page.
 pub fn recorded()
-    ensures recorder { IsRecorder Records (λ recorded. recorded.text) (λ recorded. recorded.state) (λ recorded. recorded.is_whole) }
-    ensures text { (rows cols capacity : ℕ) (p q : Parsing Recorded) (calls : List ParserCall) → IsFreshParser rows cols capacity p → p.callbacks ≡ nothing_recorded → HasNoRis start (bytes_of_calls calls) → FoldsTo (MakesCall Records) p calls q → q.screen.is_alternate ≡ false → q.callbacks.is_whole ≡ true → q.callbacks.text ++ basic_texts q.callbacks.state (all_rows q.screen) ≡ whole_text rows cols (bytes_of_calls calls) }
+    ensures recorder { IsRecorder Records (λ recorded. recorded.text)
+        (λ recorded. recorded.state) (λ recorded. recorded.is_whole) }
+    ensures text { (rows cols capacity : ℕ) (p q : Parsing Recorded) (calls : List ParserCall) →
+        IsFreshParser rows cols capacity p → p.callbacks ≡ nothing_recorded → HasNoRis start (bytes_of_calls calls) →
+        FoldsTo (MakesCall Records) p calls q → q.screen.is_alternate ≡ false → q.callbacks.is_whole ≡ true →
+        q.callbacks.text ++ basic_texts q.callbacks.state (all_rows q.screen)
+        ≡ whole_text rows cols (bytes_of_calls calls) }
 {}

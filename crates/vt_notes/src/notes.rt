@@ -74,7 +74,8 @@ impl Notes {
 
     /// Adds a note that was made, or remembers that one is missing.
     fn add(&mut self, note: Result<Note, AllocError>)
-        ensures made { IfOk note (λ note. (self.new ≡ with_call (value_of note) self.old) ⊎ (self.new ≡ with_gap self.old)) }
+        ensures made { IfOk note
+            (λ note. (self.new ≡ with_call (value_of note) self.old) ⊎ (self.new ≡ with_gap self.old)) }
         ensures missing { OnErr note (self.new ≡ with_gap self.old) }
     {
         let Ok(note) = note else {

@@ -21,9 +21,12 @@ pub fn read(
     cols: NonZeroU16,
     pieces: &[&[u8]],
 ) -> Result<Parser<Notes>, Error>
-    ensures noted { IfOk result (λ parser. parser.callbacks.calls ≡ calls_in start (fresh_screen rows.value cols.value 0) (pieces_joined (map (λ piece. piece.now) pieces.now))) }
+    ensures noted { IfOk result (λ parser. parser.callbacks.calls
+        ≡ calls_in start (fresh_screen rows.value cols.value 0) (pieces_joined (map (λ piece. piece.now) pieces.now))) }
     ensures complete { IfOk result (λ parser. parser.callbacks.is_complete ≡ true) }
-    ensures shown { IfOk result (λ parser. parser.screen ≡ screen_in start (fresh_screen rows.value cols.value 0) (pieces_joined (map (λ piece. piece.now) pieces.now))) }
+    ensures shown { IfOk result (λ parser. parser.screen
+        ≡ screen_in start (fresh_screen rows.value cols.value 0)
+        (pieces_joined (map (λ piece. piece.now) pieces.now))) }
 {
     let mut parser = Parser::new_with_callbacks(alloc, rows, cols, 0, Notes::new(alloc))?;
     for piece in pieces {

@@ -1,5 +1,6 @@
 -- The cursor goes where it is to be, also behind the last column, and only what is saved may change.
-use Rattle.std.proofs.Common.{◌≡◌, ℕ, zero, suc, ◌+◌, ◌-◌, ◌<◌, ◌≤◌, ◌==◌, nat_lt, Bool, true, false, List, [], ◌∷◌, ◌++◌, length, get_or, replicate, Option, Some, None, refl, sym, ap, ◌∙◌, subst, arith}
+use Rattle.std.proofs.Common.{◌≡◌, ℕ, zero, suc, ◌+◌, ◌-◌, ◌<◌, ◌≤◌, ◌==◌, nat_lt, Bool, true, false, List, [], ◌∷◌}
+use Rattle.std.proofs.Common.{◌++◌, length, get_or, replicate, Option, Some, None, refl, sym, ap, ◌∙◌, subst, arith}
 use Rattle.std.specs.Prelude.{if◌then◌else◌}
 use Rattle.std.specs.List.{AllByRecursion}
 use Rattle.std.proofs.lemmas.Bool.{cond_both, lt-ltb, ltb-true, ne_eqb}
@@ -45,7 +46,8 @@ split_row (x ∷ xs) (suc n) d h =
     let k = split_row xs n d (omega arith) in
     record { done = x ∷ k.done; below = k.below; above = ap suc k.above; is = ap (λ (z : List RowValue). x ∷ z) k.is }
 
-pub all_row : (P : RowValue → Type 0) (rows : List RowValue) (n : ℕ) (d : RowValue) → n < length rows → AllByRecursion P rows → P (get_or rows n d)
+pub all_row : (P : RowValue → Type 0) (rows : List RowValue) (n : ℕ) (d : RowValue) →
+    n < length rows → AllByRecursion P rows → P (get_or rows n d)
 all_row P [] n d h k = absurd (omega arith)
 all_row P (x ∷ xs) zero d h k = k.0
 all_row P (x ∷ xs) (suc n) d h k = all_row P xs n d (omega arith) k.1
@@ -56,15 +58,19 @@ abbrev pub NearestIs : ℕ → List RowValue → ℕ → Option ℕ → Type 0
 NearestIs width rows n None = ends_blank (row_or width rows n).cells ≡ true
 NearestIs width rows n (Some i) = (i ≤ n) × (ends_blank (row_or width rows i).cells ≡ false)
 
-nearest_next : (width : ℕ) (rows : List RowValue) (n : ℕ) (found : Option ℕ) → ends_blank (row_or width rows (suc n)).cells ≡ true → NearestIs width rows n found → NearestIs width rows (suc n) found
+nearest_next : (width : ℕ) (rows : List RowValue) (n : ℕ) (found : Option ℕ) →
+    ends_blank (row_or width rows (suc n)).cells ≡ true →
+    NearestIs width rows n found → NearestIs width rows (suc n) found
 nearest_next width rows n None t h = t
 nearest_next width rows n (Some i) t h = let le = h.0 in (omega arith, h.1)
 
 pub nearest_is : (width : ℕ) (rows : List RowValue) (n : ℕ) → NearestIs width rows n (nearest width rows n)
 nearest_is width rows zero =
-    cond_both (ends_blank (row_or width rows 0).cells) None (Some 0) (NearestIs width rows 0) (λ t. t) (λ t. (omega arith, t))
+    cond_both (ends_blank (row_or width rows 0).cells) None (Some 0)
+    (NearestIs width rows 0) (λ t. t) (λ t. (omega arith, t))
 nearest_is width rows (suc n) =
-    cond_both (ends_blank (row_or width rows (suc n)).cells) (nearest width rows n) (Some (suc n)) (NearestIs width rows (suc n))
+    cond_both (ends_blank (row_or width rows (suc n)).cells)
+    (nearest width rows n) (Some (suc n)) (NearestIs width rows (suc n))
     (λ t. nearest_next width rows n (nearest width rows n) t (nearest_is width rows n)) (λ t. (omega arith, t))
 
 -- the blank last column of a row
@@ -74,22 +80,31 @@ pub record EndsBlank (cells : List CellValue) : Type 0 where
   pub front : Paired pre
   pub is : cells ≡ pre ++ blank attrs ∷ []
 
-longer : (x : CellValue) (xs : List CellValue) → ((pre : List CellValue) → Paired pre → Paired (x ∷ pre)) → EndsBlank xs → EndsBlank (x ∷ xs)
-longer x xs f e = record { pre = x ∷ e.pre; attrs = e.attrs; front = f e.pre e.front; is = ap (λ (z : List CellValue). x ∷ z) e.is }
+longer : (x : CellValue) (xs : List CellValue) →
+    ((pre : List CellValue) → Paired pre → Paired (x ∷ pre)) → EndsBlank xs → EndsBlank (x ∷ xs)
+longer x xs f e =
+    record { pre = x ∷ e.pre; attrs = e.attrs; front = f e.pre e.front; is = ap (λ (z : List CellValue). x ∷ z) e.is }
 
 pub ends_in_blank : (xs : List CellValue) → Paired xs → 0 < length xs → ends xs ≡ true → EndsBlank xs
 ends_in_blank [] h n e = absurd (omega arith)
 ends_in_blank (blank a ∷ []) h n e = record { pre = []; attrs = a; front = tt; is = refl }
-ends_in_blank (blank a ∷ y ∷ ys) h n e = longer (blank a) (y ∷ ys) (λ pre k. k) (ends_in_blank (y ∷ ys) h (omega arith) e)
+ends_in_blank (blank a ∷ y ∷ ys) h n e =
+    longer (blank a) (y ∷ ys) (λ pre k. k) (ends_in_blank (y ∷ ys) h (omega arith) e)
 ends_in_blank (glyph text false a ∷ []) h n e = absurd (cc)
-ends_in_blank (glyph text false a ∷ y ∷ ys) h n e = longer (glyph text false a) (y ∷ ys) (λ pre k. k) (ends_in_blank (y ∷ ys) h (omega arith) e)
+ends_in_blank (glyph text false a ∷ y ∷ ys) h n e =
+    longer (glyph text false a) (y ∷ ys) (λ pre k. k) (ends_in_blank (y ∷ ys) h (omega arith) e)
 ends_in_blank (glyph text true a ∷ []) h n e = absurd h
 ends_in_blank (glyph text true a ∷ blank b ∷ ys) h n e = absurd h
 ends_in_blank (glyph text true a ∷ glyph other wide b ∷ ys) h n e = absurd h
 ends_in_blank (glyph text true a ∷ right_half ∷ []) h n e = absurd (cc)
 ends_in_blank (glyph text true a ∷ right_half ∷ y ∷ ys) h n e =
     let k = ends_in_blank (y ∷ ys) h (omega arith) e in
-    record { pre = glyph text true a ∷ right_half ∷ k.pre; attrs = k.attrs; front = k.front; is = ap (λ (z : List CellValue). glyph text true a ∷ right_half ∷ z) k.is }
+    record {
+      pre = glyph text true a ∷ right_half ∷ k.pre;
+      attrs = k.attrs;
+      front = k.front;
+      is = ap (λ (z : List CellValue). glyph text true a ∷ right_half ∷ z) k.is;
+    }
 ends_in_blank (right_half ∷ ys) h n e = absurd h
 
 pub last_attrs : (pre : List CellValue) (b : Attrs) (n : ℕ) → length pre ≡ n → attrs_of (at (pre ++ blank b ∷ []) n) ≡ b
@@ -100,7 +115,8 @@ last_attrs (x ∷ pre) b (suc n) h = last_attrs pre b n (omega arith)
 
 -- ---- the cases
 
-feed_draws : (base : Canvas) (rows : List RowValue) (pen : Pen) (height : ℕ) → base.page.bottom + 1 ≡ height → length rows ≡ height → pen.row + 1 < height →
+feed_draws : (base : Canvas) (rows : List RowValue) (pen : Pen) (height : ℕ) →
+    base.page.bottom + 1 ≡ height → length rows ≡ height → pen.row + 1 < height →
     Draws (LineFeed ∷ []) (at_pen base rows pen) (at_pen base rows (pen_at (pen.row + 1) pen.col pen.attrs))
 unfolding line_feed
 feed_draws base rows pen height bottom size h =
@@ -108,20 +124,27 @@ feed_draws base rows pen height bottom size h =
     let m : nat_lt (pen.row + 1) (length rows) ≡ true = lt-ltb (pen.row + 1) (length rows) (omega arith) in
     rw (s, m) refl
 
-pub down_draws : (base : Canvas) (rows : List RowValue) (n i c height : ℕ) (a : Attrs) → base.page.bottom + 1 ≡ height → length rows ≡ height → i + n < height →
+pub down_draws : (base : Canvas) (rows : List RowValue) (n i c height : ℕ) (a : Attrs) →
+    base.page.bottom + 1 ≡ height → length rows ≡ height → i + n < height →
     Draws (replicate n LineFeed) (at_pen base rows (pen_at i c a)) (at_pen base rows (pen_at (i + n) c a))
-down_draws base rows zero i c height a bottom size h = let e : i ≡ i + 0 = omega arith in ap (λ (z : ℕ). Some (at_pen base rows (pen_at z c a))) e
+down_draws base rows zero i c height a bottom size h =
+    let e : i ≡ i + 0 = omega arith in ap (λ (z : ℕ). Some (at_pen base rows (pen_at z c a))) e
 down_draws base rows (suc n) i c height a bottom size h =
     let e : i + 1 + n ≡ i + suc n = omega arith in
-    draws_then (LineFeed ∷ []) (replicate n LineFeed) (at_pen base rows (pen_at i c a)) (at_pen base rows (pen_at (i + 1) c a)) (at_pen base rows (pen_at (i + suc n) c a))
+    draws_then (LineFeed ∷ []) (replicate n LineFeed) (at_pen base rows (pen_at i c a))
+    (at_pen base rows (pen_at (i + 1) c a)) (at_pen base rows (pen_at (i + suc n) c a))
     (feed_draws base rows (pen_at i c a) height bottom size (omega arith))
-    (down_draws base rows n (i + 1) c height a bottom size (omega arith) ∙ ap (λ (z : ℕ). Some (at_pen base rows (pen_at z c a))) e)
+    (down_draws base rows n (i + 1) c height a bottom size (omega arith)
+    ∙ ap (λ (z : ℕ). Some (at_pen base rows (pen_at z c a))) e)
 
 -- behind the last glyph of row i, and down to row r
-under_last_draws : (May : ℕ → ℕ → Type 0) (base : Canvas) (rows : List RowValue) (pen : Pen) (i r height : ℕ) → Reads base height base.page.width → length rows ≡ height → AllByRecursion (Stands base.page.width) rows → AllByRecursion (PrintsRow base.page.width) rows →
+under_last_draws : (May : ℕ → ℕ → Type 0) (base : Canvas) (rows : List RowValue) (pen : Pen) (i r height : ℕ) →
+    Reads base height base.page.width → length rows ≡ height →
+    AllByRecursion (Stands base.page.width) rows → AllByRecursion (PrintsRow base.page.width) rows →
     i ≤ r → r < height → Within pen height base.page.width → ends_blank (row_or base.page.width rows i).cells ≡ false →
     ((k : ℕ) → last_column (row_or base.page.width rows i).cells ≤ k → k < base.page.width → May i k) →
-    DrawsIn May (under_last pen i r (row_or base.page.width rows i).cells) (at_pen base rows pen) (at_pen base rows (pen_at r base.page.width pen.attrs))
+    DrawsIn May (under_last pen i r (row_or base.page.width rows i).cells)
+    (at_pen base rows pen) (at_pen base rows (pen_at r base.page.width pen.attrs))
 unfolding under_last
 under_last_draws May base rows pen i r height reads size all prints le low within full may =
     let d = blank_row default_attrs base.page.width in
@@ -132,27 +155,36 @@ under_last_draws May base rows pen i r height reads size all prints le low withi
     let count = ap length v.is ∙ length-append v.done (x ∷ v.below) in
     let above = v.above in
     let w = going_behind i pen x.cells in
-    let goes = going_behind_draws May base v.done v.below x.cells x.wrapped i height pen reads v.above (omega arith) ok.columns ok.paired (sym (ends_is x.cells) ∙ full) p within (λ _. may) in
-    let there : DrawsIn May w.ops (at_pen base rows pen) (at_pen base rows w.pen) = subst (λ (z : List RowValue). DrawsIn May w.ops (at_pen base z pen) (at_pen base z w.pen)) (sym v.is) goes.draws in
+    let goes = going_behind_draws May base v.done v.below x.cells x.wrapped i height pen reads
+    v.above (omega arith) ok.columns ok.paired (sym (ends_is x.cells) ∙ full) p within (λ _. may) in
+    let there : DrawsIn May w.ops (at_pen base rows pen) (at_pen base rows w.pen) =
+    subst (λ (z : List RowValue). DrawsIn May w.ops (at_pen base z pen) (at_pen base z w.pen)) (sym v.is) goes.draws in
     let n : i + (r - i) ≡ r = omega arith in
     let middle = at_pen base rows (pen_at i base.page.width w.pen.attrs) in
     let end = at_pen base rows (pen_at r base.page.width pen.attrs) in
     let changed = at_pen base rows (pen_at i base.page.width pen.attrs) in
     in_then May w.ops (changing w.pen.attrs pen.attrs ++ replicate (r - i) LineFeed) (at_pen base rows pen) middle end
-    (in_to May w.ops (at_pen base rows pen) (at_pen base rows w.pen) middle there (ap (λ (q : Pen). at_pen base rows q) goes.there))
+    (in_to May w.ops (at_pen base rows pen) (at_pen base rows w.pen)
+    middle there (ap (λ (q : Pen). at_pen base rows q) goes.there))
     (in_then May (changing w.pen.attrs pen.attrs) (replicate (r - i) LineFeed) middle changed end
-    (quiet_in May (changing w.pen.attrs pen.attrs) middle changed (changing_quiet w.pen.attrs pen.attrs) (changing_draws base rows (pen_at i base.page.width w.pen.attrs) pen.attrs))
+    (quiet_in May (changing w.pen.attrs pen.attrs) middle changed (changing_quiet w.pen.attrs pen.attrs)
+    (changing_draws base rows (pen_at i base.page.width w.pen.attrs) pen.attrs))
     (quiet_in May (replicate (r - i) LineFeed) changed end (feeds_quiet (r - i))
-    (down_draws base rows (r - i) i base.page.width height pen.attrs reads.bottom size (omega arith) ∙ ap (λ (z : ℕ). Some (at_pen base rows (pen_at z base.page.width pen.attrs))) n)))
+    (down_draws base rows (r - i) i base.page.width height pen.attrs reads.bottom size (omega arith)
+    ∙ ap (λ (z : ℕ). Some (at_pen base rows (pen_at z base.page.width pen.attrs))) n)))
 
 -- what is saved on the way
 abbrev pub saved_at : Canvas → ℕ → ℕ → Attrs → Canvas
-saved_at base row column attrs = with_saved (record { row = row; column = column; origin = base.page.origin; attrs = attrs }) base
+saved_at base row column attrs =
+    with_saved (record { row = row; column = column; origin = base.page.origin; attrs = attrs }) base
 
 -- behind a space that is erased again
-pub blank_passed_draws : (May : ℕ → ℕ → Type 0) (base : Canvas) (done below : List RowValue) (pre : List CellValue) (r : ℕ) (was b : Attrs) → 0 < base.page.width → length done ≡ r → length pre + 1 ≡ base.page.width →
+pub blank_passed_draws : (May : ℕ → ℕ → Type 0) (base : Canvas)
+    (done below : List RowValue) (pre : List CellValue) (r : ℕ) (was b : Attrs) →
+    0 < base.page.width → length done ≡ r → length pre + 1 ≡ base.page.width →
     Paired pre → ((k : ℕ) → length pre ≤ k → k < base.page.width → May r k) →
-    DrawsIn May (blank_passed was b) (mid base done below (pre ++ blank b ∷ []) false (pen_at r (length pre) was)) (mid (saved_at base r base.page.width b) done below (pre ++ blank b ∷ []) false (pen_at r base.page.width was))
+    DrawsIn May (blank_passed was b) (mid base done below (pre ++ blank b ∷ []) false (pen_at r (length pre) was))
+    (mid (saved_at base r base.page.width b) done below (pre ++ blank b ∷ []) false (pen_at r base.page.width was))
 blank_passed_draws May base done below pre r was b pos e w h may =
     let row = pre ++ blank b ∷ [] in
     let spaced = pre ++ glyph (0x20 ∷ []) false was ∷ [] in
@@ -167,22 +199,33 @@ blank_passed_draws May base done below pre r was b pos e w h may =
     let m4 = mid other done below spaced false (pen_at r c b) in
     let m5 = mid other done below row false (pen_at r width b) in
     let m6 = mid other done below row false (pen_at r width was) in
-    in_then May (Print (0x20 ∷ []) ∷ []) (changing was b ++ (SaveCursor ∷ Backspace ∷ EraseChars 1 ∷ RestoreCursor ∷ changing b was)) m1 m2 m6
+    in_then May (Print (0x20 ∷ []) ∷ [])
+    (changing was b ++ (SaveCursor ∷ Backspace ∷ EraseChars 1 ∷ RestoreCursor ∷ changing b was)) m1 m2 m6
     (in_to May (Print (0x20 ∷ []) ∷ []) m1 (mid base done below spaced false (pen_at r (c + 1) was)) m2
-    (print_bare May base done below pre (0x20 ∷ []) false b was r prints e w h may) (ap (λ (z : ℕ). mid base done below spaced false (pen_at r z was)) w))
+    (print_bare May base done below pre (0x20 ∷ []) false b was r prints e w h may)
+    (ap (λ (z : ℕ). mid base done below spaced false (pen_at r z was)) w))
     (in_then May (changing was b) (SaveCursor ∷ Backspace ∷ EraseChars 1 ∷ RestoreCursor ∷ changing b was) m2 m3 m6
-    (quiet_in May (changing was b) m2 m3 (changing_quiet was b) (changing_draws base (done ++ row_of spaced false ∷ below) (pen_at r width was) b))
+    (quiet_in May (changing was b) m2 m3 (changing_quiet was b)
+    (changing_draws base (done ++ row_of spaced false ∷ below) (pen_at r width was) b))
     (in_then May (SaveCursor ∷ Backspace ∷ []) (EraseChars 1 ∷ RestoreCursor ∷ changing b was) m3 m4 m6
-    (quiet_in May (SaveCursor ∷ Backspace ∷ []) m3 m4 (refl, (refl, tt)) (ap (λ (z : ℕ). Some (mid other done below spaced false (pen_at r z b))) col))
-    (in_then May (EraseChars 1 ∷ []) (RestoreCursor ∷ changing b was) m4 (mid other done below row false (pen_at r c b)) m6
+    (quiet_in May (SaveCursor ∷ Backspace ∷ []) m3 m4 (refl, (refl, tt))
+    (ap (λ (z : ℕ). Some (mid other done below spaced false (pen_at r z b))) col))
+    (in_then May (EraseChars 1 ∷ []) (RestoreCursor ∷ changing b was)
+    m4 (mid other done below row false (pen_at r c b)) m6
     (erase_last May other done below pre (0x20 ∷ []) false was b false r e w h may)
     (in_then May (RestoreCursor ∷ []) (changing b was) (mid other done below row false (pen_at r c b)) m5 m6
     (quiet_in May (RestoreCursor ∷ []) (mid other done below row false (pen_at r c b)) m5 (refl, tt) refl)
-    (quiet_in May (changing b was) m5 m6 (changing_quiet b was) (changing_draws other (done ++ row_of row false ∷ below) (pen_at r width b) was))))))
+    (quiet_in May (changing b was) m5 m6 (changing_quiet b was)
+    (changing_draws other (done ++ row_of row false ∷ below) (pen_at r width b) was))))))
 
-over_blank_draws : (May : ℕ → ℕ → Type 0) (base : Canvas) (done below : List RowValue) (pre : List CellValue) (pen : Pen) (r height : ℕ) (b : Attrs) → Reads base height base.page.width → length done ≡ r → r + suc (length below) ≡ height → length pre + 1 ≡ base.page.width →
+over_blank_draws : (May : ℕ → ℕ → Type 0) (base : Canvas) (done below : List RowValue)
+    (pre : List CellValue) (pen : Pen) (r height : ℕ) (b : Attrs) →
+    Reads base height base.page.width → length done ≡ r → r + suc (length below) ≡ height →
+    length pre + 1 ≡ base.page.width →
     Paired pre → Within pen height base.page.width → ((k : ℕ) → length pre ≤ k → k < base.page.width → May r k) →
-    DrawsIn May (over_blank pen r base.page.width b) (mid base done below (pre ++ blank b ∷ []) false pen) (mid (saved_at base r base.page.width b) done below (pre ++ blank b ∷ []) false (pen_at r base.page.width pen.attrs))
+    DrawsIn May (over_blank pen r base.page.width b) (mid base done below (pre ++ blank b ∷ []) false pen)
+    (mid (saved_at base r base.page.width b) done below
+    (pre ++ blank b ∷ []) false (pen_at r base.page.width pen.attrs))
 unfolding over_blank
 over_blank_draws May base done below pre pen r height b reads e rows w h within may =
     let row = pre ++ blank b ∷ [] in
@@ -190,9 +233,11 @@ over_blank_draws May base done below pre pen r height b reads e rows w h within 
     let col : width - 1 ≡ length pre = omega arith in
     let m0 = mid base done below row false pen in
     let m1 = mid base done below row false (pen_at r (length pre) pen.attrs) in
-    in_then May (going pen r (width - 1)) (blank_passed pen.attrs b) m0 m1 (mid (saved_at base r width b) done below row false (pen_at r width pen.attrs))
+    in_then May (going pen r (width - 1)) (blank_passed pen.attrs b) m0 m1
+    (mid (saved_at base r width b) done below row false (pen_at r width pen.attrs))
     (in_to May (going pen r (width - 1)) m0 (mid base done below row false (pen_at r (width - 1) pen.attrs)) m1
-    (going_there May base done below row false r (width - 1) height pen reads e rows (omega arith) within) (ap (λ (z : ℕ). mid base done below row false (pen_at r z pen.attrs)) col))
+    (going_there May base done below row false r (width - 1) height pen reads e rows (omega arith) within)
+    (ap (λ (z : ℕ). mid base done below row false (pen_at r z pen.attrs)) col))
     (blank_passed_draws May base done below pre r pen.attrs b reads.has_columns e w h may)
 
 -- the last column of a row that ends blank
@@ -209,16 +254,26 @@ abbrev pub Puts : (ℕ → ℕ → Type 0) → List Op → (start goal : Canvas)
 Puts May ops start goal = (saved : Saved) × DrawsIn May ops start (with_saved saved goal)
 
 abbrev pub saved_of : Canvas → Saved
-saved_of canvas = record { row = canvas.page.saved_row; column = canvas.page.saved_column; origin = canvas.page.saved_origin; attrs = canvas.saved_attrs }
+saved_of canvas = record {
+  row = canvas.page.saved_row;
+  column = canvas.page.saved_column;
+  origin = canvas.page.saved_origin;
+  attrs = canvas.saved_attrs;
+}
 
 pub off : (wrapped : Bool) (cells : List CellValue) → Sound wrapped cells → ends cells ≡ true → wrapped ≡ false
 off true cells h e = let k = h refl in absurd (cc)
 off false cells h e = refl
 
-pending_draws : (May : ℕ → ℕ → Type 0) (base : Canvas) (rows : List RowValue) (pen : Pen) (r height : ℕ) (found : Option ℕ) → Reads base height base.page.width → length rows ≡ height → AllByRecursion (Stands base.page.width) rows → AllByRecursion (PrintsRow base.page.width) rows →
+pending_draws : (May : ℕ → ℕ → Type 0) (base : Canvas)
+    (rows : List RowValue) (pen : Pen) (r height : ℕ) (found : Option ℕ) →
+    Reads base height base.page.width → length rows ≡ height → AllByRecursion (Stands base.page.width) rows →
+    AllByRecursion (PrintsRow base.page.width) rows →
     r < height → Within pen height base.page.width → NearestIs base.page.width rows r found →
-    ((k : ℕ) → last_column (row_or base.page.width rows (placing_row found r)).cells ≤ k → k < base.page.width → May (placing_row found r) k) →
-    Puts May (pending_at found pen base.page.width rows r) (at_pen base rows pen) (at_pen base rows (pen_at r base.page.width pen.attrs))
+    ((k : ℕ) → last_column (row_or base.page.width rows (placing_row found r)).cells ≤ k →
+    k < base.page.width → May (placing_row found r) k) →
+    Puts May (pending_at found pen base.page.width rows r) (at_pen base rows pen)
+    (at_pen base rows (pen_at r base.page.width pen.attrs))
 pending_draws May base rows pen r height (Some i) reads size all prints low within near may =
     (saved_of base, under_last_draws May base rows pen i r height reads size all prints near.0 low within near.1 may)
 pending_draws May base rows pen r height None reads size all prints low within near may =
@@ -236,22 +291,33 @@ pending_draws May base rows pen r height None reads size all prints low within n
     let b = k.attrs in
     let row = k.pre ++ blank b ∷ [] in
     let size_k = sym ok.columns ∙ (ap length k.is ∙ length-append k.pre (blank b ∷ [])) in
-    let attrs : attrs_of (at x.cells (width - 1)) ≡ b = ap (λ (z : List CellValue). attrs_of (at z (width - 1))) k.is ∙ last_attrs k.pre b (width - 1) (omega arith) in
+    let attrs : attrs_of (at x.cells (width - 1)) ≡ b =
+    ap (λ (z : List CellValue). attrs_of (at z (width - 1))) k.is ∙ last_attrs k.pre b (width - 1) (omega arith) in
     let same : rows ≡ v.done ++ row_of row false ∷ v.below =
     v.is ∙ (ap (λ (z : List CellValue). v.done ++ row_of z x.wrapped ∷ v.below) k.is
     ∙ ap (λ (z : Bool). v.done ++ row_of row z ∷ v.below) (off x.wrapped x.cells ok.sound full)) in
     let goal = pen_at r width pen.attrs in
     let last : last_column x.cells ≡ length k.pre = ap last_column k.is ∙ last_blank_column k.pre b in (
       record { row = r; column = width; origin = base.page.origin; attrs = b },
-      subst (λ (a : Attrs). DrawsIn May (over_blank pen r width a) (at_pen base rows pen) (at_pen (saved_at base r width b) rows goal)) (sym attrs)
-          (subst (λ (z : List RowValue). DrawsIn May (over_blank pen r width b) (at_pen base z pen) (at_pen (saved_at base r width b) z goal)) (sym same)
-          (over_blank_draws May base v.done v.below k.pre pen r height b reads v.above (omega arith) (omega arith) k.front within (λ j low high. may j (subst (λ (n : ℕ). n ≤ j) (sym last) low) high))),
+      subst (λ (a : Attrs). DrawsIn May (over_blank pen r width a)
+          (at_pen base rows pen) (at_pen (saved_at base r width b) rows goal))
+          (sym attrs)
+          (subst (λ (z : List RowValue). DrawsIn May (over_blank pen r width b)
+          (at_pen base z pen) (at_pen (saved_at base r width b) z goal))
+          (sym same)
+          (over_blank_draws May base v.done v.below k.pre pen r height b reads v.above (omega arith)
+          (omega arith) k.front within (λ j low high. may j (subst (λ (n : ℕ). n ≤ j) (sym last) low) high))),
     )
 
-pub cursor_draws : (May : ℕ → ℕ → Type 0) (base : Canvas) (rows : List RowValue) (pen : Pen) (r c height : ℕ) → Reads base height base.page.width → length rows ≡ height → AllByRecursion (Stands base.page.width) rows → AllByRecursion (PrintsRow base.page.width) rows →
+pub cursor_draws : (May : ℕ → ℕ → Type 0) (base : Canvas) (rows : List RowValue) (pen : Pen) (r c height : ℕ) →
+    Reads base height base.page.width → length rows ≡ height →
+    AllByRecursion (Stands base.page.width) rows → AllByRecursion (PrintsRow base.page.width) rows →
     r < height → c ≤ base.page.width → Within pen height base.page.width →
-    (c ≡ base.page.width → (k : ℕ) → last_column (row_or base.page.width rows (placing_row (nearest base.page.width rows r) r)).cells ≤ k → k < base.page.width → May (placing_row (nearest base.page.width rows r) r) k) →
-    Puts May (cursor_written pen base.page.width rows r c) (at_pen base rows pen) (at_pen base rows (pen_at r c pen.attrs))
+    (c ≡ base.page.width → (k : ℕ) →
+    last_column (row_or base.page.width rows (placing_row (nearest base.page.width rows r) r)).cells ≤ k →
+    k < base.page.width → May (placing_row (nearest base.page.width rows r) r) k) →
+    Puts May (cursor_written pen base.page.width rows r c)
+    (at_pen base rows pen) (at_pen base rows (pen_at r c pen.attrs))
 unfolding cursor_written
 cursor_draws May base rows pen r c height reads size all prints low le within may =
     let width = base.page.width in
@@ -259,10 +325,18 @@ cursor_draws May base rows pen r c height reads size all prints low le within ma
     let P : List Op → Type 0 = λ ops. Puts May ops start (at_pen base rows (pen_at r c pen.attrs)) in
     let rest = if nat_lt c width then going pen r c else pending_at (nearest width rows r) pen width rows r in
     cond_both (is_at pen r c) [] rest P
-    (λ (t : is_at pen r c ≡ true). (saved_of base, record { draws = ap (λ (q : Pen). Some (at_pen base rows q)) (same_pen pen r c t); touches = tt }))
+    (λ (t : is_at pen r c ≡ true).
+    (saved_of base, record { draws = ap (λ (q : Pen). Some (at_pen base rows q)) (same_pen pen r c t); touches = tt }))
     (λ _. cond_both (nat_lt c width) (going pen r c) (pending_at (nearest width rows r) pen width rows r) P
-    (λ (t : nat_lt c width ≡ true). (saved_of base, quiet_in May (going pen r c) start (at_pen base rows (pen_at r c pen.attrs)) (going_quiet pen r c) (going_draws base rows pen r c height width reads size within low (ltb-true c width t))))
+    (λ (t : nat_lt c width ≡ true). (
+      saved_of base,
+      quiet_in May (going pen r c) start (at_pen base rows (pen_at r c pen.attrs)) (going_quiet pen r c)
+          (going_draws base rows pen r c height width reads size within low (ltb-true c width t)),
+    ))
     (λ (t : nat_lt c width ≡ false).
     let whole : width ≡ c = grind (arith, nat_tests) in
-    subst (λ (z : ℕ). Puts May (pending_at (nearest width rows r) pen width rows r) start (at_pen base rows (pen_at r z pen.attrs))) whole
-    (pending_draws May base rows pen r height (nearest width rows r) reads size all prints low within (nearest_is width rows r) (may (sym whole)))))
+    subst (λ (z : ℕ). Puts May (pending_at (nearest width rows r) pen width rows r)
+    start (at_pen base rows (pen_at r z pen.attrs)))
+    whole
+    (pending_draws May base rows pen r height (nearest width rows r) reads
+    size all prints low within (nearest_is width rows r) (may (sym whole)))))

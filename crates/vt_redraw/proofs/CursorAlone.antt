@@ -1,5 +1,6 @@
 -- The cursor alone: a reader that shows the rest, with its cursor anywhere and default attributes.
-use Rattle.std.proofs.Common.{◌≡◌, ℕ, ◌+◌, ◌-◌, ◌<◌, ◌≤◌, nat_lt, Bool, true, false, List, [], ◌∷◌, ◌++◌, length, replicate, Option, Some, None, refl, sym, ap, ◌∙◌, subst, append_assoc, arith}
+use Rattle.std.proofs.Common.{◌≡◌, ℕ, ◌+◌, ◌-◌, ◌<◌, ◌≤◌, nat_lt, Bool, true, false, List, [], ◌∷◌, ◌++◌, length}
+use Rattle.std.proofs.Common.{replicate, Option, Some, None, refl, sym, ap, ◌∙◌, subst, append_assoc, arith}
 use Rattle.std.specs.Prelude.{if◌then◌else◌, All}
 use Rattle.std.specs.List.{AllByRecursion}
 use Rattle.std.proofs.lemmas.Bool.{cond_both, ltb-true}
@@ -32,17 +33,26 @@ use Rattle.vt_redraw.proofs.Touched.{DrawsIn, in_then, in_to, quiet_in, changing
 use Rattle.vt_redraw.proofs.Places.{PrintsCells}
 use Rattle.vt_redraw.proofs.Link.{length_glyph, last_cases, prints_last, print_again}
 use Rattle.vt_redraw.proofs.Rows.{Stands, PrintsRow}
-use Rattle.vt_redraw.proofs.Cursor.{split_row, all_row, NearestIs, nearest_is, down_draws, ends_in_blank, last_attrs, last_blank_column, off, saved_at, saved_of, blank_passed_draws, Puts}
+use Rattle.vt_redraw.proofs.Cursor.{split_row, all_row, NearestIs, nearest_is, down_draws, ends_in_blank, last_attrs}
+use Rattle.vt_redraw.proofs.Cursor.{last_blank_column, off, saved_at, saved_of, blank_passed_draws, Puts}
 use Rattle.vt_redraw.proofs.Difference.{rows_stand, picture_prints}
 
 -- the last glyph of a row is printed again, from anywhere
-printed_again : (May : ℕ → ℕ → Type 0) (base : Canvas) (done below : List RowValue) (xs : List CellValue) (flag : Bool) (r : ℕ) (pen : Pen) → base.page.origin ≡ false → length done ≡ r → length xs ≡ base.page.width →
-    Paired xs → ends xs ≡ false → PrintsCells base.page.width xs → ((k : ℕ) → last_column xs ≤ k → k < base.page.width → May r k) →
-    DrawsIn May (MoveTo r (last_column xs) ∷ (changing pen.attrs (attrs_of (last_glyph xs)) ++ Print (text_of (last_glyph xs)) ∷ [])) (mid base done below xs flag pen) (mid base done below xs flag (pen_at r base.page.width (attrs_of (last_glyph xs))))
+printed_again : (May : ℕ → ℕ → Type 0) (base : Canvas) (done below : List RowValue)
+    (xs : List CellValue) (flag : Bool) (r : ℕ) (pen : Pen) →
+    base.page.origin ≡ false → length done ≡ r → length xs ≡ base.page.width →
+    Paired xs → ends xs ≡ false → PrintsCells base.page.width xs →
+    ((k : ℕ) → last_column xs ≤ k → k < base.page.width → May r k) →
+    DrawsIn May (MoveTo r (last_column xs)
+    ∷ (changing pen.attrs (attrs_of (last_glyph xs)) ++ Print (text_of (last_glyph xs)) ∷ []))
+    (mid base done below xs flag pen)
+    (mid base done below xs flag (pen_at r base.page.width (attrs_of (last_glyph xs))))
 printed_again May base done below xs flag r pen origin e w h full prints may =
     last_cases
-    (λ z k x. PrintsCells base.page.width z → length z ≡ base.page.width → Sound flag z → ((j : ℕ) → k ≤ j → j < base.page.width → May r j) →
-    DrawsIn May (MoveTo r k ∷ (changing pen.attrs (attrs_of x) ++ Print (text_of x) ∷ [])) (mid base done below z flag pen) (mid base done below z flag (pen_at r base.page.width (attrs_of x))))
+    (λ z k x. PrintsCells base.page.width z → length z ≡ base.page.width →
+    Sound flag z → ((j : ℕ) → k ≤ j → j < base.page.width → May r j) →
+    DrawsIn May (MoveTo r k ∷ (changing pen.attrs (attrs_of x) ++ Print (text_of x) ∷ []))
+    (mid base done below z flag pen) (mid base done below z flag (pen_at r base.page.width (attrs_of x))))
     (λ pre text wide a front p size sound mays.
     let n = length_glyph pre text wide a in
     let one = some_columns wide in
@@ -55,10 +65,14 @@ printed_again May base done below xs flag r pen origin e w h full prints may =
     let m2 = mid base done below row flag (pen_at r c a) in
     let m3 = mid base done below row flag (pen_at r base.page.width a) in
     in_then May (MoveTo r c ∷ []) (changing pen.attrs a ++ Print text ∷ []) m0 m1 m3
-    (quiet_in May (MoveTo r c ∷ []) m0 m1 (refl, tt) (move_to_draws base rows pen r c origin (omega arith) (omega arith)))
-    (in_then May (changing pen.attrs a) (Print text ∷ []) m1 m2 m3 (quiet_in May (changing pen.attrs a) m1 m2 (changing_quiet pen.attrs a) (changing_draws base rows (pen_at r c pen.attrs) a))
+    (quiet_in May (MoveTo r c ∷ []) m0 m1 (refl, tt)
+    (move_to_draws base rows pen r c origin (omega arith) (omega arith)))
+    (in_then May (changing pen.attrs a) (Print text ∷ []) m1 m2 m3
+    (quiet_in May (changing pen.attrs a) m1 m2 (changing_quiet pen.attrs a)
+    (changing_draws base rows (pen_at r c pen.attrs) a))
     (in_to May (Print text ∷ []) m2 (mid base done below row flag (pen_at r (c + first_columns wide) a)) m3
-    (print_again May base done below pre text wide a flag r (prints_last base.page.width pre text wide a p) e (sym n ∙ size) front sound mays)
+    (print_again May base done below pre text wide a flag r
+    (prints_last base.page.width pre text wide a p) e (sym n ∙ size) front sound mays)
     (ap (λ (k : ℕ). mid base done below row flag (pen_at r k a)) (sym n ∙ size)))))
     xs h full prints w (λ _. full) may
   where
@@ -66,10 +80,15 @@ printed_again May base done below xs flag r pen origin e w h full prints may =
     some_columns true = omega arith
     some_columns false = omega arith
 
-alone_draws : (May : ℕ → ℕ → Type 0) (base : Canvas) (rows : List RowValue) (p : Pen) (r height : ℕ) (found : Option ℕ) → p.attrs ≡ default_attrs → Reads base height base.page.width → length rows ≡ height →
-    AllByRecursion (Stands base.page.width) rows → AllByRecursion (PrintsRow base.page.width) rows → r < height → NearestIs base.page.width rows r found →
-    ((k : ℕ) → last_column (row_or base.page.width rows (placing_row found r)).cells ≤ k → k < base.page.width → May (placing_row found r) k) →
-    Puts May (pending_alone found base.page.width rows r) (at_pen base rows p) (at_pen base rows (pen_at r base.page.width default_attrs))
+alone_draws : (May : ℕ → ℕ → Type 0) (base : Canvas)
+    (rows : List RowValue) (p : Pen) (r height : ℕ) (found : Option ℕ) →
+    p.attrs ≡ default_attrs → Reads base height base.page.width → length rows ≡ height →
+    AllByRecursion (Stands base.page.width) rows → AllByRecursion (PrintsRow base.page.width) rows →
+    r < height → NearestIs base.page.width rows r found →
+    ((k : ℕ) → last_column (row_or base.page.width rows (placing_row found r)).cells ≤ k →
+    k < base.page.width → May (placing_row found r) k) →
+    Puts May (pending_alone found base.page.width rows r) (at_pen base rows p)
+    (at_pen base rows (pen_at r base.page.width default_attrs))
 alone_draws May base rows p r height (Some i) attrs reads size all prints low near may =
     let width = base.page.width in
     let d = blank_row default_attrs width in
@@ -79,24 +98,35 @@ alone_draws May base rows p r height (Some i) attrs reads size all prints low ne
     let ok = all_row (Stands width) rows i d (omega arith) all in
     let v = split_row rows i d (omega arith) in
     let pen = pen_at p.row p.col default_attrs in
-    let ops = MoveTo i (last_column x.cells) ∷ (changing default_attrs a ++ Print (text_of (last_glyph x.cells)) ∷ []) in
+    let ops =
+    MoveTo i (last_column x.cells) ∷ (changing default_attrs a ++ Print (text_of (last_glyph x.cells)) ∷ []) in
     let n : i + (r - i) ≡ r = omega arith in
     let m0 = at_pen base rows pen in
     let m1 = at_pen base rows (pen_at i width a) in
     let m2 = at_pen base rows (pen_at i width default_attrs) in
     let m3 = at_pen base rows (pen_at r width default_attrs) in
-    let again : DrawsIn May ops m0 m1 = subst (λ (z : List RowValue). DrawsIn May ops (at_pen base z pen) (at_pen base z (pen_at i width a))) (sym v.is)
-    (printed_again May base v.done v.below x.cells x.wrapped i pen reads.origin v.above ok.columns ok.paired (sym (ends_is x.cells) ∙ near.1) (all_row (PrintsRow width) rows i d (omega arith) prints) may) in
+    let again : DrawsIn May ops m0 m1 =
+    subst (λ (z : List RowValue). DrawsIn May ops (at_pen base z pen) (at_pen base z (pen_at i width a))) (sym v.is)
+    (printed_again May base v.done v.below x.cells x.wrapped i pen reads.origin v.above ok.columns ok.paired
+    (sym (ends_is x.cells) ∙ near.1) (all_row (PrintsRow width) rows i d (omega arith) prints) may) in
     let tail = in_then May (changing a default_attrs) (replicate (r - i) LineFeed) m1 m2 m3
-    (quiet_in May (changing a default_attrs) m1 m2 (changing_quiet a default_attrs) (changing_draws base rows (pen_at i width a) default_attrs))
-    (quiet_in May (replicate (r - i) LineFeed) m2 m3 (feeds_quiet (r - i)) (down_draws base rows (r - i) i width height default_attrs reads.bottom size (omega arith) ∙ ap (λ (z : ℕ). Some (at_pen base rows (pen_at z width default_attrs))) n)) in (
+    (quiet_in May (changing a default_attrs) m1 m2 (changing_quiet a default_attrs)
+    (changing_draws base rows (pen_at i width a) default_attrs))
+    (quiet_in May (replicate (r - i) LineFeed) m2 m3 (feeds_quiet (r - i))
+    (down_draws base rows (r - i) i width height default_attrs reads.bottom size (omega arith)
+    ∙ ap (λ (z : ℕ). Some (at_pen base rows (pen_at z width default_attrs))) n)) in (
       saved_of base,
-      subst (λ (c : Attrs). DrawsIn May (pending_alone (Some i) width rows r) (at_pen base rows (pen_at p.row p.col c)) m3) (sym attrs)
-          (subst (λ (z : List Op). DrawsIn May z m0 m3) (regrouped (MoveTo i (last_column x.cells)) (changing default_attrs a) (Print (text_of (last_glyph x.cells))) (changing a default_attrs ++ replicate (r - i) LineFeed))
+      subst (λ (c : Attrs). DrawsIn May (pending_alone (Some i) width rows r)
+          (at_pen base rows (pen_at p.row p.col c)) m3)
+          (sym attrs)
+          (subst (λ (z : List Op). DrawsIn May z m0 m3)
+          (regrouped (MoveTo i (last_column x.cells)) (changing default_attrs a)
+          (Print (text_of (last_glyph x.cells))) (changing a default_attrs ++ replicate (r - i) LineFeed))
           (in_then May ops (changing a default_attrs ++ replicate (r - i) LineFeed) m0 m1 m3 again tail)),
     )
   where
-    regrouped : (op : Op) (ops : List Op) (print : Op) (more : List Op) → (op ∷ (ops ++ print ∷ [])) ++ more ≡ op ∷ (ops ++ print ∷ more)
+    regrouped : (op : Op) (ops : List Op) (print : Op) (more : List Op) →
+        (op ∷ (ops ++ print ∷ [])) ++ more ≡ op ∷ (ops ++ print ∷ more)
     regrouped op ops print more = ap (λ (z : List Op). op ∷ z) (append_assoc ops (print ∷ []) more)
 alone_draws May base rows p r height None attrs reads size all prints low near may =
     let width = base.page.width in
@@ -112,7 +142,8 @@ alone_draws May base rows p r height None attrs reads size all prints low near m
     let row = k.pre ++ blank b ∷ [] in
     let size_k = sym ok.columns ∙ (ap length k.is ∙ length-append k.pre (blank b ∷ [])) in
     let col : width - 1 ≡ length k.pre = omega arith in
-    let blank_attrs : attrs_of (at x.cells (width - 1)) ≡ b = ap (λ (z : List CellValue). attrs_of (at z (width - 1))) k.is ∙ last_attrs k.pre b (width - 1) (omega arith) in
+    let blank_attrs : attrs_of (at x.cells (width - 1)) ≡ b =
+    ap (λ (z : List CellValue). attrs_of (at z (width - 1))) k.is ∙ last_attrs k.pre b (width - 1) (omega arith) in
     let last : last_column x.cells ≡ length k.pre = ap last_column k.is ∙ last_blank_column k.pre b in
     let same : rows ≡ v.done ++ row_of row false ∷ v.below =
     v.is ∙ (ap (λ (z : List CellValue). v.done ++ row_of z x.wrapped ∷ v.below) k.is
@@ -121,18 +152,30 @@ alone_draws May base rows p r height None attrs reads size all prints low near m
     let goal = pen_at r width default_attrs in
     let passed = λ (a : Attrs). MoveTo r (width - 1) ∷ blank_passed default_attrs a in
     let m1 = at_pen base rows (pen_at r (width - 1) default_attrs) in
-    let moved = quiet_in May (MoveTo r (width - 1) ∷ []) (at_pen base rows pen) m1 (refl, tt) (move_to_draws base rows pen r (width - 1) reads.origin (omega arith) (omega arith)) in
-    let there = subst (λ (z : List RowValue). DrawsIn May (blank_passed default_attrs b) (at_pen base z (pen_at r (length k.pre) default_attrs)) (at_pen (saved_at base r width b) z goal)) (sym same)
-    (blank_passed_draws May base v.done v.below k.pre r default_attrs b pos v.above (omega arith) k.front (λ j low high. may j (subst (λ (n : ℕ). n ≤ j) (sym last) low) high)) in (
+    let moved = quiet_in May (MoveTo r (width - 1) ∷ []) (at_pen base rows pen) m1 (refl, tt)
+    (move_to_draws base rows pen r (width - 1) reads.origin (omega arith) (omega arith)) in
+    let there = subst (λ (z : List RowValue). DrawsIn May (blank_passed default_attrs b)
+    (at_pen base z (pen_at r (length k.pre) default_attrs)) (at_pen (saved_at base r width b) z goal))
+    (sym same)
+    (blank_passed_draws May base v.done v.below k.pre r default_attrs b pos v.above (omega arith)
+    k.front (λ j low high. may j (subst (λ (n : ℕ). n ≤ j) (sym last) low) high)) in (
       record { row = r; column = width; origin = base.page.origin; attrs = b },
-      subst (λ (c : Attrs). DrawsIn May (passed (attrs_of (at x.cells (width - 1)))) (at_pen base rows (pen_at p.row p.col c)) (at_pen (saved_at base r width b) rows goal)) (sym attrs)
-          (subst (λ (a : Attrs). DrawsIn May (passed a) (at_pen base rows pen) (at_pen (saved_at base r width b) rows goal)) (sym blank_attrs)
-          (in_then May (MoveTo r (width - 1) ∷ []) (blank_passed default_attrs b) (at_pen base rows pen) m1 (at_pen (saved_at base r width b) rows goal) moved
-          (subst (λ (z : ℕ). DrawsIn May (blank_passed default_attrs b) (at_pen base rows (pen_at r z default_attrs)) (at_pen (saved_at base r width b) rows goal)) (sym col) there))),
+      subst (λ (c : Attrs). DrawsIn May (passed (attrs_of (at x.cells (width - 1))))
+          (at_pen base rows (pen_at p.row p.col c)) (at_pen (saved_at base r width b) rows goal))
+          (sym attrs)
+          (subst
+          (λ (a : Attrs). DrawsIn May (passed a) (at_pen base rows pen) (at_pen (saved_at base r width b) rows goal))
+          (sym blank_attrs)
+          (in_then May (MoveTo r (width - 1) ∷ []) (blank_passed default_attrs b)
+          (at_pen base rows pen) m1 (at_pen (saved_at base r width b) rows goal) moved
+          (subst (λ (z : ℕ). DrawsIn May (blank_passed default_attrs b)
+          (at_pen base rows (pen_at r z default_attrs)) (at_pen (saved_at base r width b) rows goal))
+          (sym col) there))),
     )
 
 -- the cursor and hiding are set, and only the end of one row is touched
-cursor_state_in : (self : Picture) (any : Canvas) → IsPicture self → IsSteady self → IsPlainPage any.page → any.page.rows ≡ self.rows → any.page.width ≡ self.width → any.attrs ≡ default_attrs →
+cursor_state_in : (self : Picture) (any : Canvas) → IsPicture self → IsSteady self → IsPlainPage any.page →
+    any.page.rows ≡ self.rows → any.page.width ≡ self.width → any.attrs ≡ default_attrs →
     Puts (MayPlace self) (cursor_state self) any (with_cursor_of self any)
 unfolding cursor_state
 cursor_state_in self any is steady plain rows_are width_is attrs =
@@ -142,45 +185,66 @@ cursor_state_in self any is steady plain rows_are width_is attrs =
     let height = length self.rows in
     let bottom = plain.whole.1 in
     let count = ap length rows_are in
-    let reads : Reads base height width = record { bottom = omega arith; origin = plain.origin; wide = refl; has_columns = is.has_columns } in
+    let reads : Reads base height width =
+    record { bottom = omega arith; origin = plain.origin; wide = refl; has_columns = is.has_columns } in
     let rows = recursion_from_All (IsRow width) self.rows is.rows in
     let stand = rows_stand width self.rows rows in
-    let prints = picture_prints width self.rows is.has_columns rows (recursion_from_All (λ row. All (IsSteadyCell width) row.cells) self.rows steady) in
+    let prints = picture_prints width self.rows is.has_columns rows
+    (recursion_from_All (λ row. All (IsSteadyCell width) row.cells) self.rows steady) in
     let p = pen_at any.page.row any.page.column any.attrs in
     let column = is.cursor_column in
     let goal = at_pen base self.rows (pen_at self.row self.column default_attrs) in
-    let rest = if nat_lt self.column width then MoveTo self.row self.column ∷ [] else pending_alone (nearest width self.rows self.row) width self.rows self.row in
-    let puts : Puts May rest (at_pen base self.rows p) goal = cond_both (nat_lt self.column width) (MoveTo self.row self.column ∷ []) (pending_alone (nearest width self.rows self.row) width self.rows self.row) (λ (ops : List Op). Puts May ops (at_pen base self.rows p) goal)
+    let rest = if nat_lt self.column width then MoveTo self.row self.column ∷ []
+    else pending_alone (nearest width self.rows self.row) width self.rows self.row in
+    let puts : Puts May rest (at_pen base self.rows p) goal =
+    cond_both (nat_lt self.column width) (MoveTo self.row self.column ∷ [])
+    (pending_alone (nearest width self.rows self.row) width self.rows self.row)
+    (λ (ops : List Op). Puts May ops (at_pen base self.rows p) goal)
     (λ (t : nat_lt self.column width ≡ true). (
       saved_of base,
       quiet_in May (MoveTo self.row self.column ∷ []) (at_pen base self.rows p) goal (refl, tt)
-          (move_to_draws base self.rows p self.row self.column reads.origin is.cursor_row (ltb-true self.column width t) ∙ ap (λ (a : Attrs). Some (at_pen base self.rows (pen_at self.row self.column a))) attrs),
+          (move_to_draws base self.rows p self.row self.column reads.origin is.cursor_row (ltb-true self.column width t)
+          ∙ ap (λ (a : Attrs). Some (at_pen base self.rows (pen_at self.row self.column a))) attrs),
     ))
     (λ (t : nat_lt self.column width ≡ false).
     let whole : width ≡ self.column = grind (arith, nat_tests) in
-    subst (λ (z : ℕ). Puts May (pending_alone (nearest width self.rows self.row) width self.rows self.row) (at_pen base self.rows p) (at_pen base self.rows (pen_at self.row z default_attrs))) whole
-    (alone_draws May base self.rows p self.row height (nearest width self.rows self.row) attrs reads refl stand prints is.cursor_row (nearest_is width self.rows self.row) (λ k low high. (sym whole, (refl, low))))) in
+    subst (λ (z : ℕ). Puts May (pending_alone (nearest width self.rows self.row) width self.rows self.row)
+    (at_pen base self.rows p) (at_pen base self.rows (pen_at self.row z default_attrs)))
+    whole
+    (alone_draws May base self.rows p self.row height (nearest width self.rows self.row) attrs reads refl stand
+    prints is.cursor_row (nearest_is width self.rows self.row) (λ k low high. (sym whole, (refl, low))))) in
     let start : any ≡ record (at_pen base self.rows p) { hidden = any.hidden } =
     ap (λ (z : List RowValue). record any { page = record (any.page) { rows = z } }) rows_are
     ∙ ap (λ (w : ℕ). record any { page = record (any.page) { rows = self.rows; width = w } }) width_is in
     let end : with_saved puts.0 goal ≡ with_saved puts.0 (with_cursor_of self any) =
-    ap (λ (z : List RowValue). with_saved puts.0 (record goal { page = record (goal.page) { rows = z } })) (sym rows_are)
-    ∙ (ap (λ (w : ℕ). with_saved puts.0 (record (with_cursor_of self any) { page = record ((with_cursor_of self any).page) { width = w }; attrs = default_attrs })) (sym width_is)
+    ap (λ (z : List RowValue). with_saved puts.0 (record goal { page = record (goal.page) { rows = z } }))
+    (sym rows_are)
+    ∙ (ap (λ (w : ℕ). with_saved puts.0
+    (record (with_cursor_of self any)
+    { page = record ((with_cursor_of self any).page) { width = w }; attrs = default_attrs }))
+    (sym width_is)
     ∙ ap (λ (a : Attrs). with_saved puts.0 (record (with_cursor_of self any) { attrs = a })) (sym attrs)) in (
       puts.0,
-      subst (λ (c : Canvas). DrawsIn May (Hide self.hidden ∷ rest) c (with_saved puts.0 (with_cursor_of self any))) (sym start)
-          (in_then May (Hide self.hidden ∷ []) rest (record (at_pen base self.rows p) { hidden = any.hidden }) (at_pen base self.rows p) (with_saved puts.0 (with_cursor_of self any))
-          (quiet_in May (Hide self.hidden ∷ []) (record (at_pen base self.rows p) { hidden = any.hidden }) (at_pen base self.rows p) (refl, tt) refl)
-          (in_to May rest (at_pen base self.rows p) (with_saved puts.0 goal) (with_saved puts.0 (with_cursor_of self any)) puts.1 end)),
+      subst (λ (c : Canvas). DrawsIn May (Hide self.hidden ∷ rest) c (with_saved puts.0 (with_cursor_of self any)))
+          (sym start)
+          (in_then May (Hide self.hidden ∷ []) rest (record (at_pen base self.rows p) { hidden = any.hidden })
+          (at_pen base self.rows p) (with_saved puts.0 (with_cursor_of self any))
+          (quiet_in May (Hide self.hidden ∷ []) (record (at_pen base self.rows p) { hidden = any.hidden })
+          (at_pen base self.rows p) (refl, tt) refl)
+          (in_to May rest (at_pen base self.rows p) (with_saved puts.0 goal)
+          (with_saved puts.0 (with_cursor_of self any)) puts.1 end)),
     )
 
-pub cursor_state_draws : (self : Picture) (any : Canvas) → IsPicture self → IsSteady self → IsPlainPage any.page → any.page.rows ≡ self.rows → any.page.width ≡ self.width → any.attrs ≡ default_attrs →
+pub cursor_state_draws : (self : Picture) (any : Canvas) → IsPicture self → IsSteady self →
+    IsPlainPage any.page → any.page.rows ≡ self.rows → any.page.width ≡ self.width → any.attrs ≡ default_attrs →
     (saved : Saved) × Draws (cursor_state self) any (with_saved saved (with_cursor_of self any))
 cursor_state_draws self any is steady plain rows width attrs =
     let puts = cursor_state_in self any is steady plain rows width attrs in
     (puts.0, puts.1.draws)
 
-pub cursor_state_local : (self : Picture) (any : Canvas) → IsPicture self → IsSteady self → IsPlainPage any.page → any.page.rows ≡ self.rows → any.page.width ≡ self.width → any.attrs ≡ default_attrs → Touches (MayPlace self) (cursor_state self) any
+pub cursor_state_local : (self : Picture) (any : Canvas) → IsPicture self → IsSteady self →
+    IsPlainPage any.page → any.page.rows ≡ self.rows → any.page.width ≡ self.width →
+    any.attrs ≡ default_attrs → Touches (MayPlace self) (cursor_state self) any
 cursor_state_local self any is steady plain rows width attrs =
     let puts = cursor_state_in self any is steady plain rows width attrs in
     puts.1.touches

@@ -1,5 +1,6 @@
 -- Rows cut to a width are rows of a picture, and those of a page are cut to themselves.
-use Rattle.std.proofs.Common.{◌≡◌, ℕ, suc, ◌-◌, ◌&&◌, Bool, true, false, not, List, [], ◌∷◌, length, refl, sym, ap, ◌∙◌, arith}
+use Rattle.std.proofs.Common.{◌≡◌, ℕ, suc, ◌-◌, ◌&&◌, Bool, true, false, not, List}
+use Rattle.std.proofs.Common.{[], ◌∷◌, length, refl, sym, ap, ◌∙◌, arith}
 use Rattle.std.specs.Prelude.{All}
 use Rattle.std.specs.List.{AllByRecursion}
 use Rattle.std.proofs.lemmas.List.Elements.{recursion_from_All, All-nil, All-cons}
@@ -24,9 +25,12 @@ length_cut width (x ∷ []) = refl
 length_cut width (x ∷ y ∷ rows) = ap suc (length_cut width (y ∷ rows))
 
 cut_row : (width : ℕ) (row : RowValue) → IsAnyRow row → IsRow width (with_cells row (resized width row.cells))
-cut_row width row is = IsRow-with_cells width row (resized width row.cells) (length-resized width row.cells) (IsPaired-resized width row.cells is.paired) (All-resized width row.cells is.sound)
+cut_row width row is =
+    IsRow-with_cells width row (resized width row.cells) (length-resized width row.cells)
+    (IsPaired-resized width row.cells is.paired) (All-resized width row.cells is.sound)
 
-pub cut_are : (width : ℕ) (rows : List RowValue) → AllByRecursion IsAnyRow rows → All (IsRow width) (cut_rows width rows)
+pub cut_are : (width : ℕ) (rows : List RowValue) →
+    AllByRecursion IsAnyRow rows → All (IsRow width) (cut_rows width rows)
 cut_are width [] is = All-nil (IsRow width)
 cut_are width (x ∷ []) is =
     let row : RowValue = record { cells = resized width x.cells; wrapped = false } in
@@ -36,9 +40,12 @@ cut_are width (x ∷ []) is =
       flagged = λ t. absurd (cc);
       sound = All-resized width x.cells is.0.sound;
     }) (All-nil (IsRow width))
-cut_are width (x ∷ y ∷ rows) is = All-cons (IsRow width) (with_cells x (resized width x.cells)) (cut_rows width (y ∷ rows)) (cut_row width x is.0) (cut_are width (y ∷ rows) is.1)
+cut_are width (x ∷ y ∷ rows) is =
+    All-cons (IsRow width) (with_cells x (resized width x.cells))
+    (cut_rows width (y ∷ rows)) (cut_row width x is.0) (cut_are width (y ∷ rows) is.1)
 
-cut_last : (width : ℕ) (rows : List RowValue) → (row_or width (cut_rows width rows) (length (cut_rows width rows) - 1)).wrapped ≡ false
+cut_last : (width : ℕ) (rows : List RowValue) →
+    (row_or width (cut_rows width rows) (length (cut_rows width rows) - 1)).wrapped ≡ false
 cut_last width [] = refl
 cut_last width (x ∷ []) = refl
 cut_last width (x ∷ y ∷ rows) =
@@ -49,7 +56,8 @@ cut_last width (x ∷ y ∷ rows) =
     ap (λ (k : ℕ). (row_or width (here ∷ cut) k).wrapped) e ∙ cut_last width (y ∷ rows)
 
 -- the rows that are shown, as many as a page has and cut to its width, are those of a picture
-pub picture_over_is : (visible : List RowValue) (canvas : Canvas) → IsPage canvas.page → length visible ≡ length canvas.page.rows → All IsAnyRow visible → IsPicture (picture_over visible canvas)
+pub picture_over_is : (visible : List RowValue) (canvas : Canvas) → IsPage canvas.page →
+    length visible ≡ length canvas.page.rows → All IsAnyRow visible → IsPicture (picture_over visible canvas)
 picture_over_is visible canvas is size rows =
     let row = is.cursor_row in
     let l = length_cut canvas.page.width visible in
@@ -68,18 +76,23 @@ flag_stays false blank h = refl
 same_cells : (width : ℕ) (row : RowValue) → IsRow width row → resized width row.cells ≡ row.cells
 same_cells width row is = resized-same width row.cells is.columns is.paired
 
-pub cut_same : (width : ℕ) (rows : List RowValue) → AllByRecursion (IsRow width) rows → flags_end rows → cut_rows width rows ≡ rows
+pub cut_same : (width : ℕ) (rows : List RowValue) →
+    AllByRecursion (IsRow width) rows → flags_end rows → cut_rows width rows ≡ rows
 cut_same width [] is last = refl
 cut_same width (x ∷ []) is last =
-    ap (λ (z : List CellValue). record { cells = z; wrapped = false } ∷ []) (same_cells width x is.0) ∙ ap (λ (b : Bool). record x { wrapped = b } ∷ []) (sym last)
+    ap (λ (z : List CellValue). record { cells = z; wrapped = false } ∷ []) (same_cells width x is.0)
+    ∙ ap (λ (b : Bool). record x { wrapped = b } ∷ []) (sym last)
 cut_same width (x ∷ y ∷ rows) is last =
     ap (λ (z : List CellValue). with_cells x z ∷ cut_rows width (y ∷ rows)) (same_cells width x is.0)
-    ∙ (ap (λ (b : Bool). record x { wrapped = b } ∷ cut_rows width (y ∷ rows)) (flag_stays x.wrapped (ends_blank x.cells) is.0.flagged)
+    ∙ (ap (λ (b : Bool). record x { wrapped = b } ∷ cut_rows width (y ∷ rows))
+    (flag_stays x.wrapped (ends_blank x.cells) is.0.flagged)
     ∙ ap (λ (z : List RowValue). x ∷ z) (cut_same width (y ∷ rows) is.1 last))
 
 -- with no scrollback in view, that is what the page shows
-pub picture_over_page : (canvas : Canvas) → IsPage canvas.page → picture_over canvas.page.rows canvas ≡ picture_of canvas
+pub picture_over_page : (canvas : Canvas) → IsPage canvas.page →
+    picture_over canvas.page.rows canvas ≡ picture_of canvas
 picture_over_page canvas is =
     let width = canvas.page.width in
     ap (λ (z : List RowValue). record (picture_of canvas) { rows = z })
-    (cut_same width canvas.page.rows (recursion_from_All (IsRow width) canvas.page.rows is.rows) (flags_end_of width canvas.page.rows is.last))
+    (cut_same width canvas.page.rows (recursion_from_All (IsRow width) canvas.page.rows is.rows)
+    (flags_end_of width canvas.page.rows is.last))

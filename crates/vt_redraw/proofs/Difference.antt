@@ -1,5 +1,6 @@
 -- The difference turns what one canvas shows into another picture: cells, flags, cursor, attributes and hiding.
-use Rattle.std.proofs.Common.{◌≡◌, ℕ, zero, suc, ◌-◌, ◌<◌, ◌≤◌, Bool, true, false, List, [], ◌∷◌, ◌++◌, length, Some, inr, refl, sym, ap, ◌∙◌, subst, arith}
+use Rattle.std.proofs.Common.{◌≡◌, ℕ, zero, suc, ◌-◌, ◌<◌, ◌≤◌, Bool, true, false, List, [], ◌∷◌}
+use Rattle.std.proofs.Common.{◌++◌, length, Some, inr, refl, sym, ap, ◌∙◌, subst, arith}
 use Rattle.std.specs.Prelude.{All}
 use Rattle.std.specs.List.{AllByRecursion}
 use Rattle.std.proofs.lemmas.Bool.{cond_both}
@@ -33,54 +34,71 @@ use Rattle.vt_redraw.specs.Script.{last_column}
 -- ---- rows of a picture
 
 pub row_stands : (width : ℕ) (row : RowValue) → IsRow width row → Stands width row
-row_stands width row is = record { columns = is.columns; paired = paired_of row.cells is.paired; sound = λ t. sym (ends_is row.cells) ∙ is.flagged t }
+row_stands width row is = record {
+  columns = is.columns;
+  paired = paired_of row.cells is.paired;
+  sound = λ t. sym (ends_is row.cells) ∙ is.flagged t;
+}
 
-pub rows_stand : (width : ℕ) (rows : List RowValue) → AllByRecursion (IsRow width) rows → AllByRecursion (Stands width) rows
+pub rows_stand : (width : ℕ) (rows : List RowValue) →
+    AllByRecursion (IsRow width) rows → AllByRecursion (Stands width) rows
 rows_stand width [] is = tt
 rows_stand width (row ∷ rows) is = (row_stands width row is.0, rows_stand width rows is.1)
 
-cells_print : (n : ℕ) (cells : List CellValue) → Paired cells → length cells ≤ suc n → AllByRecursion IsCell cells → AllByRecursion (IsSteadyCell (suc n)) cells → PrintsCells (suc n) cells
+cells_print : (n : ℕ) (cells : List CellValue) → Paired cells → length cells ≤ suc n →
+    AllByRecursion IsCell cells → AllByRecursion (IsSteadyCell (suc n)) cells → PrintsCells (suc n) cells
 cells_print n [] p le is steady = tt
 cells_print n (blank a ∷ xs) p le is steady = (tt, cells_print n xs p (omega arith) is.1 steady.1)
-cells_print n (glyph text false a ∷ xs) p le is steady = (steady_prints n text false a is.0 (omega arith) steady.0, cells_print n xs p (omega arith) is.1 steady.1)
-cells_print n (glyph text true a ∷ right_half ∷ xs) p le is steady = (steady_prints n text true a is.0 (omega arith) steady.0, (tt, cells_print n xs p (omega arith) is.1.1 steady.1.1))
+cells_print n (glyph text false a ∷ xs) p le is steady =
+    (steady_prints n text false a is.0 (omega arith) steady.0, cells_print n xs p (omega arith) is.1 steady.1)
+cells_print n (glyph text true a ∷ right_half ∷ xs) p le is steady =
+    (steady_prints n text true a is.0 (omega arith) steady.0, (tt, cells_print n xs p (omega arith) is.1.1 steady.1.1))
 cells_print n (glyph text true a ∷ []) p le is steady = absurd p
 cells_print n (glyph text true a ∷ blank b ∷ xs) p le is steady = absurd p
 cells_print n (glyph text true a ∷ glyph other wide b ∷ xs) p le is steady = absurd p
 cells_print n (right_half ∷ xs) p le is steady = absurd p
 
-rows_print : (n : ℕ) (rows : List RowValue) → AllByRecursion (IsRow (suc n)) rows → AllByRecursion (λ row. All (IsSteadyCell (suc n)) row.cells) rows → AllByRecursion (PrintsRow (suc n)) rows
+rows_print : (n : ℕ) (rows : List RowValue) → AllByRecursion (IsRow (suc n)) rows →
+    AllByRecursion (λ row. All (IsSteadyCell (suc n)) row.cells) rows → AllByRecursion (PrintsRow (suc n)) rows
 rows_print n [] is steady = tt
 rows_print n (row ∷ rows) is steady =
     let columns = is.0.columns in (
-      cells_print n row.cells (paired_of row.cells is.0.paired) (omega arith) (recursion_from_All IsCell row.cells is.0.sound) (recursion_from_All (IsSteadyCell (suc n)) row.cells steady.0),
+      cells_print n row.cells (paired_of row.cells is.0.paired)
+          (omega arith) (recursion_from_All IsCell row.cells is.0.sound)
+          (recursion_from_All (IsSteadyCell (suc n)) row.cells steady.0),
       rows_print n rows is.1 steady.1,
     )
 
-pub picture_prints : (width : ℕ) (rows : List RowValue) → 0 < width → AllByRecursion (IsRow width) rows → AllByRecursion (λ row. All (IsSteadyCell width) row.cells) rows → AllByRecursion (PrintsRow width) rows
+pub picture_prints : (width : ℕ) (rows : List RowValue) → 0 < width → AllByRecursion (IsRow width) rows →
+    AllByRecursion (λ row. All (IsSteadyCell width) row.cells) rows → AllByRecursion (PrintsRow width) rows
 picture_prints zero rows pos is steady = absurd (omega arith)
 picture_prints (suc n) rows pos is steady = rows_print n rows is steady
 
-pub flags_end_of : (width : ℕ) (rows : List RowValue) → (row_or width rows (length rows - 1)).wrapped ≡ false → flags_end rows
+pub flags_end_of : (width : ℕ) (rows : List RowValue) →
+    (row_or width rows (length rows - 1)).wrapped ≡ false → flags_end rows
 flags_end_of width [] h = tt
 flags_end_of width (x ∷ []) h = h
 flags_end_of width (x ∷ y ∷ ys) h =
     let e : suc (suc (length ys)) - 1 ≡ suc (length ys) = omega arith in
     let f : suc (length ys) - 1 ≡ length ys = omega arith in
     flags_end_of width (y ∷ ys)
-    (ap (λ (k : ℕ). (row_or width (y ∷ ys) k).wrapped) f ∙ (ap (λ (k : ℕ). (row_or width (x ∷ y ∷ ys) k).wrapped) (sym e) ∙ h))
+    (ap (λ (k : ℕ). (row_or width (y ∷ ys) k).wrapped) f
+    ∙ (ap (λ (k : ℕ). (row_or width (x ∷ y ∷ ys) k).wrapped) (sym e) ∙ h))
 
 -- ---- rows, cursor and attributes
 
 -- the end of the row by which a pending wrap is placed, on a screen of this width
 abbrev PlacesAt : (self prev : Picture) → ℕ → Type 0
 PlacesAt self prev w =
-    self.column ≡ w → (k : ℕ) → last_column (row_or w self.rows (placing_row (nearest w self.rows self.row) self.row)).cells ≤ k → k < w → IsLocal self prev (placing_row (nearest w self.rows self.row) self.row) k
+    self.column ≡ w → (k : ℕ) →
+    last_column (row_or w self.rows (placing_row (nearest w self.rows self.row) self.row)).cells ≤ k →
+    k < w → IsLocal self prev (placing_row (nearest w self.rows self.row) self.row) k
 
 placed : (self prev : Picture) → PlacesAt self prev self.width
 placed self prev e k low high = inr (e, (refl, low))
 
-pub script_draws : (self : Picture) (base : Canvas) → IsPicture self → IsSteady self → IsPicture (picture_of base) → IsPlainPage base.page → SamePictureSize self (picture_of base) →
+pub script_draws : (self : Picture) (base : Canvas) → IsPicture self → IsSteady self →
+    IsPicture (picture_of base) → IsPlainPage base.page → SamePictureSize self (picture_of base) →
     Puts (IsLocal self (picture_of base)) (script self (picture_of base)) base (at_pen base self.rows (pen_of self))
 unfolding script
 script_draws self base is steady other plain size =
@@ -90,43 +108,64 @@ script_draws self base is steady other plain size =
     let tall = size.height in
     let bottom = plain.whole.1 in
     let row = other.cursor_row in
-    let reads : Reads base height width = record { bottom = omega arith; origin = plain.origin; wide = refl; has_columns = other.has_columns } in
+    let reads : Reads base height width =
+    record { bottom = omega arith; origin = plain.origin; wide = refl; has_columns = other.has_columns } in
     let pen = pen_of (picture_of base) in
     let start : Within pen height width = record { row = omega arith; col = other.cursor_column } in
-    let self_rows : AllByRecursion (IsRow width) self.rows = subst (λ (w : ℕ). AllByRecursion (IsRow w) self.rows) same (recursion_from_All (IsRow self.width) self.rows is.rows) in
+    let self_rows : AllByRecursion (IsRow width) self.rows =
+    subst (λ (w : ℕ). AllByRecursion (IsRow w) self.rows) same
+    (recursion_from_All (IsRow self.width) self.rows is.rows) in
     let steady_rows : AllByRecursion (λ row. All (IsSteadyCell width) row.cells) self.rows =
-    subst (λ (w : ℕ). AllByRecursion (λ row. All (IsSteadyCell w) row.cells) self.rows) same (recursion_from_All (λ row. All (IsSteadyCell self.width) row.cells) self.rows steady) in
+    subst (λ (w : ℕ). AllByRecursion (λ row. All (IsSteadyCell w) row.cells) self.rows) same
+    (recursion_from_All (λ row. All (IsSteadyCell self.width) row.cells) self.rows steady) in
     let stand = rows_stand width self.rows self_rows in
     let prints = picture_prints width self.rows other.has_columns self_rows steady_rows in
     let May = IsLocal self (picture_of base) in
-    let local : RowsMay May width self.rows base.page.rows = subst (λ (w : ℕ). RowsMay May w self.rows base.page.rows) same (rows_local self (picture_of base) (recursion_from_All (IsRow self.width) self.rows is.rows)) in
-    let rows = rows_draw May base self.rows base.page.rows height pen reads refl (sym tall) stand (rows_stand width base.page.rows (recursion_from_All (IsRow width) base.page.rows other.rows)) prints
+    let local : RowsMay May width self.rows base.page.rows =
+    subst (λ (w : ℕ). RowsMay May w self.rows base.page.rows) same
+    (rows_local self (picture_of base) (recursion_from_All (IsRow self.width) self.rows is.rows)) in
+    let rows = rows_draw May base self.rows base.page.rows height pen reads refl (sym tall) stand
+    (rows_stand width base.page.rows (recursion_from_All (IsRow width) base.page.rows other.rows)) prints
     (flags_end_of self.width self.rows is.last) start local in
     let w = rows_written pen self.rows base.page.rows in
     let column = is.cursor_column in
-    let rule = cursor_draws May base self.rows w.pen self.row self.column height reads refl stand prints is.cursor_row (omega arith) rows.within (subst (PlacesAt self (picture_of base)) same (placed self (picture_of base))) in
+    let rule = cursor_draws May base self.rows w.pen self.row self.column height reads refl stand prints is.cursor_row
+    (omega arith) rows.within (subst (PlacesAt self (picture_of base)) same (placed self (picture_of base))) in
     let goal = at_pen base self.rows (pen_at self.row self.column w.pen.attrs) in
-    let moved : DrawsIn May (cursor_written w.pen self.width self.rows self.row self.column) (at_pen base self.rows w.pen) (with_saved rule.0 goal) =
-    subst (λ (z : ℕ). DrawsIn May (cursor_written w.pen z self.rows self.row self.column) (at_pen base self.rows w.pen) (with_saved rule.0 goal)) (sym same) rule.1 in (
+    let moved : DrawsIn May (cursor_written w.pen self.width self.rows self.row self.column)
+    (at_pen base self.rows w.pen) (with_saved rule.0 goal) =
+    subst (λ (z : ℕ). DrawsIn May (cursor_written w.pen z self.rows self.row self.column)
+    (at_pen base self.rows w.pen) (with_saved rule.0 goal))
+    (sym same) rule.1 in (
       rule.0,
-      in_then May w.ops (cursor_written w.pen self.width self.rows self.row self.column ++ changing w.pen.attrs self.attrs) base (at_pen base self.rows w.pen) (with_saved rule.0 (at_pen base self.rows (pen_of self))) rows.draws
-          (in_then May (cursor_written w.pen self.width self.rows self.row self.column) (changing w.pen.attrs self.attrs) (at_pen base self.rows w.pen) (with_saved rule.0 goal) (with_saved rule.0 (at_pen base self.rows (pen_of self))) moved
-          (quiet_in May (changing w.pen.attrs self.attrs) (with_saved rule.0 goal) (with_saved rule.0 (at_pen base self.rows (pen_of self))) (changing_quiet w.pen.attrs self.attrs)
+      in_then May w.ops
+          (cursor_written w.pen self.width self.rows self.row self.column ++ changing w.pen.attrs self.attrs)
+          base (at_pen base self.rows w.pen) (with_saved rule.0 (at_pen base self.rows (pen_of self))) rows.draws
+          (in_then May (cursor_written w.pen self.width self.rows self.row self.column)
+          (changing w.pen.attrs self.attrs) (at_pen base self.rows w.pen)
+          (with_saved rule.0 goal) (with_saved rule.0 (at_pen base self.rows (pen_of self))) moved
+          (quiet_in May (changing w.pen.attrs self.attrs) (with_saved rule.0 goal)
+          (with_saved rule.0 (at_pen base self.rows (pen_of self))) (changing_quiet w.pen.attrs self.attrs)
           (changing_draws (with_saved rule.0 base) self.rows (pen_at self.row self.column w.pen.attrs) self.attrs))),
     )
 
 -- ---- the difference
 
-hiding_draws : (self : Picture) (any : Canvas) → Draws (hiding self (picture_of any)) any (record any { hidden = self.hidden })
+hiding_draws : (self : Picture) (any : Canvas) →
+    Draws (hiding self (picture_of any)) any (record any { hidden = self.hidden })
 hiding_draws self any =
-    cond_both (same_bool self.hidden any.hidden) [] (Hide self.hidden ∷ []) (λ (ops : List Op). Draws ops any (record any { hidden = self.hidden }))
-    (λ (t : same_bool self.hidden any.hidden ≡ true). ap (λ (h : Bool). Some (record any { hidden = h })) (sym (bool_of-same self.hidden any.hidden t)))
+    cond_both (same_bool self.hidden any.hidden) [] (Hide self.hidden ∷ [])
+    (λ (ops : List Op). Draws ops any (record any { hidden = self.hidden }))
+    (λ (t : same_bool self.hidden any.hidden ≡ true). ap
+    (λ (h : Bool). Some (record any { hidden = h })) (sym (bool_of-same self.hidden any.hidden t)))
     (λ _. refl)
 
 hiding_quiet : (self prev : Picture) → AllQuiet (hiding self prev)
-hiding_quiet self prev = cond_both (same_bool self.hidden prev.hidden) [] (Hide self.hidden ∷ []) AllQuiet (λ _. tt) (λ _. (refl, tt))
+hiding_quiet self prev =
+    cond_both (same_bool self.hidden prev.hidden) [] (Hide self.hidden ∷ []) AllQuiet (λ _. tt) (λ _. (refl, tt))
 
-difference_in : (self prev : Picture) (any : Canvas) → IsPicture self → IsSteady self → IsPicture prev → SamePictureSize self prev → IsPlainPage any.page → picture_of any ≡ prev →
+difference_in : (self prev : Picture) (any : Canvas) → IsPicture self → IsSteady self →
+    IsPicture prev → SamePictureSize self prev → IsPlainPage any.page → picture_of any ≡ prev →
     Puts (IsLocal self prev) (difference self prev) any (with_picture self any)
 unfolding difference script
 difference_in self prev any is steady other size plain e =
@@ -135,12 +174,22 @@ difference_in self prev any is steady other size plain e =
     let shows = sym e in
     let was = subst IsPicture shows other in
     let sizes = subst (SamePictureSize self) shows size in
-    let rest = script_draws self base is steady (record { has_columns = was.has_columns; cursor_row = was.cursor_row; cursor_column = was.cursor_column; rows = was.rows; last = was.last }) plain (record { width = sizes.width; height = sizes.height }) in
+    let rest = script_draws self base is steady
+    (record {
+      has_columns = was.has_columns;
+      cursor_row = was.cursor_row;
+      cursor_column = was.cursor_column;
+      rows = was.rows;
+      last = was.last;
+    })
+    plain (record { width = sizes.width; height = sizes.height }) in
     let goal = with_saved rest.0 (with_picture self any) in
     subst (λ (p : Picture). Puts (IsLocal self p) (hiding self p ++ script self p) any (with_picture self any)) e (
       rest.0,
       in_then May (hiding self (picture_of any)) (script self (picture_of any)) any base goal
-          (quiet_in May (hiding self (picture_of any)) any base (hiding_quiet self (picture_of any)) (hiding_draws self any)) rest.1,
+          (quiet_in May (hiding self (picture_of any)) any base
+          (hiding_quiet self (picture_of any)) (hiding_draws self any))
+          rest.1,
     )
 
 -- the operations draw this, but for what is saved
@@ -148,14 +197,16 @@ abbrev pub Shows : List Op → (start goal : Canvas) → Type 0
 Shows ops start goal = (saved : Saved) × Draws ops start (with_saved saved goal)
 
 -- drawn on a plain canvas that shows `prev`, it shows `self`, and only what is saved may have changed besides
-pub difference_draws : (self prev : Picture) (any : Canvas) → IsPicture self → IsSteady self → IsPicture prev → SamePictureSize self prev → IsPlainPage any.page → picture_of any ≡ prev →
+pub difference_draws : (self prev : Picture) (any : Canvas) → IsPicture self → IsSteady self →
+    IsPicture prev → SamePictureSize self prev → IsPlainPage any.page → picture_of any ≡ prev →
     Shows (difference self prev) any (with_picture self any)
 difference_draws self prev any is steady other size plain e =
     let puts = difference_in self prev any is steady other size plain e in
     (puts.0, puts.1.draws)
 
 -- and it touches only what is near a difference, but for the end of the row by which a pending wrap is placed
-pub difference_local : (self prev : Picture) (any : Canvas) → IsPicture self → IsSteady self → IsPicture prev → SamePictureSize self prev → IsPlainPage any.page → picture_of any ≡ prev →
+pub difference_local : (self prev : Picture) (any : Canvas) → IsPicture self → IsSteady self →
+    IsPicture prev → SamePictureSize self prev → IsPlainPage any.page → picture_of any ≡ prev →
     Touches (IsLocal self prev) (difference self prev) any
 difference_local self prev any is steady other size plain e =
     let puts = difference_in self prev any is steady other size plain e in

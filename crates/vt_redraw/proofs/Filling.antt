@@ -1,10 +1,15 @@
 -- The cells of a row of a picture, where they lie and behind.
-use Rattle.std.proofs.Common.{min, append-nil, ◌≡◌, ℕ, zero, suc, ◌+◌, ◌-◌, ◌<◌, ◌≤◌, ◌==◌, ◌&&◌, nat_lt, not, Bool, true, false, List, [], ◌∷◌, ◌++◌, length, take, drop, ⊎_elim, refl, sym, ap, ◌∙◌, arith, Some, None}
+use Rattle.std.proofs.Common.{min, append-nil, ◌≡◌, ℕ, zero, suc, ◌+◌, ◌-◌, ◌<◌, ◌≤◌, ◌==◌, ◌&&◌}
+use Rattle.std.proofs.Common.{nat_lt, not, Bool, true, false, List, [], ◌∷◌, ◌++◌, length, take}
+use Rattle.std.proofs.Common.{drop, ⊎_elim, refl, sym, ap, ◌∙◌, arith, Some, None}
 use Rattle.std.specs.Prelude.{replicate, if◌then◌else◌}
 use Rattle.std.proofs.lemmas.Bool.{cases_lt, cond-true, cond-false}
 use Rattle.std.proofs.lemmas.Bool.Decides.{nat_tests}
-use Rattle.std.proofs.lemmas.List.{take-append-le, take-replicate, take_all, length-append, length-take, length-take-le, length-replicate, get_or_append_left, get_or-append_right, get_or-take, get_or-replicate, get_or_past}
-use Rattle.vt_cells.specs.Cell.{CellValue, blank, glyph, right_half, default_blank, attrs_of, is_glyph, is_wide, is_right_half, same_cell}
+use Rattle.std.proofs.lemmas.List.{take-append-le, take-replicate, take_all, length-append, length-take}
+use Rattle.std.proofs.lemmas.List.{length-take-le, length-replicate, get_or_append_left, get_or-append_right}
+use Rattle.std.proofs.lemmas.List.{get_or-take, get_or-replicate, get_or_past}
+use Rattle.vt_cells.specs.Cell.{CellValue, blank, glyph, right_half, default_blank}
+use Rattle.vt_cells.specs.Cell.{attrs_of, is_glyph, is_wide, is_right_half, same_cell}
 use Rattle.vt_cells.specs.Op.{EraseChars, LineFeed, bytes_of_all}
 use Rattle.vt_rows.specs.Cells.{IsPaired, at, moved, moved_at, resized, ends_blank}
 use Rattle.vt_rows.proofs.Moves.{moved_is, length-resized}
@@ -15,15 +20,19 @@ use Rattle.vt_redraw.specs.Keeping.{filled, is_split, kept_len, end_of}
 use Rattle.vt_redraw.specs.Script.{is_nil, is_torn, erase_run, starts_other}
 
 -- one right half is left from column k on
-pub torn_at : (cells : List CellValue) (k : ℕ) → ((k + 1 == length cells) && is_right_half (at cells k)) ≡ is_torn (drop k cells)
+pub torn_at : (cells : List CellValue) (k : ℕ) →
+    ((k + 1 == length cells) && is_right_half (at cells k)) ≡ is_torn (drop k cells)
 torn_at [] zero = refl
 torn_at [] (suc k) = let t : (suc k + 1 == 0) ≡ false = grind (arith, nat_tests) in rw t refl
 torn_at (right_half ∷ []) zero = refl
 torn_at (blank a ∷ []) zero = refl
 torn_at (glyph text wide a ∷ []) zero = refl
-torn_at (right_half ∷ y ∷ ys) zero = let t : (0 + 1 == suc (suc (length ys))) ≡ false = grind (arith, nat_tests) in rw t refl
-torn_at (blank a ∷ y ∷ ys) zero = let t : (0 + 1 == suc (suc (length ys))) ≡ false = grind (arith, nat_tests) in rw t refl
-torn_at (glyph text wide a ∷ y ∷ ys) zero = let t : (0 + 1 == suc (suc (length ys))) ≡ false = grind (arith, nat_tests) in rw t refl
+torn_at (right_half ∷ y ∷ ys) zero =
+    let t : (0 + 1 == suc (suc (length ys))) ≡ false = grind (arith, nat_tests) in rw t refl
+torn_at (blank a ∷ y ∷ ys) zero =
+    let t : (0 + 1 == suc (suc (length ys))) ≡ false = grind (arith, nat_tests) in rw t refl
+torn_at (glyph text wide a ∷ y ∷ ys) zero =
+    let t : (0 + 1 == suc (suc (length ys))) ≡ false = grind (arith, nat_tests) in rw t refl
 torn_at (x ∷ xs) (suc k) =
     let e : (suc k + 1 == suc (length xs)) ≡ (k + 1 == length xs) = grind (arith, nat_tests) in
     ap (λ (b : Bool). b && is_right_half (at xs k)) e ∙ torn_at xs k
@@ -38,7 +47,8 @@ nil_at (x ∷ xs) (suc k) h =
     nil_at xs k (omega arith) ∙ e
 
 -- an erasure that leaves columns behind it has a count
-pub erase_run_counted : (count end : ℕ) (cells : List CellValue) → end < length cells → erase_run count (drop end cells) ≡ EraseChars count
+pub erase_run_counted : (count end : ℕ) (cells : List CellValue) →
+    end < length cells → erase_run count (drop end cells) ≡ EraseChars count
 erase_run_counted count end [] h = absurd (omega arith)
 erase_run_counted count zero (x ∷ xs) h = refl
 erase_run_counted count (suc end) (x ∷ xs) h = erase_run_counted count end xs (omega arith)
@@ -46,22 +56,26 @@ erase_run_counted count (suc end) (x ∷ xs) h = erase_run_counted count end xs 
 pub resized_columns : (cols : ℕ) (cells : List CellValue) → length (resized cols cells) ≡ cols
 resized_columns cols cells = length-resized cols cells
 
-pub length-filled : (cells : List CellValue) (cols : ℕ) (end : CellValue) → length cells ≤ cols → length (filled cells cols end) ≡ cols
+pub length-filled : (cells : List CellValue) (cols : ℕ) (end : CellValue) →
+    length cells ≤ cols → length (filled cells cols end) ≡ cols
 length-filled cells cols end h =
     let a = length-append cells (replicate (cols - length cells) end) in
     let b = length-replicate (cols - length cells) end in
     omega arith
 
-pub at-filled : (cells : List CellValue) (cols : ℕ) (end : CellValue) (k : ℕ) → k < length cells → at (filled cells cols end) k ≡ at cells k
+pub at-filled : (cells : List CellValue) (cols : ℕ) (end : CellValue) (k : ℕ) →
+    k < length cells → at (filled cells cols end) k ≡ at cells k
 at-filled cells cols end k h = get_or_append_left cells (replicate (cols - length cells) end) default_blank k h
 
-pub at-behind : (cells : List CellValue) (cols : ℕ) (end : CellValue) (k : ℕ) → length cells ≤ k → k < cols → at (filled cells cols end) k ≡ end
+pub at-behind : (cells : List CellValue) (cols : ℕ) (end : CellValue) (k : ℕ) →
+    length cells ≤ k → k < cols → at (filled cells cols end) k ≡ end
 at-behind cells cols end k h l =
     get_or-append_right cells (replicate (cols - length cells) end) (length cells) k default_blank refl h
     ∙ get_or-replicate (cols - length cells) (k - length cells) end default_blank (omega arith)
 
 -- a row begins with another glyph
-pub starts_at : (xs ys : List CellValue) → 0 < length xs → 0 < length ys → starts_other xs ys ≡ (is_glyph (at xs 0) && not (same_cell (at xs 0) (at ys 0)))
+pub starts_at : (xs ys : List CellValue) → 0 < length xs → 0 < length ys →
+    starts_other xs ys ≡ (is_glyph (at xs 0) && not (same_cell (at xs 0) (at ys 0)))
 starts_at [] ys h l = absurd (omega arith)
 starts_at (x ∷ xs) [] h l = absurd (omega arith)
 starts_at (x ∷ xs) (y ∷ ys) h l = refl
@@ -74,15 +88,19 @@ feeds_more (suc n) =
     ap (λ (k : ℕ). bytes_of_all (replicate k LineFeed)) e ∙ ap (λ (bytes : List ℕ). 0x0A ∷ bytes) (feeds_more n)
 
 -- the nearest row that does not end blank: this one, or one above it
-pub nearest_here : (width : ℕ) (rows : List RowValue) (n : ℕ) → ends_blank (row_or width rows n).cells ≡ false → nearest width rows n ≡ Some n
+pub nearest_here : (width : ℕ) (rows : List RowValue) (n : ℕ) →
+    ends_blank (row_or width rows n).cells ≡ false → nearest width rows n ≡ Some n
 nearest_here width rows zero h = cond-false (ends_blank (row_or width rows 0).cells) None (Some 0) h
-nearest_here width rows (suc n) h = cond-false (ends_blank (row_or width rows (suc n)).cells) (nearest width rows n) (Some (suc n)) h
+nearest_here width rows (suc n) h =
+    cond-false (ends_blank (row_or width rows (suc n)).cells) (nearest width rows n) (Some (suc n)) h
 
-pub nearest_up : (width : ℕ) (rows : List RowValue) (n : ℕ) → 0 < n → ends_blank (row_or width rows n).cells ≡ true → nearest width rows (n - 1) ≡ nearest width rows n
+pub nearest_up : (width : ℕ) (rows : List RowValue) (n : ℕ) → 0 < n →
+    ends_blank (row_or width rows n).cells ≡ true → nearest width rows (n - 1) ≡ nearest width rows n
 nearest_up width rows zero h e = absurd (omega arith)
 nearest_up width rows (suc n) h e =
     let same : suc n - 1 ≡ n = omega arith in
-    ap (nearest width rows) same ∙ sym (cond-true (ends_blank (row_or width rows (suc n)).cells) (nearest width rows n) (Some (suc n)) e)
+    ap (nearest width rows) same
+    ∙ sym (cond-true (ends_blank (row_or width rows (suc n)).cells) (nearest width rows n) (Some (suc n)) e)
 
 take_past : (xs ys : List CellValue) (n : ℕ) → take (length xs + n) (xs ++ ys) ≡ xs ++ take n ys
 take_past [] ys n = let e : 0 + n ≡ n = omega arith in ap (λ (k : ℕ). take k ys) e
@@ -91,7 +109,8 @@ take_past (x ∷ xs) ys n =
     ap (λ (k : ℕ). take k (x ∷ (xs ++ ys))) e ∙ ap (λ (zs : List CellValue). x ∷ zs) (take_past xs ys n)
 
 -- the first columns of such cells
-pub filled_taken : (cells : List CellValue) (cols stop : ℕ) (end : CellValue) → stop ≤ cols → length cells ≤ cols → filled (take (min (length cells) stop) cells) stop end ≡ take stop (filled cells cols end)
+pub filled_taken : (cells : List CellValue) (cols stop : ℕ) (end : CellValue) → stop ≤ cols → length cells ≤ cols →
+    filled (take (min (length cells) stop) cells) stop end ≡ take stop (filled cells cols end)
 filled_taken cells cols stop end h l =
     ⊎_elim
     (λ (low : stop < length cells).
@@ -99,30 +118,39 @@ filled_taken cells cols stop end h l =
     let size = length-take-le stop cells (omega arith) in
     let none : stop - length (take stop cells) ≡ 0 = omega arith in
     ap (λ (n : ℕ). filled (take n cells) stop end) least
-    ∙ (ap (λ (n : ℕ). take stop cells ++ replicate n end) none ∙ (append-nil (take stop cells) ∙ sym (take-append-le stop cells (replicate (cols - length cells) end) (omega arith)))))
+    ∙ (ap (λ (n : ℕ). take stop cells ++ replicate n end) none
+    ∙ (append-nil (take stop cells)
+    ∙ sym (take-append-le stop cells (replicate (cols - length cells) end) (omega arith)))))
     (λ (high : length cells ≤ stop).
     let least : min (length cells) stop ≡ length cells = omega arith in
     let sum : length cells + (stop - length cells) ≡ stop = omega arith in
     ap (λ (n : ℕ). filled (take n cells) stop end) least
     ∙ (ap (λ (zs : List CellValue). filled zs stop end) (take_all (length cells) cells (omega arith))
-    ∙ (ap (λ (zs : List CellValue). cells ++ zs) (sym (take-replicate (stop - length cells) (cols - length cells) end (omega arith)))
-    ∙ (sym (take_past cells (replicate (cols - length cells) end) (stop - length cells)) ∙ ap (λ (n : ℕ). take n (filled cells cols end)) sum))))
+    ∙ (ap (λ (zs : List CellValue). cells ++ zs)
+    (sym (take-replicate (stop - length cells) (cols - length cells) end (omega arith)))
+    ∙ (sym (take_past cells (replicate (cols - length cells) end) (stop - length cells))
+    ∙ ap (λ (n : ℕ). take n (filled cells cols end)) sum))))
     (cases_lt stop (length cells))
 
 -- ---- a row cut or grown
 
 -- a cell that comes along with what it needs stays
-stays : (cols : ℕ) (cells : List CellValue) (k : ℕ) → IsPaired cells → (is_wide (at cells k) ≡ true → nat_lt (k + 1) cols ≡ true) → moved_at cols (λ j. j) cells k ≡ at cells k
+stays : (cols : ℕ) (cells : List CellValue) (k : ℕ) → IsPaired cells →
+    (is_wide (at cells k) ≡ true → nat_lt (k + 1) cols ≡ true) → moved_at cols (λ j. j) cells k ≡ at cells k
 stays cols cells zero paired h =
-    let wide : (is_wide (at cells 0) && not (nat_lt (0 + 1) cols && (0 + 1 == 0 + 1))) ≡ false = grind (arith, nat_tests, h) in
+    let wide : (is_wide (at cells 0) && not (nat_lt (0 + 1) cols && (0 + 1 == 0 + 1))) ≡ false =
+    grind (arith, nat_tests, h) in
     rw (wide, paired.first) refl
 stays cols cells (suc k) paired h =
-    let wide : (is_wide (at cells (suc k)) && not (nat_lt (suc k + 1) cols && (suc k + 1 == suc k + 1))) ≡ false = grind (arith, nat_tests, h) in
-    let half : (is_right_half (at cells (suc k)) && not (suc k == (suc k - 1) + 1)) ≡ false = grind (arith, nat_tests) in
+    let wide : (is_wide (at cells (suc k)) && not (nat_lt (suc k + 1) cols && (suc k + 1 == suc k + 1))) ≡ false =
+    grind (arith, nat_tests, h) in
+    let half : (is_right_half (at cells (suc k)) && not (suc k == (suc k - 1) + 1)) ≡ false =
+    grind (arith, nat_tests) in
     rw (wide, half) refl
 
 -- the half of a glyph that is cut in two
-halved : (cols : ℕ) (cells : List CellValue) (k : ℕ) → k + 1 ≡ cols → is_wide (at cells k) ≡ true → moved_at cols (λ j. j) cells k ≡ blank (attrs_of (at cells k))
+halved : (cols : ℕ) (cells : List CellValue) (k : ℕ) → k + 1 ≡ cols →
+    is_wide (at cells k) ≡ true → moved_at cols (λ j. j) cells k ≡ blank (attrs_of (at cells k))
 halved cols cells k e wide =
     let t : (is_wide (at cells k) && not (nat_lt (k + 1) cols && (k + 1 == k + 1))) ≡ true = grind (arith, nat_tests) in
     rw t refl
@@ -143,21 +171,27 @@ room cells k paired wide =
     (cases_lt (k + 1) (length cells))
 
 -- the row is cut so that a glyph is split
-split_columns : (cols : ℕ) (cells : List CellValue) → 0 < cols → IsPaired cells → cols < length cells → is_wide (at cells (cols - 1)) ≡ true → (k : ℕ) → k < cols →
+split_columns : (cols : ℕ) (cells : List CellValue) → 0 < cols → IsPaired cells →
+    cols < length cells → is_wide (at cells (cols - 1)) ≡ true → (k : ℕ) → k < cols →
     at (filled (take (cols - 1) cells) cols (blank (attrs_of (at cells (cols - 1))))) k ≡ moved_at cols (λ j. j) cells k
 split_columns cols cells pos paired inside wide k h =
     let kept = take (cols - 1) cells in
     let size : length kept ≡ cols - 1 = length-take-le (cols - 1) cells (omega arith) in
     let end = blank (attrs_of (at cells (cols - 1))) in
     ⊎_elim
-    (λ (low : k < cols - 1). at-filled kept cols end k (omega arith) ∙ (get_or-take (cols - 1) cells k default_blank low ∙ sym (stays cols cells k paired (λ _. grind (arith, nat_tests)))))
+    (λ (low : k < cols - 1). at-filled kept cols end k (omega arith)
+    ∙ (get_or-take (cols - 1) cells k default_blank low
+    ∙ sym (stays cols cells k paired (λ _. grind (arith, nat_tests)))))
     (λ (high : cols - 1 ≤ k).
     let last : k ≡ cols - 1 = omega arith in
-    at-behind kept cols end k (omega arith) h ∙ (ap (λ (j : ℕ). blank (attrs_of (at cells j))) (sym last) ∙ sym (halved cols cells k (omega arith) (ap (λ (j : ℕ). is_wide (at cells j)) last ∙ wide))))
+    at-behind kept cols end k (omega arith) h
+    ∙ (ap (λ (j : ℕ). blank (attrs_of (at cells j))) (sym last)
+    ∙ sym (halved cols cells k (omega arith) (ap (λ (j : ℕ). is_wide (at cells j)) last ∙ wide))))
     (cases_lt k (cols - 1))
 
 -- or so that none is
-whole_columns : (cols : ℕ) (cells : List CellValue) → IsPaired cells → is_split cols cells ≡ false → (k : ℕ) → k < cols →
+whole_columns : (cols : ℕ) (cells : List CellValue) → IsPaired cells →
+    is_split cols cells ≡ false → (k : ℕ) → k < cols →
     at (filled (take cols cells) cols default_blank) k ≡ moved_at cols (λ j. j) cells k
 whole_columns cols cells paired whole k h =
     let kept = take cols cells in
@@ -173,7 +207,8 @@ whole_columns cols cells paired whole k h =
     let t : is_split cols cells ≡ true = grind (arith, nat_tests) in
     absurd cc)
     (cases_lt (k + 1) cols) in
-    at-filled kept cols default_blank k (omega arith) ∙ (get_or-take cols cells k default_blank h ∙ sym (stays cols cells k paired wide)))
+    at-filled kept cols default_blank k (omega arith)
+    ∙ (get_or-take cols cells k default_blank h ∙ sym (stays cols cells k paired wide)))
     (λ (high : length cells ≤ k).
     let gone = past cols cells k high in
     let none : is_wide (at cells k) ≡ false = ap is_wide gone in
@@ -181,20 +216,26 @@ whole_columns cols cells paired whole k h =
     (cases_lt k (length cells))
 
 -- the cells that are kept where they lie and what stands behind them are the row cut or grown
-pub filled_resized : (cols : ℕ) (cells : List CellValue) → 0 < cols → IsPaired cells → filled (take (kept_len cols cells) cells) cols (end_of cols cells) ≡ resized cols cells
+pub filled_resized : (cols : ℕ) (cells : List CellValue) → 0 < cols → IsPaired cells →
+    filled (take (kept_len cols cells) cells) cols (end_of cols cells) ≡ resized cols cells
 unfolding resized
 filled_resized cols cells pos paired = by_split (is_split cols cells) refl where
-  by_split : (b : Bool) → is_split cols cells ≡ b → filled (take (if b then cols - 1 else cols) cells) cols (if b then blank (attrs_of (at cells (cols - 1))) else default_blank) ≡ moved cols (λ j. j) cells
+  by_split : (b : Bool) → is_split cols cells ≡ b →
+      filled (take (if b then cols - 1 else cols) cells) cols
+      (if b then blank (attrs_of (at cells (cols - 1))) else default_blank)
+      ≡ moved cols (λ j. j) cells
   by_split true t =
       let inside : cols < length cells = grind (arith, nat_tests) in
       let wide : is_wide (at cells (cols - 1)) ≡ true = grind (arith, nat_tests) in
       let kept = take (cols - 1) cells in
       let size : length kept ≡ cols - 1 = length-take-le (cols - 1) cells (omega arith) in
       let end = blank (attrs_of (at cells (cols - 1))) in
-      moved_is cols (λ j. j) cells (filled kept cols end) (length-filled kept cols end (omega arith)) (split_columns cols cells pos paired inside wide)
+      moved_is cols (λ j. j) cells (filled kept cols end)
+      (length-filled kept cols end (omega arith)) (split_columns cols cells pos paired inside wide)
   by_split false t =
       let size = length-take cols cells in
-      moved_is cols (λ j. j) cells (filled (take cols cells) cols default_blank) (length-filled (take cols cells) cols default_blank (omega arith)) (whole_columns cols cells paired t)
+      moved_is cols (λ j. j) cells (filled (take cols cells) cols default_blank)
+      (length-filled (take cols cells) cols default_blank (omega arith)) (whole_columns cols cells paired t)
 
 pub kept_inside : (cols : ℕ) (cells : List CellValue) → length (take (kept_len cols cells) cells) ≤ cols
 kept_inside cols cells = by_split (is_split cols cells) where

@@ -1,13 +1,16 @@
 -- Each operation of a redraw or a difference has numbers and texts that read back.
-use Rattle.std.proofs.Common.{◌≡◌, ℕ, zero, suc, ◌+◌, ◌-◌, ◌<◌, ◌≤◌, ◌^◌, ◌==◌, ◌&&◌, ◌||◌, nat_lt, Bool, true, false, not, List, [], ◌∷◌, ◌++◌, length, drop, replicate, Option, Some, None, refl, arith}
+use Rattle.std.proofs.Common.{◌≡◌, ℕ, zero, suc, ◌+◌, ◌-◌, ◌<◌, ◌≤◌, ◌^◌, ◌==◌, ◌&&◌, ◌||◌, nat_lt, Bool, true, false}
+use Rattle.std.proofs.Common.{not, List, [], ◌∷◌, ◌++◌, length, drop, replicate, Option, Some, None, refl, arith}
 use Rattle.std.specs.Prelude.{All, if◌then◌else◌}
 use Rattle.std.specs.List.{AllByRecursion}
 use Rattle.std.proofs.lemmas.Bool.{cond_both, ltb-true}
 use Rattle.std.proofs.lemmas.List.Elements.{recursion_from_All}
 use Rattle.vt_cells.specs.Attrs.{default_attrs, same_attrs, same_bool, Attrs}
-use Rattle.vt_cells.specs.Cell.{CellValue, blank, glyph, right_half, IsCell, attrs_of, text_of, is_right_half, same_cell}
+use Rattle.vt_cells.specs.Cell.{CellValue, blank, glyph, right_half, IsCell}
+use Rattle.vt_cells.specs.Cell.{attrs_of, text_of, is_right_half, same_cell}
 use Rattle.vt_cells.proofs.Glyphs.{IsGlyphText-space}
-use Rattle.vt_cells.specs.Op.{Op, Hide, MoveTo, MoveRight, NextRow, LineFeed, Backspace, EraseChars, SaveCursor, RestoreCursor, ChangeAttrs, Print, FitsAttrs}
+use Rattle.vt_cells.specs.Op.{Op, Hide, MoveTo, MoveRight, NextRow, LineFeed, Backspace, EraseChars}
+use Rattle.vt_cells.specs.Op.{SaveCursor, RestoreCursor, ChangeAttrs, Print, FitsAttrs}
 use Rattle.vt_rows.specs.Cells.{at, ends_blank}
 use Rattle.vt_rows.specs.Row.{RowValue, IsRow}
 use Rattle.vt_grid.specs.Page.{row_or}
@@ -18,8 +21,12 @@ use Rattle.vt_redraw.specs.declared.pen.Pen.{Pen}
 use Rattle.vt_redraw.proofs.Runs.{run_bound}
 use Rattle.vt_redraw.proofs.Printable.{printable_text}
 use Rattle.vt_redraw.specs.Picture.{Picture, IsPicture, IsColoredPicture}
-use Rattle.vt_redraw.specs.Script.{Scripted, nothing, after, doing, cells_written, last_column, last_glyph, is_at, behind, going_behind, Linked, unlinked, first_written, starts_other, link_after, linked, breaking, broken, flag_behind, flag_past}
-use Rattle.vt_redraw.specs.Redraw.{row_written, link_of, rows_below, rows_written, nearest, over_blank, under_last, pending_at, cursor_written, pen_of, script, hiding, difference, blank_like, redraw, pending_alone, cursor_state}
+use Rattle.vt_redraw.specs.Script.{Scripted, nothing, after, doing, cells_written, last_column, last_glyph}
+use Rattle.vt_redraw.specs.Script.{is_at, behind, going_behind, Linked, unlinked, first_written, starts_other}
+use Rattle.vt_redraw.specs.Script.{link_after, linked, breaking, broken, flag_behind, flag_past}
+use Rattle.vt_redraw.specs.Redraw.{row_written, link_of, rows_below, rows_written, nearest, over_blank}
+use Rattle.vt_redraw.specs.Redraw.{under_last, pending_at, cursor_written, pen_of, script, hiding}
+use Rattle.vt_redraw.specs.Redraw.{difference, blank_like, redraw, pending_alone, cursor_state}
 
 -- ---- lists of operations
 
@@ -34,18 +41,21 @@ going_fits : (pen : Pen) (r c : ℕ) → r < 65535 → c < 65535 → AllFit (goi
 unfolding going
 going_fits pen r c h l =
     cond_both ((r == pen.row + 1) && (c == 0)) (NextRow ∷ []) _ AllFit (λ _. (tt, tt))
-    (λ _. cond_both ((r == pen.row) && nat_lt pen.col c) (MoveRight (c - pen.col) ∷ []) _ AllFit (λ _. (omega arith, tt))
+    (λ _. cond_both ((r == pen.row) && nat_lt pen.col c)
+    (MoveRight (c - pen.col) ∷ []) _ AllFit (λ _. (omega arith, tt))
     (λ _. cond_both ((r == pen.row) && (c == pen.col)) [] (MoveTo r c ∷ []) AllFit (λ _. tt) (λ _. ((h, l), tt))))
 
 changing_fits : (was new : Attrs) → FitsAttrs was → FitsAttrs new → AllFit (changing was new)
 unfolding changing
-changing_fits was new h l = cond_both (same_attrs was new) [] (ChangeAttrs was new ∷ []) AllFit (λ _. tt) (λ _. ((h, l), tt))
+changing_fits was new h l =
+    cond_both (same_attrs was new) [] (ChangeAttrs was new ∷ []) AllFit (λ _. tt) (λ _. ((h, l), tt))
 
 erase_run_fits : (n : ℕ) (xs : List CellValue) → n < 2 ^ 16 → Fits (erase_run n xs)
 erase_run_fits n [] h = tt
 erase_run_fits n (x ∷ xs) h = h
 
-doing_fits : (pen : Pen) (r c : ℕ) (attrs : Attrs) (op : Op) → r < 65535 → c < 65535 → FitsAttrs pen.attrs → FitsAttrs attrs → Fits op → AllFit (doing pen r c attrs op)
+doing_fits : (pen : Pen) (r c : ℕ) (attrs : Attrs) (op : Op) → r < 65535 → c < 65535 →
+    FitsAttrs pen.attrs → FitsAttrs attrs → Fits op → AllFit (doing pen r c attrs op)
 doing_fits pen r c attrs op h l was new fits =
     fits_append (going pen r c) (changing pen.attrs attrs ++ op ∷ []) (going_fits pen r c h l)
     (fits_append (changing pen.attrs attrs) (op ∷ []) (changing_fits pen.attrs attrs was new) (fits, tt))
@@ -62,7 +72,8 @@ space_fits = printable_text (0x20 ∷ []) false IsGlyphText-space
 abbrev pub IsFit : CellValue → Type 0
 IsFit cell = IsCell cell × FitsAttrs (attrs_of cell)
 
-all_fit : (cells : List CellValue) → AllByRecursion IsCell cells → AllByRecursion (λ cell. FitsAttrs (attrs_of cell)) cells → AllByRecursion IsFit cells
+all_fit : (cells : List CellValue) → AllByRecursion IsCell cells →
+    AllByRecursion (λ cell. FitsAttrs (attrs_of cell)) cells → AllByRecursion IsFit cells
 all_fit [] h k = tt
 all_fit (x ∷ xs) h k = ((h.0, k.0), all_fit xs h.1 k.1)
 
@@ -83,18 +94,23 @@ pub record FitsWritten (w : Scripted) : Type 0 where
 pub fits_after : (ops : List Op) (w : Scripted) → AllFit ops → FitsWritten w → FitsWritten (after ops w)
 fits_after ops w h k = record { ops = fits_append ops w.ops h k.ops; attrs = k.attrs }
 
-pub cells_fit : (r c : ℕ) (pen : Pen) (flag : Bool) (k : ℕ) (xs ys : List CellValue) → r < 65535 → c + length xs < 2 ^ 16 → FitsAttrs pen.attrs → AllByRecursion IsFit xs → FitsWritten (cells_written r c pen flag k xs ys)
+pub cells_fit : (r c : ℕ) (pen : Pen) (flag : Bool) (k : ℕ) (xs ys : List CellValue) →
+    r < 65535 → c + length xs < 2 ^ 16 → FitsAttrs pen.attrs →
+    AllByRecursion IsFit xs → FitsWritten (cells_written r c pen flag k xs ys)
 unfolding cells_written
 cells_fit r c pen flag k [] ys h l was fit = record { ops = tt; attrs = was }
 cells_fit r c pen flag k (x ∷ xs) [] h l was fit = record { ops = tt; attrs = was }
-cells_fit r c pen flag (suc k) (x ∷ xs) (y ∷ ys) h l was fit = cells_fit r (c + 1) pen flag k xs ys h (omega arith) was fit.1
-cells_fit r c pen flag zero (right_half ∷ xs) (y ∷ ys) h l was fit = cells_fit r (c + 1) pen flag zero xs ys h (omega arith) was fit.1
+cells_fit r c pen flag (suc k) (x ∷ xs) (y ∷ ys) h l was fit =
+    cells_fit r (c + 1) pen flag k xs ys h (omega arith) was fit.1
+cells_fit r c pen flag zero (right_half ∷ xs) (y ∷ ys) h l was fit =
+    cells_fit r (c + 1) pen flag zero xs ys h (omega arith) was fit.1
 cells_fit r c pen flag zero (blank a ∷ xs) (y ∷ ys) h l was fit =
     let n = blank_run a xs in
     let bound = run_bound a xs in
     let op = erase_run (suc n) (drop n ys) in
     let rest = cells_written r (c + 1) (pen_at r c a) (flag_past flag (drop n ys)) n xs ys in
-    cond_both (same_cell (blank a) y) (cells_written r (c + 1) pen flag zero xs ys) (after (doing pen r c a op) rest) FitsWritten
+    cond_both (same_cell (blank a) y) (cells_written r (c + 1) pen flag zero xs ys)
+    (after (doing pen r c a op) rest) FitsWritten
     (λ _. cells_fit r (c + 1) pen flag zero xs ys h (omega arith) was fit.1)
     (λ _. fits_after (doing pen r c a op) rest
     (doing_fits pen r c a op h (omega arith) was fit.0.1 (erase_run_fits (suc n) (drop n ys) (omega arith)))
@@ -104,7 +120,8 @@ cells_fit r c pen flag zero (glyph text wide a ∷ xs) (y ∷ ys) h l was fit =
     let next = pen_at r (c + first_columns wide) a in
     let now = flag_behind flag wide (drop 1 ys) in
     let rest = cells_written r (c + 1) next now k xs ys in
-    cond_both (same_cell (glyph text wide a) y) (cells_written r (c + 1) pen flag k xs ys) (after (doing pen r c a (Print text)) rest) FitsWritten
+    cond_both (same_cell (glyph text wide a) y) (cells_written r (c + 1) pen flag k xs ys)
+    (after (doing pen r c a (Print text)) rest) FitsWritten
     (λ _. cells_fit r (c + 1) pen flag k xs ys h (omega arith) was fit.1)
     (λ _. fits_after (doing pen r c a (Print text)) rest
     (doing_fits pen r c a (Print text) h (omega arith) was fit.0.1 (printable_text text wide fit.0.0))
@@ -113,43 +130,67 @@ cells_fit r c pen flag zero (glyph text wide a ∷ xs) (y ∷ ys) h l was fit =
 -- ---- the last glyph, the link and the break
 
 last_low : (cells : List CellValue) → 0 < length cells → length cells < 2 ^ 16 → last_column cells < 65535
-last_low cells some h = cond_both (is_right_half (at cells (length cells - 1))) (length cells - 2) (length cells - 1) (λ (k : ℕ). k < 65535) (λ _. omega arith) (λ _. omega arith)
+last_low cells some h =
+    cond_both (is_right_half (at cells (length cells - 1))) (length cells - 2)
+    (length cells - 1) (λ (k : ℕ). k < 65535) (λ _. omega arith) (λ _. omega arith)
 
-pub behind_fits : (r : ℕ) (pen : Pen) (cells : List CellValue) → r < 65535 → 0 < length cells → length cells < 2 ^ 16 → FitsAttrs pen.attrs → AllByRecursion IsFit cells → FitsWritten (going_behind r pen cells)
+pub behind_fits : (r : ℕ) (pen : Pen) (cells : List CellValue) → r < 65535 → 0 < length cells →
+    length cells < 2 ^ 16 → FitsAttrs pen.attrs → AllByRecursion IsFit cells → FitsWritten (going_behind r pen cells)
 behind_fits r pen cells h some l was fit =
     let last = at_fits cells (last_column cells) fit in
-    let again : Scripted = record { ops = doing pen r (last_column cells) (attrs_of (last_glyph cells)) (Print (text_of (last_glyph cells))); pen = behind r cells; flag = true } in
+    let again : Scripted = record {
+      ops = doing pen r (last_column cells) (attrs_of (last_glyph cells)) (Print (text_of (last_glyph cells)));
+      pen = behind r cells;
+      flag = true;
+    } in
     cond_both (is_at pen r (length cells)) (nothing pen true) again FitsWritten (λ _. record { ops = tt; attrs = was })
-    (λ _. record { ops = doing_fits pen r (last_column cells) (attrs_of (last_glyph cells)) (Print (text_of (last_glyph cells))) h (last_low cells some l) was last.1 (text_fits (last_glyph cells) last.0); attrs = last.1 })
+    (λ _.
+    record {
+      ops =
+          doing_fits pen r (last_column cells) (attrs_of (last_glyph cells)) (Print (text_of (last_glyph cells)))
+          h (last_low cells some l) was last.1 (text_fits (last_glyph cells) last.0);
+      attrs = last.1;
+    })
 
 pub record FitsLinked (j : Linked) : Type 0 where
   pub ops : AllFit j.ops
   pub attrs : FitsAttrs j.pen.attrs
 
-pub first_fits : (r : ℕ) (pen : Pen) (flag : Bool) (xs ys : List CellValue) → FitsAttrs pen.attrs → AllByRecursion IsFit xs → FitsLinked (first_written r pen flag xs ys)
+pub first_fits : (r : ℕ) (pen : Pen) (flag : Bool) (xs ys : List CellValue) →
+    FitsAttrs pen.attrs → AllByRecursion IsFit xs → FitsLinked (first_written r pen flag xs ys)
 first_fits r pen flag [] ys was fit = record { ops = tt; attrs = was }
 first_fits r pen flag (x ∷ xs) [] was fit = record { ops = tt; attrs = was }
 first_fits r pen flag (right_half ∷ xs) (y ∷ ys) was fit = record { ops = tt; attrs = was }
 first_fits r pen flag (blank a ∷ xs) (y ∷ ys) was fit = record {
-  ops = fits_append (changing pen.attrs a) (Print (0x20 ∷ []) ∷ Backspace ∷ EraseChars 1 ∷ []) (changing_fits pen.attrs a was fit.0.1) (space_fits, (tt, (omega arith, tt)));
+  ops =
+      fits_append (changing pen.attrs a) (Print (0x20 ∷ []) ∷ Backspace ∷ EraseChars 1 ∷ [])
+      (changing_fits pen.attrs a was fit.0.1) (space_fits, (tt, (omega arith, tt)));
   attrs = fit.0.1;
 }
 first_fits r pen flag (glyph text wide a ∷ xs) (y ∷ ys) was fit = record {
-  ops = fits_append (changing pen.attrs a) (Print text ∷ []) (changing_fits pen.attrs a was fit.0.1) (printable_text text wide fit.0.0, tt);
+  ops =
+      fits_append (changing pen.attrs a) (Print text ∷ [])
+      (changing_fits pen.attrs a was fit.0.1) (printable_text text wide fit.0.0, tt);
   attrs = fit.0.1;
 }
 
-linked_fits : (r : ℕ) (pen : Pen) (above : List CellValue) (on flag : Bool) (xs ys : List CellValue) → r < 65535 → 0 < length above → length above < 2 ^ 16 → FitsAttrs pen.attrs → AllByRecursion IsFit above → AllByRecursion IsFit xs → FitsLinked (linked r pen above on flag xs ys)
+linked_fits : (r : ℕ) (pen : Pen) (above : List CellValue) (on flag : Bool) (xs ys : List CellValue) →
+    r < 65535 → 0 < length above → length above < 2 ^ 16 → FitsAttrs pen.attrs →
+    AllByRecursion IsFit above → AllByRecursion IsFit xs → FitsLinked (linked r pen above on flag xs ys)
 unfolding linked
 linked_fits r pen above on flag xs ys h some l was over fit =
     let w = going_behind r pen above in
     let one = behind_fits r pen above h some l was over in
     let two = first_fits (r + 1) w.pen flag xs ys one.attrs fit in
-    cond_both (not on || (is_at pen r (length above) && starts_other xs ys)) (link_after w.ops (first_written (r + 1) w.pen flag xs ys)) (unlinked pen flag) FitsLinked
-    (λ _. record { ops = fits_append w.ops (first_written (r + 1) w.pen flag xs ys).ops one.ops two.ops; attrs = two.attrs })
+    cond_both (not on || (is_at pen r (length above) && starts_other xs ys))
+    (link_after w.ops (first_written (r + 1) w.pen flag xs ys)) (unlinked pen flag) FitsLinked
+    (λ _.
+    record { ops = fits_append w.ops (first_written (r + 1) w.pen flag xs ys).ops one.ops two.ops; attrs = two.attrs })
     (λ _. record { ops = tt; attrs = was })
 
-pub broken_fits : (r : ℕ) (pen : Pen) (flag wanted : Bool) (cells : List CellValue) → r < 65535 → 0 < length cells → length cells < 2 ^ 16 → FitsAttrs pen.attrs → AllByRecursion IsFit cells → FitsWritten (broken r pen flag wanted cells)
+pub broken_fits : (r : ℕ) (pen : Pen) (flag wanted : Bool) (cells : List CellValue) →
+    r < 65535 → 0 < length cells → length cells < 2 ^ 16 → FitsAttrs pen.attrs →
+    AllByRecursion IsFit cells → FitsWritten (broken r pen flag wanted cells)
 unfolding broken
 broken_fits r pen flag wanted cells h some l was fit =
     let last = at_fits cells (last_column cells) fit in
@@ -157,8 +198,13 @@ broken_fits r pen flag wanted cells h some l was fit =
     let text = text_of (last_glyph cells) in
     cond_both (flag && not wanted) (breaking r pen cells) (nothing pen flag) FitsWritten
     (λ _. record {
-      ops = fits_append (going pen r (last_column cells)) (EraseChars 1 ∷ (changing pen.attrs a ++ Print text ∷ [])) (going_fits pen r (last_column cells) h (last_low cells some l))
-          (omega arith, fits_append (changing pen.attrs a) (Print text ∷ []) (changing_fits pen.attrs a was last.1) (text_fits (last_glyph cells) last.0, tt));
+      ops =
+          fits_append (going pen r (last_column cells)) (EraseChars 1 ∷ (changing pen.attrs a ++ Print text ∷ []))
+          (going_fits pen r (last_column cells) h (last_low cells some l)) (
+            omega arith,
+            fits_append (changing pen.attrs a) (Print text ∷ [])
+                (changing_fits pen.attrs a was last.1) (text_fits (last_glyph cells) last.0, tt),
+          );
       attrs = last.1;
     })
     (λ _. record { ops = tt; attrs = was })
@@ -169,15 +215,19 @@ pub record IsFitRow (width : ℕ) (row : RowValue) : Type 0 where
   pub columns : length row.cells ≡ width
   pub cells : AllByRecursion IsFit row.cells
 
-row_fits : (r k width : ℕ) (pen : Pen) (flag : Bool) (x : RowValue) (ys : List CellValue) → r < 65535 → 0 < width → width < 2 ^ 16 → FitsAttrs pen.attrs → IsFitRow width x → FitsWritten (row_written r k pen flag x ys)
+row_fits : (r k width : ℕ) (pen : Pen) (flag : Bool) (x : RowValue) (ys : List CellValue) → r < 65535 → 0 < width →
+    width < 2 ^ 16 → FitsAttrs pen.attrs → IsFitRow width x → FitsWritten (row_written r k pen flag x ys)
 unfolding row_written
 row_fits r k width pen flag x ys h some l was fit =
     let columns = fit.columns in
     let w = cells_written r 0 pen flag k x.cells ys in
     let one = cells_fit r 0 pen flag k x.cells ys h (omega arith) was fit.cells in
-    fits_after w.ops (broken r w.pen w.flag x.wrapped x.cells) one.ops (broken_fits r w.pen w.flag x.wrapped x.cells h (omega arith) (omega arith) one.attrs fit.cells)
+    fits_after w.ops (broken r w.pen w.flag x.wrapped x.cells) one.ops
+    (broken_fits r w.pen w.flag x.wrapped x.cells h (omega arith) (omega arith) one.attrs fit.cells)
 
-below_fit : (r width : ℕ) (pen : Pen) (above : RowValue) (on : Bool) (xs ys : List RowValue) → r + suc (length xs) < 2 ^ 16 → 0 < width → width < 2 ^ 16 → FitsAttrs pen.attrs → IsFitRow width above → AllByRecursion (IsFitRow width) xs →
+below_fit : (r width : ℕ) (pen : Pen) (above : RowValue) (on : Bool) (xs ys : List RowValue) →
+    r + suc (length xs) < 2 ^ 16 → 0 < width → width < 2 ^ 16 →
+    FitsAttrs pen.attrs → IsFitRow width above → AllByRecursion (IsFitRow width) xs →
     FitsWritten (rows_below r pen above on xs ys)
 unfolding rows_below
 below_fit r width pen above on [] ys h some l was over fit = record { ops = tt; attrs = was }
@@ -186,24 +236,31 @@ below_fit r width pen above on (x ∷ xs) (y ∷ ys) h some l was over fit =
     let columns = over.columns in
     let link = link_of r pen above on x y in
     let row = row_written (r + 1) link.settled link.pen link.flag x y.cells in
-    let one : FitsLinked link = cond_both above.wrapped (linked r pen above.cells on y.wrapped x.cells y.cells) (unlinked pen y.wrapped) FitsLinked
-    (λ _. linked_fits r pen above.cells on y.wrapped x.cells y.cells (omega arith) (omega arith) (omega arith) was over.cells fit.0.cells) (λ _. record { ops = tt; attrs = was }) in
+    let one : FitsLinked link =
+    cond_both above.wrapped (linked r pen above.cells on y.wrapped x.cells y.cells) (unlinked pen y.wrapped) FitsLinked
+    (λ _. linked_fits r pen above.cells on y.wrapped x.cells y.cells
+    (omega arith) (omega arith) (omega arith) was over.cells fit.0.cells)
+    (λ _. record { ops = tt; attrs = was }) in
     let two = row_fits (r + 1) link.settled width link.pen link.flag x y.cells (omega arith) some l one.attrs fit.0 in
-    fits_after (link.ops ++ row.ops) (rows_below (r + 1) row.pen x row.flag xs ys) (fits_append link.ops row.ops one.ops two.ops)
+    fits_after (link.ops ++ row.ops) (rows_below (r + 1) row.pen x row.flag xs ys)
+    (fits_append link.ops row.ops one.ops two.ops)
     (below_fit (r + 1) width row.pen x row.flag xs ys (omega arith) some l two.attrs fit.0 fit.1)
 
-rows_fit : (width : ℕ) (pen : Pen) (xs ys : List RowValue) → length xs < 2 ^ 16 → 0 < width → width < 2 ^ 16 → FitsAttrs pen.attrs → AllByRecursion (IsFitRow width) xs → FitsWritten (rows_written pen xs ys)
+rows_fit : (width : ℕ) (pen : Pen) (xs ys : List RowValue) → length xs < 2 ^ 16 → 0 < width → width < 2 ^ 16 →
+    FitsAttrs pen.attrs → AllByRecursion (IsFitRow width) xs → FitsWritten (rows_written pen xs ys)
 unfolding rows_written
 rows_fit width pen [] ys h some l was fit = record { ops = tt; attrs = was }
 rows_fit width pen (x ∷ xs) [] h some l was fit = record { ops = tt; attrs = was }
 rows_fit width pen (x ∷ xs) (y ∷ ys) h some l was fit =
     let row = row_written 0 0 pen y.wrapped x y.cells in
     let one = row_fits 0 0 width pen y.wrapped x y.cells (omega arith) some l was fit.0 in
-    fits_after row.ops (rows_below 0 row.pen x row.flag xs ys) one.ops (below_fit 0 width row.pen x row.flag xs ys (omega arith) some l one.attrs fit.0 fit.1)
+    fits_after row.ops (rows_below 0 row.pen x row.flag xs ys) one.ops
+    (below_fit 0 width row.pen x row.flag xs ys (omega arith) some l one.attrs fit.0 fit.1)
 
 -- ---- the cursor
 
-pub row_at_fits : (width : ℕ) (rows : List RowValue) (r : ℕ) → AllByRecursion (IsFitRow width) rows → r < length rows → IsFitRow width (row_or width rows r)
+pub row_at_fits : (width : ℕ) (rows : List RowValue) (r : ℕ) →
+    AllByRecursion (IsFitRow width) rows → r < length rows → IsFitRow width (row_or width rows r)
 row_at_fits width [] r h lt = absurd (omega arith)
 row_at_fits width (x ∷ xs) zero h lt = h.0
 row_at_fits width (x ∷ xs) (suc r) h lt = row_at_fits width xs r h.1 (omega arith)
@@ -217,20 +274,28 @@ below_more n None h = tt
 below_more n (Some i) h = omega arith
 
 nearest_below : (width : ℕ) (rows : List RowValue) (n : ℕ) → Below n (nearest width rows n)
-nearest_below width rows zero = cond_both (ends_blank (row_or width rows 0).cells) None (Some 0) (Below 0) (λ _. tt) (λ _. omega arith)
+nearest_below width rows zero =
+    cond_both (ends_blank (row_or width rows 0).cells) None (Some 0) (Below 0) (λ _. tt) (λ _. omega arith)
 nearest_below width rows (suc n) =
-    cond_both (ends_blank (row_or width rows (suc n)).cells) (nearest width rows n) (Some (suc n)) (Below (suc n)) (λ _. below_more n (nearest width rows n) (nearest_below width rows n)) (λ _. omega arith)
+    cond_both (ends_blank (row_or width rows (suc n)).cells) (nearest width rows n) (Some (suc n))
+    (Below (suc n)) (λ _. below_more n (nearest width rows n) (nearest_below width rows n)) (λ _. omega arith)
 
-pending_fits : (found : Option ℕ) (pen : Pen) (width : ℕ) (rows : List RowValue) (r : ℕ) → Below r found → r < length rows → length rows < 2 ^ 16 → 0 < width → width < 2 ^ 16 → FitsAttrs pen.attrs → AllByRecursion (IsFitRow width) rows →
+pending_fits : (found : Option ℕ) (pen : Pen) (width : ℕ) (rows : List RowValue) (r : ℕ) →
+    Below r found → r < length rows → length rows < 2 ^ 16 → 0 < width →
+    width < 2 ^ 16 → FitsAttrs pen.attrs → AllByRecursion (IsFitRow width) rows →
     AllFit (pending_at found pen width rows r)
 unfolding over_blank under_last
 pending_fits None pen width rows r near lt h some l was fit =
     let row = row_at_fits width rows r fit lt in
     let last = at_fits (row_or width rows r).cells (width - 1) row.cells in
     let b = attrs_of (at (row_or width rows r).cells (width - 1)) in
-    fits_append (going pen r (width - 1)) (Print (0x20 ∷ []) ∷ (changing pen.attrs b ++ (SaveCursor ∷ Backspace ∷ EraseChars 1 ∷ RestoreCursor ∷ changing b pen.attrs))) (going_fits pen r (width - 1) (omega arith) (omega arith)) (
+    fits_append (going pen r (width - 1))
+    (Print (0x20 ∷ [])
+    ∷ (changing pen.attrs b ++ (SaveCursor ∷ Backspace ∷ EraseChars 1 ∷ RestoreCursor ∷ changing b pen.attrs)))
+    (going_fits pen r (width - 1) (omega arith) (omega arith)) (
       space_fits,
-      fits_append (changing pen.attrs b) (SaveCursor ∷ Backspace ∷ EraseChars 1 ∷ RestoreCursor ∷ changing b pen.attrs) (changing_fits pen.attrs b was last.1)
+      fits_append (changing pen.attrs b) (SaveCursor ∷ Backspace ∷ EraseChars 1 ∷ RestoreCursor ∷ changing b pen.attrs)
+          (changing_fits pen.attrs b was last.1)
           (tt, (tt, (omega arith, (tt, changing_fits b pen.attrs last.1 was)))),
     )
 pending_fits (Some i) pen width rows r near lt h some l was fit =
@@ -240,49 +305,75 @@ pending_fits (Some i) pen width rows r near lt h some l was fit =
     let w = going_behind i pen cells in
     let one = behind_fits i pen cells (omega arith) (omega arith) (omega arith) was row.cells in
     fits_append w.ops (changing w.pen.attrs pen.attrs ++ replicate (r - i) LineFeed) one.ops
-    (fits_append (changing w.pen.attrs pen.attrs) (replicate (r - i) LineFeed) (changing_fits w.pen.attrs pen.attrs one.attrs was) (feeds_fit (r - i)))
+    (fits_append (changing w.pen.attrs pen.attrs) (replicate (r - i) LineFeed)
+    (changing_fits w.pen.attrs pen.attrs one.attrs was) (feeds_fit (r - i)))
 
-cursor_fits : (pen : Pen) (width : ℕ) (rows : List RowValue) (r c : ℕ) → r < length rows → length rows < 2 ^ 16 → 0 < width → width < 2 ^ 16 → FitsAttrs pen.attrs → AllByRecursion (IsFitRow width) rows → AllFit (cursor_written pen width rows r c)
+cursor_fits : (pen : Pen) (width : ℕ) (rows : List RowValue) (r c : ℕ) → r < length rows →
+    length rows < 2 ^ 16 → 0 < width → width < 2 ^ 16 → FitsAttrs pen.attrs →
+    AllByRecursion (IsFitRow width) rows → AllFit (cursor_written pen width rows r c)
 unfolding cursor_written
 cursor_fits pen width rows r c lt h some l was fit =
-    cond_both (is_at pen r c) [] (if nat_lt c width then going pen r c else pending_at (nearest width rows r) pen width rows r) AllFit (λ _. tt)
+    cond_both (is_at pen r c) []
+    (if nat_lt c width then going pen r c else pending_at (nearest width rows r) pen width rows r) AllFit (λ _. tt)
     (λ _. cond_both (nat_lt c width) (going pen r c) (pending_at (nearest width rows r) pen width rows r) AllFit
     (λ (t : nat_lt c width ≡ true). let low = ltb-true c width t in going_fits pen r c (omega arith) (omega arith))
     (λ _. pending_fits (nearest width rows r) pen width rows r (nearest_below width rows r) lt h some l was fit))
 
 -- ---- the whole
 
-fit_rows : (width : ℕ) (rows : List RowValue) → AllByRecursion (IsRow width) rows → AllByRecursion (λ row. All (λ cell. FitsAttrs (attrs_of cell)) row.cells) rows → AllByRecursion (IsFitRow width) rows
+fit_rows : (width : ℕ) (rows : List RowValue) → AllByRecursion (IsRow width) rows →
+    AllByRecursion (λ row. All (λ cell. FitsAttrs (attrs_of cell)) row.cells) rows →
+    AllByRecursion (IsFitRow width) rows
 fit_rows width [] is colors = tt
-fit_rows width (row ∷ rows) is colors =
-    (record { columns = is.0.columns; cells = all_fit row.cells (recursion_from_All IsCell row.cells is.0.sound) (recursion_from_All (λ cell. FitsAttrs (attrs_of cell)) row.cells colors.0) }, fit_rows width rows is.1 colors.1)
+fit_rows width (row ∷ rows) is colors = (
+  record {
+    columns = is.0.columns;
+    cells =
+        all_fit row.cells (recursion_from_All IsCell row.cells is.0.sound)
+        (recursion_from_All (λ cell. FitsAttrs (attrs_of cell)) row.cells colors.0);
+  },
+  fit_rows width rows is.1 colors.1,
+)
 
-pub picture_fits : (self : Picture) → IsPicture self → IsColoredPicture self → AllByRecursion (IsFitRow self.width) self.rows
-picture_fits self is colors = fit_rows self.width self.rows (recursion_from_All (IsRow self.width) self.rows is.rows) (recursion_from_All (λ row. All (λ cell. FitsAttrs (attrs_of cell)) row.cells) self.rows colors.cells)
+pub picture_fits : (self : Picture) → IsPicture self →
+    IsColoredPicture self → AllByRecursion (IsFitRow self.width) self.rows
+picture_fits self is colors =
+    fit_rows self.width self.rows (recursion_from_All (IsRow self.width) self.rows is.rows)
+    (recursion_from_All (λ row. All (λ cell. FitsAttrs (attrs_of cell)) row.cells) self.rows colors.cells)
 
-script_fits : (self prev : Picture) → IsPicture self → IsColoredPicture self → FitsAttrs prev.attrs → AllFit (script self prev)
+script_fits : (self prev : Picture) → IsPicture self →
+    IsColoredPicture self → FitsAttrs prev.attrs → AllFit (script self prev)
 unfolding script
 script_fits self prev is colors was =
     let w = rows_written (pen_of prev) self.rows prev.rows in
     let fit = picture_fits self is colors in
-    let rows = rows_fit self.width (pen_of prev) self.rows prev.rows colors.height is.has_columns colors.columns was fit in
-    fits_append w.ops (cursor_written w.pen self.width self.rows self.row self.column ++ changing w.pen.attrs self.attrs) rows.ops
+    let rows =
+    rows_fit self.width (pen_of prev) self.rows prev.rows colors.height is.has_columns colors.columns was fit in
+    fits_append w.ops
+    (cursor_written w.pen self.width self.rows self.row self.column ++ changing w.pen.attrs self.attrs) rows.ops
     (fits_append (cursor_written w.pen self.width self.rows self.row self.column) (changing w.pen.attrs self.attrs)
-    (cursor_fits w.pen self.width self.rows self.row self.column is.cursor_row colors.height is.has_columns colors.columns rows.attrs fit)
+    (cursor_fits w.pen self.width self.rows self.row self.column
+    is.cursor_row colors.height is.has_columns colors.columns rows.attrs fit)
     (changing_fits w.pen.attrs self.attrs rows.attrs colors.attrs))
 
-pub difference_fits : (self prev : Picture) → IsPicture self → IsColoredPicture self → FitsAttrs prev.attrs → AllByRecursion Fits (difference self prev)
+pub difference_fits : (self prev : Picture) → IsPicture self → IsColoredPicture self →
+    FitsAttrs prev.attrs → AllByRecursion Fits (difference self prev)
 unfolding difference
 difference_fits self prev is colors was =
-    fits_append (hiding self prev) (script self prev) (cond_both (same_bool self.hidden prev.hidden) [] (Hide self.hidden ∷ []) AllFit (λ _. tt) (λ _. (tt, tt))) (script_fits self prev is colors was)
+    fits_append (hiding self prev) (script self prev)
+    (cond_both (same_bool self.hidden prev.hidden) [] (Hide self.hidden ∷ []) AllFit (λ _. tt) (λ _. (tt, tt)))
+    (script_fits self prev is colors was)
 
 pub redraw_fits : (self : Picture) → IsPicture self → IsColoredPicture self → AllByRecursion Fits (redraw self)
 unfolding redraw
-redraw_fits self is colors = (tt, (tt, ((omega arith, omega arith), (tt, script_fits self (blank_like self) is colors (tt, tt)))))
+redraw_fits self is colors =
+    (tt, (tt, ((omega arith, omega arith), (tt, script_fits self (blank_like self) is colors (tt, tt)))))
 
 -- ---- the cursor alone
 
-alone_fits : (found : Option ℕ) (width : ℕ) (rows : List RowValue) (r : ℕ) → Below r found → r < length rows → length rows < 2 ^ 16 → 0 < width → width < 2 ^ 16 → AllByRecursion (IsFitRow width) rows → AllFit (pending_alone found width rows r)
+alone_fits : (found : Option ℕ) (width : ℕ) (rows : List RowValue) (r : ℕ) →
+    Below r found → r < length rows → length rows < 2 ^ 16 → 0 < width → width < 2 ^ 16 →
+    AllByRecursion (IsFitRow width) rows → AllFit (pending_alone found width rows r)
 alone_fits None width rows r near lt h some l fit =
     let row = row_at_fits width rows r fit lt in
     let last = at_fits (row_or width rows r).cells (width - 1) row.cells in
@@ -291,7 +382,9 @@ alone_fits None width rows r near lt h some l fit =
       (omega arith, omega arith),
       (
         space_fits,
-        fits_append (changing default_attrs b) (SaveCursor ∷ Backspace ∷ EraseChars 1 ∷ RestoreCursor ∷ changing b default_attrs) (changing_fits default_attrs b plain last.1)
+        fits_append (changing default_attrs b)
+            (SaveCursor ∷ Backspace ∷ EraseChars 1 ∷ RestoreCursor ∷ changing b default_attrs)
+            (changing_fits default_attrs b plain last.1)
             (tt, (tt, (omega arith, (tt, changing_fits b default_attrs last.1 plain)))),
       ),
     )
@@ -303,11 +396,17 @@ alone_fits (Some i) width rows r near lt h some l fit =
     let a = attrs_of (last_glyph cells) in
     let plain : FitsAttrs default_attrs = (tt, tt) in (
       (omega arith, last_low cells (omega arith) (omega arith)),
-      fits_append (changing default_attrs a) (Print (text_of (last_glyph cells)) ∷ (changing a default_attrs ++ replicate (r - i) LineFeed)) (changing_fits default_attrs a plain last.1)
-          (text_fits (last_glyph cells) last.0, fits_append (changing a default_attrs) (replicate (r - i) LineFeed) (changing_fits a default_attrs last.1 plain) (feeds_fit (r - i))),
+      fits_append (changing default_attrs a)
+          (Print (text_of (last_glyph cells)) ∷ (changing a default_attrs ++ replicate (r - i) LineFeed))
+          (changing_fits default_attrs a plain last.1) (
+            text_fits (last_glyph cells) last.0,
+            fits_append (changing a default_attrs) (replicate (r - i) LineFeed)
+                (changing_fits a default_attrs last.1 plain) (feeds_fit (r - i)),
+          ),
     )
 
-pub cursor_state_fits : (self : Picture) → IsPicture self → IsColoredPicture self → AllByRecursion Fits (cursor_state self)
+pub cursor_state_fits : (self : Picture) → IsPicture self →
+    IsColoredPicture self → AllByRecursion Fits (cursor_state self)
 unfolding cursor_state
 cursor_state_fits self is colors =
     let fit = picture_fits self is colors in
@@ -317,6 +416,9 @@ cursor_state_fits self is colors =
     let alone = pending_alone (nearest self.width self.rows self.row) self.width self.rows self.row in (
       tt,
       cond_both (nat_lt self.column self.width) (MoveTo self.row self.column ∷ []) alone AllFit
-          (λ (t : nat_lt self.column self.width ≡ true). let low = ltb-true self.column self.width t in ((omega arith, omega arith), tt))
-          (λ _. alone_fits (nearest self.width self.rows self.row) self.width self.rows self.row (nearest_below self.width self.rows self.row) is.cursor_row colors.height is.has_columns colors.columns fit),
+          (λ (t : nat_lt self.column self.width ≡ true). let low =
+          ltb-true self.column self.width t in ((omega arith, omega arith), tt))
+          (λ _. alone_fits (nearest self.width self.rows self.row) self.width
+          self.rows self.row (nearest_below self.width self.rows self.row)
+          is.cursor_row colors.height is.has_columns colors.columns fit),
     )

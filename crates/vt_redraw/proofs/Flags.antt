@@ -1,5 +1,6 @@
 -- Whether a row goes on below, after a change of some of its columns.
-use Rattle.std.proofs.Common.{◌≡◌, ℕ, zero, suc, ◌-◌, ◌&&◌, ◌||◌, Bool, true, false, not, List, [], ◌∷◌, ◌++◌, length, drop, refl, sym, ap, ◌∙◌, append_assoc, append-nil, arith}
+use Rattle.std.proofs.Common.{◌≡◌, ℕ, zero, suc, ◌-◌, ◌&&◌, ◌||◌, Bool, true, false, not, List, [], ◌∷◌}
+use Rattle.std.proofs.Common.{◌++◌, length, drop, refl, sym, ap, ◌∙◌, append_assoc, append-nil, arith}
 use Rattle.vt_cells.specs.Cell.{CellValue, blank, glyph, right_half, is_blank}
 use Rattle.vt_cells.specs.Attrs.{Attrs}
 use Rattle.vt_rows.specs.Cells.{at, ends_blank, blanks, opened}
@@ -17,7 +18,8 @@ ends_is (x ∷ []) = refl
 ends_is (x ∷ y ∷ xs) =
     let e : suc (suc (length xs)) - 1 ≡ suc (length xs) = omega arith in
     let f : suc (length xs) - 1 ≡ length xs = omega arith in
-    ap (λ (k : ℕ). is_blank (at (x ∷ y ∷ xs) k)) e ∙ (ap (λ (k : ℕ). is_blank (at (y ∷ xs) k)) (sym f) ∙ ends_is (y ∷ xs))
+    ap (λ (k : ℕ). is_blank (at (x ∷ y ∷ xs) k)) e
+    ∙ (ap (λ (k : ℕ). is_blank (at (y ∷ xs) k)) (sym f) ∙ ends_is (y ∷ xs))
 
 -- the flag that is left with these cells
 abbrev pub kept : Bool → List CellValue → Bool
@@ -50,7 +52,8 @@ end_of n o (right_half ∷ y ∷ xs) = ends (y ∷ xs)
 end_of n o (blank a ∷ xs) = ends (blank a ∷ xs)
 end_of n o (glyph text wide a ∷ xs) = ends (glyph text wide a ∷ xs)
 
-ends_new : (xs : List CellValue) (o : CellValue) (rest : List CellValue) → ends (xs ++ opened o rest) ≡ end_of (ends xs) (is_blank o) rest
+ends_new : (xs : List CellValue) (o : CellValue) (rest : List CellValue) →
+    ends (xs ++ opened o rest) ≡ end_of (ends xs) (is_blank o) rest
 ends_new xs o [] = ap ends (append-nil xs)
 ends_new xs o (blank b ∷ ys) = ends_append xs (blank b) ys
 ends_new xs o (glyph text wide b ∷ ys) = ends_append xs (glyph text wide b) ys
@@ -58,7 +61,8 @@ ends_new xs o (right_half ∷ []) = ends_append xs o []
 ends_new xs o (right_half ∷ y ∷ ys) = ends_append xs o (y ∷ ys)
 
 -- the flag after a change, by what is left of what stood there
-flag_after : (f n o : Bool) (rest : List CellValue) → (f ≡ true → is_nil rest ≡ false → is_torn rest ≡ false → ends rest ≡ false) →
+flag_after : (f n o : Bool) (rest : List CellValue) →
+    (f ≡ true → is_nil rest ≡ false → is_torn rest ≡ false → ends rest ≡ false) →
     (f && not (end_of n o rest)) ≡ (f && not ((is_nil rest && n) || (is_torn rest && o)))
 flag_after false n o rest h = refl
 flag_after true n o [] h = grind (arith)
@@ -81,21 +85,27 @@ nil_drop : (m : ℕ) → is_nil (drop m []) ≡ true
 nil_drop zero = refl
 nil_drop (suc m) = refl
 
-end_rest : (n o : Bool) (y : CellValue) (ys : List CellValue) (m : ℕ) → is_nil (drop m ys) ≡ false → end_of n o (y ∷ ys) ≡ ends (drop m ys)
+end_rest : (n o : Bool) (y : CellValue) (ys : List CellValue) (m : ℕ) →
+    is_nil (drop m ys) ≡ false → end_of n o (y ∷ ys) ≡ ends (drop m ys)
 end_rest n o y [] m h = let t = nil_drop m in absurd (cc)
 end_rest n o (blank a) (z ∷ zs) m h = sym (ends_drop m (z ∷ zs) h)
 end_rest n o (glyph text wide a) (z ∷ zs) m h = sym (ends_drop m (z ∷ zs) h)
 end_rest n o right_half (z ∷ zs) m h = sym (ends_drop m (z ∷ zs) h)
 
 -- `new` takes the place of y and of m cells behind it
-pub flag_step : (pre new : List CellValue) (y : CellValue) (ys : List CellValue) (q o : CellValue) (m : ℕ) (f b : Bool) → ends (pre ++ new) ≡ b → Sound f (pre ++ opened o (y ∷ ys)) →
-    kept f (pre ++ (new ++ opened q (drop m ys))) ≡ (f && not ((is_nil (drop m ys) && b) || (is_torn (drop m ys) && is_blank q)))
+pub flag_step : (pre new : List CellValue) (y : CellValue)
+    (ys : List CellValue) (q o : CellValue) (m : ℕ) (f b : Bool) →
+    ends (pre ++ new) ≡ b → Sound f (pre ++ opened o (y ∷ ys)) →
+    kept f (pre ++ (new ++ opened q (drop m ys)))
+    ≡ (f && not ((is_nil (drop m ys) && b) || (is_torn (drop m ys) && is_blank q)))
 flag_step pre new y ys q o m f b e h =
     let rest = drop m ys in
     let last : ends (pre ++ (new ++ opened q rest)) ≡ end_of b (is_blank q) rest =
-    ap ends (sym (append_assoc pre new (opened q rest))) ∙ (ends_new (pre ++ new) q rest ∙ ap (λ (z : Bool). end_of z (is_blank q) rest) e) in
+    ap ends (sym (append_assoc pre new (opened q rest)))
+    ∙ (ends_new (pre ++ new) q rest ∙ ap (λ (z : Bool). end_of z (is_blank q) rest) e) in
     ap (λ (z : Bool). f && not z) last
-    ∙ flag_after f b (is_blank q) rest (λ t s _. sym (end_rest (ends pre) (is_blank o) y ys m s) ∙ (sym (ends_new pre o (y ∷ ys)) ∙ h t))
+    ∙ flag_after f b (is_blank q) rest
+    (λ t s _. sym (end_rest (ends pre) (is_blank o) y ys m s) ∙ (sym (ends_new pre o (y ∷ ys)) ∙ h t))
 
 pub ends_blanks : (n : ℕ) (a : Attrs) → ends (blank a ∷ blanks a n) ≡ true
 ends_blanks zero a = refl

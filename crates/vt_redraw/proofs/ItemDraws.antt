@@ -1,10 +1,12 @@
 -- A row's item, drawn on a canvas that awaits it, changes the row in its range, and at most its flag besides.
-use Rattle.std.proofs.Common.{◌≡◌, ℕ, ◌+◌, ◌<◌, ◌≤◌, ◌==◌, ◌&&◌, Bool, true, false, not, List, [], ◌∷◌, ◌++◌, length, take, drop, Some, refl, sym, ap, ◌∙◌, subst, append_assoc, arith}
+use Rattle.std.proofs.Common.{◌≡◌, ℕ, ◌+◌, ◌<◌, ◌≤◌, ◌==◌, ◌&&◌, Bool, true, false, not, List, [], ◌∷◌, ◌++◌}
+use Rattle.std.proofs.Common.{length, take, drop, Some, refl, sym, ap, ◌∙◌, subst, append_assoc, arith}
 use Rattle.std.specs.Prelude.{All, slice_index_or, slice_set}
 use Rattle.std.specs.List.{AllByRecursion}
 use Rattle.std.proofs.lemmas.Bool.{and_parts, cond_both, eqb-true}
 use Rattle.std.proofs.lemmas.Bool.Decides.{nat_tests}
-use Rattle.std.proofs.lemmas.List.{drop_more, set_at, length-take, length-append, length-drop, length-replicate, take-append-drop}
+use Rattle.std.proofs.lemmas.List.{drop_more, set_at, length-take, length-append}
+use Rattle.std.proofs.lemmas.List.{length-drop, length-replicate, take-append-drop}
 use Rattle.std.proofs.lemmas.List.Elements.{recursion_from_All, All-from_recursion}
 use Rattle.vt_cells.specs.Attrs.{default_attrs, Attrs}
 use Rattle.vt_cells.specs.Cell.{CellValue, default_blank}
@@ -14,7 +16,8 @@ use Rattle.vt_rows.specs.Row.{RowValue, IsRow, blank_row}
 use Rattle.vt_grid.specs.Page.{row_at, row_or}
 use Rattle.vt_grid.specs.Canvas.{Canvas, drawn_all}
 use Rattle.vt_grid.proofs.Drawing.{Draws}
-use Rattle.vt_redraw.specs.Items.{range_written, is_whole, item_of_difference, item_of_redraw, linked_item, with_range, CutsNone, AwaitsItem, changed_row, formatted_row, row_drawn, going_on}
+use Rattle.vt_redraw.specs.Items.{range_written, is_whole, item_of_difference, item_of_redraw, linked_item, with_range}
+use Rattle.vt_redraw.specs.Items.{CutsNone, AwaitsItem, changed_row, formatted_row, row_drawn, going_on}
 use Rattle.vt_redraw.specs.Picture.{Picture, IsPicture}
 use Rattle.vt_redraw.specs.Script.{Scripted, nothing, after, pen_at}
 use Rattle.vt_redraw.specs.Steady.{IsSteady, IsSteadyCell}
@@ -32,28 +35,35 @@ use Rattle.vt_redraw.proofs.UncutItems.{clean_range, cuts_no_blanks, past_half, 
 
 -- ---- one row among others
 
-rows_split : (rows : List RowValue) (r : ℕ) (d : RowValue) → r < length rows → take r rows ++ (slice_index_or rows r d ∷ drop (r + 1) rows) ≡ rows
-rows_split rows r d h = ap (λ (z : List RowValue). take r rows ++ z) (sym (drop_more rows r d h)) ∙ take-append-drop r rows
+rows_split : (rows : List RowValue) (r : ℕ) (d : RowValue) → r < length rows →
+    take r rows ++ (slice_index_or rows r d ∷ drop (r + 1) rows) ≡ rows
+rows_split rows r d h =
+    ap (λ (z : List RowValue). take r rows ++ z) (sym (drop_more rows r d h)) ∙ take-append-drop r rows
 
 -- where an item is to be drawn
 record Stood (self : Picture) (r start : ℕ) (y : RowValue) (any : Canvas) : Type 0 where
   inside : r < length any.page.rows
   reads : Reads any (length any.page.rows) any.page.width
   splits : take r any.page.rows ++ y ∷ drop (r + 1) any.page.rows ≡ any.page.rows
-  begins : mid any (take r any.page.rows) (drop (r + 1) any.page.rows) y.cells y.wrapped (pen_at r start default_attrs) ≡ any
+  begins : mid any (take r any.page.rows) (drop (r + 1) any.page.rows) y.cells y.wrapped (pen_at r start default_attrs)
+      ≡ any
   row : IsRow any.page.width y
   self_row : IsRow any.page.width (row_or self.width self.rows r)
   prints : PrintsCells any.page.width (row_or self.width self.rows r).cells
 
-awaited : (any : Canvas) (rows : List RowValue) (r c : ℕ) → rows ≡ any.page.rows → any.page.row ≡ r → any.page.column ≡ c → any.attrs ≡ default_attrs →
+awaited : (any : Canvas) (rows : List RowValue) (r c : ℕ) → rows ≡ any.page.rows →
+    any.page.row ≡ r → any.page.column ≡ c → any.attrs ≡ default_attrs →
     record any { page = record (any.page) { rows = rows; row = r; column = c }; attrs = default_attrs } ≡ any
 awaited any rows r c e f g h =
-    ap (λ (z : List RowValue). record any { page = record (any.page) { rows = z; row = r; column = c }; attrs = default_attrs }) e
+    ap (λ (z : List RowValue). record any
+    { page = record (any.page) { rows = z; row = r; column = c }; attrs = default_attrs })
+    e
     ∙ (ap (λ (z : ℕ). record any { page = record (any.page) { row = z; column = c }; attrs = default_attrs }) (sym f)
     ∙ (ap (λ (z : ℕ). record any { page = record (any.page) { column = z }; attrs = default_attrs }) (sym g)
     ∙ ap (λ (z : Attrs). record any { attrs = z }) (sym h)))
 
-stood : (self : Picture) (r start : ℕ) (y : RowValue) (any : Canvas) → IsPicture self → IsSteady self → AwaitsItem self r start y any → Stood self r start y any
+stood : (self : Picture) (r start : ℕ) (y : RowValue) (any : Canvas) → IsPicture self →
+    IsSteady self → AwaitsItem self r start y any → Stood self r start y any
 stood self r start y any is steady item =
     let width = any.page.width in
     let rows = any.page.rows in
@@ -63,24 +73,40 @@ stood self r start y any is steady item =
     let low = item.is.cursor_row in
     let inside : r < length rows = omega arith in
     let d = blank_row default_attrs width in
-    let splits = ap (λ (row : RowValue). take r rows ++ row ∷ drop (r + 1) rows) (sym item.stands) ∙ rows_split rows r d inside in
-    let is_rows : AllByRecursion (IsRow width) self.rows = subst (λ (w : ℕ). AllByRecursion (IsRow w) self.rows) same (recursion_from_All (IsRow self.width) self.rows is.rows) in
+    let splits =
+    ap (λ (row : RowValue). take r rows ++ row ∷ drop (r + 1) rows) (sym item.stands) ∙ rows_split rows r d inside in
+    let is_rows : AllByRecursion (IsRow width) self.rows =
+    subst (λ (w : ℕ). AllByRecursion (IsRow w) self.rows) same
+    (recursion_from_All (IsRow self.width) self.rows is.rows) in
     let steady_rows : AllByRecursion (λ row. All (IsSteadyCell width) row.cells) self.rows =
-    subst (λ (w : ℕ). AllByRecursion (λ row. All (IsSteadyCell w) row.cells) self.rows) same (recursion_from_All (λ row. All (IsSteadyCell self.width) row.cells) self.rows steady) in
+    subst (λ (w : ℕ). AllByRecursion (λ row. All (IsSteadyCell w) row.cells) self.rows) same
+    (recursion_from_All (λ row. All (IsSteadyCell self.width) row.cells) self.rows steady) in
     let x = row_or self.width self.rows r in
     record {
       inside = inside;
-      reads = record { bottom = item.plain.whole.1; origin = item.plain.origin; wide = refl; has_columns = item.is.has_columns };
+      reads = record {
+        bottom = item.plain.whole.1;
+        origin = item.plain.origin;
+        wide = refl;
+        has_columns = item.is.has_columns;
+      };
       splits = splits;
       begins = awaited any (take r rows ++ y ∷ drop (r + 1) rows) r start splits item.row item.column item.attrs;
       row = subst (IsRow width) item.stands (item.is.rows r d inside);
       self_row = subst (λ (w : ℕ). IsRow w x) same (is.rows r (blank_row default_attrs self.width) (omega arith));
-      prints = All-from_recursion (PrintsRow width) self.rows (picture_prints width self.rows item.is.has_columns is_rows steady_rows) r (blank_row default_attrs self.width) (omega arith);
+      prints =
+          All-from_recursion (PrintsRow width) self.rows
+          (picture_prints width self.rows item.is.has_columns is_rows steady_rows)
+          r (blank_row default_attrs self.width) (omega arith);
     }
 
 -- what is drawn in the row
-drawn_in : (self : Picture) (r start : ℕ) (y : RowValue) (any : Canvas) (ops : List Op) (cells : List CellValue) (flag : Bool) (pen : Pen) → Stood self r start y any →
-    Draws ops (mid any (take r any.page.rows) (drop (r + 1) any.page.rows) y.cells y.wrapped (pen_at r start default_attrs)) (mid any (take r any.page.rows) (drop (r + 1) any.page.rows) cells flag pen) →
+drawn_in : (self : Picture) (r start : ℕ) (y : RowValue) (any : Canvas)
+    (ops : List Op) (cells : List CellValue) (flag : Bool) (pen : Pen) →
+    Stood self r start y any →
+    Draws ops
+    (mid any (take r any.page.rows) (drop (r + 1) any.page.rows) y.cells y.wrapped (pen_at r start default_attrs))
+    (mid any (take r any.page.rows) (drop (r + 1) any.page.rows) cells flag pen) →
     drawn_all ops any ≡ Some (row_drawn r (row_of cells flag) pen any)
 drawn_in self r start y any ops cells flag pen at draws =
     let rows = any.page.rows in
@@ -88,20 +114,27 @@ drawn_in self r start y any ops cells flag pen at draws =
     let l = length-take r rows in
     let n : length (take r rows) ≡ r = omega arith in
     let put : slice_set rows r (row_of cells flag) ≡ take r rows ++ row_of cells flag ∷ drop (r + 1) rows =
-    ap (λ (z : List RowValue). slice_set z r (row_of cells flag)) (sym at.splits) ∙ set_at (take r rows) y (drop (r + 1) rows) (row_of cells flag) r n in
+    ap (λ (z : List RowValue). slice_set z r (row_of cells flag)) (sym at.splits)
+    ∙ set_at (take r rows) y (drop (r + 1) rows) (row_of cells flag) r n in
     ap (drawn_all ops) (sym at.begins) ∙ (draws
-    ∙ ap (λ (z : List RowValue). Some (record any { page = record (any.page) { rows = z; row = pen.row; column = pen.col }; attrs = pen.attrs })) (sym put))
+    ∙ ap (λ (z : List RowValue). Some
+    (record any { page = record (any.page) { rows = z; row = pen.row; column = pen.col }; attrs = pen.attrs }))
+    (sym put))
 
 -- ---- items of a difference
 
--- what an item makes of the canvas: the row has these cells, and nothing else changes but its flag, the cursor and the attributes
+-- what an item makes of the canvas: the row has these cells,
+-- and nothing else changes but its flag, the cursor and the attributes
 abbrev DrawsItem : Scripted → Canvas → ℕ → List CellValue → Type 0
-DrawsItem w any r cells = drawn_all w.ops any ≡ Some (row_drawn r (record { cells = cells; wrapped = w.flag }) w.pen any)
+DrawsItem w any r cells =
+    drawn_all w.ops any ≡ Some (row_drawn r (record { cells = cells; wrapped = w.flag }) w.pen any)
 
 -- where an item is written, for the laws on rows
-item_of : (self : Picture) (r start stop : ℕ) (y : RowValue) (any : Canvas) → Stood self r start y any → start ≤ stop → stop ≤ any.page.width →
+item_of : (self : Picture) (r start stop : ℕ) (y : RowValue) (any : Canvas) →
+    Stood self r start y any → start ≤ stop → stop ≤ any.page.width →
     CutsNone start stop (row_or self.width self.rows r).cells → CutsNone start stop y.cells →
-    IsItem any (take r any.page.rows) (drop (r + 1) any.page.rows) r start stop (length any.page.rows) (row_or self.width self.rows r).cells y.cells
+    IsItem any (take r any.page.rows) (drop (r + 1) any.page.rows) r start
+    stop (length any.page.rows) (row_or self.width self.rows r).cells y.cells
 item_of self r start stop y any at le low cx cy =
     let x = row_or self.width self.rows r in
     let rows = any.page.rows in
@@ -117,21 +150,27 @@ item_of self r start stop y any at le low cx cy =
       some = le;
       inside = low;
       prints = at.prints;
-      clean = clean_range start stop x.cells y.cells le (paired_of x.cells at.self_row.paired) (paired_of y.cells at.row.paired) cx cy;
+      clean =
+          clean_range start stop x.cells y.cells le
+          (paired_of x.cells at.self_row.paired) (paired_of y.cells at.row.paired) cx cy;
     }
 
-range_drawn : (self : Picture) (r start stop : ℕ) (y : RowValue) (any : Canvas) → Stood self r start y any → start ≤ stop → stop ≤ any.page.width →
+range_drawn : (self : Picture) (r start stop : ℕ) (y : RowValue) (any : Canvas) →
+    Stood self r start y any → start ≤ stop → stop ≤ any.page.width →
     CutsNone start stop (row_or self.width self.rows r).cells → CutsNone start stop y.cells →
-    DrawsItem (range_written r start stop y.wrapped (row_or self.width self.rows r).cells y.cells) any r (with_range start stop (row_or self.width self.rows r).cells y.cells)
+    DrawsItem (range_written r start stop y.wrapped (row_or self.width self.rows r).cells y.cells)
+    any r (with_range start stop (row_or self.width self.rows r).cells y.cells)
 range_drawn self r start stop y any at le low cx cy =
     let x = row_or self.width self.rows r in
     let rows = any.page.rows in
     let w = range_written r start stop y.wrapped x.cells y.cells in
-    let drew = range_draws any (take r rows) (drop (r + 1) rows) r start stop (length rows) y.wrapped x.cells y.cells (item_of self r start stop y any at le low cx cy) (row_stands any.page.width y at.row).sound in
+    let drew = range_draws any (take r rows) (drop (r + 1) rows) r start stop (length rows) y.wrapped x.cells
+    y.cells (item_of self r start stop y any at le low cx cy) (row_stands any.page.width y at.row).sound in
     drawn_in self r start y any w.ops (with_range start stop x.cells y.cells) w.flag w.pen at drew.draws.draws
 
 whole_drawn : (self : Picture) (r : ℕ) (y : RowValue) (any : Canvas) → Stood self r 0 y any →
-    DrawsItem (item_of_difference r 0 any.page.width (row_or self.width self.rows r) y) any r (with_range 0 any.page.width (row_or self.width self.rows r).cells y.cells)
+    DrawsItem (item_of_difference r 0 any.page.width (row_or self.width self.rows r) y)
+    any r (with_range 0 any.page.width (row_or self.width self.rows r).cells y.cells)
 whole_drawn self r y any at =
     let x = row_or self.width self.rows r in
     let rows = any.page.rows in
@@ -143,13 +182,18 @@ whole_drawn self r y any at =
     let cx : CutsNone 0 width x.cells = (first_half x.cells px, past_half x.cells width (omega arith)) in
     let cy : CutsNone 0 width y.cells = (first_half y.cells py, past_half y.cells width (omega arith)) in
     let w = item_of_difference r 0 width x y in
-    let drew = whole_item_draws any (take r rows) (drop (r + 1) rows) r (length rows) x y (item_of self r 0 width y any at (omega arith) (omega arith) cx cy) (row_stands width x at.self_row) (row_stands width y at.row) in
-    subst (DrawsItem w any r) (sym (range_all x.cells y.cells width ex ey)) (drawn_in self r 0 y any w.ops x.cells w.flag w.pen at drew.draws)
+    let drew = whole_item_draws any (take r rows) (drop (r + 1) rows) r (length rows)
+    x y (item_of self r 0 width y any at (omega arith) (omega arith) cx cy)
+    (row_stands width x at.self_row) (row_stands width y at.row) in
+    subst (DrawsItem w any r) (sym (range_all x.cells y.cells width ex ey))
+    (drawn_in self r 0 y any w.ops x.cells w.flag w.pen at drew.draws)
 
-pub difference_item_draws : (self : Picture) (r start stop : ℕ) (y : RowValue) (any : Canvas) → IsPicture self → IsSteady self → AwaitsItem self r start y any → start ≤ stop → stop ≤ self.width →
+pub difference_item_draws : (self : Picture) (r start stop : ℕ) (y : RowValue) (any : Canvas) →
+    IsPicture self → IsSteady self → AwaitsItem self r start y any → start ≤ stop → stop ≤ self.width →
     CutsNone start stop (row_or self.width self.rows r).cells → CutsNone start stop y.cells →
     drawn_all (item_of_difference r start stop (row_or self.width self.rows r) y).ops any
-    ≡ Some (row_drawn r (changed_row r start stop (row_or self.width self.rows r) y) (item_of_difference r start stop (row_or self.width self.rows r) y).pen any)
+    ≡ Some (row_drawn r (changed_row r start stop (row_or self.width self.rows r) y)
+    (item_of_difference r start stop (row_or self.width self.rows r) y).pen any)
 difference_item_draws self r start stop y any is steady item le low cx cy =
     let x = row_or self.width self.rows r in
     let at = stood self r start y any is steady item in
@@ -161,14 +205,20 @@ difference_item_draws self r start stop y any is steady item le low cx cy =
     Goal : Scripted → Type 0
     Goal w = DrawsItem w any r (with_range start stop (row_or self.width self.rows r).cells y.cells)
 
-    by_test : (t : Bool) → is_whole start stop (length (row_or self.width self.rows r).cells) ≡ t → Stood self r start y any → stop ≤ any.page.width → length (row_or self.width self.rows r).cells ≡ any.page.width →
+    by_test : (t : Bool) → is_whole start stop (length (row_or self.width self.rows r).cells) ≡ t →
+        Stood self r start y any → stop ≤ any.page.width →
+        length (row_or self.width self.rows r).cells ≡ any.page.width →
         Goal (item_of_difference r start stop (row_or self.width self.rows r) y)
     by_test true t at in_width ex =
         let both = and_parts (start == 0) (stop == length (row_or self.width self.rows r).cells) t in
         let e = eqb-true start 0 both.0 in
         let f = eqb-true stop (length (row_or self.width self.rows r).cells) both.1 ∙ ex in
-        subst (λ (n : ℕ). DrawsItem (item_of_difference r n stop (row_or self.width self.rows r) y) any r (with_range n stop (row_or self.width self.rows r).cells y.cells)) (sym e)
-        (subst (λ (n : ℕ). DrawsItem (item_of_difference r 0 n (row_or self.width self.rows r) y) any r (with_range 0 n (row_or self.width self.rows r).cells y.cells)) (sym f)
+        subst (λ (n : ℕ). DrawsItem (item_of_difference r n stop (row_or self.width self.rows r) y)
+        any r (with_range n stop (row_or self.width self.rows r).cells y.cells))
+        (sym e)
+        (subst (λ (n : ℕ). DrawsItem (item_of_difference r 0 n (row_or self.width self.rows r) y)
+        any r (with_range 0 n (row_or self.width self.rows r).cells y.cells))
+        (sym f)
         (whole_drawn self r y any (subst (λ (n : ℕ). Stood self r n y any) e at)))
     by_test false t at in_width ex = rw t (range_drawn self r start stop y any at le in_width cx cy)
 
@@ -178,10 +228,13 @@ difference_item_draws self r start stop y any is steady item le low cx cy =
 abbrev DrawsOff : Scripted → Canvas → ℕ → List CellValue → Type 0
 DrawsOff w any r cells = drawn_all w.ops any ≡ Some (row_drawn r (record { cells = cells; wrapped = false }) w.pen any)
 
-turned_off : (w : Scripted) (any : Canvas) (r : ℕ) (cells : List CellValue) → w.flag ≡ false → DrawsItem w any r cells → DrawsOff w any r cells
-turned_off w any r cells off h = h ∙ ap (λ (b : Bool). Some (row_drawn r (record { cells = cells; wrapped = b }) w.pen any)) off
+turned_off : (w : Scripted) (any : Canvas) (r : ℕ) (cells : List CellValue) →
+    w.flag ≡ false → DrawsItem w any r cells → DrawsOff w any r cells
+turned_off w any r cells off h =
+    h ∙ ap (λ (b : Bool). Some (row_drawn r (record { cells = cells; wrapped = b }) w.pen any)) off
 
-linked_drawn : (self : Picture) (r : ℕ) (any : Canvas) → Stood self r 0 (blank_row default_attrs self.width) any → self.width ≡ any.page.width →
+linked_drawn : (self : Picture) (r : ℕ) (any : Canvas) →
+    Stood self r 0 (blank_row default_attrs self.width) any → self.width ≡ any.page.width →
     DrawsItem (linked_item r (row_or self.width self.rows r).cells) any r (row_or self.width self.rows r).cells
 linked_drawn self r any at same =
     let x = row_or self.width self.rows r in
@@ -192,18 +245,25 @@ linked_drawn self r any at same =
     let l = length-take r rows in
     let m = length-drop (r + 1) rows in
     let ex = at.self_row.columns in
-    let drew = linked_item_draws any (take r rows) (drop (r + 1) rows) x.cells r (length rows) at.reads (omega arith) (omega arith) ex (paired_of x.cells at.self_row.paired) at.prints in
+    let drew = linked_item_draws any (take r rows) (drop (r + 1) rows) x.cells r (length rows)
+    at.reads (omega arith) (omega arith) ex (paired_of x.cells at.self_row.paired) at.prints in
     let e : length x.cells ≡ self.width = ex ∙ sym same in
     drawn_in self r 0 (blank_row default_attrs self.width) any w.ops x.cells w.flag w.pen at
-    (subst (λ (n : ℕ). Draws w.ops (mid any (take r rows) (drop (r + 1) rows) (blanks default_attrs n) false (pen_at r 0 default_attrs)) (mid any (take r rows) (drop (r + 1) rows) x.cells w.flag w.pen)) e drew)
+    (subst (λ (n : ℕ). Draws w.ops
+    (mid any (take r rows) (drop (r + 1) rows) (blanks default_attrs n) false (pen_at r 0 default_attrs))
+    (mid any (take r rows) (drop (r + 1) rows) x.cells w.flag w.pen))
+    e drew)
 
 range_off : (r start stop : ℕ) (xs ys : List CellValue) → (range_written r start stop false xs ys).flag ≡ false
 range_off r start stop xs ys = cells_off r start (pen_at r start default_attrs) 0 _ _
 
-pub redraw_item_draws : (self : Picture) (r start stop : ℕ) (is_linked : Bool) (any : Canvas) → IsPicture self → IsSteady self → AwaitsItem self r start (blank_row default_attrs self.width) any → start ≤ stop → stop ≤ self.width →
+pub redraw_item_draws : (self : Picture) (r start stop : ℕ) (is_linked : Bool) (any : Canvas) →
+    IsPicture self → IsSteady self → AwaitsItem self r start (blank_row default_attrs self.width) any →
+    start ≤ stop → stop ≤ self.width →
     CutsNone start stop (row_or self.width self.rows r).cells →
     drawn_all (item_of_redraw r start stop is_linked (row_or self.width self.rows r)).ops any
-    ≡ Some (row_drawn r (formatted_row start stop self.width (row_or self.width self.rows r)) (item_of_redraw r start stop is_linked (row_or self.width self.rows r)).pen any)
+    ≡ Some (row_drawn r (formatted_row start stop self.width (row_or self.width self.rows r))
+    (item_of_redraw r start stop is_linked (row_or self.width self.rows r)).pen any)
 redraw_item_draws self r start stop is_linked any is steady item le low cx =
     let x = row_or self.width self.rows r in
     let at = stood self r start (blank_row default_attrs self.width) any is steady item in
@@ -212,23 +272,33 @@ redraw_item_draws self r start stop is_linked any is steady item le low cx =
     let e : length x.cells ≡ self.width = ex ∙ sym same in
     let range = range_written r start stop false x.cells (blanks default_attrs (length x.cells)) in
     let drawn : DrawsItem range any r (with_range start stop x.cells (blanks default_attrs self.width)) =
-    subst (λ (n : ℕ). DrawsItem (range_written r start stop false x.cells (blanks default_attrs n)) any r (with_range start stop x.cells (blanks default_attrs self.width))) (sym e)
-    (range_drawn self r start stop (blank_row default_attrs self.width) any at le (omega arith) cx (cuts_no_blanks start stop self.width)) in
-    cond_both (is_whole start stop (length x.cells) && is_linked) (linked_item r x.cells) range (λ (w : Scripted). DrawsOff w any r (with_range start stop x.cells (blanks default_attrs self.width)))
+    subst (λ (n : ℕ). DrawsItem (range_written r start stop false x.cells (blanks default_attrs n))
+    any r (with_range start stop x.cells (blanks default_attrs self.width)))
+    (sym e)
+    (range_drawn self r start stop (blank_row default_attrs self.width)
+    any at le (omega arith) cx (cuts_no_blanks start stop self.width)) in
+    cond_both (is_whole start stop (length x.cells) && is_linked) (linked_item r x.cells) range
+    (λ (w : Scripted). DrawsOff w any r (with_range start stop x.cells (blanks default_attrs self.width)))
     (λ (t : (is_whole start stop (length x.cells) && is_linked) ≡ true).
-    let both = and_parts (start == 0) (stop == length x.cells) (and_parts (is_whole start stop (length x.cells)) is_linked t).0 in
+    let both =
+    and_parts (start == 0) (stop == length x.cells) (and_parts (is_whole start stop (length x.cells)) is_linked t).0 in
     let b = eqb-true start 0 both.0 in
     let f = eqb-true stop (length x.cells) both.1 ∙ e in
     let l = length-replicate self.width default_blank in
     let all : with_range start stop x.cells (blanks default_attrs self.width) ≡ x.cells =
-    ap (λ (n : ℕ). with_range n stop x.cells (blanks default_attrs self.width)) b ∙ (ap (λ (n : ℕ). with_range 0 n x.cells (blanks default_attrs self.width)) f ∙ range_all x.cells (blanks default_attrs self.width) self.width e l) in
+    ap (λ (n : ℕ). with_range n stop x.cells (blanks default_attrs self.width)) b
+    ∙ (ap (λ (n : ℕ). with_range 0 n x.cells (blanks default_attrs self.width)) f
+    ∙ range_all x.cells (blanks default_attrs self.width) self.width e l) in
     subst (DrawsOff (linked_item r x.cells) any r) (sym all)
-    (turned_off (linked_item r x.cells) any r x.cells (linked_off r x.cells) (linked_drawn self r any (subst (λ (n : ℕ). Stood self r n (blank_row default_attrs self.width) any) b at) same)))
-    (λ _. turned_off range any r (with_range start stop x.cells (blanks default_attrs self.width)) (range_off r start stop x.cells (blanks default_attrs (length x.cells))) drawn)
+    (turned_off (linked_item r x.cells) any r x.cells (linked_off r x.cells)
+    (linked_drawn self r any (subst (λ (n : ℕ). Stood self r n (blank_row default_attrs self.width) any) b at) same)))
+    (λ _. turned_off range any r (with_range start stop x.cells (blanks default_attrs self.width))
+    (range_off r start stop x.cells (blanks default_attrs (length x.cells))) drawn)
 
 -- ---- read with a wrap pending above
 
-two_split : (rows : List RowValue) (r : ℕ) (d above y : RowValue) → r + 1 < length rows → slice_index_or rows r d ≡ above → slice_index_or rows (r + 1) d ≡ y →
+two_split : (rows : List RowValue) (r : ℕ) (d above y : RowValue) → r + 1 < length rows →
+    slice_index_or rows r d ≡ above → slice_index_or rows (r + 1) d ≡ y →
     take r rows ++ (above ∷ y ∷ drop (r + 1 + 1) rows) ≡ rows
 two_split rows r d above y h e f =
     ap (λ (row : RowValue). take r rows ++ (row ∷ y ∷ drop (r + 1 + 1) rows)) (sym e)
@@ -237,7 +307,8 @@ two_split rows r d above y h e f =
     ∙ rows_split rows r d (omega arith)))
 
 -- two rows set, one after the other
-two_set : (rows done below : List RowValue) (above y on new : RowValue) (r : ℕ) → done ++ (above ∷ y ∷ below) ≡ rows → length done ≡ r →
+two_set : (rows done below : List RowValue) (above y on new : RowValue) (r : ℕ) →
+    done ++ (above ∷ y ∷ below) ≡ rows → length done ≡ r →
     slice_set (slice_set rows r on) (r + 1) new ≡ done ++ (on ∷ new ∷ below)
 two_set rows done below above y on new r e n =
     let l = length-append done (on ∷ []) in
@@ -248,10 +319,12 @@ two_set rows done below above y on new r e n =
     ∙ (set_at (done ++ on ∷ []) y below new (r + 1) m
     ∙ append_assoc done (on ∷ []) (new ∷ below))))
 
-pub redraw_item_wraps : (self : Picture) (r : ℕ) (above : RowValue) (any : Canvas) → IsPicture self → IsSteady self → AwaitsItem self r self.width above any → ends_blank above.cells ≡ false →
+pub redraw_item_wraps : (self : Picture) (r : ℕ) (above : RowValue) (any : Canvas) → IsPicture self →
+    IsSteady self → AwaitsItem self r self.width above any → ends_blank above.cells ≡ false →
     r + 1 < length self.rows → row_at any.page (r + 1) ≡ blank_row default_attrs self.width →
     drawn_all (item_of_redraw (r + 1) 0 self.width true (row_or self.width self.rows (r + 1))).ops any
-    ≡ Some (row_drawn (r + 1) (formatted_row 0 self.width self.width (row_or self.width self.rows (r + 1))) (item_of_redraw (r + 1) 0 self.width true (row_or self.width self.rows (r + 1))).pen (going_on r any))
+    ≡ Some (row_drawn (r + 1) (formatted_row 0 self.width self.width (row_or self.width self.rows (r + 1)))
+    (item_of_redraw (r + 1) 0 self.width true (row_or self.width self.rows (r + 1))).pen (going_on r any))
 redraw_item_wraps self r above any is steady item full inside under =
     let width = any.page.width in
     let rows = any.page.rows in
@@ -260,11 +333,18 @@ redraw_item_wraps self r above any is steady item full inside under =
     let low : r + 1 < length rows = omega arith in
     let x = row_or self.width self.rows (r + 1) in
     let d = blank_row default_attrs width in
-    let is_rows : AllByRecursion (IsRow width) self.rows = subst (λ (w : ℕ). AllByRecursion (IsRow w) self.rows) same (recursion_from_All (IsRow self.width) self.rows is.rows) in
+    let is_rows : AllByRecursion (IsRow width) self.rows =
+    subst (λ (w : ℕ). AllByRecursion (IsRow w) self.rows) same
+    (recursion_from_All (IsRow self.width) self.rows is.rows) in
     let steady_rows : AllByRecursion (λ row. All (IsSteadyCell width) row.cells) self.rows =
-    subst (λ (w : ℕ). AllByRecursion (λ row. All (IsSteadyCell w) row.cells) self.rows) same (recursion_from_All (λ row. All (IsSteadyCell self.width) row.cells) self.rows steady) in
-    let self_row : IsRow width x = subst (λ (w : ℕ). IsRow w x) same (is.rows (r + 1) (blank_row default_attrs self.width) inside) in
-    let prints : PrintsCells width x.cells = All-from_recursion (PrintsRow width) self.rows (picture_prints width self.rows item.is.has_columns is_rows steady_rows) (r + 1) (blank_row default_attrs self.width) inside in
+    subst (λ (w : ℕ). AllByRecursion (λ row. All (IsSteadyCell w) row.cells) self.rows) same
+    (recursion_from_All (λ row. All (IsSteadyCell self.width) row.cells) self.rows steady) in
+    let self_row : IsRow width x =
+    subst (λ (w : ℕ). IsRow w x) same (is.rows (r + 1) (blank_row default_attrs self.width) inside) in
+    let prints : PrintsCells width x.cells =
+    All-from_recursion (PrintsRow width) self.rows
+    (picture_prints width self.rows item.is.has_columns is_rows steady_rows)
+    (r + 1) (blank_row default_attrs self.width) inside in
     let ex = self_row.columns in
     let e : length x.cells ≡ self.width = ex ∙ sym same in
     let done = take r rows in
@@ -273,22 +353,40 @@ redraw_item_wraps self r above any is steady item full inside under =
     let m = length-drop (r + 1 + 1) rows in
     let n : length done ≡ r = omega arith in
     let split = two_split rows r d above (blank_row default_attrs self.width) low item.stands under in
-    let start : two any done below above.cells above.wrapped (blanks default_attrs self.width) false (pen_at r width default_attrs) ≡ any =
-    awaited any (done ++ (above ∷ blank_row default_attrs self.width ∷ below)) r width split item.row (item.column ∙ same) item.attrs in
-    let reads : Reads any (length rows) width = record { bottom = item.plain.whole.1; origin = item.plain.origin; wide = refl; has_columns = item.is.has_columns } in
+    let start : two any done below above.cells above.wrapped
+    (blanks default_attrs self.width) false (pen_at r width default_attrs)
+    ≡ any =
+    awaited any (done ++ (above ∷ blank_row default_attrs self.width ∷ below))
+    r width split item.row (item.column ∙ same) item.attrs in
+    let reads : Reads any (length rows) width = record {
+      bottom = item.plain.whole.1;
+      origin = item.plain.origin;
+      wide = refl;
+      has_columns = item.is.has_columns;
+    } in
     let w = linked_item (r + 1) x.cells in
-    let drew = linked_item_wraps any done below above.cells x.cells above.wrapped r (length rows) reads n (omega arith) (sym (ends_is above.cells) ∙ full) ex (paired_of x.cells self_row.paired) prints in
-    let from : Draws w.ops (two any done below above.cells above.wrapped (blanks default_attrs self.width) false (pen_at r width default_attrs)) (two any done below above.cells true x.cells w.flag w.pen) =
-    subst (λ (k : ℕ). Draws w.ops (two any done below above.cells above.wrapped (blanks default_attrs k) false (pen_at r width default_attrs)) (two any done below above.cells true x.cells w.flag w.pen)) e drew in
+    let drew = linked_item_wraps any done below above.cells x.cells above.wrapped r (length rows) reads
+    n (omega arith) (sym (ends_is above.cells) ∙ full) ex (paired_of x.cells self_row.paired) prints in
+    let from : Draws w.ops (two any done below above.cells above.wrapped
+    (blanks default_attrs self.width) false (pen_at r width default_attrs))
+    (two any done below above.cells true x.cells w.flag w.pen) =
+    subst (λ (k : ℕ). Draws w.ops
+    (two any done below above.cells above.wrapped (blanks default_attrs k) false (pen_at r width default_attrs))
+    (two any done below above.cells true x.cells w.flag w.pen))
+    e drew in
     let new = row_of x.cells false in
-    let put : slice_set (slice_set rows r (record (row_at any.page r) { wrapped = true })) (r + 1) new ≡ done ++ (row_of above.cells true ∷ new ∷ below) =
+    let put : slice_set (slice_set rows r (record (row_at any.page r) { wrapped = true })) (r + 1) new
+    ≡ done ++ (row_of above.cells true ∷ new ∷ below) =
     ap (λ (row : RowValue). slice_set (slice_set rows r (record row { wrapped = true })) (r + 1) new) item.stands
     ∙ two_set rows done below above (blank_row default_attrs self.width) (row_of above.cells true) new r split n in
     let whole : is_whole 0 self.width (length x.cells) ≡ true = grind (arith, nat_tests) in
     let all : drawn_all w.ops any ≡ Some (row_drawn (r + 1) new w.pen (going_on r any)) =
     ap (drawn_all w.ops) (sym start) ∙ (from
     ∙ (ap (λ (b : Bool). Some (two any done below above.cells true x.cells b w.pen)) (linked_off (r + 1) x.cells)
-    ∙ ap (λ (z : List RowValue). Some (record any { page = record (any.page) { rows = z; row = w.pen.row; column = w.pen.col }; attrs = w.pen.attrs })) (sym put))) in
+    ∙ ap (λ (z : List RowValue). Some
+    (record any { page = record (any.page) { rows = z; row = w.pen.row; column = w.pen.col }; attrs = w.pen.attrs }))
+    (sym put))) in
     let blank_cells = length-replicate self.width default_blank in
-    let cells : x.cells ≡ with_range 0 self.width x.cells (blanks default_attrs self.width) = sym (range_all x.cells (blanks default_attrs self.width) self.width e blank_cells) in
+    let cells : x.cells ≡ with_range 0 self.width x.cells (blanks default_attrs self.width) =
+    sym (range_all x.cells (blanks default_attrs self.width) self.width e blank_cells) in
     rw whole (all ∙ ap (λ (z : List CellValue). Some (row_drawn (r + 1) (row_of z false) w.pen (going_on r any))) cells)

@@ -1,5 +1,6 @@
 -- A whole row's item of a difference is empty where the rows are the same, and only there.
-use Rattle.std.proofs.Common.{◌≡◌, ℕ, zero, suc, ◌+◌, ◌-◌, ◌<◌, ◌≤◌, ◌==◌, ◌&&◌, ◌↔◌, Bool, true, false, not, List, [], ◌∷◌, ◌++◌, length, take, drop, refl, sym, ap, ◌∙◌, subst, append-nil, arith}
+use Rattle.std.proofs.Common.{◌≡◌, ℕ, zero, suc, ◌+◌, ◌-◌, ◌<◌, ◌≤◌, ◌==◌, ◌&&◌, ◌↔◌, Bool, true, false, not, List}
+use Rattle.std.proofs.Common.{[], ◌∷◌, ◌++◌, length, take, drop, refl, sym, ap, ◌∙◌, subst, append-nil, arith}
 use Rattle.std.specs.Prelude.{All, if◌then◌else◌}
 use Rattle.std.specs.List.{AllByRecursion}
 use Rattle.std.proofs.lemmas.Bool.Decides.{nat_tests}
@@ -15,7 +16,9 @@ use Rattle.vt_grid.specs.Page.{row_or}
 use Rattle.vt_redraw.specs.Items.{in_range, begun, begun_over, range_written, is_whole, item_of_difference}
 use Rattle.vt_redraw.specs.Picture.{Picture, IsPicture, SamePictureSize}
 use Rattle.vt_cells.specs.Glyph.{first_columns}
-use Rattle.vt_redraw.specs.Script.{Scripted, nothing, after, pen_at, going, changing, doing, blank_run, erase_run, flag_past, flag_behind, cells_written, last_column, last_glyph, is_at, behind, going_behind, broken, breaking}
+use Rattle.vt_redraw.specs.Script.{Scripted, nothing, after, pen_at, going, changing, doing, blank_run}
+use Rattle.vt_redraw.specs.Script.{erase_run, flag_past, flag_behind, cells_written, last_column}
+use Rattle.vt_redraw.specs.Script.{last_glyph, is_at, behind, going_behind, broken, breaking}
 use Rattle.vt_redraw.specs.declared.pen.Pen.{Pen}
 use Rattle.vt_redraw.proofs.Edits.{glyph_cells}
 use Rattle.vt_redraw.proofs.Flags.{ends, ends_is}
@@ -48,75 +51,107 @@ some_run n [] h = cc
 some_run n (x ∷ xs) h = some_chars n h
 
 some_text : (text : List ℕ) (wide : Bool) (a : Attrs) → IsCell (glyph text wide a) → text ≡ [] → ⊥
-some_text text wide a is h = let some = (IsGlyphText-length text wide is).0 in let e = ap length h in absurd (omega arith)
+some_text text wide a is h =
+    let some = (IsGlyphText-length text wide is).0 in let e = ap length h in absurd (omega arith)
 
 -- ---- cells
 
 same_ahead : (x y : CellValue) (xs ys : List CellValue) → x ≡ y → xs ≡ ys → x ∷ xs ≡ y ∷ ys
 same_ahead x y xs ys e f = ap (λ (z : CellValue). z ∷ xs) e ∙ ap (λ (zs : List CellValue). y ∷ zs) f
 
-cells_none : (r c : ℕ) (pen : Pen) (flag : Bool) (xs ys : List CellValue) → length xs ≡ length ys → Paired xs → Paired ys → AllByRecursion IsCell xs →
+cells_none : (r c : ℕ) (pen : Pen) (flag : Bool) (xs ys : List CellValue) →
+    length xs ≡ length ys → Paired xs → Paired ys → AllByRecursion IsCell xs →
     bytes_of_all (cells_written r c pen flag 0 xs ys).ops ≡ [] → xs ≡ ys
 unfolding cells_written
 cells_none r c pen flag [] [] e h k is none = refl
 cells_none r c pen flag [] (y ∷ ys) e h k is none = absurd (omega arith)
 cells_none r c pen flag (x ∷ xs) [] e h k is none = absurd (omega arith)
 cells_none r c pen flag (right_half ∷ xs) (y ∷ ys) e h k is none = absurd h
-cells_none r c pen flag (blank a ∷ xs) (y ∷ ys) e h k is none = by_test (λ p n. cells_none r (c + 1) pen flag xs ys (omega arith) h p is.1 n) (same_cell (blank a) y) refl none
+cells_none r c pen flag (blank a ∷ xs) (y ∷ ys) e h k is none =
+    by_test (λ p n. cells_none r (c + 1) pen flag xs ys (omega arith) h p is.1 n) (same_cell (blank a) y) refl none
   where
-    by_test : (more : Paired ys → bytes_of_all (cells_written r (c + 1) pen flag 0 xs ys).ops ≡ [] → xs ≡ ys) (t : Bool) → same_cell (blank a) y ≡ t →
+    by_test : (more : Paired ys → bytes_of_all (cells_written r (c + 1) pen flag 0 xs ys).ops ≡ [] → xs ≡ ys)
+        (t : Bool) →
+        same_cell (blank a) y ≡ t →
         bytes_of_all (if t then cells_written r (c + 1) pen flag 0 xs ys
-        else after (doing pen r c a (erase_run (suc (blank_run a xs)) (drop (blank_run a xs) ys))) (cells_written r (c + 1) (pen_at r c a) (flag_past flag (drop (blank_run a xs) ys)) (blank_run a xs) xs ys)).ops ≡ [] →
+        else after (doing pen r c a (erase_run (suc (blank_run a xs)) (drop (blank_run a xs) ys)))
+        (cells_written r (c + 1) (pen_at r c a) (flag_past flag (drop (blank_run a xs) ys)) (blank_run a xs) xs ys)).ops
+        ≡ [] →
         blank a ∷ xs ≡ y ∷ ys
     by_test more true t none =
         let same = cell_of-same (blank a) y t in
         same_ahead (blank a) y xs ys same (more (subst (λ (z : CellValue). Paired (z ∷ ys)) (sym same) k) none)
     by_test more false t none =
         let op = erase_run (suc (blank_run a xs)) (drop (blank_run a xs) ys) in
-        absurd (some_run (blank_run a xs) (drop (blank_run a xs) ys) (no_doing pen r c a op (none_of_ops (doing pen r c a op) _ none).0))
-cells_none r c pen flag (glyph text false a ∷ xs) (y ∷ ys) e h k is none = by_test (λ p n. cells_none r (c + 1) pen flag xs ys (omega arith) h p is.1 n) (same_cell (glyph text false a) y) refl none
+        absurd (some_run (blank_run a xs) (drop (blank_run a xs) ys)
+        (no_doing pen r c a op (none_of_ops (doing pen r c a op) _ none).0))
+cells_none r c pen flag (glyph text false a ∷ xs) (y ∷ ys) e h k is none =
+    by_test (λ p n. cells_none r (c + 1) pen flag xs ys (omega arith) h p is.1 n)
+    (same_cell (glyph text false a) y) refl none
   where
-    by_test : (more : Paired ys → bytes_of_all (cells_written r (c + 1) pen flag 0 xs ys).ops ≡ [] → xs ≡ ys) (t : Bool) → same_cell (glyph text false a) y ≡ t →
+    by_test : (more : Paired ys → bytes_of_all (cells_written r (c + 1) pen flag 0 xs ys).ops ≡ [] → xs ≡ ys)
+        (t : Bool) →
+        same_cell (glyph text false a) y ≡ t →
         bytes_of_all (if t then cells_written r (c + 1) pen flag 0 xs ys
-        else after (doing pen r c a (Print text)) (cells_written r (c + 1) (pen_at r (c + 1) a) (flag_behind flag false (drop 1 ys)) 0 xs ys)).ops ≡ [] →
+        else after (doing pen r c a (Print text))
+        (cells_written r (c + 1) (pen_at r (c + 1) a) (flag_behind flag false (drop 1 ys)) 0 xs ys)).ops
+        ≡ [] →
         glyph text false a ∷ xs ≡ y ∷ ys
     by_test more true t none =
         let same = cell_of-same (glyph text false a) y t in
-        same_ahead (glyph text false a) y xs ys same (more (subst (λ (z : CellValue). Paired (z ∷ ys)) (sym same) k) none)
-    by_test more false t none = absurd (some_text text false a is.0 (no_doing pen r c a (Print text) (none_of_ops (doing pen r c a (Print text)) _ none).0))
+        same_ahead (glyph text false a) y xs ys same
+        (more (subst (λ (z : CellValue). Paired (z ∷ ys)) (sym same) k) none)
+    by_test more false t none =
+        absurd (some_text text false a is.0
+        (no_doing pen r c a (Print text) (none_of_ops (doing pen r c a (Print text)) _ none).0))
 cells_none r c pen flag (glyph text true a ∷ []) (y ∷ ys) e h k is none = absurd h
 cells_none r c pen flag (glyph text true a ∷ blank b ∷ xs) (y ∷ ys) e h k is none = absurd h
 cells_none r c pen flag (glyph text true a ∷ glyph other wide b ∷ xs) (y ∷ ys) e h k is none = absurd h
 cells_none r c pen flag (glyph text true a ∷ right_half ∷ xs) (y ∷ []) e h k is none = absurd (omega arith)
-cells_none r c pen flag (glyph text true a ∷ right_half ∷ xs) (y ∷ z ∷ ys) e h k is none = by_test (λ p n. cells_none r (c + 1 + 1) pen flag xs ys (omega arith) h p is.1.1 n) (same_cell (glyph text true a) y) refl none
+cells_none r c pen flag (glyph text true a ∷ right_half ∷ xs) (y ∷ z ∷ ys) e h k is none =
+    by_test (λ p n. cells_none r (c + 1 + 1) pen flag xs ys (omega arith) h p is.1.1 n)
+    (same_cell (glyph text true a) y) refl none
   where
     behind : (z : CellValue) → Paired (glyph text true a ∷ z ∷ ys) → (right_half ≡ z) × Paired ys
     behind right_half p = (refl, p)
     behind (blank b) p = absurd p
     behind (glyph other wide b) p = absurd p
 
-    next : (z : CellValue) → right_half ≡ z → bytes_of_all (cells_written r (c + 1) pen flag 1 (right_half ∷ xs) (z ∷ ys)).ops ≡ [] → bytes_of_all (cells_written r (c + 1 + 1) pen flag 0 xs ys).ops ≡ []
+    next : (z : CellValue) → right_half ≡ z →
+        bytes_of_all (cells_written r (c + 1) pen flag 1 (right_half ∷ xs) (z ∷ ys)).ops ≡ [] →
+        bytes_of_all (cells_written r (c + 1 + 1) pen flag 0 xs ys).ops ≡ []
     next right_half e n = n
     next (blank b) e n = absurd (cc)
     next (glyph other wide b) e n = absurd (cc)
 
-    by_test : (more : Paired ys → bytes_of_all (cells_written r (c + 1 + 1) pen flag 0 xs ys).ops ≡ [] → xs ≡ ys) (t : Bool) → same_cell (glyph text true a) y ≡ t →
+    by_test : (more : Paired ys → bytes_of_all (cells_written r (c + 1 + 1) pen flag 0 xs ys).ops ≡ [] → xs ≡ ys)
+        (t : Bool) →
+        same_cell (glyph text true a) y ≡ t →
         bytes_of_all (if t then cells_written r (c + 1) pen flag 1 (right_half ∷ xs) (z ∷ ys)
-        else after (doing pen r c a (Print text)) (cells_written r (c + 1) (pen_at r (c + 2) a) (flag_behind flag true (drop 1 (z ∷ ys))) 1 (right_half ∷ xs) (z ∷ ys))).ops ≡ [] →
+        else after (doing pen r c a (Print text))
+        (cells_written r (c + 1) (pen_at r (c + 2) a)
+        (flag_behind flag true (drop 1 (z ∷ ys))) 1 (right_half ∷ xs) (z ∷ ys))).ops
+        ≡ [] →
         glyph text true a ∷ right_half ∷ xs ≡ y ∷ z ∷ ys
     by_test more true t none =
         let same = cell_of-same (glyph text true a) y t in
         let half = behind z (subst (λ (w : CellValue). Paired (w ∷ z ∷ ys)) (sym same) k) in
         same_ahead (glyph text true a) y (right_half ∷ xs) (z ∷ ys) same
         (same_ahead right_half z xs ys half.0 (more half.1 (next z half.0 none)))
-    by_test more false t none = absurd (some_text text true a is.0 (no_doing pen r c a (Print text) (none_of_ops (doing pen r c a (Print text)) _ none).0))
+    by_test more false t none =
+        absurd (some_text text true a is.0
+        (no_doing pen r c a (Print text) (none_of_ops (doing pen r c a (Print text)) _ none).0))
 
 -- ---- the flag
 
-last_is_text : (cells : List CellValue) → Paired cells → ends cells ≡ false → AllByRecursion IsCell cells → text_of (last_glyph cells) ≡ [] → ⊥
-last_is_text cells h e is none = last_cases (λ row k x. AllByRecursion IsCell row → text_of x ≡ [] → ⊥) (λ pre text wide a p is none. last_text pre text wide a is none) cells h e is none
+last_is_text : (cells : List CellValue) → Paired cells → ends cells ≡ false →
+    AllByRecursion IsCell cells → text_of (last_glyph cells) ≡ [] → ⊥
+last_is_text cells h e is none =
+    last_cases (λ row k x. AllByRecursion IsCell row → text_of x ≡ [] → ⊥)
+    (λ pre text wide a p is none. last_text pre text wide a is none) cells h e is none
   where
-    last_text : (pre : List CellValue) (text : List ℕ) (wide : Bool) (a : Attrs) → AllByRecursion IsCell (pre ++ glyph_cells text wide a) → text ≡ [] → ⊥
+    last_text : (pre : List CellValue) (text : List ℕ) (wide : Bool) (a : Attrs) →
+        AllByRecursion IsCell (pre ++ glyph_cells text wide a) → text ≡ [] → ⊥
     last_text [] text false a is none = some_text text false a is.0 none
     last_text [] text true a is none = some_text text true a is.0 none
     last_text (x ∷ pre) text wide a is none = last_text pre text wide a is.1 none
@@ -127,20 +162,35 @@ end_ops r flag wanted cells =
     let b = broken r (pen_at r 0 default_attrs) flag wanted cells in
     if wanted && not b.flag then b.ops ++ (going_behind r b.pen cells).ops else b.ops
 
-end_none : (r : ℕ) (flag wanted : Bool) (cells : List CellValue) → 0 < length cells → Paired cells → AllByRecursion IsCell cells → (wanted ≡ true → ends cells ≡ false) →
+end_none : (r : ℕ) (flag wanted : Bool) (cells : List CellValue) → 0 < length cells →
+    Paired cells → AllByRecursion IsCell cells → (wanted ≡ true → ends cells ≡ false) →
     bytes_of_all (end_ops r flag wanted cells) ≡ [] → wanted ≡ flag
 unfolding broken
 end_none r true true cells some h is full none = refl
 end_none r false false cells some h is full none = refl
 end_none r true false cells some h is full none =
     let pen = pen_at r 0 default_attrs in
-    absurd (some_chars 0 (none_of (bytes_of (EraseChars 1)) _ (none_of_ops (going pen r (last_column cells)) (EraseChars 1 ∷ (changing pen.attrs (attrs_of (last_glyph cells)) ++ Print (text_of (last_glyph cells)) ∷ [])) none).1).0)
+    absurd (some_chars 0 (none_of (bytes_of (EraseChars 1)) _
+    (none_of_ops (going pen r (last_column cells))
+    (EraseChars 1 ∷ (changing pen.attrs (attrs_of (last_glyph cells)) ++ Print (text_of (last_glyph cells)) ∷ []))
+    none).1).0)
 end_none r false true cells some h is full none =
     let pen = pen_at r 0 default_attrs in
     let t : is_at pen r (length cells) ≡ false = grind (arith, nat_tests) in
-    let goes : bytes_of_all (doing pen r (last_column cells) (attrs_of (last_glyph cells)) (Print (text_of (last_glyph cells)))) ≡ [] =
-    ap (λ (b : Bool). bytes_of_all (if b then nothing pen true else record { ops = doing pen r (last_column cells) (attrs_of (last_glyph cells)) (Print (text_of (last_glyph cells))); pen = behind r cells; flag = true }).ops) (sym t) ∙ none in
-    absurd (last_is_text cells h (full refl) is (no_doing pen r (last_column cells) (attrs_of (last_glyph cells)) (Print (text_of (last_glyph cells))) goes))
+    let goes : bytes_of_all
+    (doing pen r (last_column cells) (attrs_of (last_glyph cells)) (Print (text_of (last_glyph cells))))
+    ≡ [] =
+    ap (λ (b : Bool). bytes_of_all
+    (if b then nothing pen true
+    else record {
+      ops = doing pen r (last_column cells) (attrs_of (last_glyph cells)) (Print (text_of (last_glyph cells)));
+      pen = behind r cells;
+      flag = true;
+    }).ops)
+    (sym t)
+    ∙ none in
+    absurd (last_is_text cells h (full refl) is
+    (no_doing pen r (last_column cells) (attrs_of (last_glyph cells)) (Print (text_of (last_glyph cells))) goes))
 
 end_nothing : (r : ℕ) (flag : Bool) (cells : List CellValue) → end_ops r flag flag cells ≡ []
 unfolding broken
@@ -156,10 +206,13 @@ whole_range w xs e = let n : w - 0 ≡ length xs = omega arith in ap (λ (k : �
     take_whole [] = refl
     take_whole (z ∷ zs) = ap (λ (r : List CellValue). z ∷ r) (take_whole zs)
 
-range_is : (r w : ℕ) (flag : Bool) (xs ys : List CellValue) → length xs ≡ w → Paired xs → range_written r 0 w flag xs ys ≡ cells_written r 0 (pen_at r 0 default_attrs) flag 0 xs ys
+range_is : (r w : ℕ) (flag : Bool) (xs ys : List CellValue) → length xs ≡ w → Paired xs →
+    range_written r 0 w flag xs ys ≡ cells_written r 0 (pen_at r 0 default_attrs) flag 0 xs ys
 range_is r w flag xs ys e h =
-    ap (λ (z : List CellValue). cells_written r 0 (pen_at r 0 default_attrs) flag 0 (begun z) (begun_over z ys)) (whole_range w xs e)
-    ∙ (ap (λ (z : List CellValue). cells_written r 0 (pen_at r 0 default_attrs) flag 0 z (begun_over xs ys)) (begun_paired xs h)
+    ap (λ (z : List CellValue). cells_written r 0 (pen_at r 0 default_attrs) flag 0 (begun z) (begun_over z ys))
+    (whole_range w xs e)
+    ∙ (ap (λ (z : List CellValue). cells_written r 0 (pen_at r 0 default_attrs) flag 0 z (begun_over xs ys))
+    (begun_paired xs h)
     ∙ ap (λ (z : List CellValue). cells_written r 0 (pen_at r 0 default_attrs) flag 0 xs z) (begun_over_paired xs ys h))
 
 -- the item behind cells that are written so
@@ -169,7 +222,8 @@ item_behind r w wanted cells =
     if wanted && not b.flag then (w.ops ++ b.ops) ++ (going_behind r b.pen cells).ops else w.ops ++ b.ops
 
 item_is : (r width : ℕ) (x y : RowValue) → length x.cells ≡ width → Paired x.cells →
-    (item_of_difference r 0 width x y).ops ≡ item_behind r (cells_written r 0 (pen_at r 0 default_attrs) y.wrapped 0 x.cells y.cells) x.wrapped x.cells
+    (item_of_difference r 0 width x y).ops
+    ≡ item_behind r (cells_written r 0 (pen_at r 0 default_attrs) y.wrapped 0 x.cells y.cells) x.wrapped x.cells
 item_is r width x y e h =
     let t : is_whole 0 width (length x.cells) ≡ true = grind (arith, nat_tests) in
     let w = range_written r 0 width y.wrapped x.cells y.cells in
@@ -177,18 +231,22 @@ item_is r width x y e h =
     rw t (ops_of (x.wrapped && not b.flag) w b (going_behind r b.pen x.cells)
     ∙ ap (λ (z : Scripted). item_behind r z x.wrapped x.cells) (range_is r width y.wrapped x.cells y.cells e h))
   where
-    ops_of : (t : Bool) (w b g : Scripted) → (if t then record { ops = (w.ops ++ b.ops) ++ g.ops; pen = g.pen; flag = b.flag } else after w.ops b).ops ≡ (if t then (w.ops ++ b.ops) ++ g.ops else w.ops ++ b.ops)
+    ops_of : (t : Bool) (w b g : Scripted) →
+        (if t then record { ops = (w.ops ++ b.ops) ++ g.ops; pen = g.pen; flag = b.flag } else after w.ops b).ops
+        ≡ (if t then (w.ops ++ b.ops) ++ g.ops else w.ops ++ b.ops)
     ops_of true w b g = refl
     ops_of false w b g = refl
 
-front_none : (t : Bool) (one two three : List Op) → bytes_of_all (if t then (one ++ two) ++ three else one ++ two) ≡ [] → bytes_of_all one ≡ []
+front_none : (t : Bool) (one two three : List Op) →
+    bytes_of_all (if t then (one ++ two) ++ three else one ++ two) ≡ [] → bytes_of_all one ≡ []
 front_none true one two three h = (none_of_ops one two (none_of_ops (one ++ two) three h).0).0
 front_none false one two three h = (none_of_ops one two h).0
 
 same_row : (x y : RowValue) → x.cells ≡ y.cells → x.wrapped ≡ y.wrapped → x ≡ y
 same_row x y e f = ap (λ (z : List CellValue). record x { cells = z }) e ∙ ap (λ (b : Bool). record y { wrapped = b }) f
 
-item_none : (r width : ℕ) (x y : RowValue) → 0 < width → IsRow width x → IsRow width y → bytes_of_all (item_of_difference r 0 width x y).ops ≡ [] → x ≡ y
+item_none : (r width : ℕ) (x y : RowValue) → 0 < width → IsRow width x →
+    IsRow width y → bytes_of_all (item_of_difference r 0 width x y).ops ≡ [] → x ≡ y
 item_none r width x y some hx hy none =
     let px = paired_of x.cells hx.paired in
     let ex = hx.columns in
@@ -197,27 +255,38 @@ item_none r width x y some hx hy none =
     let w = cells_written r 0 (pen_at r 0 default_attrs) y.wrapped 0 x.cells y.cells in
     let b = broken r w.pen w.flag x.wrapped x.cells in
     let is = ap bytes_of_all (sym (item_is r width x y ex px)) ∙ none in
-    let same = cells_none r 0 (pen_at r 0 default_attrs) y.wrapped x.cells y.cells (ex ∙ sym ey) px (paired_of y.cells hy.paired) cells (front_none (x.wrapped && not b.flag) w.ops b.ops (going_behind r b.pen x.cells).ops is) in
+    let same = cells_none r 0 (pen_at r 0 default_attrs) y.wrapped
+    x.cells y.cells (ex ∙ sym ey) px (paired_of y.cells hy.paired) cells
+    (front_none (x.wrapped && not b.flag) w.ops b.ops (going_behind r b.pen x.cells).ops is) in
     let stands : w ≡ nothing (pen_at r 0 default_attrs) y.wrapped =
-    ap (λ (z : List CellValue). cells_written r 0 (pen_at r 0 default_attrs) y.wrapped 0 x.cells z) (sym same) ∙ cells_nothing r 0 0 (pen_at r 0 default_attrs) y.wrapped x.cells in
+    ap (λ (z : List CellValue). cells_written r 0 (pen_at r 0 default_attrs) y.wrapped 0 x.cells z) (sym same)
+    ∙ cells_nothing r 0 0 (pen_at r 0 default_attrs) y.wrapped x.cells in
     let ends_none = ap (λ (z : Scripted). bytes_of_all (item_behind r z x.wrapped x.cells)) (sym stands) ∙ is in
-    same_row x y same (end_none r y.wrapped x.wrapped x.cells (omega arith) px cells (λ t. sym (ends_is x.cells) ∙ hx.flagged t) ends_none)
+    same_row x y same (end_none r y.wrapped x.wrapped x.cells (omega arith)
+    px cells (λ t. sym (ends_is x.cells) ∙ hx.flagged t) ends_none)
 
-item_same : (r width : ℕ) (x y : RowValue) → IsRow width x → x ≡ y → bytes_of_all (item_of_difference r 0 width x y).ops ≡ []
+item_same : (r width : ℕ) (x y : RowValue) → IsRow width x →
+    x ≡ y → bytes_of_all (item_of_difference r 0 width x y).ops ≡ []
 item_same r width x y hx e =
     let px = paired_of x.cells hx.paired in
     ap (λ (z : RowValue). bytes_of_all (item_of_difference r 0 width x z).ops) (sym e)
     ∙ (ap bytes_of_all (item_is r width x x hx.columns px)
-    ∙ (ap (λ (z : Scripted). bytes_of_all (item_behind r z x.wrapped x.cells)) (cells_nothing r 0 0 (pen_at r 0 default_attrs) x.wrapped x.cells)
+    ∙ (ap (λ (z : Scripted). bytes_of_all (item_behind r z x.wrapped x.cells))
+    (cells_nothing r 0 0 (pen_at r 0 default_attrs) x.wrapped x.cells)
     ∙ ap bytes_of_all (end_nothing r x.wrapped x.cells)))
 
-pub difference_item_empty : (self prev : Picture) (r : ℕ) → IsPicture self → IsPicture prev → SamePictureSize self prev → r < length self.rows →
-    (bytes_of_all (item_of_difference r 0 self.width (row_or self.width self.rows r) (row_or prev.width prev.rows r)).ops ≡ []) ↔ (row_or self.width self.rows r ≡ row_or prev.width prev.rows r)
+pub difference_item_empty : (self prev : Picture) (r : ℕ) → IsPicture self →
+    IsPicture prev → SamePictureSize self prev → r < length self.rows →
+    (bytes_of_all
+    (item_of_difference r 0 self.width (row_or self.width self.rows r) (row_or prev.width prev.rows r)).ops
+    ≡ [])
+    ↔ (row_or self.width self.rows r ≡ row_or prev.width prev.rows r)
 difference_item_empty self prev r is other size low =
     let same = size.width in
     let tall = size.height in
     let x = row_or self.width self.rows r in
     let y = row_or prev.width prev.rows r in
     let hx : IsRow self.width x = is.rows r _ low in
-    let hy : IsRow self.width y = subst (λ (w : ℕ). IsRow w (row_or prev.width prev.rows r)) (sym same) (other.rows r _ (omega arith)) in
+    let hy : IsRow self.width y =
+    subst (λ (w : ℕ). IsRow w (row_or prev.width prev.rows r)) (sym same) (other.rows r _ (omega arith)) in
     (item_none r self.width x y is.has_columns hx hy, item_same r self.width x y hx)

@@ -1,5 +1,6 @@
 -- Each operation of a row's item has numbers and texts that read back.
-use Rattle.std.proofs.Common.{◌≡◌, ℕ, zero, suc, ◌+◌, ◌-◌, ◌<◌, ◌≤◌, ◌^◌, ◌&&◌, Bool, true, false, not, List, [], ◌∷◌, ◌++◌, length, take, drop, refl, arith}
+use Rattle.std.proofs.Common.{◌≡◌, ℕ, zero, suc, ◌+◌, ◌-◌, ◌<◌, ◌≤◌, ◌^◌, ◌&&◌, Bool, true, false}
+use Rattle.std.proofs.Common.{not, List, [], ◌∷◌, ◌++◌, length, take, drop, refl, arith}
 use Rattle.std.specs.Prelude.{All}
 use Rattle.std.specs.List.{AllByRecursion}
 use Rattle.std.proofs.lemmas.Bool.{cond_both}
@@ -12,10 +13,12 @@ use Rattle.vt_rows.specs.Cells.{blanks}
 use Rattle.vt_rows.specs.Row.{RowValue, IsRow}
 use Rattle.vt_grid.specs.Page.{row_or}
 use Rattle.vt_redraw.specs.Fits.{Fits}
-use Rattle.vt_redraw.specs.Items.{in_range, begun, begun_over, range_written, is_whole, item_of_difference, item_of_redraw, linked_item}
+use Rattle.vt_redraw.specs.Items.{in_range, begun, begun_over, range_written, is_whole}
+use Rattle.vt_redraw.specs.Items.{item_of_difference, item_of_redraw, linked_item}
 use Rattle.vt_redraw.specs.Picture.{Picture, IsPicture, IsColoredPicture}
 use Rattle.vt_redraw.specs.Script.{Scripted, after, pen_at, first_written, cells_written, going_behind, broken}
-use Rattle.vt_redraw.proofs.Fitting.{IsFit, IsFitRow, FitsWritten, fits_after, fits_append, cells_fit, behind_fits, first_fits, broken_fits, row_at_fits, picture_fits}
+use Rattle.vt_redraw.proofs.Fitting.{IsFit, IsFitRow, FitsWritten, fits_after, fits_append, cells_fit}
+use Rattle.vt_redraw.proofs.Fitting.{behind_fits, first_fits, broken_fits, row_at_fits, picture_fits}
 
 plain : FitsAttrs default_attrs
 plain = (tt, tt)
@@ -42,17 +45,20 @@ begun_length (right_half ∷ xs) = refl
 begun_length (blank a ∷ xs) = refl
 begun_length (glyph text wide a ∷ xs) = refl
 
-range_fits : (r start stop width : ℕ) (flag : Bool) (x : RowValue) (ys : List CellValue) → r < 65535 → start ≤ stop → stop ≤ width → width < 2 ^ 16 → IsFitRow width x → FitsWritten (range_written r start stop flag x.cells ys)
+range_fits : (r start stop width : ℕ) (flag : Bool) (x : RowValue) (ys : List CellValue) → r < 65535 → start ≤ stop →
+    stop ≤ width → width < 2 ^ 16 → IsFitRow width x → FitsWritten (range_written r start stop flag x.cells ys)
 range_fits r start stop width flag x ys low le inside small fit =
     let xs = x.cells in
     let e = fit.columns in
     let l = length-drop start xs in
     let m = length-take (stop - start) (drop start xs) in
     let n = begun_length (in_range start stop xs) in
-    cells_fit r start (pen_at r start default_attrs) flag 0 (begun (in_range start stop xs)) (begun_over (in_range start stop xs) (drop start ys)) low (omega arith) plain
+    cells_fit r start (pen_at r start default_attrs) flag 0 (begun (in_range start stop xs))
+    (begun_over (in_range start stop xs) (drop start ys)) low (omega arith) plain
     (begun_fits (in_range start stop xs) (take_fits (stop - start) (drop start xs) (drop_fits start xs fit.cells)))
 
-item_fits : (r start stop width : ℕ) (x y : RowValue) → r < 65535 → start ≤ stop → stop ≤ width → 0 < width → width < 2 ^ 16 → IsFitRow width x → FitsWritten (item_of_difference r start stop x y)
+item_fits : (r start stop width : ℕ) (x y : RowValue) → r < 65535 → start ≤ stop → stop ≤ width →
+    0 < width → width < 2 ^ 16 → IsFitRow width x → FitsWritten (item_of_difference r start stop x y)
 item_fits r start stop width x y low le inside some small fit =
     let e = fit.columns in
     let w = range_written r start stop y.wrapped x.cells y.cells in
@@ -64,11 +70,13 @@ item_fits r start stop width x y low le inside some small fit =
     let both = fits_after w.ops b one.ops two in
     let three = behind_fits r full.pen x.cells low (omega arith) (omega arith) both.attrs fit.cells in
     cond_both (is_whole start stop (length x.cells)) _ w FitsWritten
-    (λ _. cond_both (x.wrapped && not full.flag) (record { ops = full.ops ++ g.ops; pen = g.pen; flag = full.flag }) full FitsWritten
+    (λ _. cond_both (x.wrapped && not full.flag)
+    (record { ops = full.ops ++ g.ops; pen = g.pen; flag = full.flag }) full FitsWritten
     (λ _. record { ops = fits_append full.ops g.ops both.ops three.ops; attrs = three.attrs }) (λ _. both))
     (λ _. one)
 
-linked_fits : (r width : ℕ) (x : RowValue) → r < 65535 → width < 2 ^ 16 → IsFitRow width x → FitsWritten (linked_item r x.cells)
+linked_fits : (r width : ℕ) (x : RowValue) → r < 65535 → width < 2 ^ 16 →
+    IsFitRow width x → FitsWritten (linked_item r x.cells)
 linked_fits r width x low small fit =
     let ys = blanks default_attrs (length x.cells) in
     let e = fit.columns in
@@ -77,19 +85,25 @@ linked_fits r width x low small fit =
     fits_after first.ops (cells_written r 0 first.pen first.flag first.settled x.cells ys) one.ops
     (cells_fit r 0 first.pen first.flag first.settled x.cells ys low (omega arith) one.attrs fit.cells)
 
-pub difference_item_fits : (self : Picture) (r start stop : ℕ) (y : RowValue) → IsPicture self → IsColoredPicture self → r < length self.rows → start ≤ stop → stop ≤ self.width →
+pub difference_item_fits : (self : Picture) (r start stop : ℕ) (y : RowValue) → IsPicture self →
+    IsColoredPicture self → r < length self.rows → start ≤ stop → stop ≤ self.width →
     AllByRecursion Fits (item_of_difference r start stop (row_or self.width self.rows r) y).ops
 difference_item_fits self r start stop y is colors low le inside =
     let tall = colors.height in
     let fit = row_at_fits self.width self.rows r (picture_fits self is colors) low in
-    (item_fits r start stop self.width (row_or self.width self.rows r) y (omega arith) le inside is.has_columns colors.columns fit).ops
+    (item_fits r start stop self.width (row_or self.width self.rows r)
+    y (omega arith) le inside is.has_columns colors.columns fit).ops
 
-pub redraw_item_fits : (self : Picture) (r start stop : ℕ) (is_linked : Bool) → IsPicture self → IsColoredPicture self → r < length self.rows → start ≤ stop → stop ≤ self.width →
+pub redraw_item_fits : (self : Picture) (r start stop : ℕ) (is_linked : Bool) → IsPicture self →
+    IsColoredPicture self → r < length self.rows → start ≤ stop → stop ≤ self.width →
     AllByRecursion Fits (item_of_redraw r start stop is_linked (row_or self.width self.rows r)).ops
 redraw_item_fits self r start stop is_linked is colors low le inside =
     let tall = colors.height in
     let x = row_or self.width self.rows r in
     let fit = row_at_fits self.width self.rows r (picture_fits self is colors) low in
-    cond_both (is_whole start stop (length x.cells) && is_linked) (linked_item r x.cells) _ (λ (w : Scripted). AllByRecursion Fits w.ops)
+    cond_both (is_whole start stop (length x.cells) && is_linked)
+    (linked_item r x.cells) _ (λ (w : Scripted). AllByRecursion Fits w.ops)
     (λ _. (linked_fits r self.width x (omega arith) colors.columns fit).ops)
-    (λ _. (range_fits r start stop self.width false x (blanks default_attrs (length x.cells)) (omega arith) le inside colors.columns fit).ops)
+    (λ _.
+    (range_fits r start stop self.width false x (blanks default_attrs (length x.cells))
+    (omega arith) le inside colors.columns fit).ops)

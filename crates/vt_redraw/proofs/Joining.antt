@@ -1,5 +1,6 @@
 -- The link of a row with the row above it: the first cell where a wrap is pending, and what it leaves.
-use Rattle.std.proofs.Common.{◌≡◌, ◌≢◌, ◌⊎◌, ℕ, suc, ◌+◌, ◌<◌, ◌≤◌, ◌&&◌, ◌||◌, Bool, true, false, not, List, [], ◌∷◌, ◌++◌, length, drop, Some, inl, inr, refl, sym, ap, ◌∙◌, subst, append_assoc, arith}
+use Rattle.std.proofs.Common.{◌≡◌, ◌≢◌, ◌⊎◌, ℕ, suc, ◌+◌, ◌<◌, ◌≤◌, ◌&&◌, ◌||◌, Bool, true, false, not, List, [], ◌∷◌}
+use Rattle.std.proofs.Common.{◌++◌, length, drop, Some, inl, inr, refl, sym, ap, ◌∙◌, subst, append_assoc, arith}
 use Rattle.std.proofs.lemmas.Bool.{cond_both}
 use Rattle.std.proofs.lemmas.List.{length-append}
 use Rattle.vt_cells.specs.Cell.{CellValue, blank, glyph, right_half, default_blank, is_wide, is_right_half}
@@ -12,7 +13,8 @@ use Rattle.vt_cells.specs.Glyph.{first_columns}
 use Rattle.vt_redraw.specs.Script.{pen_at, changing}
 use Rattle.vt_redraw.specs.declared.pen.Pen.{Pen}
 use Rattle.vt_redraw.proofs.Steps.{Reads, Within, changing_draws}
-use Rattle.vt_redraw.specs.Script.{is_nil, is_torn, flag_behind, Linked, unlinked, first_written, starts_other, link_after, linked, is_at, going_behind, last_column}
+use Rattle.vt_redraw.specs.Script.{is_nil, is_torn, flag_behind, Linked, unlinked, first_written}
+use Rattle.vt_redraw.specs.Script.{starts_other, link_after, linked, is_at, going_behind, last_column}
 use Rattle.vt_redraw.proofs.Halves.{Paired, paired_loose, loose_step, opened_paired, opened_twice}
 use Rattle.vt_redraw.proofs.Flags.{ends, kept, Sound, sound_kept, flag_step}
 use Rattle.vt_redraw.proofs.Edits.{row_of, mid, two, two_mid, orphan, chars_erased}
@@ -30,40 +32,55 @@ use Rattle.vt_redraw.proofs.Link.{going_behind_draws, erase_touches, no_tail}
 -- ---- the first cell, at a pending wrap
 
 -- what a link leaves: the flag of the row above, and some first cells settled
-pub record Joins (May : ℕ → ℕ → Type 0) (j : Linked) (base : Canvas) (done below : List RowValue) (start : Canvas) (above : List CellValue) (to : Bool) (xs ys : List CellValue) (height : ℕ) : Type 0 where
+pub record Joins (May : ℕ → ℕ → Type 0) (j : Linked) (base : Canvas) (done below : List RowValue)
+    (start : Canvas) (above : List CellValue) (to : Bool) (xs ys : List CellValue) (height : ℕ) : Type 0 where
   pub torn : CellValue
   pub draws : DrawsIn May j.ops start (two base done below above to (shown [] torn j.settled xs ys) j.flag j.pen)
   pub ready : Ready xs ys [] torn j.settled j.flag
   pub within : Within j.pen height base.page.width
 
 -- a glyph is printed at the begin of the row below
-first_glyph : (May : ℕ → ℕ → Type 0) (base : Canvas) (done below : List RowValue) (above : List CellValue) (on : Bool) (y : CellValue) (ys : List CellValue) (flag : Bool) (r : ℕ) (b : Attrs) (text : List ℕ) (wide : Bool) (a : Attrs) → length done ≡ r →
-    base.page.bottom + 1 ≡ length done + suc (suc (length below)) → ends above ≡ false → Paired (y ∷ ys) → Sound flag (y ∷ ys) → first_columns wide ≤ base.page.width → Prints base.page.width text wide → MayGlyph May (r + 1) 0 wide ys →
-    DrawsIn May (changing b a ++ Print text ∷ []) (two base done below above on (y ∷ ys) flag (pen_at r base.page.width b))
-    (mid base (done ++ row_of above true ∷ []) below (with_glyph [] text wide a ys) (flag_behind flag wide (drop 1 ys)) (pen_at (r + 1) (0 + first_columns wide) a))
+first_glyph : (May : ℕ → ℕ → Type 0) (base : Canvas) (done below : List RowValue) (above : List CellValue) (on : Bool)
+    (y : CellValue) (ys : List CellValue) (flag : Bool) (r : ℕ) (b : Attrs) (text : List ℕ) (wide : Bool) (a : Attrs) →
+    length done ≡ r →
+    base.page.bottom + 1 ≡ length done + suc (suc (length below)) → ends above ≡ false →
+    Paired (y ∷ ys) → Sound flag (y ∷ ys) → first_columns wide ≤ base.page.width →
+    Prints base.page.width text wide → MayGlyph May (r + 1) 0 wide ys →
+    DrawsIn May (changing b a ++ Print text ∷ [])
+    (two base done below above on (y ∷ ys) flag (pen_at r base.page.width b))
+    (mid base (done ++ row_of above true ∷ []) below (with_glyph [] text wide a ys)
+    (flag_behind flag wide (drop 1 ys)) (pen_at (r + 1) (0 + first_columns wide) a))
 first_glyph May base done below above on y ys flag r b text wide a e bottom full paired sound fits prints may =
     let top = done ++ row_of above true ∷ [] in
     let n : length top ≡ r + 1 = let l = length-append done (row_of above true ∷ []) in omega arith in
     let whole = opened_paired default_blank (y ∷ ys) paired in
-    let goal = mid base top below (with_glyph [] text wide a ys) (flag_behind flag wide (drop 1 ys)) (pen_at (r + 1) (0 + first_columns wide) a) in
-    let spot : Spot base top [] default_blank y ys flag (r + 1) 0 wide = record { row = n; col = refl; fits = omega arith; front = tt; sound = subst (Sound flag) (sym whole) sound } in
-    let there : two base done below above (not (ends above)) (y ∷ ys) flag (pen_at (r + 1) 0 a) ≡ mid base top below (opened default_blank (y ∷ ys)) flag (pen_at (r + 1) 0 a) =
+    let goal = mid base top below (with_glyph [] text wide a ys)
+    (flag_behind flag wide (drop 1 ys)) (pen_at (r + 1) (0 + first_columns wide) a) in
+    let spot : Spot base top [] default_blank y ys flag (r + 1) 0 wide =
+    record { row = n; col = refl; fits = omega arith; front = tt; sound = subst (Sound flag) (sym whole) sound } in
+    let there : two base done below above (not (ends above)) (y ∷ ys) flag (pen_at (r + 1) 0 a)
+    ≡ mid base top below (opened default_blank (y ∷ ys)) flag (pen_at (r + 1) 0 a) =
     ap (λ (t : Bool). two base done below above (not t) (y ∷ ys) flag (pen_at (r + 1) 0 a)) full
     ∙ (two_mid base done below above true (y ∷ ys) flag (pen_at (r + 1) 0 a)
     ∙ ap (λ (z : List CellValue). mid base top below z flag (pen_at (r + 1) 0 a)) (sym whole)) in
     let d1 = two base done below above on (y ∷ ys) flag (pen_at r base.page.width a) in
     let d0 = two base done below above on (y ∷ ys) flag (pen_at r base.page.width b) in
     in_then May (changing b a) (Print text ∷ []) d0 d1 goal
-    (quiet_in May (changing b a) d0 d1 (changing_quiet b a) (changing_draws base (done ++ row_of above on ∷ row_of (y ∷ ys) flag ∷ below) (pen_at r base.page.width b) a))
+    (quiet_in May (changing b a) d0 d1 (changing_quiet b a)
+    (changing_draws base (done ++ row_of above on ∷ row_of (y ∷ ys) flag ∷ below) (pen_at r base.page.width b) a))
     (print_in_wraps May base done below above on (y ∷ ys) flag r a text wide goal e bottom prints
-    (subst (λ (c : Canvas). DrawsIn May (Print text ∷ []) c goal) (sym there) (print_in May base top below [] default_blank y ys flag (r + 1) 0 text wide a prints spot may)))
+    (subst (λ (c : Canvas). DrawsIn May (Print text ∷ []) c goal) (sym there)
+    (print_in May base top below [] default_blank y ys flag (r + 1) 0 text wide a prints spot may)))
 
 first_flag : (f n t : Bool) → (f && not ((n && true) || (t && false))) ≡ (f && not n)
 first_flag f n t = grind (arith)
 
 -- a space is printed there and erased again
-pub first_blank : (May : ℕ → ℕ → Type 0) (base : Canvas) (done below : List RowValue) (y : CellValue) (ys : List CellValue) (flag : Bool) (r : ℕ) (a : Attrs) → length done ≡ r → 0 < base.page.width → Paired (y ∷ ys) → Sound flag (y ∷ ys) → May r 0 →
-    DrawsIn May (Backspace ∷ EraseChars 1 ∷ []) (mid base done below (with_glyph [] (0x20 ∷ []) false a ys) (flag_behind flag false (drop 1 ys)) (pen_at r 1 a))
+pub first_blank : (May : ℕ → ℕ → Type 0) (base : Canvas) (done below : List RowValue)
+    (y : CellValue) (ys : List CellValue) (flag : Bool) (r : ℕ) (a : Attrs) →
+    length done ≡ r → 0 < base.page.width → Paired (y ∷ ys) → Sound flag (y ∷ ys) → May r 0 →
+    DrawsIn May (Backspace ∷ EraseChars 1 ∷ [])
+    (mid base done below (with_glyph [] (0x20 ∷ []) false a ys) (flag_behind flag false (drop 1 ys)) (pen_at r 1 a))
     (mid base done below (blank a ∷ opened (orphan false a) ys) (flag && not (is_nil ys)) (pen_at r 0 a))
 first_blank May base done below y ys flag r a e pos paired sound may =
     let row = λ (z : List CellValue). blank a ∷ z in
@@ -74,19 +91,31 @@ first_blank May base done below y ys flag r a e pos paired sound may =
     let start = mid base done below spaced now (pen_at r 1 a) in
     let middle = mid base done below spaced now pen in
     let goal = mid base done below (row (opened (orphan false a) ys)) (flag && not (is_nil ys)) pen in
-    in_then May (Backspace ∷ []) (EraseChars 1 ∷ []) start middle goal (quiet_in May (Backspace ∷ []) start middle (refl, tt) refl)
+    in_then May (Backspace ∷ []) (EraseChars 1 ∷ []) start middle
+    goal (quiet_in May (Backspace ∷ []) start middle (refl, tt) refl)
     (record {
       draws = chars_erased base done below [] spaced now r 0 0 a e refl (omega arith) tt
-          ∙ (ap (λ (f : Bool). Some (mid base done below (row (opened default_blank (opened (orphan false a) ys))) (kept f (row (opened default_blank (opened (orphan false a) ys)))) pen)) (no_tear flag (is_torn (drop 1 ys)))
-          ∙ (ap (λ (z : List CellValue). Some (mid base done below (row z) (kept flag (row z)) pen)) (opened_twice default_blank (orphan false a) ys refl)
-          ∙ ap (λ (f : Bool). Some (mid base done below (row (opened (orphan false a) ys)) f pen)) (first_kept y ys flag a whole sound)));
+          ∙ (ap (λ (f : Bool). Some
+          (mid base done below (row (opened default_blank (opened (orphan false a) ys)))
+          (kept f (row (opened default_blank (opened (orphan false a) ys)))) pen))
+          (no_tear flag (is_torn (drop 1 ys)))
+          ∙ (ap (λ (z : List CellValue). Some (mid base done below (row z) (kept flag (row z)) pen))
+          (opened_twice default_blank (orphan false a) ys refl)
+          ∙ ap (λ (f : Bool). Some (mid base done below (row (opened (orphan false a) ys)) f pen))
+          (first_kept y ys flag a whole sound)));
       touches = erase_touches May middle 0 pos refl
-          (changes_at May base done below [] spaced now r 0 1 0 a e refl tt (λ k low high. let z : 0 ≡ k = omega arith in subst (May r) z may) (λ t. let n = not_right a ys in absurd (cc)));
+          (changes_at May base done below [] spaced now r 0 1 0 a e refl tt
+          (λ k low high. let z : 0 ≡ k = omega arith in subst (May r) z may)
+          (λ t. let n = not_right a ys in absurd (cc)));
     })
   where
-    first_kept : (y : CellValue) (ys : List CellValue) (flag : Bool) (a : Attrs) → opened default_blank (y ∷ ys) ≡ y ∷ ys → Sound flag (y ∷ ys) → kept flag (blank a ∷ opened (orphan false a) ys) ≡ (flag && not (is_nil ys))
+    first_kept : (y : CellValue) (ys : List CellValue) (flag : Bool) (a : Attrs) →
+        opened default_blank (y ∷ ys) ≡ y ∷ ys → Sound flag (y ∷ ys) →
+        kept flag (blank a ∷ opened (orphan false a) ys) ≡ (flag && not (is_nil ys))
     first_kept y ys flag a whole sound =
-        flag_step [] (blank a ∷ []) y ys (orphan false a) default_blank 0 flag true refl (subst (Sound flag) (sym whole) sound) ∙ first_flag flag (is_nil ys) (is_torn ys)
+        flag_step [] (blank a ∷ []) y ys (orphan false a) default_blank
+        0 flag true refl (subst (Sound flag) (sym whole) sound)
+        ∙ first_flag flag (is_nil ys) (is_torn ys)
 
     not_right : (a : Attrs) (ys : List CellValue) → is_right_half (at (opened (orphan false a) ys) 0) ≡ false
     not_right a [] = refl
@@ -94,73 +123,141 @@ first_blank May base done below y ys flag r a e pos paired sound may =
     not_right a (glyph text wide b ∷ ys) = refl
     not_right a (right_half ∷ ys) = refl
 
-pub first_sound : (y : CellValue) (ys : List CellValue) (flag : Bool) (a : Attrs) → Paired (y ∷ ys) → Sound flag (y ∷ ys) → Sound (flag && not (is_nil ys)) (blank a ∷ opened (orphan false a) ys)
+pub first_sound : (y : CellValue) (ys : List CellValue) (flag : Bool) (a : Attrs) → Paired (y ∷ ys) →
+    Sound flag (y ∷ ys) → Sound (flag && not (is_nil ys)) (blank a ∷ opened (orphan false a) ys)
 first_sound y ys flag a paired sound =
     sound_kept flag (blank a ∷ opened (orphan false a) ys) (flag && not (is_nil ys))
-    (flag_step [] (blank a ∷ []) y ys (orphan false a) default_blank 0 flag true refl (subst (Sound flag) (sym (opened_paired default_blank (y ∷ ys) paired)) sound) ∙ first_flag flag (is_nil ys) (is_torn ys))
+    (flag_step [] (blank a ∷ []) y ys (orphan false a) default_blank 0 flag true refl
+    (subst (Sound flag) (sym (opened_paired default_blank (y ∷ ys) paired)) sound)
+    ∙ first_flag flag (is_nil ys) (is_torn ys))
 
-pub glyph_sound : (y : CellValue) (ys : List CellValue) (flag : Bool) (text : List ℕ) (wide : Bool) (a : Attrs) → Paired (y ∷ ys) → Sound flag (y ∷ ys) → Sound (flag_behind flag wide (drop 1 ys)) (with_glyph [] text wide a ys)
+pub glyph_sound : (y : CellValue) (ys : List CellValue) (flag : Bool) (text : List ℕ) (wide : Bool) (a : Attrs) →
+    Paired (y ∷ ys) → Sound flag (y ∷ ys) → Sound (flag_behind flag wide (drop 1 ys)) (with_glyph [] text wide a ys)
 glyph_sound y ys flag text wide a paired sound =
-    sound_kept flag (with_glyph [] text wide a ys) (flag_behind flag wide (drop 1 ys)) (glyph_flag [] default_blank y ys flag text wide a (subst (Sound flag) (sym (opened_paired default_blank (y ∷ ys) paired)) sound))
+    sound_kept flag (with_glyph [] text wide a ys) (flag_behind flag wide (drop 1 ys))
+    (glyph_flag [] default_blank y ys flag text wide a
+    (subst (Sound flag) (sym (opened_paired default_blank (y ∷ ys) paired)) sound))
 
 -- the pen's attributes being b
-pub first_draws : (May : ℕ → ℕ → Type 0) (base : Canvas) (done below : List RowValue) (above xs ys : List CellValue) (on flag : Bool) (r height : ℕ) (b : Attrs) → length done ≡ r → base.page.bottom + 1 ≡ height → r + suc (suc (length below)) ≡ height →
-    length xs ≡ base.page.width → length ys ≡ base.page.width → 0 < base.page.width → ends above ≡ false → Paired xs → Paired ys → Sound flag ys → PrintsCells base.page.width xs →
+pub first_draws : (May : ℕ → ℕ → Type 0) (base : Canvas) (done below : List RowValue)
+    (above xs ys : List CellValue) (on flag : Bool) (r height : ℕ) (b : Attrs) →
+    length done ≡ r → base.page.bottom + 1 ≡ height → r + suc (suc (length below)) ≡ height →
+    length xs ≡ base.page.width → length ys ≡ base.page.width → 0 < base.page.width →
+    ends above ≡ false → Paired xs → Paired ys → Sound flag ys → PrintsCells base.page.width xs →
     Lets May (r + 1) 0 xs ys → May (r + 1) 0 → (is_wide (at xs 0) ≡ true → May (r + 1) 1) →
-    Joins May (first_written (r + 1) (pen_at r base.page.width b) flag xs ys) base done below (two base done below above on ys flag (pen_at r base.page.width b)) above true xs ys height
-first_draws May base done below above [] ys on flag r height b e bottom rows hx hy pos full h k sound prints lets begin second = absurd (omega arith)
-first_draws May base done below above (x ∷ xs) [] on flag r height b e bottom rows hx hy pos full h k sound prints lets begin second = absurd (omega arith)
-first_draws May base done below above (right_half ∷ xs) (y ∷ ys) on flag r height b e bottom rows hx hy pos full h k sound prints lets begin second = absurd h
-first_draws May base done below above (glyph text false a ∷ xs) (y ∷ ys) on flag r height b e bottom rows hx hy pos full h k sound prints lets begin second =
+    Joins May (first_written (r + 1) (pen_at r base.page.width b) flag xs ys) base done below
+    (two base done below above on ys flag (pen_at r base.page.width b)) above true xs ys height
+first_draws May base done below above [] ys on flag r height b e
+    bottom rows hx hy pos full h k sound prints lets begin second = absurd (omega arith)
+first_draws May base done below above (x ∷ xs) [] on flag r height b
+    e bottom rows hx hy pos full h k sound prints lets begin second = absurd (omega arith)
+first_draws May base done below above (right_half ∷ xs) (y ∷ ys) on flag r
+    height b e bottom rows hx hy pos full h k sound prints lets begin second = absurd h
+first_draws May base done below above (glyph text false a ∷ xs) (y ∷ ys) on flag
+    r height b e bottom rows hx hy pos full h k sound prints lets begin second =
     let now = flag_behind flag false (drop 1 ys) in
     record {
       torn = orphan false a;
       draws = in_to May (changing b a ++ Print text ∷ []) _ _ _
-          (first_glyph May base done below above on y ys flag r b text false a e (omega arith) full k sound (omega arith) prints.0
-          (record { first = begin; second = λ t. absurd (cc); torn = λ t. torn_may May (r + 1) 1 xs ys h lets.1 (omega arith) (no_tail xs ys (omega arith)) t }))
+          (first_glyph May base done below above on y ys flag r b text
+          false a e (omega arith) full k sound (omega arith) prints.0
+          (record {
+            first = begin;
+            second = λ t. absurd (cc);
+            torn = λ t. torn_may May (r + 1) 1 xs ys h lets.1 (omega arith) (no_tail xs ys (omega arith)) t;
+          }))
           (sym (two_mid base done below above true (with_glyph [] text false a ys) now (pen_at (r + 1) 1 a)));
-      ready = record { same = omega arith; tail = no_tail (glyph text false a ∷ xs) (y ∷ ys) (hx ∙ sym hy); le = omega arith; behind = tt; new = h; old = loose_step y ys (paired_loose (y ∷ ys) k); sound = glyph_sound y ys flag text false a k sound };
+      ready = record {
+        same = omega arith;
+        tail = no_tail (glyph text false a ∷ xs) (y ∷ ys) (hx ∙ sym hy);
+        le = omega arith;
+        behind = tt;
+        new = h;
+        old = loose_step y ys (paired_loose (y ∷ ys) k);
+        sound = glyph_sound y ys flag text false a k sound;
+      };
       within = record { row = omega arith; col = omega arith };
     }
-first_draws May base done below above (blank a ∷ xs) (y ∷ ys) on flag r height b e bottom rows hx hy pos full h k sound prints lets begin second =
+first_draws May base done below above (blank a ∷ xs) (y ∷ ys) on flag r
+    height b e bottom rows hx hy pos full h k sound prints lets begin second =
     let top = done ++ row_of above true ∷ [] in
     let n : length top ≡ r + 1 = let l = length-append done (row_of above true ∷ []) in omega arith in
     let goal = blank a ∷ opened (orphan false a) ys in
     let now = flag && not (is_nil ys) in
     let start = two base done below above on (y ∷ ys) flag (pen_at r base.page.width b) in
-    let spaced = mid base top below (with_glyph [] (0x20 ∷ []) false a ys) (flag_behind flag false (drop 1 ys)) (pen_at (r + 1) 1 a) in
+    let spaced = mid base top below (with_glyph [] (0x20 ∷ []) false a ys)
+    (flag_behind flag false (drop 1 ys)) (pen_at (r + 1) 1 a) in
     record {
       torn = orphan false a;
-      draws = regrouped (changing b a) (Print (0x20 ∷ [])) (Backspace ∷ EraseChars 1 ∷ []) start spaced (two base done below above true goal now (pen_at (r + 1) 0 a))
-          (first_glyph May base done below above on y ys flag r b (0x20 ∷ []) false a e (omega arith) full k sound (omega arith) (space_prints base.page.width pos)
-          (record { first = begin; second = λ t. absurd (cc); torn = λ t. torn_may May (r + 1) 1 xs ys h lets.1 (omega arith) (no_tail xs ys (omega arith)) t }))
-          (in_to May (Backspace ∷ EraseChars 1 ∷ []) spaced (mid base top below goal now (pen_at (r + 1) 0 a)) (two base done below above true goal now (pen_at (r + 1) 0 a))
-          (first_blank May base top below y ys flag (r + 1) a n pos k sound begin) (sym (two_mid base done below above true goal now (pen_at (r + 1) 0 a))));
-      ready = record { same = omega arith; tail = no_tail (blank a ∷ xs) (y ∷ ys) (hx ∙ sym hy); le = omega arith; behind = tt; new = h; old = loose_step y ys (paired_loose (y ∷ ys) k); sound = first_sound y ys flag a k sound };
+      draws =
+          regrouped (changing b a) (Print (0x20 ∷ [])) (Backspace ∷ EraseChars 1 ∷ [])
+          start spaced (two base done below above true goal now (pen_at (r + 1) 0 a))
+          (first_glyph May base done below above on y ys flag r b (0x20 ∷ []) false a
+          e (omega arith) full k sound (omega arith) (space_prints base.page.width pos)
+          (record {
+            first = begin;
+            second = λ t. absurd (cc);
+            torn = λ t. torn_may May (r + 1) 1 xs ys h lets.1 (omega arith) (no_tail xs ys (omega arith)) t;
+          }))
+          (in_to May (Backspace ∷ EraseChars 1 ∷ []) spaced (mid base top below goal now (pen_at (r + 1) 0 a))
+          (two base done below above true goal now (pen_at (r + 1) 0 a))
+          (first_blank May base top below y ys flag (r + 1) a n pos k sound begin)
+          (sym (two_mid base done below above true goal now (pen_at (r + 1) 0 a))));
+      ready = record {
+        same = omega arith;
+        tail = no_tail (blank a ∷ xs) (y ∷ ys) (hx ∙ sym hy);
+        le = omega arith;
+        behind = tt;
+        new = h;
+        old = loose_step y ys (paired_loose (y ∷ ys) k);
+        sound = first_sound y ys flag a k sound;
+      };
       within = record { row = omega arith; col = omega arith };
     }
   where
-    regrouped : (ops : List Op) (op : Op) (more : List Op) (a b c : Canvas) → DrawsIn May (ops ++ op ∷ []) a b → DrawsIn May more b c → DrawsIn May (ops ++ op ∷ more) a c
-    regrouped ops op more a b c h k = subst (λ (z : List Op). DrawsIn May z a c) (append_assoc ops (op ∷ []) more) (in_then May (ops ++ op ∷ []) more a b c h k)
-first_draws May base done below above (glyph text true a ∷ []) (y ∷ ys) on flag r height b e bottom rows hx hy pos full h k sound prints lets begin second = absurd h
-first_draws May base done below above (glyph text true a ∷ blank c ∷ xs) (y ∷ ys) on flag r height b e bottom rows hx hy pos full h k sound prints lets begin second = absurd h
-first_draws May base done below above (glyph text true a ∷ glyph other wide c ∷ xs) (y ∷ ys) on flag r height b e bottom rows hx hy pos full h k sound prints lets begin second = absurd h
-first_draws May base done below above (glyph text true a ∷ right_half ∷ xs) (y ∷ []) on flag r height b e bottom rows hx hy pos full h k sound prints lets begin second = absurd (omega arith)
-first_draws May base done below above (glyph text true a ∷ right_half ∷ xs) (y ∷ y2 ∷ ys) on flag r height b e bottom rows hx hy pos full h k sound prints lets begin second =
+    regrouped : (ops : List Op) (op : Op) (more : List Op) (a b c : Canvas) →
+        DrawsIn May (ops ++ op ∷ []) a b → DrawsIn May more b c → DrawsIn May (ops ++ op ∷ more) a c
+    regrouped ops op more a b c h k =
+        subst (λ (z : List Op). DrawsIn May z a c) (append_assoc ops (op ∷ []) more)
+        (in_then May (ops ++ op ∷ []) more a b c h k)
+first_draws May base done below above (glyph text true a ∷ []) (y ∷ ys) on flag
+    r height b e bottom rows hx hy pos full h k sound prints lets begin second = absurd h
+first_draws May base done below above (glyph text true a ∷ blank c ∷ xs) (y ∷ ys) on
+    flag r height b e bottom rows hx hy pos full h k sound prints lets begin second = absurd h
+first_draws May base done below above (glyph text true a ∷ glyph other wide c ∷ xs) (y ∷ ys)
+    on flag r height b e bottom rows hx hy pos full h k sound prints lets begin second = absurd h
+first_draws May base done below above (glyph text true a ∷ right_half ∷ xs) (y ∷ []) on
+    flag r height b e bottom rows hx hy pos full h k sound prints lets begin second = absurd (omega arith)
+first_draws May base done below above (glyph text true a ∷ right_half ∷ xs) (y ∷ y2 ∷ ys)
+    on flag r height b e bottom rows hx hy pos full h k sound prints lets begin second =
     let now = flag_behind flag true ys in
     record {
       torn = orphan true a;
       draws = in_to May (changing b a ++ Print text ∷ []) _ _ _
-          (first_glyph May base done below above on y (y2 ∷ ys) flag r b text true a e (omega arith) full k sound (omega arith) prints.0
-          (record { first = begin; second = λ _. second refl; torn = λ t. torn_may May (r + 1) 2 xs ys h lets.1 (omega arith) (no_tail xs ys (omega arith)) t }))
+          (first_glyph May base done below above on y (y2 ∷ ys) flag r b
+          text true a e (omega arith) full k sound (omega arith) prints.0
+          (record {
+            first = begin;
+            second = λ _. second refl;
+            torn = λ t. torn_may May (r + 1) 2 xs ys h lets.1 (omega arith) (no_tail xs ys (omega arith)) t;
+          }))
           (sym (two_mid base done below above true (with_glyph [] text true a (y2 ∷ ys)) now (pen_at (r + 1) 2 a)));
-      ready = record { same = omega arith; tail = no_tail (glyph text true a ∷ right_half ∷ xs) (y ∷ y2 ∷ ys) (hx ∙ sym hy); le = omega arith; behind = tt; new = h; old = loose_step y2 ys (loose_step y (y2 ∷ ys) (paired_loose (y ∷ y2 ∷ ys) k)); sound = glyph_sound y (y2 ∷ ys) flag text true a k sound };
+      ready = record {
+        same = omega arith;
+        tail = no_tail (glyph text true a ∷ right_half ∷ xs) (y ∷ y2 ∷ ys) (hx ∙ sym hy);
+        le = omega arith;
+        behind = tt;
+        new = h;
+        old = loose_step y2 ys (loose_step y (y2 ∷ ys) (paired_loose (y ∷ y2 ∷ ys) k));
+        sound = glyph_sound y (y2 ∷ ys) flag text true a k sound;
+      };
       within = record { row = omega arith; col = omega arith };
     }
 
 -- ---- the link
 
-pub ready_start : (xs ys : List CellValue) (flag : Bool) → length xs ≡ length ys → Paired xs → Paired ys → Sound flag ys → Ready xs ys [] default_blank 0 flag
+pub ready_start : (xs ys : List CellValue) (flag : Bool) → length xs ≡ length ys →
+    Paired xs → Paired ys → Sound flag ys → Ready xs ys [] default_blank 0 flag
 ready_start xs ys flag same h k sound = record {
   same = omega arith;
   tail = no_tail xs ys same;
@@ -172,20 +269,31 @@ ready_start xs ys flag same h k sound = record {
 }
 
 -- nothing to do: the row as it stood there
-pub no_join : (May : ℕ → ℕ → Type 0) (base : Canvas) (done below : List RowValue) (above xs ys : List CellValue) (on to flag : Bool) (pen : Pen) (height : ℕ) → on ≡ to → length xs ≡ length ys → Paired xs → Paired ys → Sound flag ys → Within pen height base.page.width →
+pub no_join : (May : ℕ → ℕ → Type 0) (base : Canvas) (done below : List RowValue)
+    (above xs ys : List CellValue) (on to flag : Bool) (pen : Pen) (height : ℕ) →
+    on ≡ to → length xs ≡ length ys → Paired xs → Paired ys → Sound flag ys → Within pen height base.page.width →
     Joins May (unlinked pen flag) base done below (two base done below above on ys flag pen) above to xs ys height
 no_join May base done below above xs ys on to flag pen height t same h k sound within = record {
   torn = default_blank;
-  draws = record { draws = ap (λ (z : Bool). Some (two base done below above z ys flag pen)) t ∙ ap (λ (z : List CellValue). Some (two base done below above to z flag pen)) (sym (opened_paired default_blank ys k)); touches = tt };
+  draws = record {
+    draws =
+        ap (λ (z : Bool). Some (two base done below above z ys flag pen)) t
+        ∙ ap (λ (z : List CellValue). Some (two base done below above to z flag pen))
+        (sym (opened_paired default_blank ys k));
+    touches = tt;
+  };
   ready = ready_start xs ys flag same h k sound;
   within = within;
 }
 
-joins_after : (May : ℕ → ℕ → Type 0) (ops : List Op) (j : Linked) (base : Canvas) (done below : List RowValue) (a b : Canvas) (above : List CellValue) (to : Bool) (xs ys : List CellValue) (height : ℕ) → DrawsIn May ops a b → Joins May j base done below b above to xs ys height →
+joins_after : (May : ℕ → ℕ → Type 0) (ops : List Op) (j : Linked) (base : Canvas) (done below : List RowValue)
+    (a b : Canvas) (above : List CellValue) (to : Bool) (xs ys : List CellValue) (height : ℕ) →
+    DrawsIn May ops a b → Joins May j base done below b above to xs ys height →
     Joins May (link_after ops j) base done below a above to xs ys height
 joins_after May ops j base done below a b above to xs ys height h k = record {
   torn = k.torn;
-  draws = in_then May ops j.ops a b (two base done below above to (shown [] k.torn j.settled xs ys) j.flag j.pen) h k.draws;
+  draws =
+      in_then May ops j.ops a b (two base done below above to (shown [] k.torn j.settled xs ys) j.flag j.pen) h k.draws;
   ready = k.ready;
   within = k.within;
 }
@@ -204,27 +312,42 @@ at_other : (on at other : Bool) → (not on || (at && other)) ≡ true → at �
 at_other on at other h t = grind (arith, h, t)
 
 starts_differ : (xs ys : List CellValue) → starts_other xs ys ≡ true → xs ≢ ys
-starts_differ xs ys h e = let k = starts_none ys in let z = ap (λ (z : List CellValue). starts_other z ys) (sym e) ∙ h in cc
+starts_differ xs ys h e =
+    let k = starts_none ys in let z = ap (λ (z : List CellValue). starts_other z ys) (sym e) ∙ h in cc
 
-pub link_draws : (May : ℕ → ℕ → Type 0) (base : Canvas) (done below : List RowValue) (above xs ys : List CellValue) (on flag : Bool) (r height : ℕ) (pen : Pen) → Reads base height base.page.width → length done ≡ r → r + suc (suc (length below)) ≡ height →
-    length above ≡ base.page.width → length xs ≡ base.page.width → length ys ≡ base.page.width → Paired above → ends above ≡ false → PrintsCells base.page.width above → Paired xs → Paired ys → Sound flag ys → PrintsCells base.page.width xs →
+pub link_draws : (May : ℕ → ℕ → Type 0) (base : Canvas) (done below : List RowValue)
+    (above xs ys : List CellValue) (on flag : Bool) (r height : ℕ) (pen : Pen) →
+    Reads base height base.page.width → length done ≡ r → r + suc (suc (length below)) ≡ height →
+    length above ≡ base.page.width → length xs ≡ base.page.width → length ys ≡ base.page.width →
+    Paired above → ends above ≡ false → PrintsCells base.page.width above →
+    Paired xs → Paired ys → Sound flag ys → PrintsCells base.page.width xs →
     Within pen height base.page.width → (on ≡ false → (k : ℕ) → last_column above ≤ k → k < base.page.width → May r k) →
     ((on ≡ false) ⊎ (xs ≢ ys) → Lets May (r + 1) 0 xs ys × May (r + 1) 0 × (is_wide (at xs 0) ≡ true → May (r + 1) 1)) →
-    Joins May (linked r pen above on flag xs ys) base done below (two base done below above on ys flag pen) above true xs ys height
+    Joins May (linked r pen above on flag xs ys) base done below
+    (two base done below above on ys flag pen) above true xs ys height
 unfolding linked
-link_draws May base done below above xs ys on flag r height pen reads e rows ha hx hy pa full above_prints h k sound prints within last near =
+link_draws May base done below above xs ys on flag r height pen reads e
+    rows ha hx hy pa full above_prints h k sound prints within last near =
     let behind = going_behind r pen above in
     let start = two base done below above on ys flag pen in
     let test = not on || (is_at pen r (length above) && starts_other xs ys) in
-    cond_both test (link_after behind.ops (first_written (r + 1) behind.pen flag xs ys)) (unlinked pen flag) (λ (j : Linked). Joins May j base done below start above true xs ys height)
+    cond_both test (link_after behind.ops (first_written (r + 1) behind.pen flag xs ys))
+    (unlinked pen flag) (λ (j : Linked). Joins May j base done below start above true xs ys height)
     (λ (t : test ≡ true).
-    let goes = going_behind_draws May base done (row_of ys flag ∷ below) above on r height pen reads e rows ha pa full above_prints within (λ f. last (at_other on (is_at pen r (length above)) (starts_other xs ys) t f)) in
+    let goes = going_behind_draws May base done (row_of ys flag ∷ below) above on r height pen reads e rows ha pa
+    full above_prints within (λ f. last (at_other on (is_at pen r (length above)) (starts_other xs ys) t f)) in
     let may = near (by_cases (link_cases on (is_at pen r (length above)) (starts_other xs ys) t)) in
-    joins_after May behind.ops (first_written (r + 1) behind.pen flag xs ys) base done below start (two base done below above on ys flag behind.pen) above true xs ys height goes.draws
-    (subst (λ (q : Pen). Joins May (first_written (r + 1) q flag xs ys) base done below (two base done below above on ys flag q) above true xs ys height) (sym goes.there)
-    (first_draws May base done below above xs ys on flag r height behind.pen.attrs e reads.bottom rows hx hy reads.has_columns full h k sound prints may.0 may.1 may.2)))
-    (λ (t : test ≡ false). no_join May base done below above xs ys on true flag pen height (stays_on on (is_at pen r (length above) && starts_other xs ys) t) (hx ∙ sym hy) h k sound within)
+    joins_after May behind.ops (first_written (r + 1) behind.pen flag xs ys) base done below
+    start (two base done below above on ys flag behind.pen) above true xs ys height goes.draws
+    (subst (λ (q : Pen). Joins May (first_written (r + 1) q flag xs ys) base
+    done below (two base done below above on ys flag q) above true xs ys height)
+    (sym goes.there)
+    (first_draws May base done below above xs ys on flag r height behind.pen.attrs e
+    reads.bottom rows hx hy reads.has_columns full h k sound prints may.0 may.1 may.2)))
+    (λ (t : test ≡ false). no_join May base done below above xs ys on true flag pen height
+    (stays_on on (is_at pen r (length above) && starts_other xs ys) t) (hx ∙ sym hy) h k sound within)
   where
-    by_cases : (on ≡ false) ⊎ ((is_at pen r (length above) ≡ true) × (starts_other xs ys ≡ true)) → (on ≡ false) ⊎ (xs ≢ ys)
+    by_cases : (on ≡ false) ⊎ ((is_at pen r (length above) ≡ true) × (starts_other xs ys ≡ true)) →
+        (on ≡ false) ⊎ (xs ≢ ys)
     by_cases (inl f) = inl f
     by_cases (inr both) = inr (starts_differ xs ys both.1)

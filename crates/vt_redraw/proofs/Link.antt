@@ -1,5 +1,6 @@
 -- The last glyph of a row printed again, and the break to the row below.
-use Rattle.std.proofs.Common.{◌≡◌, ◌≢◌, ◌⊎◌, ℕ, suc, ◌+◌, ◌-◌, ◌<◌, ◌≤◌, ◌==◌, ◌&&◌, min, Bool, true, false, not, List, [], ◌∷◌, ◌++◌, length, take, drop, Some, inl, inr, refl, sym, ap, ◌∙◌, subst, arith}
+use Rattle.std.proofs.Common.{◌≡◌, ◌≢◌, ◌⊎◌, ℕ, suc, ◌+◌, ◌-◌, ◌<◌, ◌≤◌, ◌==◌, ◌&&◌, min, Bool, true, false, not, List}
+use Rattle.std.proofs.Common.{[], ◌∷◌, ◌++◌, length, take, drop, Some, inl, inr, refl, sym, ap, ◌∙◌, subst, arith}
 use Rattle.std.proofs.lemmas.Bool.{cond_both, and_parts, eqb-true}
 use Rattle.std.proofs.lemmas.List.{length-append, take-append-drop}
 use Rattle.vt_cells.specs.Cell.{CellValue, blank, glyph, right_half, default_blank, is_wide, text_of, attrs_of}
@@ -12,7 +13,8 @@ use Rattle.vt_cells.specs.Glyph.{first_columns}
 use Rattle.vt_redraw.specs.Script.{pen_at, going, changing}
 use Rattle.vt_redraw.specs.declared.pen.Pen.{Pen}
 use Rattle.vt_redraw.proofs.Steps.{Reads, Within, changing_draws}
-use Rattle.vt_redraw.specs.Script.{Scripted, nothing, doing, cells_written, last_column, last_glyph, is_at, behind, going_behind, breaking, broken}
+use Rattle.vt_redraw.specs.Script.{Scripted, nothing, doing, cells_written, last_column}
+use Rattle.vt_redraw.specs.Script.{last_glyph, is_at, behind, going_behind, breaking, broken}
 use Rattle.vt_redraw.specs.Redraw.{row_written}
 use Rattle.vt_redraw.proofs.Halves.{Paired, opened_paired}
 use Rattle.vt_redraw.proofs.Flags.{ends, ends_append, kept, Sound}
@@ -36,10 +38,19 @@ pub record EndsGlyph (cells : List CellValue) : Type 0 where
   pub front : Paired pre
   pub is : cells ≡ pre ++ glyph_cells text wide attrs
 
-longer : (x : CellValue) (xs : List CellValue) → ((pre : List CellValue) → Paired pre → Paired (x ∷ pre)) → EndsGlyph xs → EndsGlyph (x ∷ xs)
-longer x xs f e = record { pre = x ∷ e.pre; text = e.text; wide = e.wide; attrs = e.attrs; front = f e.pre e.front; is = ap (λ (z : List CellValue). x ∷ z) e.is }
+longer : (x : CellValue) (xs : List CellValue) →
+    ((pre : List CellValue) → Paired pre → Paired (x ∷ pre)) → EndsGlyph xs → EndsGlyph (x ∷ xs)
+longer x xs f e = record {
+  pre = x ∷ e.pre;
+  text = e.text;
+  wide = e.wide;
+  attrs = e.attrs;
+  front = f e.pre e.front;
+  is = ap (λ (z : List CellValue). x ∷ z) e.is;
+}
 
-longer_two : (text : List ℕ) (a : Attrs) (xs : List CellValue) → EndsGlyph xs → EndsGlyph (glyph text true a ∷ right_half ∷ xs)
+longer_two : (text : List ℕ) (a : Attrs) (xs : List CellValue) →
+    EndsGlyph xs → EndsGlyph (glyph text true a ∷ right_half ∷ xs)
 longer_two text a xs e = record {
   pre = glyph text true a ∷ right_half ∷ e.pre;
   text = e.text;
@@ -54,29 +65,38 @@ pub ends_glyph : (xs : List CellValue) → Paired xs → ends xs ≡ false → E
 ends_glyph [] h e = absurd (cc)
 ends_glyph (blank a ∷ []) h e = absurd (cc)
 ends_glyph (blank a ∷ z ∷ zs) h e = longer (blank a) (z ∷ zs) (λ pre k. k) (ends_glyph (z ∷ zs) h e)
-ends_glyph (glyph text false a ∷ []) h e = record { pre = []; text = text; wide = false; attrs = a; front = tt; is = refl }
-ends_glyph (glyph text false a ∷ z ∷ zs) h e = longer (glyph text false a) (z ∷ zs) (λ pre k. k) (ends_glyph (z ∷ zs) h e)
+ends_glyph (glyph text false a ∷ []) h e =
+    record { pre = []; text = text; wide = false; attrs = a; front = tt; is = refl }
+ends_glyph (glyph text false a ∷ z ∷ zs) h e =
+    longer (glyph text false a) (z ∷ zs) (λ pre k. k) (ends_glyph (z ∷ zs) h e)
 ends_glyph (glyph text true a ∷ []) h e = absurd h
 ends_glyph (glyph text true a ∷ blank b ∷ zs) h e = absurd h
 ends_glyph (glyph text true a ∷ glyph other wide b ∷ zs) h e = absurd h
-ends_glyph (glyph text true a ∷ right_half ∷ []) h e = record { pre = []; text = text; wide = true; attrs = a; front = tt; is = refl }
+ends_glyph (glyph text true a ∷ right_half ∷ []) h e =
+    record { pre = []; text = text; wide = true; attrs = a; front = tt; is = refl }
 ends_glyph (glyph text true a ∷ right_half ∷ z ∷ zs) h e = longer_two text a (z ∷ zs) (ends_glyph (z ∷ zs) h e)
 ends_glyph (right_half ∷ zs) h e = absurd h
 
-pub length_glyph : (pre : List CellValue) (text : List ℕ) (wide : Bool) (a : Attrs) → length (pre ++ glyph_cells text wide a) ≡ length pre + first_columns wide
+pub length_glyph : (pre : List CellValue) (text : List ℕ) (wide : Bool) (a : Attrs) →
+    length (pre ++ glyph_cells text wide a) ≡ length pre + first_columns wide
 length_glyph pre text true a = length-append pre (glyph_cells text true a)
 length_glyph pre text false a = length-append pre (glyph_cells text false a)
 
-last_column_is : (pre : List CellValue) (text : List ℕ) (wide : Bool) (a : Attrs) → last_column (pre ++ glyph_cells text wide a) ≡ length pre
+last_column_is : (pre : List CellValue) (text : List ℕ) (wide : Bool) (a : Attrs) →
+    last_column (pre ++ glyph_cells text wide a) ≡ length pre
 last_column_is pre text true a = rw (length_glyph pre text true a) (mark_column_at pre text true a [] (length pre) refl)
-last_column_is pre text false a = rw (length_glyph pre text false a) (mark_column_at pre text false a [] (length pre) refl)
+last_column_is pre text false a =
+    rw (length_glyph pre text false a) (mark_column_at pre text false a [] (length pre) refl)
 
-last_glyph_is : (pre : List CellValue) (text : List ℕ) (wide : Bool) (a : Attrs) → last_glyph (pre ++ glyph_cells text wide a) ≡ glyph text wide a
+last_glyph_is : (pre : List CellValue) (text : List ℕ) (wide : Bool) (a : Attrs) →
+    last_glyph (pre ++ glyph_cells text wide a) ≡ glyph text wide a
 last_glyph_is pre text true a = rw (last_column_is pre text true a) (glyph_at pre text true a [] (length pre) refl)
 last_glyph_is pre text false a = rw (last_column_is pre text false a) (glyph_at pre text false a [] (length pre) refl)
 
 -- what holds of a row that ends in any glyph, holds of one that does not end blank
-pub last_cases : (P : List CellValue → ℕ → CellValue → Type 0) → ((pre : List CellValue) (text : List ℕ) (wide : Bool) (a : Attrs) → Paired pre → P (pre ++ glyph_cells text wide a) (length pre) (glyph text wide a)) →
+pub last_cases : (P : List CellValue → ℕ → CellValue → Type 0) →
+    ((pre : List CellValue) (text : List ℕ) (wide : Bool) (a : Attrs) → Paired pre →
+    P (pre ++ glyph_cells text wide a) (length pre) (glyph text wide a)) →
     (xs : List CellValue) → Paired xs → ends xs ≡ false → P xs (last_column xs) (last_glyph xs)
 last_cases P f xs h e =
     let v = ends_glyph xs h e in
@@ -84,9 +104,11 @@ last_cases P f xs h e =
     let row = v.pre ++ glyph_cells v.text v.wide v.attrs in
     subst Q (sym v.is)
     (subst (λ (k : ℕ). P row k (last_glyph row)) (sym (last_column_is v.pre v.text v.wide v.attrs))
-    (subst (λ (x : CellValue). P row (length v.pre) x) (sym (last_glyph_is v.pre v.text v.wide v.attrs)) (f v.pre v.text v.wide v.attrs v.front)))
+    (subst (λ (x : CellValue). P row (length v.pre) x)
+    (sym (last_glyph_is v.pre v.text v.wide v.attrs)) (f v.pre v.text v.wide v.attrs v.front)))
 
-pub prints_last : (width : ℕ) (pre : List CellValue) (text : List ℕ) (wide : Bool) (a : Attrs) → PrintsCells width (pre ++ glyph_cells text wide a) → Prints width text wide
+pub prints_last : (width : ℕ) (pre : List CellValue) (text : List ℕ) (wide : Bool) (a : Attrs) →
+    PrintsCells width (pre ++ glyph_cells text wide a) → Prints width text wide
 prints_last width [] text true a h = h.0
 prints_last width [] text false a h = h.0
 prints_last width (x ∷ pre) text wide a h = prints_last width pre text wide a h.1
@@ -97,24 +119,43 @@ still : (flag : Bool) → (flag && not false) ≡ flag
 still flag = grind (arith)
 
 -- over itself
-pub print_again : (May : ℕ → ℕ → Type 0) (base : Canvas) (done below : List RowValue) (pre : List CellValue) (text : List ℕ) (wide : Bool) (a : Attrs) (flag : Bool) (r : ℕ) → Prints base.page.width text wide → length done ≡ r → length pre + first_columns wide ≡ base.page.width → Paired pre →
+pub print_again : (May : ℕ → ℕ → Type 0) (base : Canvas) (done below : List RowValue)
+    (pre : List CellValue) (text : List ℕ) (wide : Bool) (a : Attrs) (flag : Bool) (r : ℕ) →
+    Prints base.page.width text wide → length done ≡ r → length pre + first_columns wide ≡ base.page.width →
+    Paired pre →
     Sound flag (pre ++ glyph_cells text wide a) → ((k : ℕ) → length pre ≤ k → k < base.page.width → May r k) →
-    DrawsIn May (Print text ∷ []) (mid base done below (pre ++ glyph_cells text wide a) flag (pen_at r (length pre) a)) (mid base done below (pre ++ glyph_cells text wide a) flag (pen_at r (length pre + first_columns wide) a))
+    DrawsIn May (Print text ∷ []) (mid base done below (pre ++ glyph_cells text wide a) flag (pen_at r (length pre) a))
+    (mid base done below (pre ++ glyph_cells text wide a) flag (pen_at r (length pre + first_columns wide) a))
 print_again May base done below pre text false a flag r prints e w h sound may =
     let row = pre ++ glyph text false a ∷ [] in
-    in_to May (Print text ∷ []) (mid base done below row flag (pen_at r (length pre) a)) (mid base done below row (flag && not false) (pen_at r (length pre + 1) a)) (mid base done below row flag (pen_at r (length pre + 1) a))
-    (print_in May base done below pre default_blank (glyph text false a) [] flag r (length pre) text false a prints (record { row = e; col = refl; fits = omega arith; front = h; sound = sound })
-    (record { first = may (length pre) (omega arith) (omega arith); second = λ t. absurd (cc); torn = λ t. absurd (cc) }))
+    in_to May (Print text ∷ []) (mid base done below row flag (pen_at r (length pre) a))
+    (mid base done below row (flag && not false) (pen_at r (length pre + 1) a))
+    (mid base done below row flag (pen_at r (length pre + 1) a))
+    (print_in May base done below pre default_blank (glyph text false a) [] flag r (length pre) text
+    false a prints (record { row = e; col = refl; fits = omega arith; front = h; sound = sound })
+    (record {
+      first = may (length pre) (omega arith) (omega arith);
+      second = λ t. absurd (cc);
+      torn = λ t. absurd (cc);
+    }))
     (ap (λ (f : Bool). mid base done below row f (pen_at r (length pre + 1) a)) (still flag))
 print_again May base done below pre text true a flag r prints e w h sound may =
     let row = pre ++ glyph text true a ∷ right_half ∷ [] in
-    in_to May (Print text ∷ []) (mid base done below row flag (pen_at r (length pre) a)) (mid base done below row (flag && not false) (pen_at r (length pre + 2) a)) (mid base done below row flag (pen_at r (length pre + 2) a))
-    (print_in May base done below pre default_blank (glyph text true a) (right_half ∷ []) flag r (length pre) text true a prints (record { row = e; col = refl; fits = omega arith; front = h; sound = sound })
-    (record { first = may (length pre) (omega arith) (omega arith); second = λ _. may (length pre + 1) (omega arith) (omega arith); torn = λ t. absurd (cc) }))
+    in_to May (Print text ∷ []) (mid base done below row flag (pen_at r (length pre) a))
+    (mid base done below row (flag && not false) (pen_at r (length pre + 2) a))
+    (mid base done below row flag (pen_at r (length pre + 2) a))
+    (print_in May base done below pre default_blank (glyph text true a) (right_half ∷ []) flag r (length pre)
+    text true a prints (record { row = e; col = refl; fits = omega arith; front = h; sound = sound })
+    (record {
+      first = may (length pre) (omega arith) (omega arith);
+      second = λ _. may (length pre + 1) (omega arith) (omega arith);
+      torn = λ t. absurd (cc);
+    }))
     (ap (λ (f : Bool). mid base done below row f (pen_at r (length pre + 2) a)) (still flag))
 
 -- the pen goes behind the last glyph, and nothing else changes
-pub record GoesBehind (May : ℕ → ℕ → Type 0) (w : Scripted) (base : Canvas) (done below : List RowValue) (cells : List CellValue) (flag : Bool) (r : ℕ) (pen : Pen) : Type 0 where
+pub record GoesBehind (May : ℕ → ℕ → Type 0) (w : Scripted) (base : Canvas) (done below : List RowValue)
+    (cells : List CellValue) (flag : Bool) (r : ℕ) (pen : Pen) : Type 0 where
   pub draws : DrawsIn May w.ops (mid base done below cells flag pen) (mid base done below cells flag w.pen)
   pub there : w.pen ≡ pen_at r base.page.width w.pen.attrs
 
@@ -125,24 +166,46 @@ same_pen pen r c t =
     let f = eqb-true pen.col c both.1 in
     ap (λ (z : ℕ). pen_at z pen.col pen.attrs) e ∙ ap (λ (z : ℕ). pen_at r z pen.attrs) f
 
-pub going_behind_draws : (May : ℕ → ℕ → Type 0) (base : Canvas) (done below : List RowValue) (xs : List CellValue) (flag : Bool) (r height : ℕ) (pen : Pen) → Reads base height base.page.width → length done ≡ r → r + suc (length below) ≡ height → length xs ≡ base.page.width →
-    Paired xs → ends xs ≡ false → PrintsCells base.page.width xs → Within pen height base.page.width → (is_at pen r (length xs) ≡ false → (k : ℕ) → last_column xs ≤ k → k < base.page.width → May r k) →
+pub going_behind_draws : (May : ℕ → ℕ → Type 0) (base : Canvas) (done below : List RowValue)
+    (xs : List CellValue) (flag : Bool) (r height : ℕ) (pen : Pen) →
+    Reads base height base.page.width → length done ≡ r → r + suc (length below) ≡ height →
+    length xs ≡ base.page.width →
+    Paired xs → ends xs ≡ false → PrintsCells base.page.width xs → Within pen height base.page.width →
+    (is_at pen r (length xs) ≡ false → (k : ℕ) → last_column xs ≤ k → k < base.page.width → May r k) →
     GoesBehind May (going_behind r pen xs) base done below xs flag r pen
 going_behind_draws May base done below xs flag r height pen reads e rows w h full prints within may =
-    let again : Scripted = record { ops = doing pen r (last_column xs) (attrs_of (last_glyph xs)) (Print (text_of (last_glyph xs))); pen = behind r xs; flag = true } in
-    cond_both (is_at pen r (length xs)) (nothing pen true) again (λ (v : Scripted). GoesBehind May v base done below xs flag r pen)
-    (λ (t : is_at pen r (length xs) ≡ true). record { draws = record { draws = refl; touches = tt }; there = same_pen pen r (length xs) t ∙ ap (λ (c : ℕ). pen_at r c pen.attrs) w })
+    let again : Scripted = record {
+      ops = doing pen r (last_column xs) (attrs_of (last_glyph xs)) (Print (text_of (last_glyph xs)));
+      pen = behind r xs;
+      flag = true;
+    } in
+    cond_both (is_at pen r (length xs)) (nothing pen true) again
+    (λ (v : Scripted). GoesBehind May v base done below xs flag r pen)
+    (λ (t : is_at pen r (length xs) ≡ true).
+    record {
+      draws = record { draws = refl; touches = tt };
+      there = same_pen pen r (length xs) t ∙ ap (λ (c : ℕ). pen_at r c pen.attrs) w;
+    })
     (λ (t : is_at pen r (length xs) ≡ false). record {
       draws = last_cases
-          (λ z k x. PrintsCells base.page.width z → length z ≡ base.page.width → Sound flag z → ((j : ℕ) → k ≤ j → j < base.page.width → May r j) →
-          DrawsIn May (doing pen r k (attrs_of x) (Print (text_of x))) (mid base done below z flag pen) (mid base done below z flag (pen_at r (length z) (attrs_of x))))
+          (λ z k x. PrintsCells base.page.width z → length z ≡ base.page.width →
+          Sound flag z → ((j : ℕ) → k ≤ j → j < base.page.width → May r j) →
+          DrawsIn May (doing pen r k (attrs_of x) (Print (text_of x))) (mid base done below z flag pen)
+          (mid base done below z flag (pen_at r (length z) (attrs_of x))))
           (λ pre text wide a front p size sound mays.
           let n = length_glyph pre text wide a in
           let one = some_columns wide in
-          doing_draws May base done below (pre ++ glyph_cells text wide a) flag r (length pre) height pen a (Print text) (mid base done below (pre ++ glyph_cells text wide a) flag (pen_at r (length (pre ++ glyph_cells text wide a)) a)) reads e rows (omega arith) within
-          (in_to May (Print text ∷ []) (mid base done below (pre ++ glyph_cells text wide a) flag (pen_at r (length pre) a)) (mid base done below (pre ++ glyph_cells text wide a) flag (pen_at r (length pre + first_columns wide) a))
-          (mid base done below (pre ++ glyph_cells text wide a) flag (pen_at r (length (pre ++ glyph_cells text wide a)) a))
-          (print_again May base done below pre text wide a flag r (prints_last base.page.width pre text wide a p) e (sym n ∙ size) front sound mays)
+          doing_draws May base done below (pre ++ glyph_cells text wide a) flag r (length pre) height pen a (Print text)
+          (mid base done below (pre ++ glyph_cells text wide a) flag
+          (pen_at r (length (pre ++ glyph_cells text wide a)) a))
+          reads e rows (omega arith) within
+          (in_to May (Print text ∷ [])
+          (mid base done below (pre ++ glyph_cells text wide a) flag (pen_at r (length pre) a))
+          (mid base done below (pre ++ glyph_cells text wide a) flag (pen_at r (length pre + first_columns wide) a))
+          (mid base done below (pre ++ glyph_cells text wide a) flag
+          (pen_at r (length (pre ++ glyph_cells text wide a)) a))
+          (print_again May base done below pre text wide a flag r
+          (prints_last base.page.width pre text wide a p) e (sym n ∙ size) front sound mays)
           (ap (λ (c : ℕ). mid base done below (pre ++ glyph_cells text wide a) flag (pen_at r c a)) (sym n))))
           xs h full prints w (λ _. full) (may t);
       there = ap (λ (c : ℕ). pen_at r c (attrs_of (last_glyph xs))) w;
@@ -159,55 +222,93 @@ abbrev pub bare : Bool → Attrs → List CellValue
 bare false a = blank a ∷ []
 bare true a = blank a ∷ default_blank ∷ []
 
-falls_off : (flag : Bool) (pre : List CellValue) (y : CellValue) (ys : List CellValue) → ends (y ∷ ys) ≡ true → kept flag (pre ++ y ∷ ys) ≡ false
+falls_off : (flag : Bool) (pre : List CellValue) (y : CellValue) (ys : List CellValue) →
+    ends (y ∷ ys) ≡ true → kept flag (pre ++ y ∷ ys) ≡ false
 falls_off flag pre y ys e = let k = ends_append pre y ys ∙ e in grind (arith, k)
 
-pub erase_touches : (May : ℕ → ℕ → Type 0) (canvas : Canvas) (c : ℕ) → c < canvas.page.width → canvas.page.column ≡ c → Changes May c 1 canvas.page → Touches May (EraseChars 1 ∷ []) canvas
+pub erase_touches : (May : ℕ → ℕ → Type 0) (canvas : Canvas) (c : ℕ) → c < canvas.page.width →
+    canvas.page.column ≡ c → Changes May c 1 canvas.page → Touches May (EraseChars 1 ∷ []) canvas
 erase_touches May canvas c lt e h =
-    let m : min 1 (canvas.page.width - canvas.page.column) ≡ 1 = omega arith in
-    (λ _. subst (λ (n : ℕ). Changes May canvas.page.column n canvas.page) (sym m) (subst (λ (k : ℕ). Changes May k 1 canvas.page) (sym e) h), λ q f. tt)
+    let m : min 1 (canvas.page.width - canvas.page.column) ≡ 1 = omega arith in (
+      λ _. subst (λ (n : ℕ). Changes May canvas.page.column n canvas.page)
+          (sym m) (subst (λ (k : ℕ). Changes May k 1 canvas.page) (sym e) h),
+      λ q f. tt,
+    )
 
-pub erase_last : (May : ℕ → ℕ → Type 0) (base : Canvas) (done below : List RowValue) (pre : List CellValue) (text : List ℕ) (wide : Bool) (b a : Attrs) (flag : Bool) (r : ℕ) → length done ≡ r → length pre + first_columns wide ≡ base.page.width → Paired pre → ((k : ℕ) → length pre ≤ k → k < base.page.width → May r k) →
-    DrawsIn May (EraseChars 1 ∷ []) (mid base done below (pre ++ glyph_cells text wide b) flag (pen_at r (length pre) a)) (mid base done below (pre ++ bare wide a) false (pen_at r (length pre) a))
+pub erase_last : (May : ℕ → ℕ → Type 0) (base : Canvas) (done below : List RowValue)
+    (pre : List CellValue) (text : List ℕ) (wide : Bool) (b a : Attrs) (flag : Bool) (r : ℕ) →
+    length done ≡ r → length pre + first_columns wide ≡ base.page.width → Paired pre →
+    ((k : ℕ) → length pre ≤ k → k < base.page.width → May r k) →
+    DrawsIn May (EraseChars 1 ∷ [])
+    (mid base done below (pre ++ glyph_cells text wide b) flag (pen_at r (length pre) a))
+    (mid base done below (pre ++ bare wide a) false (pen_at r (length pre) a))
 erase_last May base done below pre text false b a flag r e w h may =
     let start = mid base done below (pre ++ glyph text false b ∷ []) flag (pen_at r (length pre) a) in
     record {
       draws = chars_erased base done below pre (glyph text false b ∷ []) flag r (length pre) 0 a e refl (omega arith) h
-          ∙ ap (λ (f : Bool). Some (mid base done below (pre ++ blank a ∷ []) f (pen_at r (length pre) a))) (falls_off flag pre (blank a) [] refl);
+          ∙ ap (λ (f : Bool). Some (mid base done below (pre ++ blank a ∷ []) f (pen_at r (length pre) a)))
+          (falls_off flag pre (blank a) [] refl);
       touches = erase_touches May start (length pre) (omega arith) refl
-          (changes_at May base done below pre (glyph text false b ∷ []) flag r (length pre) 1 (length pre) a e refl h (λ k low high. may k low (omega arith)) (λ t. absurd (cc)));
+          (changes_at May base done below pre (glyph text false b ∷ []) flag r (length pre) 1
+          (length pre) a e refl h (λ k low high. may k low (omega arith)) (λ t. absurd (cc)));
     }
 erase_last May base done below pre text true b a flag r e w h may =
     let start = mid base done below (pre ++ glyph text true b ∷ right_half ∷ []) flag (pen_at r (length pre) a) in
     record {
-      draws = chars_erased base done below pre (glyph text true b ∷ right_half ∷ []) flag r (length pre) 0 a e refl (omega arith) h
-          ∙ ap (λ (f : Bool). Some (mid base done below (pre ++ blank a ∷ default_blank ∷ []) f (pen_at r (length pre) a))) (falls_off flag pre (blank a) (default_blank ∷ []) refl);
+      draws =
+          chars_erased base done below pre (glyph text true b ∷ right_half ∷ [])
+          flag r (length pre) 0 a e refl (omega arith) h
+          ∙ ap (λ (f : Bool). Some
+          (mid base done below (pre ++ blank a ∷ default_blank ∷ []) f (pen_at r (length pre) a)))
+          (falls_off flag pre (blank a) (default_blank ∷ []) refl);
       touches = erase_touches May start (length pre) (omega arith) refl
-          (changes_at May base done below pre (glyph text true b ∷ right_half ∷ []) flag r (length pre) 1 (length pre) a e refl h (λ k low high. may k low (omega arith)) (λ t. may (length pre + 1) (omega arith) (omega arith)));
+          (changes_at May base done below pre (glyph text true b ∷ right_half ∷ []) flag r (length pre) 1 (length pre) a
+          e refl h (λ k low high. may k low (omega arith)) (λ t. may (length pre + 1) (omega arith) (omega arith)));
     }
 
-pub print_bare : (May : ℕ → ℕ → Type 0) (base : Canvas) (done below : List RowValue) (pre : List CellValue) (text : List ℕ) (wide : Bool) (b a : Attrs) (r : ℕ) → Prints base.page.width text wide → length done ≡ r → length pre + first_columns wide ≡ base.page.width → Paired pre → ((k : ℕ) → length pre ≤ k → k < base.page.width → May r k) →
-    DrawsIn May (Print text ∷ []) (mid base done below (pre ++ bare wide b) false (pen_at r (length pre) a)) (mid base done below (pre ++ glyph_cells text wide a) false (pen_at r (length pre + first_columns wide) a))
+pub print_bare : (May : ℕ → ℕ → Type 0) (base : Canvas) (done below : List RowValue)
+    (pre : List CellValue) (text : List ℕ) (wide : Bool) (b a : Attrs) (r : ℕ) →
+    Prints base.page.width text wide → length done ≡ r → length pre + first_columns wide ≡ base.page.width →
+    Paired pre → ((k : ℕ) → length pre ≤ k → k < base.page.width → May r k) →
+    DrawsIn May (Print text ∷ []) (mid base done below (pre ++ bare wide b) false (pen_at r (length pre) a))
+    (mid base done below (pre ++ glyph_cells text wide a) false (pen_at r (length pre + first_columns wide) a))
 print_bare May base done below pre text false b a r prints e w h may =
-    print_in May base done below pre default_blank (blank b) [] false r (length pre) text false a prints (record { row = e; col = refl; fits = omega arith; front = h; sound = λ t. absurd (cc) })
-    (record { first = may (length pre) (omega arith) (omega arith); second = λ t. absurd (cc); torn = λ t. absurd (cc) })
+    print_in May base done below pre default_blank (blank b) [] false r (length pre) text false a
+    prints (record { row = e; col = refl; fits = omega arith; front = h; sound = λ t. absurd (cc) })
+    (record {
+      first = may (length pre) (omega arith) (omega arith);
+      second = λ t. absurd (cc);
+      torn = λ t. absurd (cc);
+    })
 print_bare May base done below pre text true b a r prints e w h may =
-    print_in May base done below pre default_blank (blank b) (default_blank ∷ []) false r (length pre) text true a prints (record { row = e; col = refl; fits = omega arith; front = h; sound = λ t. absurd (cc) })
-    (record { first = may (length pre) (omega arith) (omega arith); second = λ _. may (length pre + 1) (omega arith) (omega arith); torn = λ t. absurd (cc) })
+    print_in May base done below pre default_blank (blank b) (default_blank ∷ []) false r (length pre) text
+    true a prints (record { row = e; col = refl; fits = omega arith; front = h; sound = λ t. absurd (cc) })
+    (record {
+      first = may (length pre) (omega arith) (omega arith);
+      second = λ _. may (length pre + 1) (omega arith) (omega arith);
+      torn = λ t. absurd (cc);
+    })
 
 -- what is left for the next row: where the flag stands still, it is to
-pub record Broke (May : ℕ → ℕ → Type 0) (w : Scripted) (base : Canvas) (done below : List RowValue) (start : Canvas) (cells : List CellValue) (wanted : Bool) (height : ℕ) : Type 0 where
+pub record Broke (May : ℕ → ℕ → Type 0) (w : Scripted) (base : Canvas) (done below : List RowValue)
+    (start : Canvas) (cells : List CellValue) (wanted : Bool) (height : ℕ) : Type 0 where
   pub draws : DrawsIn May w.ops start (mid base done below cells w.flag w.pen)
   pub within : Within w.pen height base.page.width
   pub keeps : w.flag ≡ true → wanted ≡ true
 
-breaking_draws : (May : ℕ → ℕ → Type 0) (base : Canvas) (done below : List RowValue) (xs : List CellValue) (flag wanted : Bool) (r height : ℕ) (pen : Pen) → Reads base height base.page.width → length done ≡ r → r + suc (length below) ≡ height → length xs ≡ base.page.width →
-    Paired xs → ends xs ≡ false → PrintsCells base.page.width xs → Within pen height base.page.width → ((k : ℕ) → last_column xs ≤ k → k < base.page.width → May r k) →
+breaking_draws : (May : ℕ → ℕ → Type 0) (base : Canvas) (done below : List RowValue)
+    (xs : List CellValue) (flag wanted : Bool) (r height : ℕ) (pen : Pen) →
+    Reads base height base.page.width → length done ≡ r → r + suc (length below) ≡ height →
+    length xs ≡ base.page.width →
+    Paired xs → ends xs ≡ false → PrintsCells base.page.width xs → Within pen height base.page.width →
+    ((k : ℕ) → last_column xs ≤ k → k < base.page.width → May r k) →
     Broke May (breaking r pen xs) base done below (mid base done below xs flag pen) xs wanted height
 breaking_draws May base done below xs flag wanted r height pen reads e rows w h full prints within may = record {
   draws = last_cases
-      (λ z k x. PrintsCells base.page.width z → length z ≡ base.page.width → ((j : ℕ) → k ≤ j → j < base.page.width → May r j) →
-      DrawsIn May (going pen r k ++ (EraseChars 1 ∷ (changing pen.attrs (attrs_of x) ++ Print (text_of x) ∷ []))) (mid base done below z flag pen) (mid base done below z false (pen_at r (length z) (attrs_of x))))
+      (λ z k x. PrintsCells base.page.width z → length z ≡ base.page.width →
+      ((j : ℕ) → k ≤ j → j < base.page.width → May r j) →
+      DrawsIn May (going pen r k ++ (EraseChars 1 ∷ (changing pen.attrs (attrs_of x) ++ Print (text_of x) ∷ [])))
+      (mid base done below z flag pen) (mid base done below z false (pen_at r (length z) (attrs_of x))))
       (λ pre text wide a front p size mays.
       let n = length_glyph pre text wide a in
       let one = some_columns wide in
@@ -215,15 +316,21 @@ breaking_draws May base done below xs flag wanted r height pen reads e rows w h 
       let gone = pre ++ bare wide pen.attrs in
       let c = length pre in
       let goal = mid base done below row false (pen_at r (length row) a) in
-      in_then May (going pen r c) (EraseChars 1 ∷ (changing pen.attrs a ++ Print text ∷ [])) (mid base done below row flag pen) (mid base done below row flag (pen_at r c pen.attrs)) goal
+      in_then May (going pen r c) (EraseChars 1 ∷ (changing pen.attrs a ++ Print text ∷ []))
+      (mid base done below row flag pen) (mid base done below row flag (pen_at r c pen.attrs)) goal
       (going_there May base done below row flag r c height pen reads e rows (omega arith) within)
-      (in_then May (EraseChars 1 ∷ []) (changing pen.attrs a ++ Print text ∷ []) (mid base done below row flag (pen_at r c pen.attrs)) (mid base done below gone false (pen_at r c pen.attrs)) goal
+      (in_then May (EraseChars 1 ∷ []) (changing pen.attrs a ++ Print text ∷ [])
+      (mid base done below row flag (pen_at r c pen.attrs)) (mid base done below gone false (pen_at r c pen.attrs)) goal
       (erase_last May base done below pre text wide a pen.attrs flag r e (sym n ∙ size) front mays)
-      (in_then May (changing pen.attrs a) (Print text ∷ []) (mid base done below gone false (pen_at r c pen.attrs)) (mid base done below gone false (pen_at r c a)) goal
-      (quiet_in May (changing pen.attrs a) (mid base done below gone false (pen_at r c pen.attrs)) (mid base done below gone false (pen_at r c a)) (changing_quiet pen.attrs a)
+      (in_then May (changing pen.attrs a) (Print text ∷ [])
+      (mid base done below gone false (pen_at r c pen.attrs)) (mid base done below gone false (pen_at r c a)) goal
+      (quiet_in May (changing pen.attrs a) (mid base done below gone false (pen_at r c pen.attrs))
+      (mid base done below gone false (pen_at r c a)) (changing_quiet pen.attrs a)
       (changing_draws base (done ++ row_of gone false ∷ below) (pen_at r c pen.attrs) a))
-      (in_to May (Print text ∷ []) (mid base done below gone false (pen_at r c a)) (mid base done below row false (pen_at r (c + first_columns wide) a)) goal
-      (print_bare May base done below pre text wide pen.attrs a r (prints_last base.page.width pre text wide a p) e (sym n ∙ size) front mays)
+      (in_to May (Print text ∷ []) (mid base done below gone false (pen_at r c a))
+      (mid base done below row false (pen_at r (c + first_columns wide) a)) goal
+      (print_bare May base done below pre text wide pen.attrs a r
+      (prints_last base.page.width pre text wide a p) e (sym n ∙ size) front mays)
       (ap (λ (k : ℕ). mid base done below row false (pen_at r k a)) (sym n))))))
       xs h full prints w may;
   within = record { row = omega arith; col = omega arith };
@@ -241,14 +348,21 @@ and_true false b h = h
 wants : (flag wanted : Bool) → (flag && not wanted) ≡ false → flag ≡ true → wanted ≡ true
 wants flag wanted h t = grind (arith, h, t)
 
-pub broken_draws : (May : ℕ → ℕ → Type 0) (base : Canvas) (done below : List RowValue) (xs : List CellValue) (flag wanted : Bool) (r height : ℕ) (pen : Pen) → Reads base height base.page.width → length done ≡ r → r + suc (length below) ≡ height → length xs ≡ base.page.width →
-    Paired xs → Sound flag xs → PrintsCells base.page.width xs → Within pen height base.page.width → ((k : ℕ) → last_column xs ≤ k → k < base.page.width → May r k) →
+pub broken_draws : (May : ℕ → ℕ → Type 0) (base : Canvas) (done below : List RowValue)
+    (xs : List CellValue) (flag wanted : Bool) (r height : ℕ) (pen : Pen) →
+    Reads base height base.page.width → length done ≡ r → r + suc (length below) ≡ height →
+    length xs ≡ base.page.width →
+    Paired xs → Sound flag xs → PrintsCells base.page.width xs → Within pen height base.page.width →
+    ((k : ℕ) → last_column xs ≤ k → k < base.page.width → May r k) →
     Broke May (broken r pen flag wanted xs) base done below (mid base done below xs flag pen) xs wanted height
 unfolding broken
 broken_draws May base done below xs flag wanted r height pen reads e rows w h sound prints within may =
-    cond_both (flag && not wanted) (breaking r pen xs) (nothing pen flag) (λ (v : Scripted). Broke May v base done below (mid base done below xs flag pen) xs wanted height)
-    (λ (t : (flag && not wanted) ≡ true). breaking_draws May base done below xs flag wanted r height pen reads e rows w h (sound (and_true flag (not wanted) t)) prints within may)
-    (λ (t : (flag && not wanted) ≡ false). record { draws = record { draws = refl; touches = tt }; within = within; keeps = wants flag wanted t })
+    cond_both (flag && not wanted) (breaking r pen xs) (nothing pen flag)
+    (λ (v : Scripted). Broke May v base done below (mid base done below xs flag pen) xs wanted height)
+    (λ (t : (flag && not wanted) ≡ true). breaking_draws May base done below xs flag wanted
+    r height pen reads e rows w h (sound (and_true flag (not wanted) t)) prints within may)
+    (λ (t : (flag && not wanted) ≡ false).
+    record { draws = record { draws = refl; touches = tt }; within = within; keeps = wants flag wanted t })
 
 -- ---- a whole row
 
@@ -272,20 +386,30 @@ pub record RowMay (May : ℕ → ℕ → Type 0) (width r : ℕ) (x y : RowValue
   pub last : (k : ℕ) → last_column x.cells ≤ k → k < width → May r k
 
 -- its cells, and the break
-differing_draws : (May : ℕ → ℕ → Type 0) (base : Canvas) (done below : List RowValue) (x y : RowValue) (o : CellValue) (r k height : ℕ) (pen : Pen) (flag : Bool) → Reads base height base.page.width → length done ≡ r → r + suc (length below) ≡ height →
-    length x.cells ≡ base.page.width → Paired x.cells → length y.cells ≡ base.page.width → Ready x.cells y.cells [] o k flag → PrintsCells base.page.width x.cells → Within pen height base.page.width → RowMay May base.page.width r x y →
-    Broke May (row_written r k pen flag x y.cells) base done below (mid base done below (shown [] o k x.cells y.cells) flag pen) x.cells x.wrapped height
+differing_draws : (May : ℕ → ℕ → Type 0) (base : Canvas) (done below : List RowValue)
+    (x y : RowValue) (o : CellValue) (r k height : ℕ) (pen : Pen) (flag : Bool) →
+    Reads base height base.page.width → length done ≡ r → r + suc (length below) ≡ height →
+    length x.cells ≡ base.page.width → Paired x.cells → length y.cells ≡ base.page.width →
+    Ready x.cells y.cells [] o k flag → PrintsCells base.page.width x.cells →
+    Within pen height base.page.width → RowMay May base.page.width r x y →
+    Broke May (row_written r k pen flag x y.cells) base done below
+    (mid base done below (shown [] o k x.cells y.cells) flag pen) x.cells x.wrapped height
 unfolding row_written
 differing_draws May base done below x y o r k height pen flag reads e rows w h v ready prints within may =
     let cells = cells_written r 0 pen flag k x.cells y.cells in
     let start = mid base done below (shown [] o k x.cells y.cells) flag pen in
-    let place : Place base done below [] r 0 height (length y.cells) = record { reads = reads; above = e; rows = rows; before = refl; columns = omega arith } in
-    let one = subst (λ (z : List CellValue). Wrote May cells base done below start z height) (drop_whole x.cells y.cells (w ∙ sym v))
+    let place : Place base done below [] r 0 height (length y.cells) =
+    record { reads = reads; above = e; rows = rows; before = refl; columns = omega arith } in
+    let one = subst (λ (z : List CellValue). Wrote May cells base done below start z height)
+    (drop_whole x.cells y.cells (w ∙ sym v))
     (cells_draw May base done below x.cells y.cells [] o r 0 k pen flag height place ready prints within may.lets) in
-    let two = broken_draws May base done below x.cells cells.flag x.wrapped r height cells.pen reads e rows w h one.sound prints one.within may.last in
+    let two = broken_draws May base done below x.cells cells.flag x.wrapped r
+    height cells.pen reads e rows w h one.sound prints one.within may.last in
     let last = broken r cells.pen cells.flag x.wrapped x.cells in
     record {
-      draws = in_then May cells.ops last.ops start (mid base done below x.cells cells.flag cells.pen) (mid base done below x.cells last.flag last.pen) one.draws two.draws;
+      draws =
+          in_then May cells.ops last.ops start (mid base done below x.cells cells.flag cells.pen)
+          (mid base done below x.cells last.flag last.pen) one.draws two.draws;
       within = two.within;
       keeps = two.keeps;
     }
@@ -294,25 +418,48 @@ same_row : (xs : List CellValue) (o : CellValue) (k : ℕ) → Paired (drop k xs
 same_row xs o k h = ap (λ (z : List CellValue). take k xs ++ z) (opened_paired o (drop k xs) h) ∙ take-append-drop k xs
 
 -- a row that the reader shows already
-standing_draws : (May : ℕ → ℕ → Type 0) (base : Canvas) (done below : List RowValue) (x : RowValue) (o : CellValue) (r k height : ℕ) (pen : Pen) → Ready x.cells x.cells [] o k x.wrapped → Within pen height base.page.width →
-    Broke May (row_written r k pen x.wrapped x x.cells) base done below (mid base done below (shown [] o k x.cells x.cells) x.wrapped pen) x.cells x.wrapped height
+standing_draws : (May : ℕ → ℕ → Type 0) (base : Canvas) (done below : List RowValue)
+    (x : RowValue) (o : CellValue) (r k height : ℕ) (pen : Pen) →
+    Ready x.cells x.cells [] o k x.wrapped → Within pen height base.page.width →
+    Broke May (row_written r k pen x.wrapped x x.cells) base done below
+    (mid base done below (shown [] o k x.cells x.cells) x.wrapped pen) x.cells x.wrapped height
 standing_draws May base done below x o r k height pen ready within =
     let start = mid base done below (shown [] o k x.cells x.cells) x.wrapped pen in
     subst (λ (v : Scripted). Broke May v base done below start x.cells x.wrapped height) (sym (row_nothing r k pen x))
-    (record { draws = record { draws = ap (λ (z : List CellValue). Some (mid base done below z x.wrapped pen)) (same_row x.cells o k ready.new); touches = tt }; within = within; keeps = λ t. t })
+    (record {
+      draws = record {
+        draws =
+            ap (λ (z : List CellValue). Some (mid base done below z x.wrapped pen)) (same_row x.cells o k ready.new);
+        touches = tt;
+      };
+      within = within;
+      keeps = λ t. t;
+    })
 
 -- where the reader shows another row, the flag is what it was for a row that stood
-pub row_draws : (May : ℕ → ℕ → Type 0) (base : Canvas) (done below : List RowValue) (x y : RowValue) (o : CellValue) (r k height : ℕ) (pen : Pen) (flag : Bool) → Reads base height base.page.width → length done ≡ r → r + suc (length below) ≡ height →
-    length x.cells ≡ base.page.width → Paired x.cells → length y.cells ≡ base.page.width → Ready x.cells y.cells [] o k flag → PrintsCells base.page.width x.cells → Within pen height base.page.width →
+pub row_draws : (May : ℕ → ℕ → Type 0) (base : Canvas) (done below : List RowValue)
+    (x y : RowValue) (o : CellValue) (r k height : ℕ) (pen : Pen) (flag : Bool) →
+    Reads base height base.page.width → length done ≡ r → r + suc (length below) ≡ height →
+    length x.cells ≡ base.page.width → Paired x.cells → length y.cells ≡ base.page.width →
+    Ready x.cells y.cells [] o k flag → PrintsCells base.page.width x.cells → Within pen height base.page.width →
     (x ≡ y → flag ≡ y.wrapped) → (x ≢ y → RowMay May base.page.width r x y) →
-    Broke May (row_written r k pen flag x y.cells) base done below (mid base done below (shown [] o k x.cells y.cells) flag pen) x.cells x.wrapped height
-row_draws May base done below x y o r k height pen flag reads e rows w h v ready prints within same may = by_rows (row_equal x y)
+    Broke May (row_written r k pen flag x y.cells) base done below
+    (mid base done below (shown [] o k x.cells y.cells) flag pen) x.cells x.wrapped height
+row_draws May base done below x y o r k height pen flag reads e rows w h v ready prints within same may =
+    by_rows (row_equal x y)
   where
     Goal : RowValue → Bool → Type 0
-    Goal z f = Ready x.cells z.cells [] o k f → Broke May (row_written r k pen f x z.cells) base done below (mid base done below (shown [] o k x.cells z.cells) f pen) x.cells x.wrapped height
+    Goal z f =
+        Ready x.cells z.cells [] o k f →
+        Broke May (row_written r k pen f x z.cells) base done below
+        (mid base done below (shown [] o k x.cells z.cells) f pen) x.cells x.wrapped height
 
-    by_rows : (x ≡ y) ⊎ (x ≢ y) → Broke May (row_written r k pen flag x y.cells) base done below (mid base done below (shown [] o k x.cells y.cells) flag pen) x.cells x.wrapped height
+    by_rows : (x ≡ y) ⊎ (x ≢ y) →
+        Broke May (row_written r k pen flag x y.cells) base done below
+        (mid base done below (shown [] o k x.cells y.cells) flag pen) x.cells x.wrapped height
     by_rows (inl t) =
         let f : x.wrapped ≡ flag = ap (λ (z : RowValue). z.wrapped) t ∙ sym (same t) in
-        subst (λ (z : RowValue). Goal z flag) t (subst (λ (b : Bool). Goal x b) f (λ q. standing_draws May base done below x o r k height pen q within)) ready
-    by_rows (inr ne) = differing_draws May base done below x y o r k height pen flag reads e rows w h v ready prints within (may ne)
+        subst (λ (z : RowValue). Goal z flag) t
+        (subst (λ (b : Bool). Goal x b) f (λ q. standing_draws May base done below x o r k height pen q within)) ready
+    by_rows (inr ne) =
+        differing_draws May base done below x y o r k height pen flag reads e rows w h v ready prints within (may ne)

@@ -1,5 +1,6 @@
 -- The difference of a picture with itself is empty, and only that one is.
-use Rattle.std.proofs.Common.{◌≡◌, ℕ, ◌+◌, ◌-◌, ◌&&◌, ◌||◌, Bool, true, false, not, List, [], ◌∷◌, length, Option, Some, None, refl, sym, ap, ◌∙◌, arith}
+use Rattle.std.proofs.Common.{◌≡◌, ℕ, ◌+◌, ◌-◌, ◌&&◌, ◌||◌, Bool, true, false, not, List, []}
+use Rattle.std.proofs.Common.{◌∷◌, length, Option, Some, None, refl, sym, ap, ◌∙◌, arith}
 use Rattle.std.proofs.lemmas.Bool.{cond_both}
 use Rattle.std.proofs.lemmas.Bool.Decides.{nat_tests}
 use Rattle.vt_cells.specs.Attrs.{default_attrs}
@@ -23,21 +24,26 @@ use Rattle.vt_redraw.proofs.Difference.{difference_draws}
 neither : (b c : Bool) → c ≡ false → (not true || (b && c)) ≡ false
 neither b c h = grind (arith, h)
 
-link_nothing : (r : ℕ) (pen : Pen) (above : List CellValue) (flag : Bool) (xs : List CellValue) → linked r pen above true flag xs xs ≡ unlinked pen flag
+link_nothing : (r : ℕ) (pen : Pen) (above : List CellValue) (flag : Bool) (xs : List CellValue) →
+    linked r pen above true flag xs xs ≡ unlinked pen flag
 unfolding linked
 link_nothing r pen above flag xs = rw (neither (is_at pen r (length above)) (starts_other xs xs) (starts_none xs)) refl
 
 join_nothing : (r : ℕ) (pen : Pen) (above x : RowValue) → link_of r pen above above.wrapped x x ≡ unlinked pen x.wrapped
 join_nothing r pen above x =
-    cond_both above.wrapped (linked r pen above.cells above.wrapped x.wrapped x.cells x.cells) (unlinked pen x.wrapped) (λ (j : Linked). j ≡ unlinked pen x.wrapped)
+    cond_both above.wrapped (linked r pen above.cells above.wrapped x.wrapped x.cells x.cells)
+    (unlinked pen x.wrapped) (λ (j : Linked). j ≡ unlinked pen x.wrapped)
     (λ (t : above.wrapped ≡ true). rw t (link_nothing r pen above.cells x.wrapped x.cells)) (λ _. refl)
 
-below_nothing : (r : ℕ) (pen : Pen) (above : RowValue) (xs : List RowValue) → ((rows_below r pen above above.wrapped xs xs).ops ≡ []) × ((rows_below r pen above above.wrapped xs xs).pen ≡ pen)
+below_nothing : (r : ℕ) (pen : Pen) (above : RowValue) (xs : List RowValue) →
+    ((rows_below r pen above above.wrapped xs xs).ops ≡ []) × ((rows_below r pen above above.wrapped xs xs).pen ≡ pen)
 unfolding rows_below
 below_nothing r pen above [] = (refl, refl)
-below_nothing r pen above (x ∷ xs) = rw (join_nothing r pen above x, row_nothing (r + 1) 0 pen x) (below_nothing (r + 1) pen x xs)
+below_nothing r pen above (x ∷ xs) =
+    rw (join_nothing r pen above x, row_nothing (r + 1) 0 pen x) (below_nothing (r + 1) pen x xs)
 
-rows_nothing : (pen : Pen) (xs : List RowValue) → ((rows_written pen xs xs).ops ≡ []) × ((rows_written pen xs xs).pen ≡ pen)
+rows_nothing : (pen : Pen) (xs : List RowValue) →
+    ((rows_written pen xs xs).ops ≡ []) × ((rows_written pen xs xs).pen ≡ pen)
 unfolding rows_written
 rows_nothing pen [] = (refl, refl)
 rows_nothing pen (x ∷ xs) = rw (row_nothing 0 0 pen x) (below_nothing 0 pen x xs)
@@ -80,16 +86,19 @@ picture_or other (Some canvas) = picture_of canvas
 picture_or other None = other
 
 -- the same but for a width that is the same too
-pub same_picture : (self other : Picture) (width : ℕ) → self.width ≡ width → record self { width = width } ≡ other → self ≡ other
+pub same_picture : (self other : Picture) (width : ℕ) → self.width ≡ width →
+    record self { width = width } ≡ other → self ≡ other
 same_picture self other width e h = ap (λ (w : ℕ). record self { width = w }) e ∙ h
 
 -- two lists of operations that draw two pictures on one canvas are the same only if the pictures are
-pub draws_tell : (ops : List Op) (canvas one two : Canvas) → drawn_all ops canvas ≡ Some one → drawn_all ops canvas ≡ Some two → picture_of one ≡ picture_of two
+pub draws_tell : (ops : List Op) (canvas one two : Canvas) → drawn_all ops canvas ≡ Some one →
+    drawn_all ops canvas ≡ Some two → picture_of one ≡ picture_of two
 unfolding picture_or
 draws_tell ops canvas one two h k = ap (picture_or (picture_of one)) (sym h ∙ k)
 
 -- where nothing is to be drawn, both pictures are the same
-pub empty_only : (self prev : Picture) → IsPicture self → IsSteady self → IsPicture prev → SamePictureSize self prev → difference self prev ≡ [] → self ≡ prev
+pub empty_only : (self prev : Picture) → IsPicture self → IsSteady self →
+    IsPicture prev → SamePictureSize self prev → difference self prev ≡ [] → self ≡ prev
 empty_only self prev is steady other size e =
     let any = showing prev in
     let d = difference_draws self prev any is steady other size (showing_plain prev other) refl in

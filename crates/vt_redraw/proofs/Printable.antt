@@ -29,5 +29,6 @@ pub printable_text : (text : List ℕ) (wide : Bool) → IsGlyphText text wide �
 printable_text text wide g = record {
   characters = g.first ∷ g.marks;
   spelled = sym (IsGlyphText-spelled text wide g);
-  printable = (record { scalar = g.scalar; shown = g.shown; reported = g.reported }, printable_marks g.marks g.are_marks);
+  printable =
+      (record { scalar = g.scalar; shown = g.shown; reported = g.reported }, printable_marks g.marks g.are_marks);
 }

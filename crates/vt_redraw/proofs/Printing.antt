@@ -1,5 +1,6 @@
 -- A steady text prints its glyph wherever there is room for it, and at a pending wrap.
-use Rattle.std.proofs.Common.{◌≡◌, ℕ, suc, ◌+◌, ◌-◌, ◌≤◌, ◌==◌, ◌&&◌, nat_lt, Bool, true, false, not, List, [], ◌∷◌, ◌++◌, length, drop, Option, Some, refl, sym, ap, ◌∙◌, subst, arith}
+use Rattle.std.proofs.Common.{◌≡◌, ℕ, suc, ◌+◌, ◌-◌, ◌≤◌, ◌==◌, ◌&&◌, nat_lt, Bool, true, false, not, List, []}
+use Rattle.std.proofs.Common.{◌∷◌, ◌++◌, length, drop, Option, Some, refl, sym, ap, ◌∙◌, subst, arith}
 use Rattle.std.specs.Prelude.{if◌then◌else◌, chars}
 use Rattle.std.specs.Char.{encode_utf8}
 use Rattle.std.proofs.lemmas.Bool.{lt-ltb, ne_eqb}
@@ -18,8 +19,10 @@ use Rattle.vt_redraw.specs.Script.{is_torn, flag_behind}
 use Rattle.vt_redraw.proofs.Halves.{drop_opened, put_at}
 use Rattle.vt_redraw.proofs.Flags.{ends, kept}
 use Rattle.vt_redraw.proofs.Edits.{mid, two, glyph_cells, orphan, edited_at, room_there, room_is, not_bottom, wraps}
-use Rattle.vt_redraw.proofs.Spots.{Spot, spot, put, rest_behind, with_glyph, glyph_flag, first_drawn, char_drawn, char_drawn-mark}
-use Rattle.vt_redraw.proofs.Texts.{next, Grows, Prints, glyph_at, mark_column_is, marked_cell, stays, followed, mark_printed_is}
+use Rattle.vt_redraw.proofs.Spots.{Spot, spot, put, rest_behind, with_glyph, glyph_flag}
+use Rattle.vt_redraw.proofs.Spots.{first_drawn, char_drawn, char_drawn-mark}
+use Rattle.vt_redraw.proofs.Texts.{next, Grows, Prints, glyph_at, mark_column_is}
+use Rattle.vt_redraw.proofs.Texts.{marked_cell, stays, followed, mark_printed_is}
 
 -- ---- one mark more
 
@@ -30,8 +33,11 @@ pub no_tear : (f t : Bool) → (f && not (false && t)) ≡ f
 no_tear f t = grind (arith)
 
 -- narrow, and made wide in place
-grown_wide : (base : Canvas) (done below : List RowValue) (pre : List CellValue) (o y : CellValue) (ys : List CellValue) (flag : Bool) (r c : ℕ) (text : List ℕ) (attrs : Attrs) → Spot base done pre o y ys flag r c true →
-    made_wide c attrs (put base done below pre ys flag r c text false attrs).page ≡ (put base done below pre ys flag r c text true attrs).page
+grown_wide : (base : Canvas) (done below : List RowValue) (pre : List CellValue) (o y : CellValue)
+    (ys : List CellValue) (flag : Bool) (r c : ℕ) (text : List ℕ) (attrs : Attrs) →
+    Spot base done pre o y ys flag r c true →
+    made_wide c attrs (put base done below pre ys flag r c text false attrs).page
+    ≡ (put base done below pre ys flag r c text true attrs).page
 unfolding made_wide
 grown_wide base done below pre o y ys flag r c text attrs at_spot =
     let fits = at_spot.fits in
@@ -41,17 +47,24 @@ grown_wide base done below pre o y ys flag r c text attrs at_spot =
     let flagged = flag_behind flag false (drop 1 ys) in
     let col : c + 1 + 1 ≡ c + 2 = omega arith in
     let wider : widened_at c attrs row ≡ new =
-    ap (λ (x : CellValue). put_cells c (blank attrs) (widened true x ∷ right_half ∷ []) 2 row) (glyph_at pre text false attrs (opened (orphan false attrs) ys) c at_spot.col)
-    ∙ (put_at pre (glyph text false attrs ∷ opened (orphan false attrs) ys) (glyph text true attrs ∷ right_half ∷ []) (blank attrs) c 2 at_spot.col at_spot.front
-    ∙ ap (λ (rest : List CellValue). pre ++ (glyph_cells text true attrs ++ opened (blank attrs) rest)) (drop_opened 0 (orphan false attrs) ys)) in
+    ap (λ (x : CellValue). put_cells c (blank attrs) (widened true x ∷ right_half ∷ []) 2 row)
+    (glyph_at pre text false attrs (opened (orphan false attrs) ys) c at_spot.col)
+    ∙ (put_at pre (glyph text false attrs ∷ opened (orphan false attrs) ys)
+    (glyph text true attrs ∷ right_half ∷ []) (blank attrs) c 2 at_spot.col at_spot.front
+    ∙ ap (λ (rest : List CellValue). pre ++ (glyph_cells text true attrs ++ opened (blank attrs) rest))
+    (drop_opened 0 (orphan false attrs) ys)) in
     let flags : kept flagged new ≡ flag_behind flag true (drop 1 ys) =
-    ap (λ (f : Bool). kept f new) (no_tear flag (is_torn (drop 1 ys))) ∙ glyph_flag pre o y ys flag text true attrs at_spot.sound in
-    ap (λ (q : Page). record q { column = c + 1 + 1 }) (edited_at base done below row flagged (pen_at r (c + 1) attrs) (widened_at c attrs) new at_spot.row wider)
+    ap (λ (f : Bool). kept f new) (no_tear flag (is_torn (drop 1 ys)))
+    ∙ glyph_flag pre o y ys flag text true attrs at_spot.sound in
+    ap (λ (q : Page). record q { column = c + 1 + 1 })
+    (edited_at base done below row flagged (pen_at r (c + 1) attrs) (widened_at c attrs) new at_spot.row wider)
     ∙ (ap (λ (f : Bool). (mid base done below new f (pen_at r (c + 1 + 1) attrs)).page) flags
     ∙ ap (λ (k : ℕ). (mid base done below new (flag_behind flag true (drop 1 ys)) (pen_at r k attrs)).page) col)
 
 -- the width that a glyph of this width takes, where it isn't made narrow
-settled : (page : Bool → Page) (c : ℕ) (attrs : Attrs) (s q wide : Bool) → (wide ≡ true → (if s then q else wide) ≡ true) → ((if s then q else wide) ≡ true → made_wide c attrs (page false) ≡ page true) →
+settled : (page : Bool → Page) (c : ℕ) (attrs : Attrs) (s q wide : Bool) →
+    (wide ≡ true → (if s then q else wide) ≡ true) →
+    ((if s then q else wide) ≡ true → made_wide c attrs (page false) ≡ page true) →
     (if s then followed wide q c attrs (page wide) else page wide) ≡ page (if s then q else wide)
 settled page c attrs false q wide h made = refl
 settled page c attrs true true true h made = refl
@@ -59,10 +72,15 @@ settled page c attrs true false true h made = let k = h refl in absurd (cc)
 settled page c attrs true false false h made = refl
 settled page c attrs true true false h made = made refl
 
-pub wider_spot : (base : Canvas) (done : List RowValue) (pre : List CellValue) (o y : CellValue) (ys : List CellValue) (flag : Bool) (r c : ℕ) (w v : Bool) → first_columns w ≤ first_columns v → Spot base done pre o y ys flag r c v → Spot base done pre o y ys flag r c w
-wider_spot base done pre o y ys flag r c w v le at_spot = let fits = at_spot.fits in record { row = at_spot.row; col = at_spot.col; fits = omega arith; front = at_spot.front; sound = at_spot.sound }
+pub wider_spot : (base : Canvas) (done : List RowValue) (pre : List CellValue)
+    (o y : CellValue) (ys : List CellValue) (flag : Bool) (r c : ℕ) (w v : Bool) →
+    first_columns w ≤ first_columns v → Spot base done pre o y ys flag r c v → Spot base done pre o y ys flag r c w
+wider_spot base done pre o y ys flag r c w v le at_spot = let fits = at_spot.fits in
+    record { row = at_spot.row; col = at_spot.col; fits = omega arith; front = at_spot.front; sound = at_spot.sound }
 
-at_true : (n : Bool) (base : Canvas) (done : List RowValue) (pre : List CellValue) (o y : CellValue) (ys : List CellValue) (flag : Bool) (r c : ℕ) → n ≡ true → Spot base done pre o y ys flag r c n → Spot base done pre o y ys flag r c true
+at_true : (n : Bool) (base : Canvas) (done : List RowValue) (pre : List CellValue)
+    (o y : CellValue) (ys : List CellValue) (flag : Bool) (r c : ℕ) →
+    n ≡ true → Spot base done pre o y ys flag r c n → Spot base done pre o y ys flag r c true
 at_true n base done pre o y ys flag r c e at_spot = subst (Spot base done pre o y ys flag r c) e at_spot
 
 widths_grow : (w v : Bool) → (w ≡ true → v ≡ true) → first_columns w ≤ first_columns v
@@ -76,11 +94,16 @@ some_column true c = ne_eqb (c + 2) 0 (λ same. omega arith)
 some_column false c = ne_eqb (c + 1) 0 (λ same. omega arith)
 
 -- a mark behind a glyph of this width, where it isn't carried to the next row
-pub mark_follows : (base : Canvas) (done below : List RowValue) (pre : List CellValue) (o y : CellValue) (ys : List CellValue) (flag : Bool) (r c : ℕ) (text : List ℕ) (wide : Bool) (attrs : Attrs) (m : ℕ) →
-    IsMark m → has_room text ≡ true → Spot base done pre o y ys flag r c wide → (wide ≡ false → next base.page.width wide text m ≡ true → c + 2 ≤ base.page.width) →
+pub mark_follows : (base : Canvas) (done below : List RowValue) (pre : List CellValue) (o y : CellValue)
+    (ys : List CellValue) (flag : Bool) (r c : ℕ) (text : List ℕ) (wide : Bool) (attrs : Attrs) (m : ℕ) →
+    IsMark m → has_room text ≡ true → Spot base done pre o y ys flag r c wide →
+    (wide ≡ false → next base.page.width wide text m ≡ true → c + 2 ≤ base.page.width) →
     drawn_char m (put base done below pre ys flag r c text wide attrs)
     ≡ Some (record (put base done below pre ys flag r c text wide attrs) {
-      page = if is_selector m then followed wide (is_wide_text (text ++ encode_utf8 m) && nat_lt 1 base.page.width) c attrs (put base done below pre ys flag r c (text ++ encode_utf8 m) wide attrs).page
+      page =
+          if is_selector m
+          then followed wide (is_wide_text (text ++ encode_utf8 m) && nat_lt 1 base.page.width)
+          c attrs (put base done below pre ys flag r c (text ++ encode_utf8 m) wide attrs).page
           else (put base done below pre ys flag r c (text ++ encode_utf8 m) wide attrs).page;
     })
 mark_follows base done below pre o y ys flag r c text wide attrs m is_mark room at_spot place =
@@ -92,87 +115,117 @@ mark_follows base done below pre o y ys flag r c text wide attrs m is_mark room 
     let flagged = flag_behind flag wide (drop 1 ys) in
     let some = some_column wide c in
     let never : carries m canvas.page ≡ false =
-    stays m canvas.page c text wide attrs (mark_column_is base done below pre text wide attrs rest flagged r c at_spot.row at_spot.col)
+    stays m canvas.page c text wide attrs
+    (mark_column_is base done below pre text wide attrs rest flagged r c at_spot.row at_spot.col)
     (marked_cell base done below pre text wide attrs rest flagged r c at_spot.row at_spot.col) room
-    (λ narrow t. ne_eqb (c + first_columns wide) base.page.width (λ same. let k : first_columns wide ≡ 1 = ap first_columns narrow in let l = place narrow t in absurd (omega arith))) in
+    (λ narrow t. ne_eqb (c + first_columns wide) base.page.width
+    (λ same. let k : first_columns wide ≡ 1 =
+    ap first_columns narrow in let l = place narrow t in absurd (omega arith))) in
     let again : flagged ≡ kept flagged (with_glyph pre longer wide attrs ys) =
     let one = glyph_flag pre o y ys flag longer wide attrs at_spot.sound in
-    sym (ap (λ (f : Bool). kept f (with_glyph pre longer wide attrs ys)) (sym one) ∙ (flag_again flag (ends (with_glyph pre longer wide attrs ys)) ∙ one)) in
-    char_drawn-mark m canvas (if is_selector m then followed wide (is_wide_text longer && nat_lt 1 base.page.width) c attrs made else made) is_mark.1
+    sym (ap (λ (f : Bool). kept f (with_glyph pre longer wide attrs ys)) (sym one)
+    ∙ (flag_again flag (ends (with_glyph pre longer wide attrs ys)) ∙ one)) in
+    char_drawn-mark m canvas
+    (if is_selector m then followed wide (is_wide_text longer && nat_lt 1 base.page.width) c attrs made else made)
+    is_mark.1
     (rw (some, never) refl)
     (rw some (
     mark_printed_is base done below pre text wide attrs rest flagged r c m at_spot.row at_spot.col room never made
-    (ap (λ (f : Bool). (mid base done below (with_glyph pre longer wide attrs ys) f (pen_at r (c + first_columns wide) attrs)).page) again)))
+    (ap (λ (f : Bool).
+    (mid base done below (with_glyph pre longer wide attrs ys) f (pen_at r (c + first_columns wide) attrs)).page)
+    again)))
 
 room_for : (n : Bool) (c width : ℕ) → c + first_columns n ≤ width → n ≡ true → c + 2 ≤ width
 room_for true c width h e = h
 room_for false c width h e = absurd (cc)
 
 -- the glyph grows
-pub mark_drawn : (base : Canvas) (done below : List RowValue) (pre : List CellValue) (o y : CellValue) (ys : List CellValue) (flag : Bool) (r c : ℕ) (text : List ℕ) (wide : Bool) (attrs : Attrs) (m : ℕ) →
-    IsMark m → has_room text ≡ true → (wide ≡ true → next base.page.width wide text m ≡ true) → Spot base done pre o y ys flag r c (next base.page.width wide text m) →
-    drawn_char m (put base done below pre ys flag r c text wide attrs) ≡ Some (put base done below pre ys flag r c (text ++ encode_utf8 m) (next base.page.width wide text m) attrs)
+pub mark_drawn : (base : Canvas) (done below : List RowValue) (pre : List CellValue) (o y : CellValue)
+    (ys : List CellValue) (flag : Bool) (r c : ℕ) (text : List ℕ) (wide : Bool) (attrs : Attrs) (m : ℕ) →
+    IsMark m → has_room text ≡ true → (wide ≡ true → next base.page.width wide text m ≡ true) →
+    Spot base done pre o y ys flag r c (next base.page.width wide text m) →
+    drawn_char m (put base done below pre ys flag r c text wide attrs)
+    ≡ Some (put base done below pre ys flag r c (text ++ encode_utf8 m) (next base.page.width wide text m) attrs)
 mark_drawn base done below pre o y ys flag r c text wide attrs m is_mark room grows at_spot =
     let now = next base.page.width wide text m in
     let longer = text ++ encode_utf8 m in
     let canvas = put base done below pre ys flag r c text wide attrs in
     let page = λ (w : Bool). (put base done below pre ys flag r c longer w attrs).page in
     mark_follows base done below pre o y ys flag r c text wide attrs m is_mark room
-    (wider_spot base done pre o y ys flag r c wide now (widths_grow wide now grows) at_spot) (λ _ t. room_for now c base.page.width at_spot.fits t)
-    ∙ ap (λ (p : Page). Some (record canvas { page = p })) (settled page c attrs (is_selector m) (is_wide_text longer && nat_lt 1 base.page.width) wide grows
-    (λ t. grown_wide base done below pre o y ys flag r c longer attrs (at_true now base done pre o y ys flag r c t at_spot)))
+    (wider_spot base done pre o y ys flag r c wide now (widths_grow wide now grows) at_spot)
+    (λ _ t. room_for now c base.page.width at_spot.fits t)
+    ∙ ap (λ (p : Page). Some (record canvas { page = p }))
+    (settled page c attrs (is_selector m) (is_wide_text longer && nat_lt 1 base.page.width) wide grows
+    (λ t. grown_wide base done below pre o y ys flag r c longer
+    attrs (at_true now base done pre o y ys flag r c t at_spot)))
 
 -- ---- the whole text
 
-pub grows_le : (width : ℕ) (wide : Bool) (text : List ℕ) (ms : List ℕ) (last : Bool) (whole : List ℕ) → Grows width wide text ms last whole → first_columns wide ≤ first_columns last
+pub grows_le : (width : ℕ) (wide : Bool) (text : List ℕ) (ms : List ℕ) (last : Bool) (whole : List ℕ) →
+    Grows width wide text ms last whole → first_columns wide ≤ first_columns last
 grows_le width wide text [] last whole h = widths_grow wide last (λ e. sym h.0 ∙ e)
 grows_le width wide text (m ∷ ms) last whole h =
     let one = widths_grow wide (next width wide text m) h.1.0 in
     let rest = grows_le width (next width wide text m) (text ++ encode_utf8 m) ms last whole h.1.1 in
     omega arith
 
-pub marks_drawn : (ms : List ℕ) (base : Canvas) (done below : List RowValue) (pre : List CellValue) (o y : CellValue) (ys : List CellValue) (flag : Bool) (r c : ℕ) (text : List ℕ) (wide : Bool) (attrs : Attrs) (last : Bool) (whole : List ℕ) →
+pub marks_drawn : (ms : List ℕ) (base : Canvas) (done below : List RowValue)
+    (pre : List CellValue) (o y : CellValue) (ys : List CellValue) (flag : Bool) (r c : ℕ)
+    (text : List ℕ) (wide : Bool) (attrs : Attrs) (last : Bool) (whole : List ℕ) →
     Grows base.page.width wide text ms last whole → Spot base done pre o y ys flag r c last →
-    drawn_text ms (put base done below pre ys flag r c text wide attrs) ≡ Some (put base done below pre ys flag r c whole last attrs)
+    drawn_text ms (put base done below pre ys flag r c text wide attrs)
+    ≡ Some (put base done below pre ys flag r c whole last attrs)
 marks_drawn [] base done below pre o y ys flag r c text wide attrs last whole h at_spot =
-    ap (λ (w : Bool). Some (put base done below pre ys flag r c text w attrs)) h.0 ∙ ap (λ (t : List ℕ). Some (put base done below pre ys flag r c t last attrs)) h.1
+    ap (λ (w : Bool). Some (put base done below pre ys flag r c text w attrs)) h.0
+    ∙ ap (λ (t : List ℕ). Some (put base done below pre ys flag r c t last attrs)) h.1
 marks_drawn (m ∷ ms) base done below pre o y ys flag r c text wide attrs last whole h at_spot =
     let now = next base.page.width wide text m in
     ap (λ (z : Option Canvas). and_then (drawn_text ms) z)
     (mark_drawn base done below pre o y ys flag r c text wide attrs m h.0.0 h.0.1 h.1.0
-    (wider_spot base done pre o y ys flag r c now last (grows_le base.page.width now (text ++ encode_utf8 m) ms last whole h.1.1) at_spot))
+    (wider_spot base done pre o y ys flag r c now last
+    (grows_le base.page.width now (text ++ encode_utf8 m) ms last whole h.1.1) at_spot))
     ∙ marks_drawn ms base done below pre o y ys flag r c (text ++ encode_utf8 m) now attrs last whole h.1.1 at_spot
 
 -- a text printed where there is room for its glyph, at a boundary of a row
-pub print_draws : (base : Canvas) (done below : List RowValue) (pre : List CellValue) (o y : CellValue) (ys : List CellValue) (flag : Bool) (r c : ℕ) (text : List ℕ) (wide : Bool) (attrs : Attrs) →
+pub print_draws : (base : Canvas) (done below : List RowValue) (pre : List CellValue) (o y : CellValue)
+    (ys : List CellValue) (flag : Bool) (r c : ℕ) (text : List ℕ) (wide : Bool) (attrs : Attrs) →
     Prints base.page.width text wide → Spot base done pre o y ys flag r c wide →
-    Draws (Print text ∷ []) (spot base done below pre o y ys flag r c attrs) (put base done below pre ys flag r c text wide attrs)
+    Draws (Print text ∷ []) (spot base done below pre o y ys flag r c attrs)
+    (put base done below pre ys flag r c text wide attrs)
 print_draws base done below pre o y ys flag r c text wide attrs prints at_spot =
     let start = spot base done below pre o y ys flag r c attrs in
     let le = grows_le base.page.width prints.start (encode_utf8 prints.first) prints.marks wide text prints.grows in
     ap (λ (z : Option Canvas). and_then (drawn_all []) z)
     (ap (λ (cs : List ℕ). drawn_text cs start) prints.is
     ∙ (ap (λ (z : Option Canvas). and_then (drawn_text prints.marks) z)
-    (first_drawn base done below pre o y ys flag r c prints.first prints.start attrs prints.columns (wider_spot base done pre o y ys flag r c prints.start wide le at_spot))
-    ∙ marks_drawn prints.marks base done below pre o y ys flag r c (encode_utf8 prints.first) prints.start attrs wide text prints.grows at_spot))
+    (first_drawn base done below pre o y ys flag r c prints.first prints.start attrs
+    prints.columns (wider_spot base done pre o y ys flag r c prints.start wide le at_spot))
+    ∙ marks_drawn prints.marks base done below pre o y ys flag r c
+    (encode_utf8 prints.first) prints.start attrs wide text prints.grows at_spot))
 
 -- ---- at a pending wrap
 
-pub wrapped_room : (n : ℕ) (page other : Page) → lacks_room n page ≡ true → wrapped_page page ≡ other → room_made n page ≡ other
+pub wrapped_room : (n : ℕ) (page other : Page) → lacks_room n page ≡ true →
+    wrapped_page page ≡ other → room_made n page ≡ other
 unfolding room_made
 wrapped_room n page other t h = rw t h
 
-pub first_wraps : (base : Canvas) (done below : List RowValue) (above : List CellValue) (on : Bool) (cells : List CellValue) (flag : Bool) (r : ℕ) (attrs : Attrs) (first : ℕ) (wide : Bool) →
-    length done ≡ r → base.page.bottom + 1 ≡ length done + suc (suc (length below)) → columns_of first ≡ Some (first_columns wide) → first_columns wide ≤ base.page.width →
-    drawn_char first (two base done below above on cells flag (pen_at r base.page.width attrs)) ≡ drawn_char first (two base done below above (not (ends above)) cells flag (pen_at (r + 1) 0 attrs))
+pub first_wraps : (base : Canvas) (done below : List RowValue) (above : List CellValue) (on : Bool)
+    (cells : List CellValue) (flag : Bool) (r : ℕ) (attrs : Attrs) (first : ℕ) (wide : Bool) →
+    length done ≡ r → base.page.bottom + 1 ≡ length done + suc (suc (length below)) →
+    columns_of first ≡ Some (first_columns wide) → first_columns wide ≤ base.page.width →
+    drawn_char first (two base done below above on cells flag (pen_at r base.page.width attrs))
+    ≡ drawn_char first (two base done below above (not (ends above)) cells flag (pen_at (r + 1) 0 attrs))
 first_wraps base done below above on cells flag r attrs first false e b c fits =
     let d1 = two base done below above on cells flag (pen_at r base.page.width attrs) in
     let d2 = two base done below above (not (ends above)) cells flag (pen_at (r + 1) 0 attrs) in
     let s = not_bottom base done below above on (record { cells = cells; wrapped = flag }) r e b in
     let full : lacks_room 1 d1.page ≡ true = lt-ltb (base.page.width - 1) base.page.width (omega arith) in
     char_drawn first (Some 1) d1 (glyph_put (encode_utf8 first) false attrs d2.page) c (rw (full, s) refl)
-    (ap (glyph_put (encode_utf8 first) false attrs) (wrapped_room 1 d1.page d2.page full (wraps base done below above on cells flag r base.page.width attrs e b)))
-    ∙ sym (char_drawn first (Some 1) d2 (glyph_put (encode_utf8 first) false attrs d2.page) c (rw (room_there 1 d2.page (omega arith)) refl)
+    (ap (glyph_put (encode_utf8 first) false attrs)
+    (wrapped_room 1 d1.page d2.page full (wraps base done below above on cells flag r base.page.width attrs e b)))
+    ∙ sym (char_drawn first (Some 1) d2 (glyph_put (encode_utf8 first) false attrs d2.page)
+    c (rw (room_there 1 d2.page (omega arith)) refl)
     (ap (glyph_put (encode_utf8 first) false attrs) (room_is 1 d2.page (omega arith))))
 first_wraps base done below above on cells flag r attrs first true e b c fits =
     let d1 = two base done below above on cells flag (pen_at r base.page.width attrs) in
@@ -181,12 +234,16 @@ first_wraps base done below above on cells flag r attrs first true e b c fits =
     let full : lacks_room 2 d1.page ≡ true = lt-ltb (base.page.width - 2) base.page.width (omega arith) in
     let some : nat_lt 1 base.page.width ≡ true = lt-ltb 1 base.page.width (omega arith) in
     char_drawn first (Some 2) d1 (glyph_put (encode_utf8 first) true attrs d2.page) c (rw (some, full, s) refl)
-    (rw some (ap (glyph_put (encode_utf8 first) true attrs) (wrapped_room 2 d1.page d2.page full (wraps base done below above on cells flag r base.page.width attrs e b))))
-    ∙ sym (char_drawn first (Some 2) d2 (glyph_put (encode_utf8 first) true attrs d2.page) c (rw (some, room_there 2 d2.page (omega arith)) refl)
+    (rw some (ap (glyph_put (encode_utf8 first) true attrs)
+    (wrapped_room 2 d1.page d2.page full (wraps base done below above on cells flag r base.page.width attrs e b))))
+    ∙ sym (char_drawn first (Some 2) d2 (glyph_put (encode_utf8 first) true attrs d2.page)
+    c (rw (some, room_there 2 d2.page (omega arith)) refl)
     (rw some (ap (glyph_put (encode_utf8 first) true attrs) (room_is 2 d2.page (omega arith)))))
 
--- a text printed at a pending wrap is printed at the begin of the row below, and the row above goes on exactly if it does not end blank
-pub print_wraps : (base : Canvas) (done below : List RowValue) (above : List CellValue) (on : Bool) (cells : List CellValue) (flag : Bool) (r : ℕ) (attrs : Attrs) (text : List ℕ) (wide : Bool) (goal : Canvas) →
+-- a text printed at a pending wrap is printed at the begin of the row below,
+-- and the row above goes on exactly if it does not end blank
+pub print_wraps : (base : Canvas) (done below : List RowValue) (above : List CellValue) (on : Bool)
+    (cells : List CellValue) (flag : Bool) (r : ℕ) (attrs : Attrs) (text : List ℕ) (wide : Bool) (goal : Canvas) →
     length done ≡ r → base.page.bottom + 1 ≡ length done + suc (suc (length below)) → Prints base.page.width text wide →
     Draws (Print text ∷ []) (two base done below above (not (ends above)) cells flag (pen_at (r + 1) 0 attrs)) goal →
     Draws (Print text ∷ []) (two base done below above on cells flag (pen_at r base.page.width attrs)) goal
@@ -197,6 +254,7 @@ print_wraps base done below above on cells flag r attrs text wide goal e b print
     let fits = prints.fits in
     let same : drawn_text (chars text) d1 ≡ drawn_text (chars text) d2 =
     ap (λ (cs : List ℕ). drawn_text cs d1) prints.is
-    ∙ (ap (λ (z : Option Canvas). and_then (drawn_text prints.marks) z) (first_wraps base done below above on cells flag r attrs prints.first prints.start e b prints.columns (omega arith))
+    ∙ (ap (λ (z : Option Canvas). and_then (drawn_text prints.marks) z)
+    (first_wraps base done below above on cells flag r attrs prints.first prints.start e b prints.columns (omega arith))
     ∙ sym (ap (λ (cs : List ℕ). drawn_text cs d2) prints.is)) in
     ap (λ (z : Option Canvas). and_then (drawn_all []) z) same ∙ h

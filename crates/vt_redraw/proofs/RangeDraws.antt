@@ -1,5 +1,6 @@
 -- A row's item draws the range of its columns, and nothing else.
-use Rattle.std.proofs.Common.{◌≡◌, ℕ, zero, suc, ◌+◌, ◌-◌, ◌<◌, ◌≤◌, Bool, List, [], ◌∷◌, ◌++◌, length, take, drop, refl, sym, ap, ◌∙◌, subst, append-nil, arith}
+use Rattle.std.proofs.Common.{◌≡◌, ℕ, zero, suc, ◌+◌, ◌-◌, ◌<◌, ◌≤◌, Bool, List, [], ◌∷◌, ◌++◌}
+use Rattle.std.proofs.Common.{length, take, drop, refl, sym, ap, ◌∙◌, subst, append-nil, arith}
 use Rattle.std.proofs.lemmas.List.{length-take, length-drop, take-append-drop}
 use Rattle.vt_cells.specs.Attrs.{default_attrs}
 use Rattle.vt_cells.specs.Cell.{CellValue, blank, glyph, right_half, default_blank}
@@ -47,7 +48,8 @@ drop_more n (suc m) [] = drop_none n ∙ sym (drop_none (suc m + n))
     drop_none : (k : ℕ) → drop {A = CellValue} k [] ≡ []
     drop_none zero = refl
     drop_none (suc k) = refl
-drop_more n (suc m) (x ∷ xs) = let e : suc m + n ≡ suc (m + n) = omega arith in drop_more n m xs ∙ ap (λ (k : ℕ). drop k (x ∷ xs)) (sym e)
+drop_more n (suc m) (x ∷ xs) =
+    let e : suc m + n ≡ suc (m + n) = omega arith in drop_more n m xs ∙ ap (λ (k : ℕ). drop k (x ∷ xs)) (sym e)
 
 prints_take : (width n : ℕ) (xs : List CellValue) → PrintsCells width xs → PrintsCells width (take n xs)
 prints_take width zero xs h = tt
@@ -67,7 +69,8 @@ pub record IsClean (start stop : ℕ) (xs ys : List CellValue) : Type 0 where
   pub range : Paired (in_range start stop xs)
 
 -- where an item is written
-pub record IsItem (base : Canvas) (done below : List RowValue) (r start stop height : ℕ) (xs ys : List CellValue) : Type 0 where
+pub record IsItem (base : Canvas) (done below : List RowValue)
+    (r start stop height : ℕ) (xs ys : List CellValue) : Type 0 where
   pub reads : Reads base height base.page.width
   pub above : length done ≡ r
   pub rows : r + suc (length below) ≡ height
@@ -78,8 +81,11 @@ pub record IsItem (base : Canvas) (done below : List RowValue) (r start stop hei
   pub prints : PrintsCells base.page.width xs
   pub clean : IsClean start stop xs ys
 
-pub range_draws : (base : Canvas) (done below : List RowValue) (r start stop height : ℕ) (flag : Bool) (xs ys : List CellValue) → IsItem base done below r start stop height xs ys → Sound flag ys →
-    Wrote Any (range_written r start stop flag xs ys) base done below (mid base done below ys flag (pen_at r start default_attrs)) (with_range start stop xs ys) height
+pub range_draws : (base : Canvas) (done below : List RowValue)
+    (r start stop height : ℕ) (flag : Bool) (xs ys : List CellValue) →
+    IsItem base done below r start stop height xs ys → Sound flag ys →
+    Wrote Any (range_written r start stop flag xs ys) base done below
+    (mid base done below ys flag (pen_at r start default_attrs)) (with_range start stop xs ys) height
 range_draws base done below r start stop height flag xs ys item sound =
     let some = item.some in
     let inside = item.inside in
@@ -96,10 +102,13 @@ range_draws base done below r start stop height flag xs ys item sound =
     let l4 = length-take start ys in
     let size : length range ≡ stop - start = omega arith in
     let tail : drop (length range) rest ≡ drop stop ys =
-    drop_more (length range) start ys ∙ (let e : start + length range ≡ stop = omega arith in ap (λ (k : ℕ). drop k ys) e) in
-    let whole : pre ++ opened default_blank rest ≡ ys = ap (λ (z : List CellValue). pre ++ z) (opened_paired default_blank rest clean.there) ∙ take-append-drop start ys in
+    drop_more (length range) start ys
+    ∙ (let e : start + length range ≡ stop = omega arith in ap (λ (k : ℕ). drop k ys) e) in
+    let whole : pre ++ opened default_blank rest ≡ ys =
+    ap (λ (z : List CellValue). pre ++ z) (opened_paired default_blank rest clean.there) ∙ take-append-drop start ys in
     let pen = pen_at r start default_attrs in
-    let place : Place base done below pre r start height (length rest) = record { reads = item.reads; above = item.above; rows = rows; before = omega arith; columns = omega arith } in
+    let place : Place base done below pre r start height (length rest) =
+    record { reads = item.reads; above = item.above; rows = rows; before = omega arith; columns = omega arith } in
     let ready : Ready range rest pre default_blank 0 flag = record {
       same = omega arith;
       tail = subst Paired (sym tail) clean.behind;
@@ -111,8 +120,19 @@ range_draws base done below r start stop height flag xs ys item sound =
     } in
     let within : Within pen height base.page.width = record { row = omega arith; col = omega arith } in
     let drawn = cells_draw Any base done below range rest pre default_blank r start 0 pen flag height place ready
-    (prints_take base.page.width (stop - start) (drop start xs) (prints_drop base.page.width start xs item.prints)) within (lets_any r start range rest) in
-    subst (λ (z : List CellValue). Wrote Any (range_written r start stop flag xs ys) base done below (mid base done below z flag pen) (with_range start stop xs ys) height) whole
-    (subst (λ (z : List CellValue). Wrote Any (range_written r start stop flag xs ys) base done below (mid base done below (pre ++ opened default_blank rest) flag pen) (pre ++ (range ++ z)) height) tail
-    (subst (λ (z : List CellValue). Wrote Any (cells_written r start pen flag 0 z (begun_over range rest)) base done below (mid base done below (pre ++ opened default_blank rest) flag pen) (pre ++ (range ++ drop (length range) rest)) height) (sym (begun_paired range clean.range))
-    (subst (λ (z : List CellValue). Wrote Any (cells_written r start pen flag 0 range z) base done below (mid base done below (pre ++ opened default_blank rest) flag pen) (pre ++ (range ++ drop (length range) rest)) height) (sym (begun_over_paired range rest clean.range)) drawn)))
+    (prints_take base.page.width (stop - start) (drop start xs) (prints_drop base.page.width start xs item.prints))
+    within (lets_any r start range rest) in
+    subst (λ (z : List CellValue). Wrote Any (range_written r start stop flag xs ys) base
+    done below (mid base done below z flag pen) (with_range start stop xs ys) height)
+    whole
+    (subst (λ (z : List CellValue). Wrote Any (range_written r start stop flag xs ys) base done below
+    (mid base done below (pre ++ opened default_blank rest) flag pen) (pre ++ (range ++ z)) height)
+    tail
+    (subst (λ (z : List CellValue). Wrote Any (cells_written r start pen flag 0 z (begun_over range rest))
+    base done below (mid base done below (pre ++ opened default_blank rest) flag pen)
+    (pre ++ (range ++ drop (length range) rest)) height)
+    (sym (begun_paired range clean.range))
+    (subst (λ (z : List CellValue). Wrote Any (cells_written r start pen flag 0 range z)
+    base done below (mid base done below (pre ++ opened default_blank rest) flag pen)
+    (pre ++ (range ++ drop (length range) rest)) height)
+    (sym (begun_over_paired range rest clean.range)) drawn)))

@@ -19,7 +19,13 @@ use Rattle.vt_redraw.proofs.Nothing.{showing, showing_plain, same_picture, draws
 
 -- what a canvas with a page shows is a picture
 pub page_picture : (canvas : Canvas) → IsPage canvas.page → IsPicture (picture_of canvas)
-page_picture canvas is = record { has_columns = is.has_columns; cursor_row = is.cursor_row; cursor_column = is.cursor_column; rows = is.rows; last = is.last }
+page_picture canvas is = record {
+  has_columns = is.has_columns;
+  cursor_row = is.cursor_row;
+  cursor_column = is.cursor_column;
+  rows = is.rows;
+  last = is.last;
+}
 
 -- a blank picture of as many rows and columns
 blank_is : (picture : Picture) → IsPicture picture → IsPicture (blank_like picture)
@@ -33,18 +39,22 @@ blank_is picture is =
       cursor_row = omega arith;
       cursor_column = omega arith;
       rows = All-replicate (IsRow picture.width) height blank (IsRow-blank_row default_attrs picture.width);
-      last = ap (λ (row : RowValue). row.wrapped) (get_or-replicate height (length (replicate height blank) - 1) blank blank (omega arith));
+      last =
+          ap (λ (row : RowValue). row.wrapped)
+          (get_or-replicate height (length (replicate height blank) - 1) blank blank (omega arith));
     }
 
 -- the canvas after the clear
 abbrev clear_canvas : Picture → Canvas → Canvas
 clear_canvas self any = record any {
-  page = record (any.page) { rows = replicate (length self.rows) (blank_row default_attrs self.width); row = 0; column = 0 };
+  page = record (any.page)
+      { rows = replicate (length self.rows) (blank_row default_attrs self.width); row = 0; column = 0 };
   attrs = default_attrs;
   hidden = self.hidden;
 }
 
-pub redraw_draws : (self : Picture) (any : Canvas) → IsPicture self → IsSteady self → IsPicture (picture_of any) → IsPlainPage any.page → SamePictureSize self (picture_of any) →
+pub redraw_draws : (self : Picture) (any : Canvas) → IsPicture self → IsSteady self →
+    IsPicture (picture_of any) → IsPlainPage any.page → SamePictureSize self (picture_of any) →
     Shows (redraw self) any (with_picture self any)
 unfolding redraw
 redraw_draws self any is steady other plain size =
@@ -57,19 +67,26 @@ redraw_draws self any is steady other plain size =
     let l = length-replicate height (blank_row default_attrs self.width) in
     let shows : picture_of base ≡ blank_like self = ap (λ (w : ℕ). record (blank_like self) { width = w }) (sym same) in
     let blank : IsPicture (picture_of base) = subst IsPicture (sym shows) (blank_is self is) in
-    let rest = script_draws self base is steady blank (record { whole = (plain.whole.0, omega arith); origin = plain.origin }) (record { width = same; height = sym l }) in
+    let rest = script_draws self base is steady blank
+    (record { whole = (plain.whole.0, omega arith); origin = plain.origin })
+    (record { width = same; height = sym l }) in
     let goal = with_saved rest.0 (with_picture self any) in
-    let clear = cleared any.page height self.width other.has_columns (omega arith) other.rows plain.origin (sym same) (sym tall) in (
+    let clear = cleared any.page height self.width other.has_columns
+    (omega arith) other.rows plain.origin (sym same) (sym tall) in (
       rest.0,
-      ap (λ (page : Page). drawn_all (script self (blank_like self)) (record any { page = page; attrs = default_attrs; hidden = self.hidden })) clear
+      ap (λ (page : Page). drawn_all (script self (blank_like self))
+          (record any { page = page; attrs = default_attrs; hidden = self.hidden }))
+          clear
           ∙ (ap (λ (p : Picture). drawn_all (script self p) base) (sym shows) ∙ rest.1.draws),
     )
 
 -- two pictures of one size with one redraw are the same
-pub redraws_only : (a b : Picture) → IsPicture a → IsSteady a → IsPicture b → IsSteady b → SamePictureSize a b → redraw a ≡ redraw b → a ≡ b
+pub redraws_only : (a b : Picture) → IsPicture a → IsSteady a → IsPicture b →
+    IsSteady b → SamePictureSize a b → redraw a ≡ redraw b → a ≡ b
 redraws_only a b is_a steady_a is_b steady_b size e =
     let any = showing b in
     let plain = showing_plain b is_b in
     let one = redraw_draws a any is_a steady_a is_b plain size in
     let two = redraw_draws b any is_b steady_b is_b plain (record { width = refl; height = refl }) in
-    same_picture a b b.width size.width (draws_tell (redraw b) any _ _ (ap (λ (ops : List Op). drawn_all ops any) (sym e) ∙ one.1) two.1)
+    same_picture a b b.width size.width
+    (draws_tell (redraw b) any _ _ (ap (λ (ops : List Op). drawn_all ops any) (sym e) ∙ one.1) two.1)

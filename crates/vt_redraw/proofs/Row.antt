@@ -1,5 +1,6 @@
 -- The operations of a row draw its cells over those that the reader shows.
-use Rattle.std.proofs.Common.{◌≡◌, ℕ, zero, suc, ◌+◌, ◌<◌, ◌≤◌, ◌==◌, Bool, true, false, List, [], ◌∷◌, ◌++◌, length, take, drop, Some, refl, sym, ap, ◌∙◌, subst, append-nil, arith}
+use Rattle.std.proofs.Common.{◌≡◌, ℕ, zero, suc, ◌+◌, ◌<◌, ◌≤◌, ◌==◌, Bool, true, false, List, [], ◌∷◌, ◌++◌}
+use Rattle.std.proofs.Common.{length, take, drop, Some, refl, sym, ap, ◌∙◌, subst, append-nil, arith}
 use Rattle.std.proofs.lemmas.Bool.{cond_both}
 use Rattle.std.proofs.lemmas.Bool.Decides.{nat_tests}
 use Rattle.std.proofs.lemmas.List.{length-drop}
@@ -16,64 +17,82 @@ use Rattle.vt_redraw.specs.declared.pen.Pen.{Pen}
 use Rattle.vt_redraw.proofs.Steps.{Within}
 use Rattle.vt_redraw.proofs.Runs.{run_bound, run_blanks, blank_of_is}
 use Rattle.vt_redraw.specs.Script.{Scripted, after, doing, flag_behind, flag_past, cells_written}
-use Rattle.vt_redraw.proofs.Halves.{Paired, paired_append, paired_blanks, Loose, paired_loose, loose_step, loose_drop, opened_paired}
+use Rattle.vt_redraw.proofs.Halves.{Paired, paired_append, paired_blanks, Loose}
+use Rattle.vt_redraw.proofs.Halves.{paired_loose, loose_step, loose_drop, opened_paired}
 use Rattle.vt_redraw.proofs.Flags.{Sound, sound_kept}
 use Rattle.vt_redraw.proofs.Edits.{mid, orphan}
 use Rattle.vt_redraw.proofs.Spots.{Spot, glyph_flag, with_glyph}
 use Rattle.vt_redraw.proofs.Touched.{in_to}
 use Rattle.vt_redraw.proofs.TouchedTexts.{print_in}
 use Rattle.vt_redraw.proofs.Lets.{Lets, lets_next, lets_drop, torn_may, run_may, narrow_may, wide_may}
-use Rattle.vt_redraw.proofs.Places.{PrintsCells, Place, next_place, shown, Ready, ready_next, Wrote, wrote_after, shifted, doing_draws, run_in, run_flagged}
+use Rattle.vt_redraw.proofs.Places.{PrintsCells, Place, next_place, shown, Ready, ready_next, Wrote}
+use Rattle.vt_redraw.proofs.Places.{wrote_after, shifted, doing_draws, run_in, run_flagged}
 
 run_paired : (a : Attrs) (xs : List CellValue) → Paired xs → Paired (drop (blank_run a xs) xs)
 run_paired a [] h = tt
 run_paired a (x ∷ xs) h =
     cond_both (is_blank_of a x) (1 + blank_run a xs) 0 (λ (n : ℕ). Paired (drop n (x ∷ xs)))
     (λ (t : is_blank_of a x ≡ true).
-    let more : Paired (drop (blank_run a xs) xs) = run_paired a xs (subst (λ (z : CellValue). Paired (z ∷ xs)) (blank_of_is a x t) h) in
+    let more : Paired (drop (blank_run a xs) xs) =
+    run_paired a xs (subst (λ (z : CellValue). Paired (z ∷ xs)) (blank_of_is a x t) h) in
     let e : 1 + blank_run a xs ≡ suc (blank_run a xs) = omega arith in
     subst (λ (n : ℕ). Paired (drop n (x ∷ xs))) (sym e) more)
     (λ _. h)
 
-behind_wide : (text : List ℕ) (a : Attrs) (y : CellValue) (ys : List CellValue) → Paired (glyph text true a ∷ y ∷ ys) → (y ≡ right_half) × Paired ys
+behind_wide : (text : List ℕ) (a : Attrs) (y : CellValue) (ys : List CellValue) →
+    Paired (glyph text true a ∷ y ∷ ys) → (y ≡ right_half) × Paired ys
 behind_wide text a right_half ys h = (refl, h)
 behind_wide text a (blank b) ys h = absurd h
 behind_wide text a (glyph other wide b) ys h = absurd h
 
 -- a pen in the row, at most behind its last column
-pen_within : (base : Canvas) (done below : List RowValue) (pre : List CellValue) (r c height left col : ℕ) (a : Attrs) → Place base done below pre r c height left → col ≤ c + left → Within (pen_at r col a) height base.page.width
+pen_within : (base : Canvas) (done below : List RowValue) (pre : List CellValue) (r c height left col : ℕ) (a : Attrs) →
+    Place base done below pre r c height left → col ≤ c + left → Within (pen_at r col a) height base.page.width
 pen_within base done below pre r c height left col a at h =
     let rows = at.rows in
     let columns = at.columns in
     record { row = omega arith; col = omega arith }
 
 -- where a glyph is printed
-glyph_spot : (base : Canvas) (done below : List RowValue) (pre : List CellValue) (o y : CellValue) (ys : List CellValue) (flag : Bool) (r c height left : ℕ) (wide : Bool) → Place base done below pre r c height left → first_columns wide ≤ left → Paired pre →
+glyph_spot : (base : Canvas) (done below : List RowValue) (pre : List CellValue)
+    (o y : CellValue) (ys : List CellValue) (flag : Bool) (r c height left : ℕ) (wide : Bool) →
+    Place base done below pre r c height left → first_columns wide ≤ left → Paired pre →
     Sound flag (pre ++ opened o (y ∷ ys)) → Spot base done pre o y ys flag r c wide
 glyph_spot base done below pre o y ys flag r c height left wide at h front sound =
     let columns = at.columns in
     record { row = at.above; col = at.before; fits = omega arith; front = front; sound = sound }
 
 -- what a row's cells are to draw
-abbrev RowDraws : (ℕ → ℕ → Type 0) → Canvas → (done below : List RowValue) → (xs ys pre : List CellValue) → CellValue → (r c k : ℕ) → Pen → Bool → ℕ → Type 0
+abbrev RowDraws : (ℕ → ℕ → Type 0) → Canvas → (done below : List RowValue) →
+    (xs ys pre : List CellValue) → CellValue → (r c k : ℕ) → Pen → Bool → ℕ → Type 0
 RowDraws May base done below xs ys pre o r c k pen flag height =
-    Wrote May (cells_written r c pen flag k xs ys) base done below (mid base done below (shown pre o k xs ys) flag pen) (pre ++ (xs ++ drop (length xs) ys)) height
+    Wrote May (cells_written r c pen flag k xs ys) base done below
+    (mid base done below (shown pre o k xs ys) flag pen) (pre ++ (xs ++ drop (length xs) ys)) height
 
 -- the first cell stands already
-same_draws : (May : ℕ → ℕ → Type 0) (w : Scripted) (base : Canvas) (done below : List RowValue) (x y : CellValue) (pre ys goal : List CellValue) (o : CellValue) (flag : Bool) (pen : Pen) (height : ℕ) → same_cell x y ≡ true → Loose (y ∷ ys) → opened o (x ∷ ys) ≡ x ∷ ys →
-    Sound flag (pre ++ opened o (y ∷ ys)) → (Loose (x ∷ ys) → Sound flag (pre ++ x ∷ ys) → Wrote May w base done below (mid base done below (pre ++ x ∷ ys) flag pen) goal height) →
+same_draws : (May : ℕ → ℕ → Type 0) (w : Scripted) (base : Canvas) (done below : List RowValue)
+    (x y : CellValue) (pre ys goal : List CellValue) (o : CellValue) (flag : Bool) (pen : Pen) (height : ℕ) →
+    same_cell x y ≡ true → Loose (y ∷ ys) → opened o (x ∷ ys) ≡ x ∷ ys →
+    Sound flag (pre ++ opened o (y ∷ ys)) →
+    (Loose (x ∷ ys) → Sound flag (pre ++ x ∷ ys) →
+    Wrote May w base done below (mid base done below (pre ++ x ∷ ys) flag pen) goal height) →
     Wrote May w base done below (mid base done below (pre ++ opened o (y ∷ ys)) flag pen) goal height
 same_draws May w base done below x y pre ys goal o flag pen height t loose whole sound h =
     let e = cell_of-same x y t in
-    let P : CellValue → Type 0 = λ z. Loose (z ∷ ys) → Sound flag (pre ++ opened o (z ∷ ys)) → Wrote May w base done below (mid base done below (pre ++ opened o (z ∷ ys)) flag pen) goal height in
-    let Q : List CellValue → Type 0 = λ z. Sound flag (pre ++ z) → Wrote May w base done below (mid base done below (pre ++ z) flag pen) goal height in
+    let P : CellValue → Type 0 =
+    λ z. Loose (z ∷ ys) → Sound flag (pre ++ opened o (z ∷ ys)) →
+    Wrote May w base done below (mid base done below (pre ++ opened o (z ∷ ys)) flag pen) goal height in
+    let Q : List CellValue → Type 0 =
+    λ z. Sound flag (pre ++ z) → Wrote May w base done below (mid base done below (pre ++ z) flag pen) goal height in
     subst P e (λ l. subst Q (sym whole) (h l)) loose sound
 
-blank_may : (May : ℕ → ℕ → Type 0) (r c : ℕ) (a : Attrs) (xs ys : List CellValue) (k : ℕ) → May r c → Lets May r (c + 1) xs ys → length xs ≤ length ys → c ≤ k → k < c + suc (blank_run a xs) → May r k
+blank_may : (May : ℕ → ℕ → Type 0) (r c : ℕ) (a : Attrs) (xs ys : List CellValue) (k : ℕ) → May r c →
+    Lets May r (c + 1) xs ys → length xs ≤ length ys → c ≤ k → k < c + suc (blank_run a xs) → May r k
 blank_may May r c a xs ys k first more le low high = by_test (k == c) refl where
   by_test : (b : Bool) → (k == c) ≡ b → May r k
   by_test true t = let e : c ≡ k = grind (arith, nat_tests) in subst (May r) e first
-  by_test false t = let l : c + 1 ≤ k = grind (arith, nat_tests) in run_may May r (c + 1) a xs ys k more le l (omega arith)
+  by_test false t =
+      let l : c + 1 ≤ k = grind (arith, nat_tests) in run_may May r (c + 1) a xs ys k more le l (omega arith)
 
 drops_le : (n : ℕ) (xs ys : List CellValue) → length xs ≤ length ys → length (drop n xs) ≤ length (drop n ys)
 drops_le n xs ys h = let a = length-drop n xs in let b = length-drop n ys in omega arith
@@ -82,28 +101,42 @@ drop_none : (n : ℕ) → drop {A = CellValue} n [] ≡ []
 drop_none zero = refl
 drop_none (suc n) = refl
 
-drop_both : (n : ℕ) (xs ys : List CellValue) → n ≤ length xs → drop (length xs) ys ≡ drop (length (drop n xs)) (drop n ys)
+drop_both : (n : ℕ) (xs ys : List CellValue) → n ≤ length xs →
+    drop (length xs) ys ≡ drop (length (drop n xs)) (drop n ys)
 drop_both zero xs ys h = refl
 drop_both (suc n) [] ys h = absurd (omega arith)
 drop_both (suc n) (x ∷ xs) [] h = sym (drop_none (length (drop n xs)))
 drop_both (suc n) (x ∷ xs) (y ∷ ys) h = drop_both n xs ys (omega arith)
 
-pub cells_draw : (May : ℕ → ℕ → Type 0) (base : Canvas) (done below : List RowValue) (xs ys pre : List CellValue) (o : CellValue) (r c k : ℕ) (pen : Pen) (flag : Bool) (height : ℕ) →
-    Place base done below pre r c height (length ys) → Ready xs ys pre o k flag → PrintsCells base.page.width xs → Within pen height base.page.width → Lets May r c xs ys → RowDraws May base done below xs ys pre o r c k pen flag height
+pub cells_draw : (May : ℕ → ℕ → Type 0) (base : Canvas) (done below : List RowValue)
+    (xs ys pre : List CellValue) (o : CellValue) (r c k : ℕ) (pen : Pen) (flag : Bool) (height : ℕ) →
+    Place base done below pre r c height (length ys) → Ready xs ys pre o k flag →
+    PrintsCells base.page.width xs → Within pen height base.page.width →
+    Lets May r c xs ys → RowDraws May base done below xs ys pre o r c k pen flag height
 unfolding cells_written
 cells_draw May base done below [] ys pre o r c zero pen flag height at h prints within lets =
     let whole = ap (λ (z : List CellValue). pre ++ z) (opened_paired o ys h.tail) in
-    record { draws = record { draws = ap (λ (z : List CellValue). Some (mid base done below z flag pen)) whole; touches = tt }; within = within; sound = subst (Sound flag) whole h.sound }
-cells_draw May base done below [] ys pre o r c (suc k) pen flag height at h prints within lets = let le = h.le in absurd (omega arith)
-cells_draw May base done below (x ∷ xs) [] pre o r c k pen flag height at h prints within lets = let same = h.same in absurd (omega arith)
+    record {
+      draws = record { draws = ap (λ (z : List CellValue). Some (mid base done below z flag pen)) whole; touches = tt };
+      within = within;
+      sound = subst (Sound flag) whole h.sound;
+    }
+cells_draw May base done below [] ys pre o r c (suc k) pen flag height at h prints within lets =
+    let le = h.le in absurd (omega arith)
+cells_draw May base done below (x ∷ xs) [] pre o r c k pen flag height at h prints within lets =
+    let same = h.same in absurd (omega arith)
 cells_draw May base done below (x ∷ xs) (y ∷ ys) pre o r c (suc k) pen flag height at h prints within lets =
     let same = h.same in
     let le = h.le in
     let more = lets_next May r c x y xs ys lets in
-    shifted May (cells_written r (c + 1) pen flag k xs ys) base done below pre x (take k xs ++ opened o (drop k ys)) (xs ++ drop (length xs) ys) flag pen height
-    (cells_draw May base done below xs ys (pre ++ x ∷ []) o r (c + 1) k pen flag height (next_place base done below pre x r c height (length ys) at)
-    (ready_next x xs ys pre o k flag (omega arith) h.tail (omega arith) h.behind h.new h.old h.sound) prints.1 within more)
-cells_draw May base done below (right_half ∷ xs) (y ∷ ys) pre o r c zero pen flag height at h prints within lets = absurd h.new
+    shifted May (cells_written r (c + 1) pen flag k xs ys) base done below pre x
+    (take k xs ++ opened o (drop k ys)) (xs ++ drop (length xs) ys) flag pen height
+    (cells_draw May base done below xs ys (pre ++ x ∷ []) o r (c + 1) k pen
+    flag height (next_place base done below pre x r c height (length ys) at)
+    (ready_next x xs ys pre o k flag (omega arith) h.tail (omega arith) h.behind h.new h.old h.sound)
+    prints.1 within more)
+cells_draw May base done below (right_half ∷ xs) (y ∷ ys) pre o r c zero pen flag height at h prints within lets =
+    absurd h.new
 cells_draw May base done below (blank a ∷ xs) (y ∷ ys) pre o r c zero pen flag height at h prints within lets =
     let front : Paired pre = subst Paired (append-nil pre) h.behind in
     let goal = pre ++ blank a ∷ (xs ++ drop (length xs) ys) in
@@ -114,32 +147,54 @@ cells_draw May base done below (blank a ∷ xs) (y ∷ ys) pre o r c zero pen fl
     let more = lets.1 in
     let next = next_place base done below pre (blank a) r c height (length ys) at in
     cond_both (same_cell (blank a) y) (cells_written r (c + 1) pen flag 0 xs ys)
-    (after (doing pen r c a (erase_run (suc n) (drop n ys))) (cells_written r (c + 1) (pen_at r c a) (flag_past flag (drop n ys)) n xs ys))
-    (λ (w : Scripted). Wrote May w base done below (mid base done below (pre ++ opened o (y ∷ ys)) flag pen) goal height)
+    (after (doing pen r c a (erase_run (suc n) (drop n ys)))
+    (cells_written r (c + 1) (pen_at r c a) (flag_past flag (drop n ys)) n xs ys))
+    (λ (w : Scripted). Wrote May w base done below
+    (mid base done below (pre ++ opened o (y ∷ ys)) flag pen) goal height)
     (λ (t : same_cell (blank a) y ≡ true).
-    same_draws May (cells_written r (c + 1) pen flag 0 xs ys) base done below (blank a) y pre ys goal o flag pen height t h.old refl h.sound (λ old sound.
-    subst (λ (z : List CellValue). Sound flag (pre ++ blank a ∷ z) → Wrote May (cells_written r (c + 1) pen flag 0 xs ys) base done below (mid base done below (pre ++ blank a ∷ z) flag pen) goal height) (opened_paired o ys old)
-    (λ still. shifted May (cells_written r (c + 1) pen flag 0 xs ys) base done below pre (blank a) (opened o ys) (xs ++ drop (length xs) ys) flag pen height
+    same_draws May (cells_written r (c + 1) pen flag 0 xs ys) base done below
+    (blank a) y pre ys goal o flag pen height t h.old refl h.sound (λ old sound.
+    subst (λ (z : List CellValue). Sound flag (pre ++ blank a ∷ z) →
+    Wrote May (cells_written r (c + 1) pen flag 0 xs ys) base done below
+    (mid base done below (pre ++ blank a ∷ z) flag pen) goal height)
+    (opened_paired o ys old)
+    (λ still. shifted May (cells_written r (c + 1) pen flag 0 xs ys) base done
+    below pre (blank a) (opened o ys) (xs ++ drop (length xs) ys) flag pen height
     (cells_draw May base done below xs ys (pre ++ blank a ∷ []) o r (c + 1) 0 pen flag height next
-    (ready_next (blank a) xs ys pre o 0 flag (omega arith) h.tail (omega arith) (paired_append pre (blank a ∷ []) front tt) h.new (paired_loose ys old) still) prints.1 within more)) sound))
+    (ready_next (blank a) xs ys pre o 0 flag (omega arith) h.tail (omega arith)
+    (paired_append pre (blank a ∷ []) front tt) h.new (paired_loose ys old) still)
+    prints.1 within more))
+    sound))
     (λ _.
     let q = pen_at r c a in
     let now = flag_past flag (drop n ys) in
     let taken : blanks a n ≡ take n xs = sym (run_blanks a xs) in
     let row = λ (z : List CellValue). pre ++ blank a ∷ (z ++ opened default_blank (drop n ys)) in
-    let sound : Sound now (row (take n xs)) = subst (λ (z : List CellValue). Sound now (row z)) taken (sound_kept flag (row (blanks a n)) now (run_flagged pre o y ys flag n a h.sound)) in
-    wrote_after May (doing pen r c a (erase_run (suc n) (drop n ys))) (cells_written r (c + 1) q now n xs ys) base done below (mid base done below (pre ++ opened o (y ∷ ys)) flag pen) (mid base done below (row (take n xs)) now q) goal height
-    (doing_draws May base done below (pre ++ opened o (y ∷ ys)) flag r c height pen a (erase_run (suc n) (drop n ys)) (mid base done below (row (take n xs)) now q) at.reads at.above at.rows (omega arith) within
-    (in_to May (erase_run (suc n) (drop n ys) ∷ []) (mid base done below (pre ++ opened o (y ∷ ys)) flag q) (mid base done below (row (blanks a n)) now q) (mid base done below (row (take n xs)) now q)
-    (run_in May base done below pre o y ys flag r c n a at.above at.before front here (omega arith) h.sound (λ k low high. blank_may May r c a xs ys k lets.0 more (omega arith) low high)
-    (λ t. torn_may May r (c + suc n) (drop n xs) (drop n ys) (run_paired a xs h.new) (lets_drop May n r (c + 1) (c + suc n) xs ys (omega arith) more) (drops_le n xs ys (omega arith)) (subst Paired (drop_both n xs ys le) h.tail) t))
+    let sound : Sound now (row (take n xs)) =
+    subst (λ (z : List CellValue). Sound now (row z)) taken
+    (sound_kept flag (row (blanks a n)) now (run_flagged pre o y ys flag n a h.sound)) in
+    wrote_after May (doing pen r c a (erase_run (suc n) (drop n ys))) (cells_written r (c + 1) q now n xs ys)
+    base done below (mid base done below (pre ++ opened o (y ∷ ys)) flag pen)
+    (mid base done below (row (take n xs)) now q) goal height
+    (doing_draws May base done below (pre ++ opened o (y ∷ ys)) flag r c height pen a (erase_run (suc n) (drop n ys))
+    (mid base done below (row (take n xs)) now q) at.reads at.above at.rows (omega arith) within
+    (in_to May (erase_run (suc n) (drop n ys) ∷ []) (mid base done below (pre ++ opened o (y ∷ ys)) flag q)
+    (mid base done below (row (blanks a n)) now q) (mid base done below (row (take n xs)) now q)
+    (run_in May base done below pre o y ys flag r c n a at.above at.before front here (omega arith)
+    h.sound (λ k low high. blank_may May r c a xs ys k lets.0 more (omega arith) low high)
+    (λ t. torn_may May r (c + suc n) (drop n xs) (drop n ys) (run_paired a xs h.new)
+    (lets_drop May n r (c + 1) (c + suc n) xs ys (omega arith) more)
+    (drops_le n xs ys (omega arith)) (subst Paired (drop_both n xs ys le) h.tail) t))
     (ap (λ (z : List CellValue). mid base done below (row z) now q) taken)))
-    (shifted May (cells_written r (c + 1) q now n xs ys) base done below pre (blank a) (take n xs ++ opened default_blank (drop n ys)) (xs ++ drop (length xs) ys) now q height
+    (shifted May (cells_written r (c + 1) q now n xs ys) base done below pre (blank a)
+    (take n xs ++ opened default_blank (drop n ys)) (xs ++ drop (length xs) ys) now q height
     (cells_draw May base done below xs ys (pre ++ blank a ∷ []) default_blank r (c + 1) n q now height next
-    (ready_next (blank a) xs ys pre default_blank n now (omega arith) h.tail le (paired_append pre (blank a ∷ take n xs) front (subst Paired taken (paired_blanks n a)))
+    (ready_next (blank a) xs ys pre default_blank n now (omega arith) h.tail le
+    (paired_append pre (blank a ∷ take n xs) front (subst Paired taken (paired_blanks n a)))
     (run_paired a xs h.new) (loose_drop n ys (loose_step y ys h.old)) sound) prints.1
     (pen_within base done below pre r c height (suc (length ys)) c a at (omega arith)) more)))
-cells_draw May base done below (glyph text false a ∷ xs) (y ∷ ys) pre o r c zero pen flag height at h prints within lets =
+cells_draw May base done below (glyph text false a ∷ xs) (y ∷ ys)
+    pre o r c zero pen flag height at h prints within lets =
     let front : Paired pre = subst Paired (append-nil pre) h.behind in
     let x = glyph text false a in
     let goal = pre ++ x ∷ (xs ++ drop (length xs) ys) in
@@ -151,28 +206,49 @@ cells_draw May base done below (glyph text false a ∷ xs) (y ∷ ys) pre o r c 
     let next = next_place base done below pre x r c height (length ys) at in
     cond_both (same_cell x y) (cells_written r (c + 1) pen flag 0 xs ys)
     (after (doing pen r c a (Print text)) (cells_written r (c + 1) q now 0 xs ys))
-    (λ (w : Scripted). Wrote May w base done below (mid base done below (pre ++ opened o (y ∷ ys)) flag pen) goal height)
+    (λ (w : Scripted). Wrote May w base done below
+    (mid base done below (pre ++ opened o (y ∷ ys)) flag pen) goal height)
     (λ (t : same_cell x y ≡ true).
-    same_draws May (cells_written r (c + 1) pen flag 0 xs ys) base done below x y pre ys goal o flag pen height t h.old refl h.sound (λ old sound.
-    subst (λ (z : List CellValue). Sound flag (pre ++ x ∷ z) → Wrote May (cells_written r (c + 1) pen flag 0 xs ys) base done below (mid base done below (pre ++ x ∷ z) flag pen) goal height) (opened_paired o ys old)
-    (λ still. shifted May (cells_written r (c + 1) pen flag 0 xs ys) base done below pre x (opened o ys) (xs ++ drop (length xs) ys) flag pen height
+    same_draws May (cells_written r (c + 1) pen flag 0 xs ys) base done below
+    x y pre ys goal o flag pen height t h.old refl h.sound (λ old sound.
+    subst (λ (z : List CellValue). Sound flag (pre ++ x ∷ z) →
+    Wrote May (cells_written r (c + 1) pen flag 0 xs ys) base done
+    below (mid base done below (pre ++ x ∷ z) flag pen) goal height)
+    (opened_paired o ys old)
+    (λ still. shifted May (cells_written r (c + 1) pen flag 0 xs ys) base
+    done below pre x (opened o ys) (xs ++ drop (length xs) ys) flag pen height
     (cells_draw May base done below xs ys (pre ++ x ∷ []) o r (c + 1) 0 pen flag height next
-    (ready_next x xs ys pre o 0 flag (omega arith) h.tail (omega arith) (paired_append pre (x ∷ []) front tt) h.new (paired_loose ys old) still) prints.1 within more)) sound))
+    (ready_next x xs ys pre o 0 flag (omega arith) h.tail (omega arith)
+    (paired_append pre (x ∷ []) front tt) h.new (paired_loose ys old) still)
+    prints.1 within more))
+    sound))
     (λ (f : same_cell x y ≡ false).
-    let spot = glyph_spot base done below pre o y ys flag r c height (suc (length ys)) false at (omega arith) front h.sound in
-    wrote_after May (doing pen r c a (Print text)) (cells_written r (c + 1) q now 0 xs ys) base done below (mid base done below (pre ++ opened o (y ∷ ys)) flag pen) (mid base done below (with_glyph pre text false a ys) now q) goal height
-    (doing_draws May base done below (pre ++ opened o (y ∷ ys)) flag r c height pen a (Print text) (mid base done below (with_glyph pre text false a ys) now q) at.reads at.above at.rows (omega arith) within
-    (print_in May base done below pre o y ys flag r c text false a prints.0 spot (narrow_may May r c text a y xs ys f lets h.new (omega arith) h.tail)))
-    (shifted May (cells_written r (c + 1) q now 0 xs ys) base done below pre x (opened (orphan false a) ys) (xs ++ drop (length xs) ys) now q height
+    let spot =
+    glyph_spot base done below pre o y ys flag r c height (suc (length ys)) false at (omega arith) front h.sound in
+    wrote_after May (doing pen r c a (Print text)) (cells_written r (c + 1) q now 0 xs ys)
+    base done below (mid base done below (pre ++ opened o (y ∷ ys)) flag pen)
+    (mid base done below (with_glyph pre text false a ys) now q) goal height
+    (doing_draws May base done below (pre ++ opened o (y ∷ ys)) flag r c height pen a (Print text)
+    (mid base done below (with_glyph pre text false a ys) now q) at.reads at.above at.rows (omega arith) within
+    (print_in May base done below pre o y ys flag r c text false a prints.0
+    spot (narrow_may May r c text a y xs ys f lets h.new (omega arith) h.tail)))
+    (shifted May (cells_written r (c + 1) q now 0 xs ys) base done below pre
+    x (opened (orphan false a) ys) (xs ++ drop (length xs) ys) now q height
     (cells_draw May base done below xs ys (pre ++ x ∷ []) (orphan false a) r (c + 1) 0 q now height next
-    (ready_next x xs ys pre (orphan false a) 0 now (omega arith) h.tail (omega arith) (paired_append pre (x ∷ []) front tt) h.new (loose_step y ys h.old)
+    (ready_next x xs ys pre (orphan false a) 0 now (omega arith) h.tail
+    (omega arith) (paired_append pre (x ∷ []) front tt) h.new (loose_step y ys h.old)
     (sound_kept flag (with_glyph pre text false a ys) now (glyph_flag pre o y ys flag text false a h.sound))) prints.1
     (pen_within base done below pre r c height (suc (length ys)) (c + 1) a at (omega arith)) more)))
-cells_draw May base done below (glyph text true a ∷ []) (y ∷ ys) pre o r c zero pen flag height at h prints within lets = absurd h.new
-cells_draw May base done below (glyph text true a ∷ blank b ∷ xs) (y ∷ ys) pre o r c zero pen flag height at h prints within lets = absurd h.new
-cells_draw May base done below (glyph text true a ∷ glyph other wide b ∷ xs) (y ∷ ys) pre o r c zero pen flag height at h prints within lets = absurd h.new
-cells_draw May base done below (glyph text true a ∷ right_half ∷ xs) (y ∷ []) pre o r c zero pen flag height at h prints within lets = let same = h.same in absurd (omega arith)
-cells_draw May base done below (glyph text true a ∷ right_half ∷ xs) (y ∷ y2 ∷ ys) pre o r c zero pen flag height at h prints within lets =
+cells_draw May base done below (glyph text true a ∷ []) (y ∷ ys)
+    pre o r c zero pen flag height at h prints within lets = absurd h.new
+cells_draw May base done below (glyph text true a ∷ blank b ∷ xs)
+    (y ∷ ys) pre o r c zero pen flag height at h prints within lets = absurd h.new
+cells_draw May base done below (glyph text true a ∷ glyph other wide b ∷ xs)
+    (y ∷ ys) pre o r c zero pen flag height at h prints within lets = absurd h.new
+cells_draw May base done below (glyph text true a ∷ right_half ∷ xs)
+    (y ∷ []) pre o r c zero pen flag height at h prints within lets = let same = h.same in absurd (omega arith)
+cells_draw May base done below (glyph text true a ∷ right_half ∷ xs)
+    (y ∷ y2 ∷ ys) pre o r c zero pen flag height at h prints within lets =
     let front : Paired pre = subst Paired (append-nil pre) h.behind in
     let x = glyph text true a in
     let xr = right_half ∷ xs in
@@ -186,22 +262,38 @@ cells_draw May base done below (glyph text true a ∷ right_half ∷ xs) (y ∷ 
     let w1 = cells_written r (c + 1) pen flag 1 xr (y2 ∷ ys) in
     let w2 = cells_written r (c + 1) q now 1 xr (y2 ∷ ys) in
     cond_both (same_cell x y) w1 (after (doing pen r c a (Print text)) w2)
-    (λ (w : Scripted). Wrote May w base done below (mid base done below (pre ++ opened o (y ∷ y2 ∷ ys)) flag pen) goal height)
+    (λ (w : Scripted). Wrote May w base done below
+    (mid base done below (pre ++ opened o (y ∷ y2 ∷ ys)) flag pen) goal height)
     (λ (t : same_cell x y ≡ true).
     same_draws May w1 base done below x y pre (y2 ∷ ys) goal o flag pen height t h.old refl h.sound (λ old sound.
     let pair = behind_wide text a y2 ys old in
-    subst (λ (z : List CellValue). Sound flag (pre ++ x ∷ z) → Wrote May w1 base done below (mid base done below (pre ++ x ∷ z) flag pen) goal height)
-    (ap (λ (z : List CellValue). right_half ∷ z) (opened_paired o ys pair.1) ∙ ap (λ (z : CellValue). z ∷ ys) (sym pair.0))
-    (λ still. shifted May w1 base done below pre x (right_half ∷ opened o ys) (right_half ∷ (xs ++ drop (length xs) ys)) flag pen height
+    subst (λ (z : List CellValue). Sound flag (pre ++ x ∷ z) →
+    Wrote May w1 base done below (mid base done below (pre ++ x ∷ z) flag pen) goal height)
+    (ap (λ (z : List CellValue). right_half ∷ z) (opened_paired o ys pair.1)
+    ∙ ap (λ (z : CellValue). z ∷ ys) (sym pair.0))
+    (λ still. shifted May w1 base done below pre x (right_half ∷ opened o ys)
+    (right_half ∷ (xs ++ drop (length xs) ys)) flag pen height
     (cells_draw May base done below xr (y2 ∷ ys) (pre ++ x ∷ []) o r (c + 1) 1 pen flag height next
-    (ready_next x xr (y2 ∷ ys) pre o 1 flag (omega arith) h.tail (omega arith) (paired_append pre (x ∷ right_half ∷ []) front tt) h.new (paired_loose ys pair.1) still) prints.1 within more)) sound))
+    (ready_next x xr (y2 ∷ ys) pre o 1 flag (omega arith) h.tail (omega arith)
+    (paired_append pre (x ∷ right_half ∷ []) front tt) h.new (paired_loose ys pair.1) still)
+    prints.1 within more))
+    sound))
     (λ (f : same_cell x y ≡ false).
-    let spot = glyph_spot base done below pre o y (y2 ∷ ys) flag r c height (suc (suc (length ys))) true at (omega arith) front h.sound in
-    wrote_after May (doing pen r c a (Print text)) w2 base done below (mid base done below (pre ++ opened o (y ∷ y2 ∷ ys)) flag pen) (mid base done below (with_glyph pre text true a (y2 ∷ ys)) now q) goal height
-    (doing_draws May base done below (pre ++ opened o (y ∷ y2 ∷ ys)) flag r c height pen a (Print text) (mid base done below (with_glyph pre text true a (y2 ∷ ys)) now q) at.reads at.above at.rows (omega arith) within
-    (print_in May base done below pre o y (y2 ∷ ys) flag r c text true a prints.0 spot (wide_may May r c text a y y2 xs ys f lets h.new (omega arith) h.tail)))
-    (shifted May w2 base done below pre x (right_half ∷ opened (orphan true a) ys) (right_half ∷ (xs ++ drop (length xs) ys)) now q height
+    let spot = glyph_spot base done below pre o y (y2 ∷ ys) flag r c
+    height (suc (suc (length ys))) true at (omega arith) front h.sound in
+    wrote_after May (doing pen r c a (Print text)) w2 base done below
+    (mid base done below (pre ++ opened o (y ∷ y2 ∷ ys)) flag pen)
+    (mid base done below (with_glyph pre text true a (y2 ∷ ys)) now q) goal height
+    (doing_draws May base done below (pre ++ opened o (y ∷ y2 ∷ ys)) flag r c height pen a (Print text)
+    (mid base done below (with_glyph pre text true a (y2 ∷ ys)) now q) at.reads at.above at.rows (omega arith) within
+    (print_in May base done below pre o y (y2 ∷ ys) flag r c text true a prints.0
+    spot (wide_may May r c text a y y2 xs ys f lets h.new (omega arith) h.tail)))
+    (shifted May w2 base done below pre x (right_half ∷ opened (orphan true a) ys)
+    (right_half ∷ (xs ++ drop (length xs) ys)) now q height
     (cells_draw May base done below xr (y2 ∷ ys) (pre ++ x ∷ []) (orphan true a) r (c + 1) 1 q now height next
-    (ready_next x xr (y2 ∷ ys) pre (orphan true a) 1 now (omega arith) h.tail (omega arith) (paired_append pre (x ∷ right_half ∷ []) front tt) h.new (loose_step y2 ys (loose_step y (y2 ∷ ys) h.old))
-    (sound_kept flag (with_glyph pre text true a (y2 ∷ ys)) now (glyph_flag pre o y (y2 ∷ ys) flag text true a h.sound))) prints.1
+    (ready_next x xr (y2 ∷ ys) pre (orphan true a) 1 now (omega arith) h.tail (omega arith)
+    (paired_append pre (x ∷ right_half ∷ []) front tt) h.new (loose_step y2 ys (loose_step y (y2 ∷ ys) h.old))
+    (sound_kept flag (with_glyph pre text true a (y2 ∷ ys)) now
+    (glyph_flag pre o y (y2 ∷ ys) flag text true a h.sound)))
+    prints.1
     (pen_within base done below pre r c height (suc (suc (length ys))) (c + 2) a at (omega arith)) more)))

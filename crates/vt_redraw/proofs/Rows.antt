@@ -1,5 +1,6 @@
 -- The rows one after the other, each linked with the row above it.
-use Rattle.std.proofs.Common.{◌≡◌, ◌≢◌, ◌⊎◌, ℕ, suc, ◌+◌, ◌<◌, ◌≤◌, ◌&&◌, ◌||◌, Bool, true, false, not, List, [], ◌∷◌, ◌++◌, length, drop, Some, inl, inr, refl, sym, ap, ◌∙◌, subst, append_assoc, arith}
+use Rattle.std.proofs.Common.{◌≡◌, ◌≢◌, ◌⊎◌, ℕ, suc, ◌+◌, ◌<◌, ◌≤◌, ◌&&◌, ◌||◌, Bool, true, false, not, List, [], ◌∷◌}
+use Rattle.std.proofs.Common.{◌++◌, length, drop, Some, inl, inr, refl, sym, ap, ◌∙◌, subst, append_assoc, arith}
 use Rattle.std.specs.List.{AllByRecursion}
 use Rattle.std.proofs.lemmas.Bool.{cond_both}
 use Rattle.std.proofs.lemmas.List.{length-append}
@@ -9,7 +10,8 @@ use Rattle.vt_rows.specs.Row.{RowValue}
 use Rattle.vt_grid.specs.Canvas.{Canvas}
 use Rattle.vt_redraw.specs.declared.pen.Pen.{Pen}
 use Rattle.vt_redraw.proofs.Steps.{at_pen, Reads, Within}
-use Rattle.vt_redraw.specs.Script.{Scripted, after, is_torn, Linked, unlinked, first_written, starts_other, link_after, linked, is_at, going_behind, last_column}
+use Rattle.vt_redraw.specs.Script.{Scripted, after, is_torn, Linked, unlinked, first_written, starts_other}
+use Rattle.vt_redraw.specs.Script.{link_after, linked, is_at, going_behind, last_column}
 use Rattle.vt_redraw.specs.Redraw.{row_written, link_of, rows_below, rows_written}
 use Rattle.vt_redraw.proofs.Halves.{Paired, opened_paired}
 use Rattle.vt_redraw.proofs.Flags.{Sound}
@@ -34,32 +36,49 @@ abbrev pub ends_unwrapped : RowValue → List RowValue → Type 0
 ends_unwrapped x [] = x.wrapped ≡ false
 ends_unwrapped x (y ∷ ys) = ends_unwrapped y ys
 
-pub record Drew (May : ℕ → ℕ → Type 0) (w : Scripted) (base : Canvas) (start : Canvas) (rows : List RowValue) (height : ℕ) : Type 0 where
+pub record Drew (May : ℕ → ℕ → Type 0) (w : Scripted) (base : Canvas)
+    (start : Canvas) (rows : List RowValue) (height : ℕ) : Type 0 where
   pub draws : DrawsIn May w.ops start (at_pen base rows w.pen)
   pub within : Within w.pen height base.page.width
 
-drew_after : (May : ℕ → ℕ → Type 0) (ops : List Op) (w : Scripted) (base a b : Canvas) (rows : List RowValue) (height : ℕ) → DrawsIn May ops a b → Drew May w base b rows height → Drew May (after ops w) base a rows height
-drew_after May ops w base a b rows height h k = record { draws = in_then May ops w.ops a b (at_pen base rows w.pen) h k.draws; within = k.within }
+drew_after : (May : ℕ → ℕ → Type 0) (ops : List Op) (w : Scripted)
+    (base a b : Canvas) (rows : List RowValue) (height : ℕ) →
+    DrawsIn May ops a b → Drew May w base b rows height → Drew May (after ops w) base a rows height
+drew_after May ops w base a b rows height h k =
+    record { draws = in_then May ops w.ops a b (at_pen base rows w.pen) h k.draws; within = k.within }
 
 same_flag : (on wrapped : Bool) → wrapped ≡ false → (on ≡ true → wrapped ≡ true) → on ≡ wrapped
 same_flag true wrapped h k = sym (k refl)
 same_flag false wrapped h k = sym h
 
-step_joins : (May : ℕ → ℕ → Type 0) (base : Canvas) (done below : List RowValue) (above x y : RowValue) (on : Bool) (r height : ℕ) (pen : Pen) → Reads base height base.page.width → length done ≡ r → r + suc (suc (length below)) ≡ height →
-    Stands base.page.width above → Stands base.page.width x → Stands base.page.width y → PrintsCells base.page.width above.cells → PrintsCells base.page.width x.cells → (on ≡ true → above.wrapped ≡ true) → Within pen height base.page.width →
-    (on ≡ false → above.wrapped ≡ true → (k : ℕ) → last_column above.cells ≤ k → k < base.page.width → May r k) → (((on ≡ false) × (above.wrapped ≡ true)) ⊎ (x ≢ y) → RowMay May base.page.width (r + 1) x y) →
-    Joins May (link_of r pen above on x y) base done below (two base done below above.cells on y.cells y.wrapped pen) above.cells above.wrapped x.cells y.cells height
-step_joins May base done below above x y on r height pen reads e rows ha hx hy above_prints prints keeps within last near =
+step_joins : (May : ℕ → ℕ → Type 0) (base : Canvas) (done below : List RowValue)
+    (above x y : RowValue) (on : Bool) (r height : ℕ) (pen : Pen) →
+    Reads base height base.page.width → length done ≡ r → r + suc (suc (length below)) ≡ height →
+    Stands base.page.width above → Stands base.page.width x → Stands base.page.width y →
+    PrintsCells base.page.width above.cells → PrintsCells base.page.width x.cells →
+    (on ≡ true → above.wrapped ≡ true) → Within pen height base.page.width →
+    (on ≡ false → above.wrapped ≡ true → (k : ℕ) → last_column above.cells ≤ k → k < base.page.width → May r k) →
+    (((on ≡ false) × (above.wrapped ≡ true)) ⊎ (x ≢ y) → RowMay May base.page.width (r + 1) x y) →
+    Joins May (link_of r pen above on x y) base done below
+    (two base done below above.cells on y.cells y.wrapped pen) above.cells above.wrapped x.cells y.cells height
+step_joins May base done below above x y on r height pen reads
+    e rows ha hx hy above_prints prints keeps within last near =
     let start = two base done below above.cells on y.cells y.wrapped pen in
-    cond_both above.wrapped (linked r pen above.cells on y.wrapped x.cells y.cells) (unlinked pen y.wrapped) (λ (j : Linked). Joins May j base done below start above.cells above.wrapped x.cells y.cells height)
+    cond_both above.wrapped (linked r pen above.cells on y.wrapped x.cells y.cells) (unlinked pen y.wrapped)
+    (λ (j : Linked). Joins May j base done below start above.cells above.wrapped x.cells y.cells height)
     (λ (t : above.wrapped ≡ true).
-    subst (λ (z : Bool). Joins May (linked r pen above.cells on y.wrapped x.cells y.cells) base done below start above.cells z x.cells y.cells height) (sym t)
-    (link_draws May base done below above.cells x.cells y.cells on y.wrapped r height pen reads e rows ha.columns hx.columns hy.columns ha.paired (ha.sound t) above_prints hx.paired hy.paired hy.sound prints within (λ f. last f t)
+    subst (λ (z : Bool). Joins May (linked r pen above.cells on y.wrapped x.cells y.cells)
+    base done below start above.cells z x.cells y.cells height)
+    (sym t)
+    (link_draws May base done below above.cells x.cells y.cells on y.wrapped r height pen reads e rows ha.columns
+    hx.columns hy.columns ha.paired (ha.sound t) above_prints hx.paired hy.paired hy.sound prints within (λ f. last f t)
     (λ d. let m = near (by_cases t d) in (m.lets, m.begin, m.second))))
     (λ (t : above.wrapped ≡ false).
-    no_join May base done below above.cells x.cells y.cells on above.wrapped y.wrapped pen height (same_flag on above.wrapped t keeps) (hx.columns ∙ sym hy.columns) hx.paired hy.paired hy.sound within)
+    no_join May base done below above.cells x.cells y.cells on above.wrapped y.wrapped pen height
+    (same_flag on above.wrapped t keeps) (hx.columns ∙ sym hy.columns) hx.paired hy.paired hy.sound within)
   where
-    by_cases : above.wrapped ≡ true → (on ≡ false) ⊎ (x.cells ≢ y.cells) → ((on ≡ false) × (above.wrapped ≡ true)) ⊎ (x ≢ y)
+    by_cases : above.wrapped ≡ true → (on ≡ false) ⊎ (x.cells ≢ y.cells) →
+        ((on ≡ false) × (above.wrapped ≡ true)) ⊎ (x ≢ y)
     by_cases t (inl f) = inl (f, t)
     by_cases t (inr ne) = inr (λ q. ne (ap (λ (z : RowValue). z.cells) q))
 
@@ -71,7 +90,8 @@ not_torn (blank a ∷ xs) h = refl
 not_torn (glyph text wide a ∷ xs) h = refl
 not_torn (right_half ∷ xs) h = absurd h
 
-first_same : (r : ℕ) (pen : Pen) (flag : Bool) (xs : List CellValue) → Paired xs → Sound flag xs → (first_written r pen flag xs xs).flag ≡ flag
+first_same : (r : ℕ) (pen : Pen) (flag : Bool) (xs : List CellValue) →
+    Paired xs → Sound flag xs → (first_written r pen flag xs xs).flag ≡ flag
 first_same r pen flag [] h sound = refl
 first_same r pen flag (right_half ∷ xs) h sound = refl
 first_same r pen true (blank a ∷ []) h sound = let k = sound refl in absurd (cc)
@@ -83,24 +103,34 @@ first_same r pen flag (glyph text true a ∷ blank b ∷ xs) h sound = absurd h
 first_same r pen flag (glyph text true a ∷ glyph other wide b ∷ xs) h sound = absurd h
 first_same r pen flag (glyph text true a ∷ right_half ∷ xs) h sound = let t = not_torn xs h in grind (arith, t)
 
-linked_same : (r : ℕ) (pen : Pen) (above : List CellValue) (on flag : Bool) (xs : List CellValue) → Paired xs → Sound flag xs → (linked r pen above on flag xs xs).flag ≡ flag
+linked_same : (r : ℕ) (pen : Pen) (above : List CellValue) (on flag : Bool) (xs : List CellValue) →
+    Paired xs → Sound flag xs → (linked r pen above on flag xs xs).flag ≡ flag
 unfolding linked
 linked_same r pen above on flag xs h sound =
-    cond_both (not on || (is_at pen r (length above) && starts_other xs xs)) (link_after (going_behind r pen above).ops (first_written (r + 1) (going_behind r pen above).pen flag xs xs)) (unlinked pen flag) (λ (j : Linked). j.flag ≡ flag)
+    cond_both (not on || (is_at pen r (length above) && starts_other xs xs))
+    (link_after (going_behind r pen above).ops (first_written (r + 1) (going_behind r pen above).pen flag xs xs))
+    (unlinked pen flag) (λ (j : Linked). j.flag ≡ flag)
     (λ _. first_same (r + 1) (going_behind r pen above).pen flag xs h sound) (λ _. refl)
 
-link_same : (r : ℕ) (pen : Pen) (above : RowValue) (on : Bool) (x y : RowValue) → Paired x.cells → Sound y.wrapped x.cells → x ≡ y → (link_of r pen above on x y).flag ≡ y.wrapped
+link_same : (r : ℕ) (pen : Pen) (above : RowValue) (on : Bool) (x y : RowValue) → Paired x.cells →
+    Sound y.wrapped x.cells → x ≡ y → (link_of r pen above on x y).flag ≡ y.wrapped
 link_same r pen above on x y h sound e =
-    cond_both above.wrapped (linked r pen above.cells on y.wrapped x.cells y.cells) (unlinked pen y.wrapped) (λ (j : Linked). j.flag ≡ y.wrapped)
-    (λ _. subst (λ (z : List CellValue). (linked r pen above.cells on y.wrapped x.cells z).flag ≡ y.wrapped) (ap (λ (z : RowValue). z.cells) e) (linked_same r pen above.cells on y.wrapped x.cells h sound)) (λ _. refl)
+    cond_both above.wrapped (linked r pen above.cells on y.wrapped x.cells y.cells)
+    (unlinked pen y.wrapped) (λ (j : Linked). j.flag ≡ y.wrapped)
+    (λ _. subst (λ (z : List CellValue). (linked r pen above.cells on y.wrapped x.cells z).flag ≡ y.wrapped)
+    (ap (λ (z : RowValue). z.cells) e) (linked_same r pen above.cells on y.wrapped x.cells h sound))
+    (λ _. refl)
 
-row_same : (r k : ℕ) (pen : Pen) (flag : Bool) (x y : RowValue) → x ≡ y → flag ≡ y.wrapped → (row_written r k pen flag x y.cells).flag ≡ x.wrapped
+row_same : (r k : ℕ) (pen : Pen) (flag : Bool) (x y : RowValue) → x ≡ y →
+    flag ≡ y.wrapped → (row_written r k pen flag x y.cells).flag ≡ x.wrapped
 row_same r k pen flag x y e f =
     ap (λ (b : Bool). (row_written r k pen b x y.cells).flag) (f ∙ ap (λ (z : RowValue). z.wrapped) (sym e))
-    ∙ (ap (λ (z : RowValue). (row_written r k pen x.wrapped x z.cells).flag) (sym e) ∙ ap (λ (w : Scripted). w.flag) (row_nothing r k pen x))
+    ∙ (ap (λ (z : RowValue). (row_written r k pen x.wrapped x z.cells).flag) (sym e)
+    ∙ ap (λ (w : Scripted). w.flag) (row_nothing r k pen x))
 
 -- so where it falls although it is to stand, the rows differ
-fell : (r k : ℕ) (pen : Pen) (flag : Bool) (x y : RowValue) → (x ≡ y → flag ≡ y.wrapped) → (row_written r k pen flag x y.cells).flag ≡ false → x.wrapped ≡ true → x ≢ y
+fell : (r k : ℕ) (pen : Pen) (flag : Bool) (x y : RowValue) → (x ≡ y → flag ≡ y.wrapped) →
+    (row_written r k pen flag x y.cells).flag ≡ false → x.wrapped ≡ true → x ≢ y
 fell r k pen flag x y same f t e = let s = row_same r k pen flag x y e (same e) in cc
 
 -- ---- one after the other
@@ -112,27 +142,51 @@ PrintsRow width row = PrintsCells width row.cells
 abbrev pub BelowMay : (ℕ → ℕ → Type 0) → (width r : ℕ) → (above other : RowValue) → (xs ys : List RowValue) → Type 0
 BelowMay May width r above other [] ys = Unit {0}
 BelowMay May width r above other (x ∷ xs) [] = Unit {0}
-BelowMay May width r above other (x ∷ xs) (y ∷ ys) = ((above ≢ other) ⊎ (x ≢ y) → RowMay May width (r + 1) x y) × BelowMay May width (r + 1) x y xs ys
+BelowMay May width r above other (x ∷ xs) (y ∷ ys) =
+    ((above ≢ other) ⊎ (x ≢ y) → RowMay May width (r + 1) x y) × BelowMay May width (r + 1) x y xs ys
 
-below_draw : (May : ℕ → ℕ → Type 0) (base : Canvas) (xs ys done : List RowValue) (above other : RowValue) (on : Bool) (r height : ℕ) (pen : Pen) → Reads base height base.page.width → length done ≡ r → r + suc (length xs) ≡ height → length xs ≡ length ys →
-    Stands base.page.width above → AllByRecursion (Stands base.page.width) xs → AllByRecursion (Stands base.page.width) ys → PrintsRow base.page.width above → AllByRecursion (PrintsRow base.page.width) xs →
-    (on ≡ true → above.wrapped ≡ true) → (on ≡ false → above.wrapped ≡ true → above ≢ other) → ends_unwrapped above xs → Within pen height base.page.width →
+below_draw : (May : ℕ → ℕ → Type 0) (base : Canvas) (xs ys done : List RowValue)
+    (above other : RowValue) (on : Bool) (r height : ℕ) (pen : Pen) →
+    Reads base height base.page.width → length done ≡ r → r + suc (length xs) ≡ height → length xs ≡ length ys →
+    Stands base.page.width above → AllByRecursion (Stands base.page.width) xs →
+    AllByRecursion (Stands base.page.width) ys → PrintsRow base.page.width above →
+    AllByRecursion (PrintsRow base.page.width) xs →
+    (on ≡ true → above.wrapped ≡ true) → (on ≡ false → above.wrapped ≡ true → above ≢ other) →
+    ends_unwrapped above xs → Within pen height base.page.width →
     (above ≢ other → RowMay May base.page.width r above other) → BelowMay May base.page.width r above other xs ys →
-    Drew May (rows_below r pen above on xs ys) base (at_pen base (done ++ row_of above.cells on ∷ ys) pen) (done ++ above ∷ xs) height
+    Drew May (rows_below r pen above on xs ys) base
+    (at_pen base (done ++ row_of above.cells on ∷ ys) pen) (done ++ above ∷ xs) height
 unfolding rows_below
-below_draw May base [] [] done above other on r height pen reads e rows same ha hx hy above_prints prints keeps falls last within top may =
-    record { draws = record { draws = ap (λ (z : Bool). Some (at_pen base (done ++ row_of above.cells z ∷ []) pen)) (same_flag on above.wrapped last keeps); touches = tt }; within = within }
-below_draw May base [] (y ∷ ys) done above other on r height pen reads e rows same ha hx hy above_prints prints keeps falls last within top may = absurd (omega arith)
-below_draw May base (x ∷ xs) [] done above other on r height pen reads e rows same ha hx hy above_prints prints keeps falls last within top may = absurd (omega arith)
-below_draw May base (x ∷ xs) (y ∷ ys) done above other on r height pen reads e rows same ha hx hy above_prints prints keeps falls last within top may =
+below_draw May base [] [] done above other on r height pen reads e rows
+    same ha hx hy above_prints prints keeps falls last within top may =
+    record {
+      draws = record {
+        draws =
+            ap (λ (z : Bool). Some (at_pen base (done ++ row_of above.cells z ∷ []) pen))
+            (same_flag on above.wrapped last keeps);
+        touches = tt;
+      };
+      within = within;
+    }
+below_draw May base [] (y ∷ ys) done above other on r height pen reads e
+    rows same ha hx hy above_prints prints keeps falls last within top may = absurd (omega arith)
+below_draw May base (x ∷ xs) [] done above other on r height pen reads e
+    rows same ha hx hy above_prints prints keeps falls last within top may = absurd (omega arith)
+below_draw May base (x ∷ xs) (y ∷ ys) done above other on r height pen reads
+    e rows same ha hx hy above_prints prints keeps falls last within top may =
     let link = link_of r pen above on x y in
     let row = row_written (r + 1) link.settled link.pen link.flag x y.cells in
     let over = done ++ above ∷ [] in
     let n : length over ≡ r + 1 = let l = length-append done (above ∷ []) in omega arith in
-    let one = step_joins May base done ys above x y on r height pen reads e (omega arith) ha hx.0 hy.0 above_prints prints.0 keeps within (λ f t. (top (falls f t)).last) (λ d. may.0 (by_cases falls d)) in
-    let flag : x ≡ y → link.flag ≡ y.wrapped = λ q. link_same r pen above on x y hx.0.paired (subst (λ (b : Bool). Sound b x.cells) (ap (λ (z : RowValue). z.wrapped) q) hx.0.sound) q in
-    let two = row_draws May base over ys x y one.torn (r + 1) link.settled height link.pen link.flag reads n (omega arith) hx.0.columns hx.0.paired hy.0.columns one.ready prints.0 one.within flag (λ ne. may.0 (inr ne)) in
-    let rest = below_draw May base xs ys over x y row.flag (r + 1) height row.pen reads n (omega arith) (omega arith) hx.0 hx.1 hy.1 prints.0 prints.1 two.keeps
+    let one = step_joins May base done ys above x y on r height pen reads e (omega arith) ha hx.0 hy.0
+    above_prints prints.0 keeps within (λ f t. (top (falls f t)).last) (λ d. may.0 (by_cases falls d)) in
+    let flag : x ≡ y → link.flag ≡ y.wrapped =
+    λ q. link_same r pen above on x y hx.0.paired
+    (subst (λ (b : Bool). Sound b x.cells) (ap (λ (z : RowValue). z.wrapped) q) hx.0.sound) q in
+    let two = row_draws May base over ys x y one.torn (r + 1) link.settled height link.pen link.flag reads n
+    (omega arith) hx.0.columns hx.0.paired hy.0.columns one.ready prints.0 one.within flag (λ ne. may.0 (inr ne)) in
+    let rest = below_draw May base xs ys over x y row.flag (r + 1) height row.pen
+    reads n (omega arith) (omega arith) hx.0 hx.1 hy.1 prints.0 prints.1 two.keeps
     (fell (r + 1) link.settled link.pen link.flag x y flag) last two.within (λ ne. may.0 (inr ne)) may.1 in
     let w = rows_below (r + 1) row.pen x row.flag xs ys in
     let start = at_pen base (done ++ row_of above.cells on ∷ y ∷ ys) pen in
@@ -140,10 +194,14 @@ below_draw May base (x ∷ xs) (y ∷ ys) done above other on r height pen reads
     let end = mid base over ys x.cells row.flag row.pen in
     drew_after May (link.ops ++ row.ops) w base start end (done ++ above ∷ x ∷ xs) height
     (in_then May link.ops row.ops start middle end
-    (in_to May link.ops start _ middle one.draws (two_mid base done ys above.cells above.wrapped (shown [] one.torn link.settled x.cells y.cells) link.flag link.pen)) two.draws)
+    (in_to May link.ops start _ middle one.draws
+    (two_mid base done ys above.cells above.wrapped
+    (shown [] one.torn link.settled x.cells y.cells) link.flag link.pen))
+    two.draws)
     (subst (λ (z : List RowValue). Drew May w base end z height) (append_assoc done (above ∷ []) (x ∷ xs)) rest)
   where
-    by_cases : (on ≡ false → above.wrapped ≡ true → above ≢ other) → ((on ≡ false) × (above.wrapped ≡ true)) ⊎ (x ≢ y) → (above ≢ other) ⊎ (x ≢ y)
+    by_cases : (on ≡ false → above.wrapped ≡ true → above ≢ other) →
+        ((on ≡ false) × (above.wrapped ≡ true)) ⊎ (x ≢ y) → (above ≢ other) ⊎ (x ≢ y)
     by_cases falls (inl both) = inl (falls both.0 both.1)
     by_cases falls (inr ne) = inr ne
 
@@ -158,18 +216,26 @@ RowsMay May width (x ∷ xs) [] = Unit {0}
 RowsMay May width (x ∷ xs) (y ∷ ys) = (x ≢ y → RowMay May width 0 x y) × BelowMay May width 0 x y xs ys
 
 -- the rows that the reader shows become others, cells and flags
-pub rows_draw : (May : ℕ → ℕ → Type 0) (base : Canvas) (xs ys : List RowValue) (height : ℕ) (pen : Pen) → Reads base height base.page.width → length xs ≡ height → length ys ≡ height → AllByRecursion (Stands base.page.width) xs → AllByRecursion (Stands base.page.width) ys →
-    AllByRecursion (PrintsRow base.page.width) xs → flags_end xs → Within pen height base.page.width → RowsMay May base.page.width xs ys → Drew May (rows_written pen xs ys) base (at_pen base ys pen) xs height
+pub rows_draw : (May : ℕ → ℕ → Type 0) (base : Canvas) (xs ys : List RowValue) (height : ℕ) (pen : Pen) →
+    Reads base height base.page.width → length xs ≡ height → length ys ≡ height →
+    AllByRecursion (Stands base.page.width) xs → AllByRecursion (Stands base.page.width) ys →
+    AllByRecursion (PrintsRow base.page.width) xs → flags_end xs → Within pen height base.page.width →
+    RowsMay May base.page.width xs ys → Drew May (rows_written pen xs ys) base (at_pen base ys pen) xs height
 unfolding rows_written
-rows_draw May base [] ys height pen reads size same hx hy prints last within may = let row = within.row in absurd (omega arith)
+rows_draw May base [] ys height pen reads size same hx hy prints last within may =
+    let row = within.row in absurd (omega arith)
 rows_draw May base (x ∷ xs) [] height pen reads size same hx hy prints last within may = absurd (omega arith)
 rows_draw May base (x ∷ xs) (y ∷ ys) height pen reads size same hx hy prints last within may =
     let row = row_written 0 0 pen y.wrapped x y.cells in
     let w = rows_below 0 row.pen x row.flag xs ys in
-    let ready = ready_start x.cells y.cells y.wrapped (hx.0.columns ∙ sym hy.0.columns) hx.0.paired hy.0.paired hy.0.sound in
-    let one = row_draws May base [] ys x y default_blank 0 0 height pen y.wrapped reads refl (omega arith) hx.0.columns hx.0.paired hy.0.columns ready prints.0 within (λ _. refl) may.0 in
+    let ready =
+    ready_start x.cells y.cells y.wrapped (hx.0.columns ∙ sym hy.0.columns) hx.0.paired hy.0.paired hy.0.sound in
+    let one = row_draws May base [] ys x y default_blank 0 0 height pen y.wrapped reads refl
+    (omega arith) hx.0.columns hx.0.paired hy.0.columns ready prints.0 within (λ _. refl) may.0 in
     let start = at_pen base (y ∷ ys) pen in
     let end = mid base [] ys x.cells row.flag row.pen in
     drew_after May row.ops w base start end (x ∷ xs) height
-    (subst (λ (z : List CellValue). DrawsIn May row.ops (mid base [] ys z y.wrapped pen) end) (opened_paired default_blank y.cells hy.0.paired) one.draws)
-    (below_draw May base xs ys [] x y row.flag 0 height row.pen reads refl (omega arith) (omega arith) hx.0 hx.1 hy.1 prints.0 prints.1 one.keeps (fell 0 0 pen y.wrapped x y (λ _. refl)) last one.within may.0 may.1)
+    (subst (λ (z : List CellValue). DrawsIn May row.ops (mid base [] ys z y.wrapped pen) end)
+    (opened_paired default_blank y.cells hy.0.paired) one.draws)
+    (below_draw May base xs ys [] x y row.flag 0 height row.pen reads refl (omega arith) (omega arith) hx.0
+    hx.1 hy.1 prints.0 prints.1 one.keeps (fell 0 0 pen y.wrapped x y (λ _. refl)) last one.within may.0 may.1)

@@ -17,7 +17,8 @@ blank_of_is attrs (blank b) e = ap blank (sym (attrs_of-same attrs b e))
 blank_of_is attrs (glyph text wide b) e = cc
 blank_of_is attrs right_half e = cc
 
-pub run_blanks : (attrs : Attrs) (xs : List CellValue) → take (blank_run attrs xs) xs ≡ blanks attrs (blank_run attrs xs)
+pub run_blanks : (attrs : Attrs) (xs : List CellValue) →
+    take (blank_run attrs xs) xs ≡ blanks attrs (blank_run attrs xs)
 run_blanks attrs [] = refl
 run_blanks attrs (x ∷ xs) =
     cond_both (is_blank_of attrs x) (1 + blank_run attrs xs) 0 (λ (n : ℕ). take n (x ∷ xs) ≡ blanks attrs n)

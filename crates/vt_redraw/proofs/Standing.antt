@@ -1,5 +1,6 @@
 -- A row that the reader shows already needs nothing, and rows can be told apart.
-use Rattle.std.proofs.Common.{◌≡◌, ◌≢◌, ◌⊎◌, ℕ, zero, suc, ◌+◌, ◌-◌, ◌&&◌, Bool, true, false, not, List, [], ◌∷◌, inl, inr, refl, sym, ap, ◌∙◌, arith}
+use Rattle.std.proofs.Common.{◌≡◌, ◌≢◌, ◌⊎◌, ℕ, zero, suc, ◌+◌, ◌-◌, ◌&&◌, Bool, true, false}
+use Rattle.std.proofs.Common.{not, List, [], ◌∷◌, inl, inr, refl, sym, ap, ◌∙◌, arith}
 use Rattle.vt_cells.specs.Cell.{CellValue, blank, glyph, right_half, same_cell}
 use Rattle.vt_cells.proofs.SameCells.{cell_of-same, same_cell-itself}
 use Rattle.vt_rows.specs.Row.{RowValue}
@@ -8,13 +9,15 @@ use Rattle.vt_redraw.specs.declared.pen.Pen.{Pen}
 use Rattle.vt_redraw.specs.Script.{nothing, starts_other, cells_written, broken}
 use Rattle.vt_redraw.specs.Redraw.{row_written}
 
-pub cells_nothing : (r c k : ℕ) (pen : Pen) (flag : Bool) (xs : List CellValue) → cells_written r c pen flag k xs xs ≡ nothing pen flag
+pub cells_nothing : (r c k : ℕ) (pen : Pen) (flag : Bool) (xs : List CellValue) →
+    cells_written r c pen flag k xs xs ≡ nothing pen flag
 unfolding cells_written
 cells_nothing r c zero pen flag [] = refl
 cells_nothing r c (suc k) pen flag [] = refl
 cells_nothing r c (suc k) pen flag (x ∷ xs) = cells_nothing r (c + 1) k pen flag xs
 cells_nothing r c zero pen flag (blank a ∷ xs) = rw (same_cell-itself (blank a)) (cells_nothing r (c + 1) 0 pen flag xs)
-cells_nothing r c zero pen flag (glyph text wide a ∷ xs) = rw (same_cell-itself (glyph text wide a)) (cells_nothing r (c + 1) (first_columns wide - 1) pen flag xs)
+cells_nothing r c zero pen flag (glyph text wide a ∷ xs) =
+    rw (same_cell-itself (glyph text wide a)) (cells_nothing r (c + 1) (first_columns wide - 1) pen flag xs)
 cells_nothing r c zero pen flag (right_half ∷ xs) = cells_nothing r (c + 1) 0 pen flag xs
 
 pub row_nothing : (r k : ℕ) (pen : Pen) (x : RowValue) → row_written r k pen x.wrapped x x.cells ≡ nothing pen x.wrapped
@@ -59,7 +62,8 @@ bool_equal false false = inl refl
 pub row_equal : (x y : RowValue) → (x ≡ y) ⊎ (x ≢ y)
 row_equal x y = elim (cells_equal x.cells y.cells) [
   | inl e ↦ elim (bool_equal x.wrapped y.wrapped) [
-    | inl f ↦ inl (ap (λ (z : List CellValue). record x { cells = z }) e ∙ ap (λ (b : Bool). record y { wrapped = b }) f)
+    | inl f ↦
+        inl (ap (λ (z : List CellValue). record x { cells = z }) e ∙ ap (λ (b : Bool). record y { wrapped = b }) f)
     | inr ne ↦ inr (λ h. ne (ap (λ (z : RowValue). z.wrapped) h))
   ]
   | inr ne ↦ inr (λ h. ne (ap (λ (z : RowValue). z.cells) h))

@@ -1,5 +1,6 @@
 -- What single operations draw on a page whose region is all of it.
-use Rattle.std.proofs.Common.{◌≡◌, ℕ, zero, suc, ◌+◌, ◌-◌, ◌<◌, ◌≤◌, ◌==◌, ◌&&◌, nat_lt, min, true, false, List, [], ◌∷◌, length, Option, Some, refl, sym, ap, ◌∙◌, arith}
+use Rattle.std.proofs.Common.{◌≡◌, ℕ, zero, suc, ◌+◌, ◌-◌, ◌<◌, ◌≤◌, ◌==◌, ◌&&◌, nat_lt, min, true}
+use Rattle.std.proofs.Common.{false, List, [], ◌∷◌, length, Option, Some, refl, sym, ap, ◌∙◌, arith}
 use Rattle.std.proofs.lemmas.Bool.{cond_both, and_parts, eqb-true, ltb-true, ne_eqb, lt-ltb}
 use Rattle.vt_cells.proofs.Same.{attrs_of-same, changed_attrs-new}
 use Rattle.vt_cells.specs.Attrs.{same_attrs, Attrs}
@@ -32,17 +33,20 @@ pub record Within (pen : Pen) (height width : ℕ) : Type 0 where
 pens : (r row c col : ℕ) (attrs : Attrs) → r ≡ row → c ≡ col → pen_at r c attrs ≡ pen_at row col attrs
 pens r row c col attrs e f = rw (e, f) refl
 
-arrives : (ops : List Op) (a base : Canvas) (rows : List RowValue) (p q : Pen) → Draws ops a (at_pen base rows p) → p ≡ q → Draws ops a (at_pen base rows q)
+arrives : (ops : List Op) (a base : Canvas) (rows : List RowValue) (p q : Pen) →
+    Draws ops a (at_pen base rows p) → p ≡ q → Draws ops a (at_pen base rows q)
 arrives ops a base rows p q h e = h ∙ ap (λ (x : Pen). Some (at_pen base rows x)) e
 
 -- ---- moves
 
-next_row_draws : (base : Canvas) (rows : List RowValue) (pen : Pen) → (pen.row == base.page.bottom) ≡ false → nat_lt (pen.row + 1) (length rows) ≡ true →
+next_row_draws : (base : Canvas) (rows : List RowValue) (pen : Pen) →
+    (pen.row == base.page.bottom) ≡ false → nat_lt (pen.row + 1) (length rows) ≡ true →
     Draws (NextRow ∷ []) (at_pen base rows pen) (at_pen base rows (pen_at (pen.row + 1) 0 pen.attrs))
 unfolding line_feed
 next_row_draws base rows pen e f = rw (e, f) refl
 
-some_right : (n : ℕ) (canvas : Canvas) → 0 < n → drawn (MoveRight n) canvas ≡ Some (record canvas { page = moved_right n canvas.page })
+some_right : (n : ℕ) (canvas : Canvas) → 0 < n →
+    drawn (MoveRight n) canvas ≡ Some (record canvas { page = moved_right n canvas.page })
 some_right zero canvas h = absurd (omega arith)
 some_right (suc n) canvas h = refl
 
@@ -50,18 +54,22 @@ right_draws : (base : Canvas) (rows : List RowValue) (pen : Pen) (c : ℕ) → p
     Draws (MoveRight (c - pen.col) ∷ []) (at_pen base rows pen) (at_pen base rows (pen_at pen.row c pen.attrs))
 right_draws base rows pen c h l =
     let e : min (pen.col + (c - pen.col)) (base.page.width - 1) ≡ c = omega arith in
-    ap (λ (z : Option Canvas). and_then (drawn_all []) z) (some_right (c - pen.col) (at_pen base rows pen) (omega arith))
+    ap (λ (z : Option Canvas). and_then (drawn_all []) z)
+    (some_right (c - pen.col) (at_pen base rows pen) (omega arith))
     ∙ ap (λ (col : ℕ). Some (at_pen base rows (pen_at pen.row col pen.attrs))) e
 
-pub move_to_draws : (base : Canvas) (rows : List RowValue) (pen : Pen) (r c : ℕ) → base.page.origin ≡ false → r < length rows → c < base.page.width →
+pub move_to_draws : (base : Canvas) (rows : List RowValue) (pen : Pen) (r c : ℕ) →
+    base.page.origin ≡ false → r < length rows → c < base.page.width →
     Draws (MoveTo r c ∷ []) (at_pen base rows pen) (at_pen base rows (pen_at r c pen.attrs))
 move_to_draws base rows pen r c o h l =
     let e : min r (length rows - 1) ≡ r = omega arith in
     let f : min c (base.page.width - 1) ≡ c = omega arith in
     rw (o, e, f) refl
 
-pub going_draws : (base : Canvas) (rows : List RowValue) (pen : Pen) (r c height width : ℕ) → Reads base height width → length rows ≡ height →
-    Within pen height width → r < height → c < width → Draws (going pen r c) (at_pen base rows pen) (at_pen base rows (pen_at r c pen.attrs))
+pub going_draws : (base : Canvas) (rows : List RowValue) (pen : Pen) (r c height width : ℕ) →
+    Reads base height width → length rows ≡ height →
+    Within pen height width → r < height → c < width →
+    Draws (going pen r c) (at_pen base rows pen) (at_pen base rows (pen_at r c pen.attrs))
 unfolding going
 going_draws base rows pen r c height width reads size within h l =
     let P = λ (ops : List Op). Draws ops (at_pen base rows pen) (at_pen base rows (pen_at r c pen.attrs)) in
@@ -73,14 +81,16 @@ going_draws base rows pen r c height width reads size within h l =
     let e = eqb-true r (pen.row + 1) p.0 in
     let f = eqb-true c 0 p.1 in
     arrives (NextRow ∷ []) (at_pen base rows pen) base rows (pen_at (pen.row + 1) 0 pen.attrs) (pen_at r c pen.attrs)
-    (next_row_draws base rows pen (ne_eqb pen.row base.page.bottom (λ same. omega arith)) (lt-ltb (pen.row + 1) (length rows) (omega arith)))
+    (next_row_draws base rows pen (ne_eqb pen.row base.page.bottom (λ same. omega arith))
+    (lt-ltb (pen.row + 1) (length rows) (omega arith)))
     (pens (pen.row + 1) r 0 c pen.attrs (sym e) (sym f)))
     (λ _. cond_both ((r == pen.row) && nat_lt pen.col c) (MoveRight (c - pen.col) ∷ []) _ P
     (λ (t : ((r == pen.row) && nat_lt pen.col c) ≡ true).
     let p = and_parts (r == pen.row) (nat_lt pen.col c) t in
     let e = eqb-true r pen.row p.0 in
     let f = ltb-true pen.col c p.1 in
-    arrives (MoveRight (c - pen.col) ∷ []) (at_pen base rows pen) base rows (pen_at pen.row c pen.attrs) (pen_at r c pen.attrs)
+    arrives (MoveRight (c - pen.col) ∷ []) (at_pen base rows pen)
+    base rows (pen_at pen.row c pen.attrs) (pen_at r c pen.attrs)
     (right_draws base rows pen c f (omega arith))
     (pens pen.row r c c pen.attrs (sym e) refl))
     (λ _. cond_both ((r == pen.row) && (c == pen.col)) [] (MoveTo r c ∷ []) P
@@ -98,5 +108,6 @@ unfolding changing
 changing_draws base rows pen attrs =
     let P = λ (ops : List Op). Draws ops (at_pen base rows pen) (at_pen base rows (pen_at pen.row pen.col attrs)) in
     cond_both (same_attrs pen.attrs attrs) [] (ChangeAttrs pen.attrs attrs ∷ []) P
-    (λ (t : same_attrs pen.attrs attrs ≡ true). ap (λ (a : Attrs). Some (at_pen base rows (pen_at pen.row pen.col a))) (attrs_of-same pen.attrs attrs t))
+    (λ (t : same_attrs pen.attrs attrs ≡ true). ap
+    (λ (a : Attrs). Some (at_pen base rows (pen_at pen.row pen.col a))) (attrs_of-same pen.attrs attrs t))
     (λ _. ap (λ (a : Attrs). Some (at_pen base rows (pen_at pen.row pen.col a))) (changed_attrs-new pen.attrs attrs))

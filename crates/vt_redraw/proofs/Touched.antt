@@ -1,12 +1,15 @@
 -- What operations draw together with what they touch.
-use Rattle.std.proofs.Common.{◌≡◌, ℕ, zero, suc, ◌+◌, ◌-◌, ◌<◌, ◌≤◌, ◌==◌, ◌&&◌, ◌||◌, ◌⊎◌, nat_lt, Bool, true, false, List, [], ◌∷◌, ◌++◌, length, replicate, Option, Some, None, inl, inr, refl, sym, ap, ◌∙◌, subst, arith}
+use Rattle.std.proofs.Common.{◌≡◌, ℕ, zero, suc, ◌+◌, ◌-◌, ◌<◌, ◌≤◌, ◌==◌, ◌&&◌, ◌||◌, ◌⊎◌, nat_lt}
+use Rattle.std.proofs.Common.{Bool, true, false, List, [], ◌∷◌, ◌++◌, length, replicate, Option}
+use Rattle.std.proofs.Common.{Some, None, inl, inr, refl, sym, ap, ◌∙◌, subst, arith}
 use Rattle.std.specs.Prelude.{nat_le}
 use Rattle.std.proofs.lemmas.Bool.{cond_both}
 use Rattle.std.proofs.lemmas.Bool.Decides.{nat_tests}
 use Rattle.std.proofs.lemmas.List.{get_or-append_right}
 use Rattle.vt_cells.specs.Attrs.{same_attrs, Attrs}
 use Rattle.vt_cells.specs.Cell.{CellValue, blank, glyph, right_half, default_blank, is_wide, is_right_half}
-use Rattle.vt_cells.specs.Op.{Op, Hide, ClearAttrs, MoveTo, MoveRight, NextRow, LineFeed, Backspace, EraseBelow, EraseRest, EraseChars, SaveCursor, RestoreCursor, ChangeAttrs, Print}
+use Rattle.vt_cells.specs.Op.{Op, Hide, ClearAttrs, MoveTo, MoveRight, NextRow, LineFeed, Backspace, EraseBelow}
+use Rattle.vt_cells.specs.Op.{EraseRest, EraseChars, SaveCursor, RestoreCursor, ChangeAttrs, Print}
 use Rattle.vt_rows.specs.Cells.{at}
 use Rattle.vt_rows.specs.Row.{RowValue}
 use Rattle.vt_grid.specs.Canvas.{Canvas, and_then, drawn_all}
@@ -30,12 +33,17 @@ pub some_same : (a b : Canvas) → Some a ≡ Some b → a ≡ b
 unfolding canvas_or
 some_same a b e = ap (canvas_or a) e
 
-touches_then : (May : ℕ → ℕ → Type 0) (xs ys : List Op) (a b : Canvas) → Touches May xs a → Draws xs a b → Touches May ys b → Touches May (xs ++ ys) a
+touches_then : (May : ℕ → ℕ → Type 0) (xs ys : List Op) (a b : Canvas) →
+    Touches May xs a → Draws xs a b → Touches May ys b → Touches May (xs ++ ys) a
 touches_then May [] ys a b t d u = subst (Touches May ys) (sym (some_same a b d)) u
-touches_then May (x ∷ xs) ys a b t d u =
-    (t.0, λ next e. touches_then May xs ys next b (t.1 next e) (sym (ap (λ (z : Option Canvas). and_then (drawn_all xs) z) e) ∙ d) u)
+touches_then May (x ∷ xs) ys a b t d u = (
+  t.0,
+  λ next e. touches_then May xs ys next b (t.1 next e)
+      (sym (ap (λ (z : Option Canvas). and_then (drawn_all xs) z) e) ∙ d) u,
+)
 
-pub in_then : (May : ℕ → ℕ → Type 0) (xs ys : List Op) (a b c : Canvas) → DrawsIn May xs a b → DrawsIn May ys b c → DrawsIn May (xs ++ ys) a c
+pub in_then : (May : ℕ → ℕ → Type 0) (xs ys : List Op) (a b c : Canvas) →
+    DrawsIn May xs a b → DrawsIn May ys b c → DrawsIn May (xs ++ ys) a c
 in_then May xs ys a b c h k = record {
   draws = draws_then xs ys a b c h.draws k.draws;
   touches = touches_then May xs ys a b h.touches h.draws k.touches;
@@ -87,7 +95,8 @@ pub quiet_touches : (May : ℕ → ℕ → Type 0) (ops : List Op) (canvas : Can
 quiet_touches May [] canvas h = tt
 quiet_touches May (op ∷ ops) canvas h = (quiet_op May op canvas h.0, λ next e. quiet_touches May ops next h.1)
 
-pub quiet_in : (May : ℕ → ℕ → Type 0) (ops : List Op) (a b : Canvas) → AllQuiet ops → Draws ops a b → DrawsIn May ops a b
+pub quiet_in : (May : ℕ → ℕ → Type 0) (ops : List Op) (a b : Canvas) →
+    AllQuiet ops → Draws ops a b → DrawsIn May ops a b
 quiet_in May ops a b h d = record { draws = d; touches = quiet_touches May ops a h }
 
 pub going_quiet : (pen : Pen) (r c : ℕ) → AllQuiet (going pen r c)
@@ -99,7 +108,8 @@ going_quiet pen r c =
 
 pub changing_quiet : (was new : Attrs) → AllQuiet (changing was new)
 unfolding changing
-changing_quiet was new = cond_both (same_attrs was new) [] (ChangeAttrs was new ∷ []) AllQuiet (λ _. tt) (λ _. (refl, tt))
+changing_quiet was new =
+    cond_both (same_attrs was new) [] (ChangeAttrs was new ∷ []) AllQuiet (λ _. tt) (λ _. (refl, tt))
 
 pub feeds_quiet : (n : ℕ) → AllQuiet (replicate n LineFeed)
 feeds_quiet zero = tt
@@ -107,7 +117,8 @@ feeds_quiet (suc n) = (refl, feeds_quiet n)
 
 -- ---- a change at a boundary of a row
 
-last_not_wide : (pre rest : List CellValue) (k : ℕ) → Paired pre → suc k ≡ length pre → is_wide (at (pre ++ rest) k) ≡ false
+last_not_wide : (pre rest : List CellValue) (k : ℕ) → Paired pre →
+    suc k ≡ length pre → is_wide (at (pre ++ rest) k) ≡ false
 last_not_wide [] rest k h e = absurd (omega arith)
 last_not_wide (blank a ∷ pre) rest zero h e = refl
 last_not_wide (blank a ∷ pre) rest (suc k) h e = last_not_wide pre rest k h (omega arith)
@@ -121,24 +132,30 @@ last_not_wide (glyph text true a ∷ right_half ∷ pre) rest (suc zero) h e = r
 last_not_wide (glyph text true a ∷ right_half ∷ pre) rest (suc (suc k)) h e = last_not_wide pre rest k h (omega arith)
 last_not_wide (right_half ∷ pre) rest k h e = absurd h
 
-touched_or : (inside before behind : Bool) → (inside || (before || behind)) ≡ true → before ≡ false → (inside ≡ true) ⊎ (behind ≡ true)
+touched_or : (inside before behind : Bool) → (inside || (before || behind)) ≡ true →
+    before ≡ false → (inside ≡ true) ⊎ (behind ≡ true)
 touched_or true before behind h n = inl refl
 touched_or false true behind h n = absurd (cc)
 touched_or false false behind h n = inr h
 
-no_left : (pre rest : List CellValue) (c k : ℕ) → length pre ≡ c → Paired pre → ((k + 1 == c) && is_wide (at (pre ++ rest) k)) ≡ false
+no_left : (pre rest : List CellValue) (c k : ℕ) → length pre ≡ c →
+    Paired pre → ((k + 1 == c) && is_wide (at (pre ++ rest) k)) ≡ false
 no_left pre rest c k e h = by_test (k + 1 == c) refl where
   by_test : (b : Bool) → (k + 1 == c) ≡ b → (b && is_wide (at (pre ++ rest) k)) ≡ false
   by_test false t = refl
   by_test true t = let same : k + 1 ≡ c = grind (arith, nat_tests) in last_not_wide pre rest k h (omega arith)
 
 -- what a change of n columns behind `pre` touches: these, and a right half behind them
-pub changes_at : (May : ℕ → ℕ → Type 0) (base : Canvas) (done below : List RowValue) (pre rest : List CellValue) (flag : Bool) (r c n col : ℕ) (a : Attrs) → length done ≡ r → length pre ≡ c → Paired pre →
+pub changes_at : (May : ℕ → ℕ → Type 0) (base : Canvas) (done below : List RowValue)
+    (pre rest : List CellValue) (flag : Bool) (r c n col : ℕ) (a : Attrs) →
+    length done ≡ r → length pre ≡ c → Paired pre →
     ((k : ℕ) → c ≤ k → k < c + n → May r k) → (is_right_half (at rest n) ≡ true → May r (c + n)) →
     Changes May c n (mid base done below (pre ++ rest) flag (pen_at r col a)).page
 changes_at May base done below pre rest flag r c n col a e l h inside behind k t =
-    let row = ap (λ (row : RowValue). is_touched c n row.cells k) (cursor_row_is base done below (pre ++ rest) flag (pen_at r col a) e) in
-    elim (touched_or (nat_le c k && nat_lt k (c + n)) ((k + 1 == c) && is_wide (at (pre ++ rest) k)) ((k == c + n) && is_right_half (at (pre ++ rest) k)) (sym row ∙ t) (no_left pre rest c k l h)) [
+    let row = ap (λ (row : RowValue). is_touched c n row.cells k)
+    (cursor_row_is base done below (pre ++ rest) flag (pen_at r col a) e) in
+    elim (touched_or (nat_le c k && nat_lt k (c + n)) ((k + 1 == c) && is_wide (at (pre ++ rest) k))
+    ((k == c + n) && is_right_half (at (pre ++ rest) k)) (sym row ∙ t) (no_left pre rest c k l h)) [
       | inl u ↦ let p : (c ≤ k) × (k < c + n) = grind (arith, nat_tests) in inside k p.0 p.1
       | inr u ↦
           let same : k ≡ c + n = grind (arith, nat_tests) in

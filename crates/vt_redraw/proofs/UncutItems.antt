@@ -1,5 +1,6 @@
 -- Items of ranges that cut nothing, and of rows that do not go on.
-use Rattle.std.proofs.Common.{◌≡◌, ℕ, zero, suc, ◌+◌, ◌-◌, ◌<◌, ◌≤◌, ◌&&◌, Bool, true, false, not, List, [], ◌∷◌, ◌++◌, length, take, drop, refl, sym, ap, ◌∙◌, arith}
+use Rattle.std.proofs.Common.{◌≡◌, ℕ, zero, suc, ◌+◌, ◌-◌, ◌<◌, ◌≤◌, ◌&&◌, Bool, true, false, not}
+use Rattle.std.proofs.Common.{List, [], ◌∷◌, ◌++◌, length, take, drop, refl, sym, ap, ◌∙◌, arith}
 use Rattle.std.proofs.lemmas.Bool.{cond_both}
 use Rattle.std.proofs.lemmas.Bool.Decides.{nat_tests}
 use Rattle.vt_cells.specs.Attrs.{default_attrs}
@@ -11,14 +12,16 @@ use Rattle.vt_grid.specs.Page.{row_or}
 use Rattle.vt_redraw.specs.Items.{range_written, is_whole, item_of_difference, linked_item, CutsNone}
 use Rattle.vt_redraw.specs.Picture.{Picture, IsPicture}
 use Rattle.vt_cells.specs.Glyph.{first_columns}
-use Rattle.vt_redraw.specs.Script.{Scripted, nothing, after, pen_at, blank_run, doing, erase_run, flag_past, flag_behind, cells_written, first_written, broken, going_behind}
+use Rattle.vt_redraw.specs.Script.{Scripted, nothing, after, pen_at, blank_run, doing, erase_run, flag_past}
+use Rattle.vt_redraw.specs.Script.{flag_behind, cells_written, first_written, broken, going_behind}
 use Rattle.vt_redraw.specs.declared.pen.Pen.{Pen}
 use Rattle.vt_redraw.proofs.Halves.{Paired, paired_of}
 use Rattle.vt_redraw.proofs.RangeDraws.{IsClean}
 
 -- ---- ranges that cut nothing
 
-split_paired : (n : ℕ) (xs : List CellValue) → Paired xs → is_right_half (at xs n) ≡ false → Paired (take n xs) × Paired (drop n xs)
+split_paired : (n : ℕ) (xs : List CellValue) → Paired xs →
+    is_right_half (at xs n) ≡ false → Paired (take n xs) × Paired (drop n xs)
 split_paired zero xs h e = (tt, h)
 split_paired (suc n) [] h e = (tt, tt)
 split_paired (suc n) (blank a ∷ xs) h e = split_paired n xs h e
@@ -33,9 +36,11 @@ split_paired (suc n) (right_half ∷ xs) h e = absurd h
 at_dropped : (n k : ℕ) (xs : List CellValue) → at (drop n xs) k ≡ at xs (n + k)
 at_dropped zero k xs = let e : 0 + k ≡ k = omega arith in ap (at xs) (sym e)
 at_dropped (suc n) k [] = refl
-at_dropped (suc n) k (x ∷ xs) = let e : suc n + k ≡ suc (n + k) = omega arith in at_dropped n k xs ∙ ap (at (x ∷ xs)) (sym e)
+at_dropped (suc n) k (x ∷ xs) =
+    let e : suc n + k ≡ suc (n + k) = omega arith in at_dropped n k xs ∙ ap (at (x ∷ xs)) (sym e)
 
-pub clean_range : (start stop : ℕ) (xs ys : List CellValue) → start ≤ stop → Paired xs → Paired ys → CutsNone start stop xs → CutsNone start stop ys → IsClean start stop xs ys
+pub clean_range : (start stop : ℕ) (xs ys : List CellValue) → start ≤ stop → Paired xs →
+    Paired ys → CutsNone start stop xs → CutsNone start stop ys → IsClean start stop xs ys
 clean_range start stop xs ys le h k cx cy =
     let one = split_paired start ys k cy.0 in
     let e : start + (stop - start) ≡ stop = omega arith in
@@ -67,7 +72,8 @@ first_half (glyph text wide a ∷ xs) h = refl
 first_half (right_half ∷ xs) h = absurd h
 
 -- a whole row is a range that cuts nothing
-pub whole_cuts_none : (self : Picture) (r : ℕ) → IsPicture self → r < length self.rows → CutsNone 0 self.width (row_or self.width self.rows r).cells
+pub whole_cuts_none : (self : Picture) (r : ℕ) → IsPicture self →
+    r < length self.rows → CutsNone 0 self.width (row_or self.width self.rows r).cells
 whole_cuts_none self r is low =
     let row = is.rows r (blank_row default_attrs self.width) low in
     let e = row.columns in
@@ -76,7 +82,8 @@ whole_cuts_none self r is low =
 
 -- ---- rows that do not go on stay so
 
-pub cells_off : (r c : ℕ) (pen : Pen) (k : ℕ) (xs ys : List CellValue) → (cells_written r c pen false k xs ys).flag ≡ false
+pub cells_off : (r c : ℕ) (pen : Pen) (k : ℕ) (xs ys : List CellValue) →
+    (cells_written r c pen false k xs ys).flag ≡ false
 unfolding cells_written
 cells_off r c pen k [] ys = refl
 cells_off r c pen k (x ∷ xs) [] = refl
@@ -85,13 +92,15 @@ cells_off r c pen zero (right_half ∷ xs) (y ∷ ys) = cells_off r (c + 1) pen 
 cells_off r c pen zero (blank a ∷ xs) (y ∷ ys) =
     let n = blank_run a xs in
     let rest = cells_written r (c + 1) (pen_at r c a) (flag_past false (drop n ys)) n xs ys in
-    cond_both (same_cell (blank a) y) (cells_written r (c + 1) pen false zero xs ys) (after (doing pen r c a (erase_run (suc n) (drop n ys))) rest) (λ (w : Scripted). w.flag ≡ false)
+    cond_both (same_cell (blank a) y) (cells_written r (c + 1) pen false zero xs ys)
+    (after (doing pen r c a (erase_run (suc n) (drop n ys))) rest) (λ (w : Scripted). w.flag ≡ false)
     (λ _. cells_off r (c + 1) pen zero xs ys) (λ _. cells_off r (c + 1) (pen_at r c a) n xs ys)
 cells_off r c pen zero (glyph text wide a ∷ xs) (y ∷ ys) =
     let k = first_columns wide - 1 in
     let next = pen_at r (c + first_columns wide) a in
     let rest = cells_written r (c + 1) next (flag_behind false wide (drop 1 ys)) k xs ys in
-    cond_both (same_cell (glyph text wide a) y) (cells_written r (c + 1) pen false k xs ys) (after (doing pen r c a (Print text)) rest) (λ (w : Scripted). w.flag ≡ false)
+    cond_both (same_cell (glyph text wide a) y) (cells_written r (c + 1) pen false k xs ys)
+    (after (doing pen r c a (Print text)) rest) (λ (w : Scripted). w.flag ≡ false)
     (λ _. cells_off r (c + 1) pen k xs ys) (λ _. cells_off r (c + 1) next k xs ys)
 
 first_off : (r : ℕ) (pen : Pen) (xs ys : List CellValue) → (first_written r pen false xs ys).flag ≡ false
@@ -105,7 +114,9 @@ pub linked_off : (r : ℕ) (xs : List CellValue) → (linked_item r xs).flag ≡
 linked_off r xs =
     let ys = blanks default_attrs (length xs) in
     let first = first_written r (pen_at r 0 default_attrs) false xs ys in
-    ap (λ (b : Bool). (cells_written r 0 first.pen b first.settled xs ys).flag) (first_off r (pen_at r 0 default_attrs) xs ys) ∙ cells_off r 0 first.pen first.settled xs ys
+    ap (λ (b : Bool). (cells_written r 0 first.pen b first.settled xs ys).flag)
+    (first_off r (pen_at r 0 default_attrs) xs ys)
+    ∙ cells_off r 0 first.pen first.settled xs ys
 
 broken_off : (r : ℕ) (pen : Pen) (flag : Bool) (cells : List CellValue) → (broken r pen flag false cells).flag ≡ false
 unfolding broken
@@ -113,11 +124,19 @@ broken_off r pen true cells = refl
 broken_off r pen false cells = refl
 
 -- a whole item leaves the flag off where the row does not go on
-pub item_off : (r width : ℕ) (x y : RowValue) → length x.cells ≡ width → x.wrapped ≡ false → (item_of_difference r 0 width x y).flag ≡ false
+pub item_off : (r width : ℕ) (x y : RowValue) → length x.cells ≡ width →
+    x.wrapped ≡ false → (item_of_difference r 0 width x y).flag ≡ false
 item_off r width x y e off =
     let w = range_written r 0 width y.wrapped x.cells y.cells in
     let b = broken r w.pen w.flag x.wrapped x.cells in
     let t : is_whole 0 width (length x.cells) ≡ true = grind (arith, nat_tests) in
-    let none : b.flag ≡ false = ap (λ (f : Bool). (broken r w.pen w.flag f x.cells).flag) off ∙ broken_off r w.pen w.flag x.cells in
-    rw t (cond_both (x.wrapped && not b.flag) (record { ops = (after w.ops b).ops ++ (going_behind r (after w.ops b).pen x.cells).ops; pen = (going_behind r (after w.ops b).pen x.cells).pen; flag = b.flag }) (after w.ops b) (λ (v : Scripted). v.flag ≡ false)
+    let none : b.flag ≡ false =
+    ap (λ (f : Bool). (broken r w.pen w.flag f x.cells).flag) off ∙ broken_off r w.pen w.flag x.cells in
+    rw t (cond_both (x.wrapped && not b.flag)
+    (record {
+      ops = (after w.ops b).ops ++ (going_behind r (after w.ops b).pen x.cells).ops;
+      pen = (going_behind r (after w.ops b).pen x.cells).pen;
+      flag = b.flag;
+    })
+    (after w.ops b) (λ (v : Scripted). v.flag ≡ false)
     (λ _. none) (λ _. none))

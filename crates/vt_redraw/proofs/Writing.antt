@@ -17,7 +17,8 @@ no_change was new t = rw t refl
 pub changing_bytes : (was new : Attrs) → bytes_of_all (changing was new) ≡ change_text was new
 unfolding changing
 changing_bytes was new =
-    cond_both (same_attrs was new) [] (ChangeAttrs was new ∷ []) (λ (ops : List Op). bytes_of_all ops ≡ change_text was new)
+    cond_both (same_attrs was new) [] (ChangeAttrs was new ∷ [])
+    (λ (ops : List Op). bytes_of_all ops ≡ change_text was new)
     (no_change was new) (λ _. append-nil (change_text was new))
 
 pub change_written : (was new : Attrs) → change_text was new ≡ bytes_of_all (changing was new)
@@ -40,7 +41,8 @@ going_none pen row col t =
 
 -- ---- the test for a blank in given attributes
 
-pub is_blank_of-blank : (attrs : Attrs) (x : CellValue) → is_blank x ≡ true → same_attrs attrs (attrs_of x) ≡ is_blank_of attrs x
+pub is_blank_of-blank : (attrs : Attrs) (x : CellValue) →
+    is_blank x ≡ true → same_attrs attrs (attrs_of x) ≡ is_blank_of attrs x
 is_blank_of-blank attrs (blank b) h = refl
 is_blank_of-blank attrs (glyph text wide b) h = cc
 is_blank_of-blank attrs right_half h = cc

@@ -1,9 +1,11 @@
--- The operations whose texts read back as they were meant: numbers that a terminal keeps whole, and texts that it prints.
+-- The operations whose texts read back as they were meant: numbers that a terminal keeps whole, and texts that it
+-- prints.
 use Rattle.std.specs.Prelude.{◌≡◌, ◌≢◌, ℕ, ◌<◌, ◌^◌, List, None, encode_utf8_all}
 use Rattle.std.specs.Char.{IsScalar}
 use Rattle.std.specs.List.{AllByRecursion}
 use Rattle.vt_cells.specs.Glyph.{columns_of}
-use Rattle.vt_cells.specs.Op.{Op, Hide, ClearAttrs, MoveTo, MoveRight, NextRow, LineFeed, Backspace, EraseBelow, EraseRest, EraseChars, SaveCursor, RestoreCursor, ChangeAttrs, Print, FitsAttrs}
+use Rattle.vt_cells.specs.Op.{Op, Hide, ClearAttrs, MoveTo, MoveRight, NextRow, LineFeed, Backspace, EraseBelow}
+use Rattle.vt_cells.specs.Op.{EraseRest, EraseChars, SaveCursor, RestoreCursor, ChangeAttrs, Print, FitsAttrs}
 
 -- a character that is drawn, or joins the one before it
 pub record IsPrintable (c : ℕ) : Type 0 where

@@ -1,5 +1,7 @@
--- One row written for itself: its columns from `start` up to `stop`, for a reader whose cursor is at (r, start) with default attributes.
-use Rattle.std.specs.Prelude.{◌≡◌, ℕ, zero, suc, ◌-◌, ◌==◌, ◌&&◌, not, Bool, true, false, List, [], ◌∷◌, ◌++◌, length, take, drop, if◌then◌else◌}
+-- One row written for itself: its columns from `start` up to `stop`, for a reader whose cursor is at (r,
+-- start) with default attributes.
+use Rattle.std.specs.Prelude.{◌≡◌, ℕ, zero, suc, ◌-◌, ◌==◌, ◌&&◌, not, Bool, true, false}
+use Rattle.std.specs.Prelude.{List, [], ◌∷◌, ◌++◌, length, take, drop, if◌then◌else◌}
 use Rattle.vt_cells.specs.Attrs.{default_attrs}
 use Rattle.vt_cells.specs.Cell.{CellValue, blank, glyph, right_half, default_blank, is_right_half}
 use Rattle.vt_rows.specs.Cells.{at, blanks}
@@ -31,7 +33,8 @@ begun_over _ ys = ys
 -- the cells of the range
 abbrev pub range_written : (r start stop : ℕ) → Bool → (xs ys : List CellValue) → Scripted
 range_written r start stop flag xs ys =
-    cells_written r start (pen_at r start default_attrs) flag 0 (begun (in_range start stop xs)) (begun_over (in_range start stop xs) (drop start ys))
+    cells_written r start (pen_at r start default_attrs) flag 0
+    (begun (in_range start stop xs)) (begun_over (in_range start stop xs) (drop start ys))
 
 abbrev pub is_whole : (start stop width : ℕ) → Bool
 is_whole start stop width = (start == 0) && (stop == width)
@@ -39,7 +42,12 @@ is_whole start stop width = (start == 0) && (stop == width)
 -- where the row is to go on below and the reader's does not, its last glyph is printed again
 abbrev pub marked_on : ℕ → Scripted → Bool → List CellValue → Scripted
 marked_on r w wanted cells =
-    if wanted && not w.flag then record { ops = w.ops ++ (going_behind r w.pen cells).ops; pen = (going_behind r w.pen cells).pen; flag = w.flag } else w
+    if wanted && not w.flag
+    then record {
+      ops = w.ops ++ (going_behind r w.pen cells).ops;
+      pen = (going_behind r w.pen cells).pen;
+      flag = w.flag;
+    } else w
 
 -- the row above row r, of rows of this width, goes on below
 abbrev pub is_linked : (width : ℕ) → List RowValue → ℕ → Bool
@@ -75,7 +83,8 @@ with_range start stop xs ys = take start ys ++ (in_range start stop xs ++ drop s
 abbrev pub CutsNone : (start stop : ℕ) → List CellValue → Type 0
 CutsNone start stop cells = (is_right_half (at cells start) ≡ false) × (is_right_half (at cells stop) ≡ false)
 
--- a plain canvas of a picture's size that has this row as its row r, and the cursor in column c of it, with default attributes
+-- a plain canvas of a picture's size that has this row as its row r,
+-- and the cursor in column c of it, with default attributes
 pub record AwaitsItem (self : Picture) (r c : ℕ) (stood : RowValue) (any : Canvas) : Type 0 where
   pub plain : IsPlainPage any.page
   pub is : IsPicture (picture_of any)
@@ -87,11 +96,13 @@ pub record AwaitsItem (self : Picture) (r c : ℕ) (stood : RowValue) (any : Can
 
 -- the row after an item of a difference over it
 abbrev pub changed_row : (r start stop : ℕ) → (x y : RowValue) → RowValue
-changed_row r start stop x y = record { cells = with_range start stop x.cells y.cells; wrapped = (item_of_difference r start stop x y).flag }
+changed_row r start stop x y =
+    record { cells = with_range start stop x.cells y.cells; wrapped = (item_of_difference r start stop x y).flag }
 
 -- the row after an item of a redraw over a blank row
 abbrev pub formatted_row : (start stop width : ℕ) → RowValue → RowValue
-formatted_row start stop width x = record { cells = with_range start stop x.cells (blanks default_attrs width); wrapped = false }
+formatted_row start stop width x =
+    record { cells = with_range start stop x.cells (blanks default_attrs width); wrapped = false }
 
 -- a canvas with another row as its row r, its cursor and attributes at a pen
 abbrev pub row_drawn : ℕ → RowValue → Pen → Canvas → Canvas

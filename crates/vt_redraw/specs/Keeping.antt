@@ -1,5 +1,6 @@
 -- How the code reads pictures, and how far a writer has come; for models, private contracts and proofs only.
-use Rattle.std.specs.Prelude.{◌≡◌, ℕ, ◌+◌, ◌-◌, ◌<◌, ◌≤◌, ◌^◌, ◌&&◌, nat_lt, not, Bool, true, List, [], ◌++◌, length, replicate, drop, All, if◌then◌else◌}
+use Rattle.std.specs.Prelude.{◌≡◌, ℕ, ◌+◌, ◌-◌, ◌<◌, ◌≤◌, ◌^◌, ◌&&◌, nat_lt, not, Bool, true}
+use Rattle.std.specs.Prelude.{List, [], ◌++◌, length, replicate, drop, All, if◌then◌else◌}
 use Rattle.vt_cells.specs.Attrs.{default_attrs}
 use Rattle.vt_cells.specs.Cell.{CellValue, blank, default_blank, is_blank, is_wide, is_right_half, attrs_of}
 use Rattle.vt_cells.specs.Op.{Op, bytes_of_all}
@@ -34,8 +35,8 @@ kept_len cols cells = if is_split cols cells then cols - 1 else cols
 abbrev pub end_of : ℕ → List CellValue → CellValue
 end_of cols cells = if is_split cols cells then blank (attrs_of (at cells (cols - 1))) else default_blank
 
--- what is asked of the cells of a range: a wide glyph has its right half there, unless it begins in the range's last column, and then in the
--- row that the reader shows there is a column for it
+-- what is asked of the cells of a range: a wide glyph has its right half there, unless it begins in the range's last
+-- column, and then in the row that the reader shows there is a column for it
 pub record IsRange (cells over : List CellValue) : Type 0 where
   pub inside : length cells ≤ length over
   pub halves : (k : ℕ) → is_wide (at cells k) ≡ true → k + 1 < length cells → is_right_half (at cells (k + 1)) ≡ true
@@ -43,7 +44,10 @@ pub record IsRange (cells over : List CellValue) : Type 0 where
 
 -- a row of a picture: cut or grown, and going on below only where it is not the last one
 abbrev pub cut_row : (is_last : Bool) → ℕ → RowValue → RowValue
-cut_row is_last width row = record { cells = resized width row.cells; wrapped = not is_last && (row.wrapped && not (ends_blank (resized width row.cells))) }
+cut_row is_last width row = record {
+  cells = resized width row.cells;
+  wrapped = not is_last && (row.wrapped && not (ends_blank (resized width row.cells)));
+}
 
 -- what is asked of the rows that a picture is read from, those of a page with scrollback above it, and of its pen
 pub record IsSource (above : Scrollback) (rows : List RowValue) (width : ℕ) (pen : Pen) : Type 0 where
@@ -57,7 +61,8 @@ pub record IsSource (above : Scrollback) (rows : List RowValue) (width : ℕ) (p
 -- the picture that is read from them, or a blank one
 abbrev pub viewed : (is_blank : Bool) → Scrollback → List RowValue → ℕ → Pen → Bool → Picture
 viewed is_blank above rows width pen hidden = record {
-  rows = if is_blank then replicate (length rows) (blank_row default_attrs width) else cut_rows width (visible above rows);
+  rows =
+      if is_blank then replicate (length rows) (blank_row default_attrs width) else cut_rows width (visible above rows);
   width = width;
   row = pen.row;
   column = pen.col;

@@ -1,5 +1,6 @@
 -- Where a difference may draw: near what differs, and not on glyphs that stand alike in both pictures.
-use Rattle.std.specs.Prelude.{◌≡◌, ◌≢◌, ◌⊎◌, ℕ, ◌-◌, ◌<◌, ◌≤◌, ◌&&◌, Bool, true, List, Option, Some, None, if◌then◌else◌}
+use Rattle.std.specs.Prelude.{◌≡◌, ◌≢◌, ◌⊎◌, ℕ, ◌-◌, ◌<◌, ◌≤◌, ◌&&◌, Bool, true}
+use Rattle.std.specs.Prelude.{List, Option, Some, None, if◌then◌else◌}
 use Rattle.vt_cells.specs.Cell.{CellValue, is_glyph, is_right_half, same_cell}
 use Rattle.vt_rows.specs.Cells.{at}
 use Rattle.vt_rows.specs.Row.{RowValue}
@@ -32,7 +33,8 @@ abbrev pub MayDraw : (self prev : Picture) → ℕ → ℕ → Type 0
 MayDraw self prev r c =
     IsNear self prev r
     × (stands_alike (row_of_picture self r).cells (row_of_picture prev r).cells c ≡ true
-    → (begin_of (row_of_picture self r).cells c ≡ 0) ⊎ (begin_of (row_of_picture self r).cells c ≡ last_column (row_of_picture self r).cells))
+    → (begin_of (row_of_picture self r).cells c ≡ 0)
+    ⊎ (begin_of (row_of_picture self r).cells c ≡ last_column (row_of_picture self r).cells))
 
 -- the row by whose end a pending wrap is placed
 abbrev pub placing_row : Option ℕ → ℕ → ℕ
@@ -42,7 +44,9 @@ placing_row (Some i) r = i
 -- the last glyph, or the blank last column, of that row
 abbrev pub MayPlace : Picture → ℕ → ℕ → Type 0
 MayPlace self r c =
-    (self.column ≡ self.width) × ((r ≡ placing_row (nearest self.width self.rows self.row) self.row) × (last_column (row_of_picture self r).cells ≤ c))
+    (self.column ≡ self.width)
+    × ((r ≡ placing_row (nearest self.width self.rows self.row) self.row)
+    × (last_column (row_of_picture self r).cells ≤ c))
 
 -- all that a difference may touch
 abbrev pub IsLocal : (self prev : Picture) → ℕ → ℕ → Type 0

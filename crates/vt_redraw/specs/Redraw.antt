@@ -1,15 +1,18 @@
 -- The difference of two pictures, and the redraw of one, as lists of operations.
-use Rattle.std.specs.Prelude.{ℕ, suc, zero, ◌+◌, ◌-◌, nat_lt, Bool, false, List, [], ◌∷◌, ◌++◌, length, replicate, Option, Some, None, if◌then◌else◌}
+use Rattle.std.specs.Prelude.{ℕ, suc, zero, ◌+◌, ◌-◌, nat_lt, Bool, false, List, [], ◌∷◌}
+use Rattle.std.specs.Prelude.{◌++◌, length, replicate, Option, Some, None, if◌then◌else◌}
 use Rattle.vt_cells.specs.Attrs.{default_attrs, same_bool, Attrs}
 use Rattle.vt_cells.specs.Cell.{CellValue, attrs_of, text_of}
-use Rattle.vt_cells.specs.Op.{Op, Hide, ClearAttrs, MoveTo, EraseBelow, EraseChars, LineFeed, Backspace, SaveCursor, RestoreCursor, Print}
+use Rattle.vt_cells.specs.Op.{Op, Hide, ClearAttrs, MoveTo, EraseBelow, EraseChars}
+use Rattle.vt_cells.specs.Op.{LineFeed, Backspace, SaveCursor, RestoreCursor, Print}
 use Rattle.vt_rows.specs.Cells.{at, ends_blank}
 use Rattle.vt_rows.specs.Row.{RowValue, blank_row}
 use Rattle.vt_grid.specs.Page.{row_or}
 use Rattle.vt_redraw.specs.Script.{pen_at, going, changing}
 use Rattle.vt_redraw.specs.declared.pen.Pen.{Pen}
 use Rattle.vt_redraw.specs.Picture.{Picture}
-use Rattle.vt_redraw.specs.Script.{Scripted, nothing, after, is_at, going_behind, last_column, last_glyph, cells_written, Linked, unlinked, linked, broken}
+use Rattle.vt_redraw.specs.Script.{Scripted, nothing, after, is_at, going_behind, last_column}
+use Rattle.vt_redraw.specs.Script.{last_glyph, cells_written, Linked, unlinked, linked, broken}
 
 -- ---- the rows from the top
 
@@ -21,7 +24,8 @@ row_written r settled pen flag x ys =
 
 -- the link with row r
 abbrev pub link_of : ℕ → Pen → RowValue → Bool → RowValue → RowValue → Linked
-link_of r pen above on x y = if above.wrapped then linked r pen above.cells on y.wrapped x.cells y.cells else unlinked pen y.wrapped
+link_of r pen above on x y =
+    if above.wrapped then linked r pen above.cells on y.wrapped x.cells y.cells else unlinked pen y.wrapped
 
 -- the rows under row r, which is `above`; on: the reader's row r goes on below
 unfoldable pub rows_below : ℕ → Pen → RowValue → Bool → (xs ys : List RowValue) → Scripted
@@ -48,7 +52,9 @@ nearest width rows (suc n) = if ends_blank (row_or width rows (suc n)).cells the
 
 -- from the last column on, which is blank in these attributes: a space, which is then erased
 abbrev pub blank_passed : (was attrs : Attrs) → List Op
-blank_passed was attrs = Print (0x20 ∷ []) ∷ (changing was attrs ++ (SaveCursor ∷ Backspace ∷ EraseChars 1 ∷ RestoreCursor ∷ changing attrs was))
+blank_passed was attrs =
+    Print (0x20 ∷ [])
+    ∷ (changing was attrs ++ (SaveCursor ∷ Backspace ∷ EraseChars 1 ∷ RestoreCursor ∷ changing attrs was))
 
 -- a wrap pending at the end of row r, whose last column is blank in these attributes
 unfoldable pub over_blank : Pen → (r width : ℕ) → Attrs → List Op
@@ -56,7 +62,9 @@ over_blank pen r width attrs = going pen r (width - 1) ++ blank_passed pen.attrs
 
 -- a wrap pending at the end of row r: behind the last glyph of row i, and down from there
 unfoldable pub under_last : Pen → (i r : ℕ) → List CellValue → List Op
-under_last pen i r cells = (going_behind i pen cells).ops ++ (changing (going_behind i pen cells).pen.attrs pen.attrs ++ replicate (r - i) LineFeed)
+under_last pen i r cells =
+    (going_behind i pen cells).ops
+    ++ (changing (going_behind i pen cells).pen.attrs pen.attrs ++ replicate (r - i) LineFeed)
 
 abbrev pub pending_at : Option ℕ → Pen → ℕ → List RowValue → ℕ → List Op
 pending_at None pen width rows r = over_blank pen r width (attrs_of (at (row_or width rows r).cells (width - 1)))
@@ -78,7 +86,8 @@ pen_of picture = pen_at picture.row picture.column picture.attrs
 unfoldable pub script : (self prev : Picture) → List Op
 script self prev =
     let written = rows_written (pen_of prev) self.rows prev.rows in
-    written.ops ++ (cursor_written written.pen self.width self.rows self.row self.column ++ changing written.pen.attrs self.attrs)
+    written.ops
+    ++ (cursor_written written.pen self.width self.rows self.row self.column ++ changing written.pen.attrs self.attrs)
 
 abbrev pub hiding : (self prev : Picture) → List Op
 hiding self prev = if same_bool self.hidden prev.hidden then [] else Hide self.hidden ∷ []
@@ -103,12 +112,14 @@ redraw self = Hide self.hidden ∷ ClearAttrs ∷ MoveTo 0 0 ∷ EraseBelow ∷ 
 -- ---- the cursor alone, for a reader whose cursor may be anywhere
 
 abbrev pub pending_alone : Option ℕ → ℕ → List RowValue → ℕ → List Op
-pending_alone None width rows r = MoveTo r (width - 1) ∷ blank_passed default_attrs (attrs_of (at (row_or width rows r).cells (width - 1)))
+pending_alone None width rows r =
+    MoveTo r (width - 1) ∷ blank_passed default_attrs (attrs_of (at (row_or width rows r).cells (width - 1)))
 pending_alone (Some i) width rows r =
     let cells = (row_or width rows i).cells in
     MoveTo i (last_column cells)
     ∷ (changing default_attrs (attrs_of (last_glyph cells))
-    ++ Print (text_of (last_glyph cells)) ∷ (changing (attrs_of (last_glyph cells)) default_attrs ++ replicate (r - i) LineFeed))
+    ++ Print (text_of (last_glyph cells))
+    ∷ (changing (attrs_of (last_glyph cells)) default_attrs ++ replicate (r - i) LineFeed))
 
 abbrev pub cursor_alone : Picture → List Op
 cursor_alone self =

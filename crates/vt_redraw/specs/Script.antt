@@ -1,7 +1,10 @@
--- What turns a row that the reader shows into another: its cells, its link with the row above, and the break to the row below.
-use Rattle.std.specs.Prelude.{ℕ, suc, zero, ◌+◌, ◌-◌, ◌==◌, ◌&&◌, ◌||◌, not, Bool, true, false, List, [], ◌∷◌, ◌++◌, length, drop, if◌then◌else◌}
+-- What turns a row that the reader shows into another: its cells, its link with the row above,
+-- and the break to the row below.
+use Rattle.std.specs.Prelude.{ℕ, suc, zero, ◌+◌, ◌-◌, ◌==◌, ◌&&◌, ◌||◌, not, Bool, true}
+use Rattle.std.specs.Prelude.{false, List, [], ◌∷◌, ◌++◌, length, drop, if◌then◌else◌}
 use Rattle.vt_cells.specs.Glyph.{first_columns}
-use Rattle.vt_cells.specs.Cell.{CellValue, blank, glyph, right_half, is_glyph, is_right_half, same_cell, text_of, attrs_of}
+use Rattle.vt_cells.specs.Cell.{CellValue, blank, glyph, right_half, is_glyph}
+use Rattle.vt_cells.specs.Cell.{is_right_half, same_cell, text_of, attrs_of}
 use Rattle.std.specs.List.{prefix_len}
 use Rattle.vt_cells.specs.Attrs.{same_attrs, Attrs}
 use Rattle.vt_cells.specs.Op.{Op, Backspace, ChangeAttrs, EraseChars, EraseRest, Print, moving}
@@ -33,7 +36,8 @@ abbrev pub erase_run : ℕ → List CellValue → Op
 erase_run n [] = EraseRest
 erase_run n (x ∷ xs) = EraseChars n
 
--- operations, where the reader's cursor is after them and with which attributes, and whether the reader's row goes on below
+-- operations, where the reader's cursor is after them and with which attributes,
+-- and whether the reader's row goes on below
 pub record Scripted : Type 0 where
   pub ops : List Op
   pub pen : Pen
@@ -70,7 +74,8 @@ flag_past flag rest = flag && not (is_nil rest || is_torn rest)
 
 -- ---- the cells of a row, from left to right
 
--- from column c on; the first `settled` cells need nothing, xs are the row's cells from there and ys those that the reader shows
+-- from column c on; the first `settled` cells need nothing,
+-- xs are the row's cells from there and ys those that the reader shows
 unfoldable pub cells_written : (r c : ℕ) → Pen → (flag : Bool) → (settled : ℕ) → (xs ys : List CellValue) → Scripted
 cells_written r c pen flag settled [] ys = nothing pen flag
 cells_written r c pen flag settled (x ∷ xs) [] = nothing pen flag
@@ -83,7 +88,8 @@ cells_written r c pen flag zero (blank a ∷ xs) (y ∷ ys) =
 cells_written r c pen flag zero (glyph text wide a ∷ xs) (y ∷ ys) =
     if same_cell (glyph text wide a) y then cells_written r (c + 1) pen flag (first_columns wide - 1) xs ys
     else after (doing pen r c a (Print text))
-    (cells_written r (c + 1) (pen_at r (c + first_columns wide) a) (flag_behind flag wide (drop 1 ys)) (first_columns wide - 1) xs ys)
+    (cells_written r (c + 1) (pen_at r (c + first_columns wide) a)
+    (flag_behind flag wide (drop 1 ys)) (first_columns wide - 1) xs ys)
 
 -- ---- the last glyph of a row that does not end blank
 
@@ -146,10 +152,12 @@ starts_other (x ∷ xs) [] = false
 starts_other (x ∷ xs) (y ∷ ys) = is_glyph x && not (same_cell x y)
 
 abbrev pub link_after : List Op → Linked → Linked
-link_after ops linked = record { ops = ops ++ linked.ops; pen = linked.pen; flag = linked.flag; settled = linked.settled }
+link_after ops linked =
+    record { ops = ops ++ linked.ops; pen = linked.pen; flag = linked.flag; settled = linked.settled }
 
 -- row r + 1 under the cells `above` of a row that goes on, of which the reader shows whether it goes on
-unfoldable pub linked : ℕ → Pen → (above : List CellValue) → (on : Bool) → (flag : Bool) → (xs ys : List CellValue) → Linked
+unfoldable pub linked : ℕ → Pen → (above : List CellValue) →
+    (on : Bool) → (flag : Bool) → (xs ys : List CellValue) → Linked
 linked r pen above on flag xs ys =
     if not on || (is_at pen r (length above) && starts_other xs ys)
     then link_after (going_behind r pen above).ops (first_written (r + 1) (going_behind r pen above).pen flag xs ys)
@@ -160,7 +168,9 @@ linked r pen above on flag xs ys =
 -- the reader's row goes on below and is not to: its last glyph is erased and printed again
 abbrev pub breaking : ℕ → Pen → List CellValue → Scripted
 breaking r pen cells = record {
-  ops = going pen r (last_column cells) ++ (EraseChars 1 ∷ (changing pen.attrs (attrs_of (last_glyph cells)) ++ Print (text_of (last_glyph cells)) ∷ []));
+  ops =
+      going pen r (last_column cells)
+      ++ (EraseChars 1 ∷ (changing pen.attrs (attrs_of (last_glyph cells)) ++ Print (text_of (last_glyph cells)) ∷ []));
   pen = behind r cells;
   flag = false;
 }

@@ -12,9 +12,11 @@ use Rattle.vt_redraw.specs.Picture.{Picture, IsPicture}
 
 -- a blank row, to be drawn on from its first column in these attributes
 abbrev pub blank_line : ℕ → Attrs → Canvas
-blank_line width attrs = record { page = blank_page 1 width; attrs = attrs; saved_attrs = default_attrs; hidden = false }
+blank_line width attrs =
+    record { page = blank_page 1 width; attrs = attrs; saved_attrs = default_attrs; hidden = false }
 
--- printed on a blank row, the characters of the text give this glyph in the first columns and nothing else, the cursor behind it
+-- printed on a blank row, the characters of the text give this glyph in the first columns and nothing else, the cursor
+-- behind it
 abbrev pub IsSteadyGlyph : ℕ → List ℕ → Bool → Attrs → Type 0
 IsSteadyGlyph width text wide attrs =
     drawn_text (chars text) (blank_line width attrs)

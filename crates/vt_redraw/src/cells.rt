@@ -1,6 +1,7 @@
 //! What the cells of a row need over those that the reader shows.
 
-ghost use Rattle.std.specs.Prelude.{◌≡◌, ◌++◌, ◌+◌, ◌-◌, ◌<◌, ◌≤◌, ◌==◌, ◌||◌, false, [], ◌∷◌, IfOk, OnOk, drop, length};
+ghost use Rattle.std.specs.Prelude.{◌≡◌, ◌++◌, ◌+◌, ◌-◌, ◌<◌, ◌≤◌, ◌==◌, ◌||◌};
+ghost use Rattle.std.specs.Prelude.{false, [], ◌∷◌, IfOk, OnOk, drop, length};
 ghost use Rattle.vt_cells.specs.Cell.{attrs_of, is_right_half, is_wide, same_cell, text_of};
 ghost use Rattle.vt_cells.specs.Op.{Print, bytes_of, bytes_of_all};
 ghost use Rattle.vt_cells.specs.PieceKeeping.{gathered};
@@ -25,7 +26,9 @@ pub fn columns(cell: &Cell) -> u16
 /// Writes a glyph at a position; where the pen is then is left to the caller.
 #[inline]
 pub fn print_at<S: Sink>(sink: &mut S, pen: &mut Pen, pos: Pos, cell: &Cell) -> Result<(), S::Error>
-    ensures text { OnOk result (S.text sink.new ≡ S.text sink.old ++ bytes_of_all (doing pen.old pos.row pos.col (attrs_of cell.now) (Print (text_of cell.now)))) }
+    ensures text { OnOk result (S.text sink.new
+        ≡ S.text sink.old
+        ++ bytes_of_all (doing pen.old pos.row pos.col (attrs_of cell.now) (Print (text_of cell.now)))) }
     ensures pen { OnOk result (pen.new ≡ pen_at pos.row pos.col (attrs_of cell.now)) }
 {
     pen.move_to(sink, pos)?;
@@ -42,7 +45,9 @@ fn gather_at<S: Sink>(
     pos: Pos,
     cell: &Cell,
 ) -> Result<(), S::Error>
-    ensures text { OnOk result (gathered (S.text sink.new) piece.new ≡ gathered (S.text sink.old) piece.old ++ bytes_of_all (doing pen.old pos.row pos.col (attrs_of cell.now) (Print (text_of cell.now)))) }
+    ensures text { OnOk result (gathered (S.text sink.new) piece.new
+        ≡ gathered (S.text sink.old) piece.old
+        ++ bytes_of_all (doing pen.old pos.row pos.col (attrs_of cell.now) (Print (text_of cell.now)))) }
     ensures pen { OnOk result (pen.new ≡ pen_at pos.row pos.col (attrs_of cell.now)) }
 {
     pen.move_behind(sink, piece, pos)?;
@@ -60,8 +65,11 @@ fn gather_glyph<S: Sink>(
     cell: &Cell,
 ) -> Result<(), S::Error>
     requires { pos.col + first_columns (is_wide cell.now) < 65536 }
-    ensures text { OnOk result (gathered (S.text sink.new) piece.new ≡ gathered (S.text sink.old) piece.old ++ bytes_of_all (doing pen.old pos.row pos.col (attrs_of cell.now) (Print (text_of cell.now)))) }
-    ensures pen { OnOk result (pen.new ≡ pen_at pos.row (pos.col + first_columns (is_wide cell.now)) (attrs_of cell.now)) }
+    ensures text { OnOk result (gathered (S.text sink.new) piece.new
+        ≡ gathered (S.text sink.old) piece.old
+        ++ bytes_of_all (doing pen.old pos.row pos.col (attrs_of cell.now) (Print (text_of cell.now)))) }
+    ensures pen { OnOk result
+        (pen.new ≡ pen_at pos.row (pos.col + first_columns (is_wide cell.now)) (attrs_of cell.now)) }
 {
     gather_at(sink, piece, pen, pos, cell)?;
     pen.col = pos.col + columns(cell);
@@ -97,7 +105,10 @@ pub fn write_run<S: Sink>(
 ) -> Result<(), S::Error>
     requires inside { pos.col + count ≤ length over.now.cells }
     requires short { pos.col + count < 65536 }
-    ensures text { OnOk result (S.text sink.new ≡ S.text sink.old ++ bytes_of_all (doing pen.old pos.row pos.col attrs (erase_run count (drop (pos.col + count) over.now.cells)))) }
+    ensures text { OnOk result (S.text sink.new
+        ≡ S.text sink.old
+        ++ bytes_of_all
+        (doing pen.old pos.row pos.col attrs (erase_run count (drop (pos.col + count) over.now.cells)))) }
     ensures pen { OnOk result (pen.new ≡ pen_at pos.row pos.col attrs) }
 {
     pen.move_to(sink, pos)?;
@@ -119,7 +130,10 @@ fn write_run_behind<S: Sink>(
 ) -> Result<(), S::Error>
     requires inside { pos.col + count ≤ length over.now.cells }
     requires short { pos.col + count < 65536 }
-    ensures text { OnOk result (gathered (S.text sink.new) piece.new ≡ gathered (S.text sink.old) piece.old ++ bytes_of_all (doing pen.old pos.row pos.col attrs (erase_run count (drop (pos.col + count) over.now.cells)))) }
+    ensures text { OnOk result (gathered (S.text sink.new) piece.new
+        ≡ gathered (S.text sink.old) piece.old
+        ++ bytes_of_all
+        (doing pen.old pos.row pos.col attrs (erase_run count (drop (pos.col + count) over.now.cells)))) }
     ensures pen { OnOk result (pen.new ≡ pen_at pos.row pos.col attrs) }
 {
     piece.flush(sink)?;
@@ -152,7 +166,8 @@ pub fn flag_past(flag: bool, over: &PictureRow<'_>, col: u16) -> bool
 fn stands(cells: &PictureRow<'_>, over: &PictureRow<'_>, col: u16) -> bool
     requires inside { col < length cells.now.cells }
     requires over { length cells.now.cells ≤ length over.now.cells }
-    ensures { result ≡ (is_right_half (at cells.now.cells col) || same_cell (at cells.now.cells col) (at over.now.cells col)) }
+    ensures { result
+        ≡ (is_right_half (at cells.now.cells col) || same_cell (at cells.now.cells col) (at over.now.cells col)) }
 {
     let cell = cells.cell(col);
     *cell == *over.cell(col) || cell.is_wide_continuation()
@@ -167,7 +182,9 @@ fn pass(cells: &PictureRow<'_>, over: &PictureRow<'_>, col: u16, stop: usize) ->
     requires range { IsRange cells.now.cells over.now.cells }
     ensures order { col ≤ result }
     ensures passed { Passes col result cells.now.cells over.now.cells }
-    ensures other { result < stop → (is_right_half (at cells.now.cells result) || same_cell (at cells.now.cells result) (at over.now.cells result)) ≡ false }
+    ensures other { result < stop →
+        (is_right_half (at cells.now.cells result) || same_cell (at cells.now.cells result) (at over.now.cells result))
+        ≡ false }
 {
     let mut next = col;
     while usize::from(next) < stop && stands(cells, over, next) {
@@ -183,7 +200,9 @@ fn next_other(cells: &PictureRow<'_>, over: &PictureRow<'_>, col: u16) -> u16
     requires range { IsRange cells.now.cells over.now.cells }
     ensures order { col ≤ result }
     ensures passed { Passes col result cells.now.cells over.now.cells }
-    ensures other { result < length cells.now.cells → (is_right_half (at cells.now.cells result) || same_cell (at cells.now.cells result) (at over.now.cells result)) ≡ false }
+    ensures other { result < length cells.now.cells →
+        (is_right_half (at cells.now.cells result) || same_cell (at cells.now.cells result) (at over.now.cells result))
+        ≡ false }
 {
     let cols = usize::from(cells.cols());
     let own = cells.own_len();
@@ -206,8 +225,13 @@ fn write_next<S: Sink>(
     requires inside { pos.col < length cells.now.cells }
     requires range { IsRange cells.now.cells over.now.cells }
     requires short { length over.now.cells < 65536 }
-    requires other { (is_right_half (at cells.now.cells pos.col) || same_cell (at cells.now.cells pos.col) (at over.now.cells pos.col)) ≡ false }
-    ensures leads { IfOk result (λ n. Leads (gathered (S.text sink.new) piece.new) (cells_from pos.row (pos.col + n) pen.new flag.new cells.now.cells over.now.cells) (gathered (S.text sink.old) piece.old) (cells_from pos.row pos.col pen.old flag.old cells.now.cells over.now.cells)) }
+    requires other { (is_right_half (at cells.now.cells pos.col)
+        || same_cell (at cells.now.cells pos.col) (at over.now.cells pos.col))
+        ≡ false }
+    ensures leads { IfOk result (λ n. Leads (gathered (S.text sink.new) piece.new)
+        (cells_from pos.row (pos.col + n) pen.new flag.new cells.now.cells over.now.cells)
+        (gathered (S.text sink.old) piece.old)
+        (cells_from pos.row pos.col pen.old flag.old cells.now.cells over.now.cells)) }
     ensures some { IfOk result (λ n. 0 < n) }
     ensures inside { IfOk result (λ n. pos.col + n ≤ length over.now.cells) }
 {
@@ -237,9 +261,13 @@ pub fn write_cells<S: Sink>(
     over: &PictureRow<'_>,
 ) -> Result<(), S::Error>
     requires range { IsRange cells.now.cells over.now.cells }
-    ensures text { OnOk result (S.text sink.new ≡ S.text sink.old ++ bytes_of_all (cells_from pos.row pos.col pen.old flag.old cells.now.cells over.now.cells).ops) }
-    ensures pen { OnOk result (pen.new ≡ (cells_from pos.row pos.col pen.old flag.old cells.now.cells over.now.cells).pen) }
-    ensures flag { OnOk result (flag.new ≡ (cells_from pos.row pos.col pen.old flag.old cells.now.cells over.now.cells).flag) }
+    ensures text { OnOk result (S.text sink.new
+        ≡ S.text sink.old
+        ++ bytes_of_all (cells_from pos.row pos.col pen.old flag.old cells.now.cells over.now.cells).ops) }
+    ensures pen { OnOk result
+        (pen.new ≡ (cells_from pos.row pos.col pen.old flag.old cells.now.cells over.now.cells).pen) }
+    ensures flag { OnOk result
+        (flag.new ≡ (cells_from pos.row pos.col pen.old flag.old cells.now.cells over.now.cells).flag) }
 {
     let cols = cells.cols().min(over.cols());
     let mut piece = Piece::new();

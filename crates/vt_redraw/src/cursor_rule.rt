@@ -1,13 +1,15 @@
 //! Where the reader's cursor goes: to a position, or to a wrap that is pending.
 
-ghost use Rattle.std.specs.Prelude.{◌≡◌, ◌++◌, ◌+◌, ◌-◌, ◌<◌, ◌≤◌, [], ◌∷◌, None, OnOk, IfSome, Some, length, replicate};
+ghost use Rattle.std.specs.Prelude.{◌≡◌, ◌++◌, ◌+◌, ◌-◌, ◌<◌, ◌≤◌, [], ◌∷◌, None};
+ghost use Rattle.std.specs.Prelude.{OnOk, IfSome, Some, length, replicate};
 ghost use Rattle.vt_cells.specs.Attrs.{default_attrs};
 ghost use Rattle.vt_cells.specs.Cell.{attrs_of, text_of};
 ghost use Rattle.vt_cells.specs.Op.{bytes_of_all};
 ghost use Rattle.vt_cells.specs.Op as op;
 ghost use Rattle.vt_rows.specs.Cells.{at};
 ghost use Rattle.vt_grid.specs.Page.{row_or};
-ghost use Rattle.vt_redraw.specs.Redraw.{blank_passed, cursor_written, nearest, over_blank, cursor_alone, pending_alone, pending_at, under_last};
+ghost use Rattle.vt_redraw.specs.Redraw.{blank_passed, cursor_written, nearest, over_blank};
+ghost use Rattle.vt_redraw.specs.Redraw.{cursor_alone, pending_alone, pending_at, under_last};
 
 use crate::links::write_last;
 use crate::pen::{Pen, write_change};
@@ -67,7 +69,9 @@ fn write_under_last<S: Sink>(
 ) -> Result<(), S::Error>
     requires above { found ≤ row }
     requires inside { row < length view.now.rows }
-    ensures { OnOk result (S.text sink.new ≡ S.text sink.old ++ bytes_of_all (under_last pen found row (row_or view.now.width view.now.rows found).cells)) }
+    ensures { OnOk result (S.text sink.new
+        ≡ S.text sink.old
+        ++ bytes_of_all (under_last pen found row (row_or view.now.width view.now.rows found).cells)) }
 {
     let mut last = pen;
     write_last(sink, &mut last, found, &view.row(found))?;
@@ -84,7 +88,10 @@ fn write_over_blank<S: Sink>(
     row: u16,
 ) -> Result<(), S::Error>
     requires { row < length view.now.rows }
-    ensures { OnOk result (S.text sink.new ≡ S.text sink.old ++ bytes_of_all (over_blank pen row view.now.width (attrs_of (at (row_or view.now.width view.now.rows row).cells (view.now.width - 1))))) }
+    ensures { OnOk result (S.text sink.new
+        ≡ S.text sink.old
+        ++ bytes_of_all (over_blank pen row view.now.width
+        (attrs_of (at (row_or view.now.width view.now.rows row).cells (view.now.width - 1))))) }
 {
     let col = view.cols() - 1;
     let attrs = view.row(row).cell(col).attrs();
@@ -96,7 +103,9 @@ fn write_over_blank<S: Sink>(
 /// Has a wrap pending at the end of row `row`.
 fn write_pending<S: Sink>(sink: &mut S, pen: Pen, view: &View<'_>, row: u16) -> Result<(), S::Error>
     requires { row < length view.now.rows }
-    ensures { OnOk result (S.text sink.new ≡ S.text sink.old ++ bytes_of_all (pending_at (nearest view.now.width view.now.rows row) pen view.now.width view.now.rows row)) }
+    ensures { OnOk result (S.text sink.new
+        ≡ S.text sink.old
+        ++ bytes_of_all (pending_at (nearest view.now.width view.now.rows row) pen view.now.width view.now.rows row)) }
 {
     match nearest(view, row) {
         Some(found) => write_under_last(sink, pen, view, found, row),
@@ -107,7 +116,9 @@ fn write_pending<S: Sink>(sink: &mut S, pen: Pen, view: &View<'_>, row: u16) -> 
 /// Brings the cursor to where the picture has it; the pen's attributes stay.
 #[tactic(auto, unfolding(crate::specs::Redraw::cursor_written))]
 pub fn write_cursor<S: Sink>(sink: &mut S, pen: Pen, view: &View<'_>) -> Result<(), S::Error>
-    ensures { OnOk result (S.text sink.new ≡ S.text sink.old ++ bytes_of_all (cursor_written pen view.now.width view.now.rows view.now.row view.now.column)) }
+    ensures { OnOk result (S.text sink.new
+        ≡ S.text sink.old
+        ++ bytes_of_all (cursor_written pen view.now.width view.now.rows view.now.row view.now.column)) }
 {
     let Pen { row, col, .. } = view.pen();
     if pen.is_at(row, col) {
@@ -131,7 +142,8 @@ fn write_under_last_alone<S: Sink>(
 ) -> Result<(), S::Error>
     requires above { found ≤ row }
     requires inside { row < length view.now.rows }
-    ensures { OnOk result (S.text sink.new ≡ S.text sink.old ++ bytes_of_all (pending_alone (Some found) view.now.width view.now.rows row)) }
+    ensures { OnOk result (S.text sink.new
+        ≡ S.text sink.old ++ bytes_of_all (pending_alone (Some found) view.now.width view.now.rows row)) }
 {
     let cells = view.row(found);
     let col = cells.last_col();
@@ -148,7 +160,8 @@ fn write_under_last_alone<S: Sink>(
 /// wherever the reader's cursor is; it draws with default attributes.
 fn write_over_blank_alone<S: Sink>(sink: &mut S, view: &View<'_>, row: u16) -> Result<(), S::Error>
     requires { row < length view.now.rows }
-    ensures { OnOk result (S.text sink.new ≡ S.text sink.old ++ bytes_of_all (pending_alone None view.now.width view.now.rows row)) }
+    ensures { OnOk result
+        (S.text sink.new ≡ S.text sink.old ++ bytes_of_all (pending_alone None view.now.width view.now.rows row)) }
 {
     let col = view.cols() - 1;
     let attrs = view.row(row).cell(col).attrs();
@@ -160,7 +173,9 @@ fn write_over_blank_alone<S: Sink>(sink: &mut S, view: &View<'_>, row: u16) -> R
 /// Has a wrap pending at the end of row `row`, wherever the reader's cursor is.
 fn write_pending_alone<S: Sink>(sink: &mut S, view: &View<'_>, row: u16) -> Result<(), S::Error>
     requires { row < length view.now.rows }
-    ensures { OnOk result (S.text sink.new ≡ S.text sink.old ++ bytes_of_all (pending_alone (nearest view.now.width view.now.rows row) view.now.width view.now.rows row)) }
+    ensures { OnOk result (S.text sink.new
+        ≡ S.text sink.old
+        ++ bytes_of_all (pending_alone (nearest view.now.width view.now.rows row) view.now.width view.now.rows row)) }
 {
     match nearest(view, row) {
         Some(found) => write_under_last_alone(sink, view, found, row),

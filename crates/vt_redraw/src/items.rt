@@ -2,13 +2,15 @@
 //! reader whose cursor is at the range's begin and which draws with default
 //! attributes.
 
-ghost use Rattle.std.specs.Prelude.{◌≡◌, ◌++◌, ◌+◌, ◌-◌, ◌<◌, ◌≤◌, ◌==◌, ◌&&◌, false, IfOk, OnOk, drop, length, nat_lt, take};
+ghost use Rattle.std.specs.Prelude.{◌≡◌, ◌++◌, ◌+◌, ◌-◌, ◌<◌, ◌≤◌, ◌==◌, ◌&&◌, false};
+ghost use Rattle.std.specs.Prelude.{IfOk, OnOk, drop, length, nat_lt, take};
 ghost use Rattle.vt_cells.specs.Attrs.{default_attrs};
 ghost use Rattle.vt_cells.specs.Cell.{is_right_half};
 ghost use Rattle.vt_cells.specs.Op.{bytes_of_all};
 ghost use Rattle.vt_rows.specs.Cells.{IsPaired, blanks};
 ghost use Rattle.vt_grid.specs.Page.{row_or};
-ghost use Rattle.vt_redraw.specs.Items.{begun, begun_over, is_linked, is_whole, item_of_difference, item_of_redraw, linked_item, range_written};
+ghost use Rattle.vt_redraw.specs.Items.{begun, begun_over, is_linked, is_whole, item_of_difference};
+ghost use Rattle.vt_redraw.specs.Items.{item_of_redraw, linked_item, range_written};
 ghost use Rattle.vt_redraw.specs.Keeping.{IsRange, Leads, cells_from, mark_of};
 ghost use Rattle.vt_redraw.specs.Picture.{SamePictureSize};
 ghost use Rattle.vt_redraw.specs.Script.{after, broken, cells_written, pen_at};
@@ -32,7 +34,10 @@ fn write_begin<S: Sink>(
     over: &PictureRow<'_>,
 ) -> Result<u16, S::Error>
     requires range { IsRange cells.now.cells over.now.cells }
-    ensures { IfOk result (λ col. Leads (S.text sink.new) (cells_from pos.row col pen.new flag.new cells.now.cells over.now.cells) (S.text sink.old) (cells_written pos.row pos.col pen.old flag.old 0 (begun (drop pos.col cells.now.cells)) (begun_over (drop pos.col cells.now.cells) (drop pos.col over.now.cells)))) }
+    ensures { IfOk result (λ col. Leads (S.text sink.new)
+        (cells_from pos.row col pen.new flag.new cells.now.cells over.now.cells) (S.text sink.old)
+        (cells_written pos.row pos.col pen.old flag.old 0 (begun (drop pos.col cells.now.cells))
+        (begun_over (drop pos.col cells.now.cells) (drop pos.col over.now.cells)))) }
 {
     let Pos { row: _, col } = pos;
     if col >= cells.cols().min(over.cols()) {
@@ -62,9 +67,16 @@ fn write_range<S: Sink>(
     over: &PictureRow<'_>,
 ) -> Result<(), S::Error>
     requires range { IsRange cells.now.cells over.now.cells }
-    ensures text { OnOk result (S.text sink.new ≡ S.text sink.old ++ bytes_of_all (cells_written pos.row pos.col pen.old flag.old 0 (begun (drop pos.col cells.now.cells)) (begun_over (drop pos.col cells.now.cells) (drop pos.col over.now.cells))).ops) }
-    ensures pen { OnOk result (pen.new ≡ (cells_written pos.row pos.col pen.old flag.old 0 (begun (drop pos.col cells.now.cells)) (begun_over (drop pos.col cells.now.cells) (drop pos.col over.now.cells))).pen) }
-    ensures flag { OnOk result (flag.new ≡ (cells_written pos.row pos.col pen.old flag.old 0 (begun (drop pos.col cells.now.cells)) (begun_over (drop pos.col cells.now.cells) (drop pos.col over.now.cells))).flag) }
+    ensures text { OnOk result (S.text sink.new
+        ≡ S.text sink.old
+        ++ bytes_of_all (cells_written pos.row pos.col pen.old flag.old 0 (begun (drop pos.col cells.now.cells))
+        (begun_over (drop pos.col cells.now.cells) (drop pos.col over.now.cells))).ops) }
+    ensures pen { OnOk result (pen.new
+        ≡ (cells_written pos.row pos.col pen.old flag.old 0 (begun (drop pos.col cells.now.cells))
+        (begun_over (drop pos.col cells.now.cells) (drop pos.col over.now.cells))).pen) }
+    ensures flag { OnOk result (flag.new
+        ≡ (cells_written pos.row pos.col pen.old flag.old 0 (begun (drop pos.col cells.now.cells))
+        (begun_over (drop pos.col cells.now.cells) (drop pos.col over.now.cells))).flag) }
 {
     let row = pos.row;
     let col = write_begin(sink, pen, flag, pos, cells, over)?;
@@ -82,7 +94,8 @@ fn write_mark<S: Sink>(
 ) -> Result<(), S::Error>
     requires some { 0 < length cells.now.cells }
     requires paired { IsPaired cells.now.cells }
-    ensures { OnOk result (S.text sink.new ≡ S.text sink.old ++ bytes_of_all (mark_of row pen.old flag cells.now.wrapped cells.now.cells)) }
+    ensures { OnOk result (S.text sink.new
+        ≡ S.text sink.old ++ bytes_of_all (mark_of row pen.old flag cells.now.wrapped cells.now.cells)) }
 {
     if flag {
         return Ok(());
@@ -104,7 +117,11 @@ fn write_end<S: Sink>(
 ) -> Result<(), S::Error>
     requires some { 0 < length cells.now.cells }
     requires paired { IsPaired cells.now.cells }
-    ensures { OnOk result (S.text sink.new ≡ S.text sink.old ++ bytes_of_all ((broken row pen.old flag cells.now.wrapped cells.now.cells).ops ++ mark_of row (broken row pen.old flag cells.now.wrapped cells.now.cells).pen (broken row pen.old flag cells.now.wrapped cells.now.cells).flag cells.now.wrapped cells.now.cells)) }
+    ensures { OnOk result (S.text sink.new
+        ≡ S.text sink.old
+        ++ bytes_of_all ((broken row pen.old flag cells.now.wrapped cells.now.cells).ops
+        ++ mark_of row (broken row pen.old flag cells.now.wrapped cells.now.cells).pen
+        (broken row pen.old flag cells.now.wrapped cells.now.cells).flag cells.now.wrapped cells.now.cells)) }
 {
     let on = write_break(sink, pen, row, flag, cells)?;
     write_mark(sink, pen, row, on, cells)
@@ -129,7 +146,10 @@ pub fn write_row_diff<S: Sink>(
     requires inside { row < length view.now.rows }
     requires order { start ≤ stop }
     requires stop { stop ≤ view.now.width }
-    ensures { OnOk result (S.text sink.new ≡ S.text sink.old ++ bytes_of_all (item_of_difference row start stop (row_or view.now.width view.now.rows row) (row_or view.now.width prev.now.rows row)).ops) }
+    ensures { OnOk result (S.text sink.new
+        ≡ S.text sink.old
+        ++ bytes_of_all (item_of_difference row start stop
+        (row_or view.now.width view.now.rows row) (row_or view.now.width prev.now.rows row)).ops) }
 {
     let cells = view.row(row);
     let over = prev.row(row);
@@ -186,7 +206,10 @@ fn write_over_blanks<S: Sink>(
     requires order { pos.col ≤ stop }
     requires stop { stop ≤ length cells.now.cells }
     requires paired { IsPaired cells.now.cells }
-    ensures { OnOk result (S.text sink.new ≡ S.text sink.old ++ bytes_of_all (range_written pos.row pos.col stop false cells.now.cells (blanks default_attrs (length cells.now.cells))).ops) }
+    ensures { OnOk result (S.text sink.new
+        ≡ S.text sink.old
+        ++ bytes_of_all (range_written pos.row pos.col stop false
+        cells.now.cells (blanks default_attrs (length cells.now.cells))).ops) }
 {
     let over = PictureRow::blank(cells.cols());
     let mut pen = Pen {
@@ -230,7 +253,10 @@ pub fn write_row_formatted<S: Sink>(
     requires inside { row < length view.now.rows }
     requires order { start ≤ stop }
     requires stop { stop ≤ view.now.width }
-    ensures { OnOk result (S.text sink.new ≡ S.text sink.old ++ bytes_of_all (item_of_redraw row start stop (is_linked view.now.width view.now.rows row) (row_or view.now.width view.now.rows row)).ops) }
+    ensures { OnOk result (S.text sink.new
+        ≡ S.text sink.old
+        ++ bytes_of_all (item_of_redraw row start stop (is_linked view.now.width view.now.rows row)
+        (row_or view.now.width view.now.rows row)).ops) }
 {
     let cells = view.row(row);
     if needs_link(view, row, start, stop, &cells) {

@@ -35,7 +35,8 @@ pub fn write_last<S: Sink>(
 ) -> Result<(), S::Error>
     requires some { 0 < length cells.now.cells }
     requires paired { IsPaired cells.now.cells }
-    ensures text { OnOk result (S.text sink.new ≡ S.text sink.old ++ bytes_of_all (going_behind row pen.old cells.now.cells).ops) }
+    ensures text { OnOk result
+        (S.text sink.new ≡ S.text sink.old ++ bytes_of_all (going_behind row pen.old cells.now.cells).ops) }
     ensures pen { OnOk result (pen.new ≡ (going_behind row pen.old cells.now.cells).pen) }
 {
     if pen.is_at(row, cells.cols()) {
@@ -62,7 +63,8 @@ fn write_first_blank<S: Sink>(
     requires same { length cells.now.cells ≡ length over.now.cells }
     requires first { cell.now ≡ at cells.now.cells 0 }
     requires blank { is_blank cell.now ≡ true }
-    ensures { IfOk result (λ link. Links (S.text sink.old) (S.text sink.new) pen.new link (first_written row pen.old flag cells.now.cells over.now.cells)) }
+    ensures { IfOk result (λ link. Links (S.text sink.old) (S.text sink.new) pen.new
+        link (first_written row pen.old flag cells.now.cells over.now.cells)) }
 {
     pen.change_attrs(sink, cell.attrs())?;
     sink.write_str(" ")?;
@@ -99,7 +101,8 @@ fn write_first_glyph<S: Sink>(
     requires first { cell.now ≡ at cells.now.cells 0 }
     requires glyph { is_blank cell.now ≡ false }
     requires begin { is_right_half cell.now ≡ false }
-    ensures { IfOk result (λ link. Links (S.text sink.old) (S.text sink.new) pen.new link (first_written row pen.old flag cells.now.cells over.now.cells)) }
+    ensures { IfOk result (λ link. Links (S.text sink.old) (S.text sink.new) pen.new
+        link (first_written row pen.old flag cells.now.cells over.now.cells)) }
 {
     pen.change_attrs(sink, cell.attrs())?;
     sink.write_str(cell.contents())?;
@@ -124,7 +127,8 @@ pub fn write_first<S: Sink>(
     requires some { 0 < length cells.now.cells }
     requires same { length cells.now.cells ≡ length over.now.cells }
     requires paired { IsPaired cells.now.cells }
-    ensures { IfOk result (λ link. Links (S.text sink.old) (S.text sink.new) pen.new link (first_written row pen.old flag cells.now.cells over.now.cells)) }
+    ensures { IfOk result (λ link. Links (S.text sink.old) (S.text sink.new) pen.new
+        link (first_written row pen.old flag cells.now.cells over.now.cells)) }
 {
     let cell = cells.cell(0);
     if cell.is_blank() {
@@ -157,7 +161,8 @@ fn needs_link(
 ) -> bool
     requires some { 0 < length cells.now.cells }
     requires over { 0 < length over.now.cells }
-    ensures { result ≡ (not on || (is_at pen.now row (length above.now.cells) && starts_other cells.now.cells over.now.cells)) }
+    ensures { result
+        ≡ (not on || (is_at pen.now row (length above.now.cells) && starts_other cells.now.cells over.now.cells)) }
 {
     !on || (pen.is_at(row, above.cols()) && starts_other(cells, over))
 }
@@ -180,7 +185,8 @@ pub fn write_link<S: Sink>(
     requires some { 0 < length cells.now.cells }
     requires same { length cells.now.cells ≡ length over.now.cells }
     requires paired { IsPaired cells.now.cells }
-    ensures { IfOk result (λ link. Links (S.text sink.old) (S.text sink.new) pen.new link (link_of row pen.old above.now on cells.now over.now)) }
+    ensures { IfOk result (λ link. Links (S.text sink.old) (S.text sink.new)
+        pen.new link (link_of row pen.old above.now on cells.now over.now)) }
 {
     let flag = over.wrapped();
     if !above.wrapped() {
@@ -206,7 +212,8 @@ pub fn write_break<S: Sink>(
 ) -> Result<bool, S::Error>
     requires some { 0 < length cells.now.cells }
     requires paired { IsPaired cells.now.cells }
-    ensures { IfOk result (λ on. Writes (S.text sink.old) (S.text sink.new) pen.new on (broken row pen.old flag cells.now.wrapped cells.now.cells)) }
+    ensures { IfOk result (λ on. Writes (S.text sink.old) (S.text sink.new)
+        pen.new on (broken row pen.old flag cells.now.wrapped cells.now.cells)) }
 {
     if !flag {
         return Ok(flag);

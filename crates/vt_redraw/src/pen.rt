@@ -94,7 +94,8 @@ impl Pen {
         piece: &mut Piece,
         to: Pos,
     ) -> Result<(), S::Error>
-        ensures text { OnOk result (gathered (S.text sink.new) piece.new ≡ gathered (S.text sink.old) piece.old ++ bytes_of_all (going self.old to.row to.col)) }
+        ensures text { OnOk result (gathered (S.text sink.new) piece.new
+            ≡ gathered (S.text sink.old) piece.old ++ bytes_of_all (going self.old to.row to.col)) }
         ensures pen { OnOk result (self.new ≡ pen_at to.row to.col self.old.attrs) }
     {
         if self.is_at(to.row, to.col) {
@@ -112,7 +113,8 @@ impl Pen {
         piece: &mut Piece,
         to: Pos,
     ) -> Result<(), S::Error>
-        ensures text { OnOk result (gathered (S.text sink.new) piece.new ≡ gathered (S.text sink.old) piece.old ++ bytes_of_all (going self.old to.row to.col)) }
+        ensures text { OnOk result (gathered (S.text sink.new) piece.new
+            ≡ gathered (S.text sink.old) piece.old ++ bytes_of_all (going self.old to.row to.col)) }
         ensures pen { OnOk result (self.new ≡ pen_at to.row to.col self.old.attrs) }
     {
         piece.flush(sink)?;
@@ -127,7 +129,8 @@ impl Pen {
         piece: &mut Piece,
         cell: &Cell,
     ) -> Result<(), S::Error>
-        ensures text { OnOk result (gathered (S.text sink.new) piece.new ≡ gathered (S.text sink.old) piece.old ++ bytes_of_all (changing self.old.attrs (attrs_of cell.now))) }
+        ensures text { OnOk result (gathered (S.text sink.new) piece.new
+            ≡ gathered (S.text sink.old) piece.old ++ bytes_of_all (changing self.old.attrs (attrs_of cell.now))) }
         ensures pen { OnOk result (self.new ≡ pen_at self.old.row self.old.col (attrs_of cell.now)) }
     {
         if cell.has_attrs(&self.attrs) {
@@ -149,7 +152,8 @@ fn add_change<S: Sink>(
     was: Attrs,
     new: Attrs,
 ) -> Result<(), S::Error>
-    ensures { OnOk result (gathered (S.text sink.new) piece.new ≡ gathered (S.text sink.old) piece.old ++ bytes_of_all (changing was new)) }
+    ensures { OnOk result (gathered (S.text sink.new) piece.new
+        ≡ gathered (S.text sink.old) piece.old ++ bytes_of_all (changing was new)) }
 {
     ChangeAttrs { was, new }.add(sink, piece)
 }

@@ -1,6 +1,7 @@
 //! The rows of a picture, read where they lie.
 
-ghost use Rattle.std.specs.Prelude.{◌≡◌, ◌-◌, ◌+◌, ◌<◌, ◌≤◌, ◌&&◌, ◌==◌, drop, false, length, not, replicate, take, if◌then◌else◌};
+ghost use Rattle.std.specs.Prelude.{◌≡◌, ◌-◌, ◌+◌, ◌<◌, ◌≤◌, ◌&&◌, ◌==◌, drop, false};
+ghost use Rattle.std.specs.Prelude.{length, not, replicate, take, if◌then◌else◌};
 ghost use Rattle.vt_cells.specs.Attrs.{default_attrs};
 ghost use Rattle.vt_cells.specs.Cell.{attrs_of, blank, default_blank, is_blank, is_right_half, is_wide};
 ghost use Rattle.vt_rows.specs.Cells.{IsPaired, at, ends_blank, resized};

@@ -30,7 +30,8 @@ fn write_row<S: Sink>(
     requires some { 0 < length cells.now.cells }
     requires same { length cells.now.cells ≡ length over.now.cells }
     requires paired { IsPaired cells.now.cells }
-    ensures { IfOk result (λ on. Writes (S.text sink.old) (S.text sink.new) pen.new on (row_written row link.settled pen.old link.flag cells.now over.now.cells)) }
+    ensures { IfOk result (λ on. Writes (S.text sink.old) (S.text sink.new) pen.new on
+        (row_written row link.settled pen.old link.flag cells.now over.now.cells)) }
 {
     let mut flag = link.flag;
     let pos = Pos {
@@ -51,7 +52,9 @@ fn write_top<S: Sink>(
 ) -> Result<bool, S::Error>
     requires size { SamePictureSize view.now prev.now }
     requires some { 0 < length view.now.rows }
-    ensures { IfOk result (λ on. Writes (S.text sink.old) (S.text sink.new) pen.new on (row_written 0 0 pen.old (row_or view.now.width prev.now.rows 0).wrapped (row_or view.now.width view.now.rows 0) (row_or view.now.width prev.now.rows 0).cells)) }
+    ensures { IfOk result (λ on. Writes (S.text sink.old) (S.text sink.new) pen.new on
+        (row_written 0 0 pen.old (row_or view.now.width prev.now.rows 0).wrapped
+        (row_or view.now.width view.now.rows 0) (row_or view.now.width prev.now.rows 0).cells)) }
 {
     let cells = view.row(0);
     let over = prev.row(0);
@@ -75,7 +78,9 @@ fn write_below<S: Sink>(
     requires size { SamePictureSize view.now prev.now }
     requires inside { row + 1 < length view.now.rows }
     requires short { row + 1 < 65536 }
-    ensures { IfOk result (λ next. Leads (S.text sink.new) (rows_under (row + 1) view.now.width pen.new next view.now.rows prev.now.rows) (S.text sink.old) (rows_under row view.now.width pen.old on view.now.rows prev.now.rows)) }
+    ensures { IfOk result (λ next. Leads (S.text sink.new)
+        (rows_under (row + 1) view.now.width pen.new next view.now.rows prev.now.rows)
+        (S.text sink.old) (rows_under row view.now.width pen.old on view.now.rows prev.now.rows)) }
 {
     let above = view.row(row);
     let below = row + 1;
@@ -94,7 +99,8 @@ fn write_rows<S: Sink>(
     prev: &View<'_>,
 ) -> Result<(), S::Error>
     requires size { SamePictureSize view.now prev.now }
-    ensures text { OnOk result (S.text sink.new ≡ S.text sink.old ++ bytes_of_all (rows_written pen.old view.now.rows prev.now.rows).ops) }
+    ensures text { OnOk result
+        (S.text sink.new ≡ S.text sink.old ++ bytes_of_all (rows_written pen.old view.now.rows prev.now.rows).ops) }
     ensures pen { OnOk result (pen.new ≡ (rows_written pen.old view.now.rows prev.now.rows).pen) }
 {
     let last = view.rows() - 1;

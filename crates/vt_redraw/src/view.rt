@@ -43,7 +43,9 @@ impl<'a> View<'a> {
     pub fn new(above: &'a Scrollback, grid: &'a Grid, attrs: Attrs, hidden: bool) -> View<'a>
         requires above { IsScrollback above.now }
         requires page { IsPage grid.now }
-        ensures value { result ≡ picture_over (visible above.now grid.now.rows) (record { page = grid.now; attrs = attrs; saved_attrs = attrs; hidden = hidden }) }
+        ensures value { result
+            ≡ picture_over (visible above.now grid.now.rows)
+            (record { page = grid.now; attrs = attrs; saved_attrs = attrs; hidden = hidden }) }
         ensures sound { IsPicture result }
     {
         let pos = grid.pos();

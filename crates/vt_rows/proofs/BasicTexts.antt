@@ -16,24 +16,33 @@ no_change attrs = rw (same_attrs-itself attrs) refl
 both : (attrs after : Attrs) → after ≡ attrs → (after ≡ attrs) × (change_text attrs after ≡ [])
 both attrs after e = (e, ap (change_text attrs) e ∙ no_change attrs)
 
-pub kept_same : (attrs : Attrs) (cell : CellValue) → same_attrs attrs (attrs_of cell) ≡ true → (attrs_after attrs cell ≡ attrs) × (change_text attrs (attrs_after attrs cell) ≡ [])
+pub kept_same : (attrs : Attrs) (cell : CellValue) → same_attrs attrs (attrs_of cell) ≡ true →
+    (attrs_after attrs cell ≡ attrs) × (change_text attrs (attrs_after attrs cell) ≡ [])
 kept_same attrs cell e =
-    both attrs (attrs_after attrs cell) (cond_both (is_bare cell) attrs (attrs_of cell) (λ (after : Attrs). after ≡ attrs) (λ _. refl) (λ _. sym (attrs_of-same attrs (attrs_of cell) e)))
+    both attrs (attrs_after attrs cell)
+    (cond_both (is_bare cell) attrs (attrs_of cell) (λ (after : Attrs). after ≡ attrs)
+    (λ _. refl) (λ _. sym (attrs_of-same attrs (attrs_of cell) e)))
 
 bare : (attrs : Attrs) (cell : CellValue) → is_bare cell ≡ true → attrs_after attrs cell ≡ attrs
 bare attrs cell e = ap (λ (b : Bool). if b then attrs else attrs_of cell) e
 
-pub kept_default : (attrs : Attrs) (cell : CellValue) → is_default_blank cell ≡ true → (attrs_after attrs cell ≡ attrs) × (change_text attrs (attrs_after attrs cell) ≡ [])
-kept_default attrs cell e = both attrs (attrs_after attrs cell) (bare attrs cell (ap (λ (b : Bool). b || is_right_half cell) e))
+pub kept_default : (attrs : Attrs) (cell : CellValue) → is_default_blank cell ≡ true →
+    (attrs_after attrs cell ≡ attrs) × (change_text attrs (attrs_after attrs cell) ≡ [])
+kept_default attrs cell e =
+    both attrs (attrs_after attrs cell) (bare attrs cell (ap (λ (b : Bool). b || is_right_half cell) e))
 
-pub kept_right : (attrs : Attrs) (cell : CellValue) → is_right_half cell ≡ true → (attrs_after attrs cell ≡ attrs) × (change_text attrs (attrs_after attrs cell) ≡ [])
-kept_right attrs cell e = both attrs (attrs_after attrs cell) (bare attrs cell (right (is_default_blank cell) refl)) where
-  right : (b : Bool) → is_default_blank cell ≡ b → is_bare cell ≡ true
-  right true d = ap (λ (b : Bool). b || is_right_half cell) d
-  right false d = ap (λ (b : Bool). b || is_right_half cell) d ∙ e
+pub kept_right : (attrs : Attrs) (cell : CellValue) → is_right_half cell ≡ true →
+    (attrs_after attrs cell ≡ attrs) × (change_text attrs (attrs_after attrs cell) ≡ [])
+kept_right attrs cell e =
+    both attrs (attrs_after attrs cell) (bare attrs cell (right (is_default_blank cell) refl)) where
+      right : (b : Bool) → is_default_blank cell ≡ b → is_bare cell ≡ true
+      right true d = ap (λ (b : Bool). b || is_right_half cell) d
+      right false d = ap (λ (b : Bool). b || is_right_half cell) d ∙ e
 
-pub own : (attrs : Attrs) (cell : CellValue) → is_default_blank cell ≡ false → is_right_half cell ≡ false → attrs_after attrs cell ≡ attrs_of cell
-own attrs cell d r = ap (λ (b : Bool). if b then attrs else attrs_of cell) (ap (λ (b : Bool). b || is_right_half cell) d ∙ r)
+pub own : (attrs : Attrs) (cell : CellValue) → is_default_blank cell ≡ false →
+    is_right_half cell ≡ false → attrs_after attrs cell ≡ attrs_of cell
+own attrs cell d r =
+    ap (λ (b : Bool). if b then attrs else attrs_of cell) (ap (λ (b : Bool). b || is_right_half cell) d ∙ r)
 
 half_shown : (cell : CellValue) → is_right_half cell ≡ true → shown_text cell ≡ []
 half_shown (blank attrs) e = cc
@@ -41,7 +50,8 @@ half_shown (glyph text wide attrs) e = cc
 half_shown right_half e = refl
 
 -- a right half adds nothing to what is gathered
-pub right_adds : (attrs : Attrs) (cell : CellValue) (xs : List ℕ) → is_right_half cell ≡ true → xs ≡ xs ++ (change_text attrs (attrs_after attrs cell) ++ shown_text cell)
+pub right_adds : (attrs : Attrs) (cell : CellValue) (xs : List ℕ) → is_right_half cell ≡ true →
+    xs ≡ xs ++ (change_text attrs (attrs_after attrs cell) ++ shown_text cell)
 right_adds attrs cell xs e = rw ((kept_right attrs cell e).1, half_shown cell e) (sym (append-nil xs))
 
 -- and keeps the attributes

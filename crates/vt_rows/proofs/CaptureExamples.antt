@@ -13,17 +13,21 @@ abbrev esc : ℕ
 esc = 0x1B
 
 -- a, ESC [ 1 m, b, ESC
-between_stretches : ArePiecesOf (0x61 ∷ esc ∷ 0x5B ∷ 0x31 ∷ 0x6D ∷ 0x62 ∷ esc ∷ []) ((0, 0x61 ∷ []) ∷ (5, 0x62 ∷ []) ∷ [])
+between_stretches : ArePiecesOf (0x61 ∷ esc ∷ 0x5B ∷ 0x31 ∷ 0x6D ∷ 0x62 ∷ esc ∷ [])
+    ((0, 0x61 ∷ []) ∷ (5, 0x62 ∷ []) ∷ [])
 between_stretches = pieces_are _
 
 -- ESC [ 3 1
 no_piece : ArePiecesOf (esc ∷ 0x5B ∷ 0x33 ∷ 0x31 ∷ []) []
 no_piece = pieces_are _
 
-rows_of_characters : (width : ℕ) (cs : List ℕ) (capture : List ℕ) (utf8 : IsUtf8 capture) → chars capture ≡ cs → (rows : List Piece) → slices_behind width 0 [] cs ≡ rows → AreRowsOf width capture rows
-rows_of_characters width cs capture utf8 e rows same = subst (AreRowsOf width capture) (ap (slices_behind width 0 []) e ∙ same) (rows_are width capture utf8)
+rows_of_characters : (width : ℕ) (cs : List ℕ) (capture : List ℕ) (utf8 : IsUtf8 capture) →
+    chars capture ≡ cs → (rows : List Piece) → slices_behind width 0 [] cs ≡ rows → AreRowsOf width capture rows
+rows_of_characters width cs capture utf8 e rows same =
+    subst (AreRowsOf width capture) (ap (slices_behind width 0 []) e ∙ same) (rows_are width capture utf8)
 
 -- a, b at no columns
-one_character_each : (utf8 : IsUtf8 (0x61 ∷ 0x62 ∷ [])) → AreRowsOf 0 (0x61 ∷ 0x62 ∷ []) ((0, 0x61 ∷ []) ∷ (1, 0x62 ∷ []) ∷ [])
+one_character_each : (utf8 : IsUtf8 (0x61 ∷ 0x62 ∷ [])) →
+    AreRowsOf 0 (0x61 ∷ 0x62 ∷ []) ((0, 0x61 ∷ []) ∷ (1, 0x62 ∷ []) ∷ [])
 unfolding shown_columns unicode_width encode_utf8
 one_character_each utf8 = rows_of_characters 0 (0x61 ∷ 0x62 ∷ []) _ utf8 (chars-encodes (0x61 ∷ 0x62 ∷ []) refl) _ refl

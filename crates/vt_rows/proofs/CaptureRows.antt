@@ -1,5 +1,7 @@
 -- What one more character does to a row of a capture.
-use Rattle.std.proofs.Common.{◌≡◌, ℕ, ◌+◌, ◌-◌, ◌≤◌, Bool, true, false, not, ◌==◌, List, [], ◌∷◌, ◌++◌, length, drop, map, chars, encode_utf8_all, Option, Some, None, refl, sym, ap, subst, ◌∙◌, append_assoc, append-nil, arith}
+use Rattle.std.proofs.Common.{◌≡◌, ℕ, ◌+◌, ◌-◌, ◌≤◌, Bool, true, false, not, ◌==◌, List, [], ◌∷◌}
+use Rattle.std.proofs.Common.{◌++◌, length, drop, map, chars, encode_utf8_all, Option, Some, None}
+use Rattle.std.proofs.Common.{refl, sym, ap, subst, ◌∙◌, append_assoc, append-nil, arith}
 use Rattle.std.specs.Char.{encode_utf8, len_utf8}
 use Rattle.std.specs.List.{fold, slice_range}
 use Rattle.std.specs.Str.{IsUtf8, IsCharBoundary}
@@ -8,16 +10,20 @@ use Rattle.std.proofs.lemmas.Bool.{and_parts, cond_both, eqb-true}
 use Rattle.std.proofs.lemmas.List.{length-append}
 use Rattle.unicode_width.specs.Width.{char_width}
 use Rattle.std.proofs.lemmas.Bool.Decides.{nat_tests}
-use Rattle.std.proofs.lemmas.Str.{length-encode, len_utf8_ascii, IsUtf8-past_char, chars_past_char, encodes-append, drop_past_char, IsCharBoundary-from_drop, chars-nil}
+use Rattle.std.proofs.lemmas.Str.{length-encode, len_utf8_ascii, IsUtf8-past_char, chars_past_char}
+use Rattle.std.proofs.lemmas.Str.{encodes-append, drop_past_char, IsCharBoundary-from_drop, chars-nil}
 use Rattle.vt_rows.specs.CaptureRows.{ends_row, is_beyond, overflows}
 use Rattle.vt_rows.specs.Keeping.{rows_behind, rows_of}
-use Rattle.vt_rows.specs.Stretches.{begins_stretch, shown_columns, shown_columns_or, is_within_after, is_within, columns_added, columns_from, columns_in}
+use Rattle.vt_rows.specs.Stretches.{begins_stretch, shown_columns, shown_columns_or, is_within_after}
+use Rattle.vt_rows.specs.Stretches.{is_within, columns_added, columns_from, columns_in}
 
-within_more : (within : Bool) (text : List ℕ) (c : ℕ) → fold is_within_after within (text ++ c ∷ []) ≡ is_within_after (fold is_within_after within text) c
+within_more : (within : Bool) (text : List ℕ) (c : ℕ) →
+    fold is_within_after within (text ++ c ∷ []) ≡ is_within_after (fold is_within_after within text) c
 within_more within [] c = refl
 within_more within (b ∷ text) c = within_more (is_within_after within b) text c
 
-columns_more : (within : Bool) (text : List ℕ) (c : ℕ) → columns_from within (text ++ c ∷ []) ≡ columns_from within text + columns_added (fold is_within_after within text) c
+columns_more : (within : Bool) (text : List ℕ) (c : ℕ) →
+    columns_from within (text ++ c ∷ []) ≡ columns_from within text + columns_added (fold is_within_after within text) c
 columns_more within [] c = omega arith
 columns_more within (b ∷ text) c =
     let ih = columns_more (is_within_after within b) text c in
@@ -26,7 +32,8 @@ columns_more within (b ∷ text) c =
 pub is_within-more : (row : List ℕ) (c : ℕ) → is_within (row ++ c ∷ []) ≡ is_within_after (is_within row) c
 is_within-more row c = within_more false row c
 
-pub columns_in-more : (row : List ℕ) (c : ℕ) → columns_in (row ++ c ∷ []) ≡ columns_in row + columns_added (is_within row) c
+pub columns_in-more : (row : List ℕ) (c : ℕ) →
+    columns_in (row ++ c ∷ []) ≡ columns_in row + columns_added (is_within row) c
 columns_in-more row c = columns_more false row c
 
 -- the text was read up to `rest`, as the row so far
@@ -35,11 +42,13 @@ pub record IsRead (width : ℕ) (text row rest : List ℕ) : Type 0 where
   pub utf8 : IsUtf8 rest
   pub rows : rows_behind width row (chars rest) ≡ rows_behind width [] (chars text)
 
-pub beyond_outside : (width used : ℕ) (within : Bool) (c : ℕ) → is_beyond width used (columns_added within c) ≡ true → within ≡ false
+pub beyond_outside : (width used : ℕ) (within : Bool) (c : ℕ) →
+    is_beyond width used (columns_added within c) ≡ true → within ≡ false
 beyond_outside width used true c e = absurd (grind (arith, nat_tests))
 beyond_outside width used false c e = refl
 
-module _ (width : ℕ) (text row rest later : List ℕ) (c : ℕ) (read : IsRead width text row rest) (next : rest ≡ encode_utf8 c ++ later) where
+module _ (width : ℕ) (text row rest later : List ℕ) (c : ℕ)
+    (read : IsRead width text row rest) (next : rest ≡ encode_utf8 c ++ later) where
   characters : chars rest ≡ c ∷ chars later
   characters = chars_past_char rest later c read.utf8 next
 
@@ -51,27 +60,34 @@ module _ (width : ℕ) (text row rest later : List ℕ) (c : ℕ) (read : IsRead
       let step : rows_behind width row (c ∷ chars later) ≡ row ∷ rows_behind width [] (chars later) = rw ends refl in
       ap (map encode_utf8_all) (sym seen ∙ step)
 
-  pub row_full : ends_row row c ≡ false → overflows width row c ≡ true → rows_of width text ≡ encode_utf8_all row ∷ rows_of width rest
+  pub row_full : ends_row row c ≡ false → overflows width row c ≡ true →
+      rows_of width text ≡ encode_utf8_all row ∷ rows_of width rest
   row_full goes full =
       let outside : is_within row ≡ false = beyond_outside width (columns_in row) (is_within row) c full in
       let other : ends_row [] c ≡ false = rw outside at goes in
       let fits : overflows width [] c ≡ false = refl in
-      let step : rows_behind width row (c ∷ chars later) ≡ row ∷ rows_behind width (c ∷ []) (chars later) = rw (goes, full) refl in
-      let anew : rows_behind width [] (c ∷ chars later) ≡ rows_behind width (c ∷ []) (chars later) = rw (other, fits) refl in
-      ap (map encode_utf8_all) (sym seen ∙ step ∙ ap (λ rows. row ∷ rows) (sym anew ∙ ap (rows_behind width []) (sym characters)))
+      let step : rows_behind width row (c ∷ chars later) ≡ row ∷ rows_behind width (c ∷ []) (chars later) =
+      rw (goes, full) refl in
+      let anew : rows_behind width [] (c ∷ chars later) ≡ rows_behind width (c ∷ []) (chars later) =
+      rw (other, fits) refl in
+      ap (map encode_utf8_all)
+      (sym seen ∙ step ∙ ap (λ rows. row ∷ rows) (sym anew ∙ ap (rows_behind width []) (sym characters)))
 
   pub row_goes_on : ends_row row c ≡ false → overflows width row c ≡ false → IsRead width text (row ++ c ∷ []) later
   row_goes_on goes fits =
-      let step : rows_behind width row (c ∷ chars later) ≡ rows_behind width (row ++ c ∷ []) (chars later) = rw (goes, fits) refl in
+      let step : rows_behind width row (c ∷ chars later) ≡ rows_behind width (row ++ c ∷ []) (chars later) =
+      rw (goes, fits) refl in
       let whole : encode_utf8_all (row ++ c ∷ []) ++ later ≡ text =
-      ap (λ (front : List ℕ). front ++ later) (encodes-append row (c ∷ []) ∙ ap (λ (last : List ℕ). encode_utf8_all row ++ last) (append-nil (encode_utf8 c)))
+      ap (λ (front : List ℕ). front ++ later)
+      (encodes-append row (c ∷ []) ∙ ap (λ (last : List ℕ). encode_utf8_all row ++ last) (append-nil (encode_utf8 c)))
       ∙ append_assoc (encode_utf8_all row) (encode_utf8 c) later
       ∙ ap (λ (back : List ℕ). encode_utf8_all row ++ back) (sym next)
       ∙ sym read.parts in
       record { parts = sym whole; utf8 = IsUtf8-past_char rest later c read.utf8 next; rows = sym step ∙ seen }
 
 -- nothing is left to read
-pub row_last : (width : ℕ) (text row rest : List ℕ) → IsRead width text row rest → length rest ≡ 0 → rows_of width text ≡ text ∷ []
+pub row_last : (width : ℕ) (text row rest : List ℕ) →
+    IsRead width text row rest → length rest ≡ 0 → rows_of width text ≡ text ∷ []
 row_last width text row [] read e =
     let none : chars [] ≡ [] = chars-nil in
     let whole : encode_utf8_all row ≡ text = sym (read.parts ∙ append-nil (encode_utf8_all row)) in
@@ -80,7 +96,8 @@ row_last width text row [] read e =
 row_last width text row (b ∷ rest) read e = absurd (omega arith)
 
 -- a text in two parts, cut at the length of the first
-pub front_part : (text front back : List ℕ) (n : ℕ) → text ≡ front ++ back → n ≡ length front → slice_range text 0 n ≡ front
+pub front_part : (text front back : List ℕ) (n : ℕ) →
+    text ≡ front ++ back → n ≡ length front → slice_range text 0 n ≡ front
 front_part text front back n parts e =
     let same : n - 0 ≡ n = omega arith in
     rw (same, parts, e) (take-append_seam front back)
@@ -92,23 +109,28 @@ back_part text front back n parts e = rw (parts, e) (drop-append_seam front back
 pub line_end : (row : List ℕ) (c : ℕ) → ends_row row c ≡ true → c ≡ 0x0A
 line_end row c ends = eqb-true c 0x0A (and_parts (not (is_within row)) (c == 0x0A) ends).1
 
-pub behind_line_end : (text row rest later : List ℕ) (c n : ℕ) → text ≡ encode_utf8_all row ++ rest → rest ≡ encode_utf8 c ++ later → n ≡ length (encode_utf8_all row) → c ≡ 0x0A → drop (n + 1) text ≡ later
+pub behind_line_end : (text row rest later : List ℕ) (c n : ℕ) → text ≡ encode_utf8_all row ++ rest →
+    rest ≡ encode_utf8 c ++ later → n ≡ length (encode_utf8_all row) → c ≡ 0x0A → drop (n + 1) text ≡ later
 behind_line_end text row rest later c n parts next e lf =
     let width : len_utf8 c ≡ 1 = rw lf refl in
     let seam : drop n text ≡ encode_utf8 c ++ later = back_part text (encode_utf8_all row) rest n parts e ∙ next in
     rw width at (drop_past_char text later n c seam)
 
-pub boundary_behind : (text row rest later : List ℕ) (c n : ℕ) → text ≡ encode_utf8_all row ++ rest → IsUtf8 rest → rest ≡ encode_utf8 c ++ later → n ≡ length (encode_utf8_all row) → c ≡ 0x0A → IsCharBoundary text (n + 1)
+pub boundary_behind : (text row rest later : List ℕ) (c n : ℕ) → text ≡ encode_utf8_all row ++ rest → IsUtf8 rest →
+    rest ≡ encode_utf8 c ++ later → n ≡ length (encode_utf8_all row) → c ≡ 0x0A → IsCharBoundary text (n + 1)
 boundary_behind text row rest later c n parts utf8 next e lf =
     let width : length (encode_utf8 c) ≡ 1 = length-encode c ∙ len_utf8_ascii c (omega (arith, lf)) in
     let whole = ap length parts ∙ length-append (encode_utf8_all row) rest in
     let left = ap length next ∙ length-append (encode_utf8 c) later in
     let behind = behind_line_end text row rest later c n parts next e lf in
-    IsCharBoundary-from_drop text (n + 1) (omega (arith, whole, left, width, e)) (subst IsUtf8 (sym behind) (IsUtf8-past_char rest later c utf8 next))
+    IsCharBoundary-from_drop text (n + 1) (omega (arith, whole, left, width, e))
+    (subst IsUtf8 (sym behind) (IsUtf8-past_char rest later c utf8 next))
 
-pub length_more : (row : List ℕ) (c : ℕ) → length (encode_utf8_all (row ++ c ∷ [])) ≡ length (encode_utf8_all row) + length (encode_utf8 c)
+pub length_more : (row : List ℕ) (c : ℕ) →
+    length (encode_utf8_all (row ++ c ∷ [])) ≡ length (encode_utf8_all row) + length (encode_utf8 c)
 length_more row c =
-    ap length (encodes-append row (c ∷ []) ∙ ap (λ (last : List ℕ). encode_utf8_all row ++ last) (append-nil (encode_utf8 c)))
+    ap length
+    (encodes-append row (c ∷ []) ∙ ap (λ (last : List ℕ). encode_utf8_all row ++ last) (append-nil (encode_utf8 c)))
     ∙ length-append (encode_utf8_all row) (encode_utf8 c)
 
 shown_most : (width : Option ℕ) → shown_columns_or width ≤ 2
@@ -121,12 +143,16 @@ shown_columns-most c = shown_most (char_width false c)
 
 added_most : (within : Bool) (c : ℕ) → columns_added within c ≤ 2
 added_most true c = omega arith
-added_most false c = cond_both (begins_stretch c) 0 (shown_columns c) (λ n. n ≤ 2) (λ _. omega arith) (λ _. shown_columns-most c)
+added_most false c =
+    cond_both (begins_stretch c) 0 (shown_columns c) (λ n. n ≤ 2) (λ _. omega arith) (λ _. shown_columns-most c)
 
-within_bound : (width used added : ℕ) → is_beyond width used added ≡ false → used ≤ width + 2 → added ≤ 2 → used + added ≤ width + 2
+within_bound : (width used added : ℕ) → is_beyond width used added ≡ false →
+    used ≤ width + 2 → added ≤ 2 → used + added ≤ width + 2
 within_bound width used added fits low most = grind (arith, nat_tests)
 
 -- a row that goes on is at most two columns wider than the width
-pub bound_kept : (width : ℕ) (row : List ℕ) (c : ℕ) → overflows width row c ≡ false → columns_in row ≤ width + 2 → columns_in (row ++ c ∷ []) ≤ width + 2
+pub bound_kept : (width : ℕ) (row : List ℕ) (c : ℕ) → overflows width row c ≡ false →
+    columns_in row ≤ width + 2 → columns_in (row ++ c ∷ []) ≤ width + 2
 bound_kept width row c fits low =
-    rw (columns_in-more row c) (within_bound width (columns_in row) (columns_added (is_within row) c) fits low (added_most (is_within row) c))
+    rw (columns_in-more row c)
+    (within_bound width (columns_in row) (columns_added (is_within row) c) fits low (added_most (is_within row) c))

@@ -3,7 +3,8 @@ use Rattle.std.proofs.Common.{◌≡◌, ℕ, true, false, List, [], ◌∷◌, 
 use Rattle.vt_cells.specs.Attrs.{default_attrs, same_attrs, same_color, Attrs}
 use Rattle.vt_cells.specs.Cell.{CellValue, blank, glyph, right_half, default_blank}
 use Rattle.vt_cells.specs.declared.color.Color.TheVariants.{Idx}
-use Rattle.vt_rows.specs.Cells.{put_cells, put_narrow, put_wide, erased, widened_at, narrowed_at, moved, inserted, deleted, resized}
+use Rattle.vt_rows.specs.Cells.{put_cells, put_narrow, put_wide, erased, widened_at}
+use Rattle.vt_rows.specs.Cells.{narrowed_at, moved, inserted, deleted, resized}
 use Rattle.vt_rows.specs.Plain.{plain_text}
 use Rattle.vt_rows.specs.Row.{with_cells, trimmed, resized_row}
 
@@ -17,19 +18,26 @@ wide attrs = glyph (0xE4 ∷ 0xB8 ∷ 0xAD ∷ []) true attrs
 abbrev other : Attrs → CellValue
 other attrs = glyph (0xE5 ∷ 0x9B ∷ 0xBD ∷ []) true attrs
 
-on_right_half : (a b : Attrs) → put_narrow 1 (0x78 ∷ []) b (wide a ∷ right_half ∷ letter 0x61 a ∷ []) ≡ blank a ∷ letter 0x78 b ∷ letter 0x61 a ∷ []
+on_right_half : (a b : Attrs) →
+    put_narrow 1 (0x78 ∷ []) b (wide a ∷ right_half ∷ letter 0x61 a ∷ []) ≡ blank a ∷ letter 0x78 b ∷ letter 0x61 a ∷ []
 unfolding put_cells
 on_right_half a b = refl
 
-on_left_half : (a b : Attrs) → put_narrow 0 (0x78 ∷ []) b (wide a ∷ right_half ∷ letter 0x61 a ∷ []) ≡ letter 0x78 b ∷ letter 0x20 b ∷ letter 0x61 a ∷ []
+on_left_half : (a b : Attrs) →
+    put_narrow 0 (0x78 ∷ []) b (wide a ∷ right_half ∷ letter 0x61 a ∷ [])
+    ≡ letter 0x78 b ∷ letter 0x20 b ∷ letter 0x61 a ∷ []
 unfolding put_cells
 on_left_half a b = refl
 
-wide_before_wide : (a b : Attrs) → put_wide 0 (0xE5 ∷ 0x9B ∷ 0xBD ∷ []) b (letter 0x61 a ∷ wide a ∷ right_half ∷ []) ≡ other b ∷ right_half ∷ blank b ∷ []
+wide_before_wide : (a b : Attrs) →
+    put_wide 0 (0xE5 ∷ 0x9B ∷ 0xBD ∷ []) b (letter 0x61 a ∷ wide a ∷ right_half ∷ [])
+    ≡ other b ∷ right_half ∷ blank b ∷ []
 unfolding put_cells
 wide_before_wide a b = refl
 
-wide_within_wide : (a b : Attrs) → put_wide 1 (0xE5 ∷ 0x9B ∷ 0xBD ∷ []) b (wide a ∷ right_half ∷ wide a ∷ right_half ∷ []) ≡ blank a ∷ other b ∷ right_half ∷ blank b ∷ []
+wide_within_wide : (a b : Attrs) →
+    put_wide 1 (0xE5 ∷ 0x9B ∷ 0xBD ∷ []) b (wide a ∷ right_half ∷ wide a ∷ right_half ∷ [])
+    ≡ blank a ∷ other b ∷ right_half ∷ blank b ∷ []
 unfolding put_cells
 wide_within_wide a b = refl
 
@@ -41,32 +49,44 @@ right_half_erased : (a b : Attrs) → erased 1 1 b (wide a ∷ right_half ∷ []
 unfolding put_cells
 right_half_erased a b = refl
 
-narrow_made_wide : (a b : Attrs) → widened_at 0 b (letter 0x61 a ∷ wide a ∷ right_half ∷ []) ≡ glyph (0x61 ∷ []) true a ∷ right_half ∷ blank b ∷ []
+narrow_made_wide : (a b : Attrs) →
+    widened_at 0 b (letter 0x61 a ∷ wide a ∷ right_half ∷ []) ≡ glyph (0x61 ∷ []) true a ∷ right_half ∷ blank b ∷ []
 unfolding put_cells
 narrow_made_wide a b = refl
 
-wide_made_narrow : (a b : Attrs) → narrowed_at 0 b (wide a ∷ right_half ∷ []) ≡ glyph (0xE4 ∷ 0xB8 ∷ 0xAD ∷ []) false a ∷ letter 0x20 b ∷ []
+wide_made_narrow : (a b : Attrs) →
+    narrowed_at 0 b (wide a ∷ right_half ∷ []) ≡ glyph (0xE4 ∷ 0xB8 ∷ 0xAD ∷ []) false a ∷ letter 0x20 b ∷ []
 unfolding put_cells
 wide_made_narrow a b = refl
 
 -- two halves that are brought together are no pair
-two_pairs_torn : (a b : Attrs) → deleted 1 2 (wide a ∷ right_half ∷ other b ∷ right_half ∷ letter 0x78 b ∷ []) ≡ blank a ∷ default_blank ∷ letter 0x78 b ∷ default_blank ∷ default_blank ∷ []
+two_pairs_torn : (a b : Attrs) →
+    deleted 1 2 (wide a ∷ right_half ∷ other b ∷ right_half ∷ letter 0x78 b ∷ [])
+    ≡ blank a ∷ default_blank ∷ letter 0x78 b ∷ default_blank ∷ default_blank ∷ []
 unfolding deleted moved
 two_pairs_torn a b = refl
 
-right_half_deleted : (a : Attrs) → deleted 2 1 (letter 0x61 a ∷ wide a ∷ right_half ∷ letter 0x62 a ∷ default_blank ∷ []) ≡ letter 0x61 a ∷ blank a ∷ letter 0x62 a ∷ default_blank ∷ default_blank ∷ []
+right_half_deleted : (a : Attrs) →
+    deleted 2 1 (letter 0x61 a ∷ wide a ∷ right_half ∷ letter 0x62 a ∷ default_blank ∷ [])
+    ≡ letter 0x61 a ∷ blank a ∷ letter 0x62 a ∷ default_blank ∷ default_blank ∷ []
 unfolding deleted moved
 right_half_deleted a = refl
 
-inserted_before_pair : (a : Attrs) → inserted 1 1 (letter 0x61 a ∷ wide a ∷ right_half ∷ default_blank ∷ []) ≡ letter 0x61 a ∷ default_blank ∷ wide a ∷ right_half ∷ []
+inserted_before_pair : (a : Attrs) →
+    inserted 1 1 (letter 0x61 a ∷ wide a ∷ right_half ∷ default_blank ∷ [])
+    ≡ letter 0x61 a ∷ default_blank ∷ wide a ∷ right_half ∷ []
 unfolding inserted moved
 inserted_before_pair a = refl
 
-pair_torn_at_end : (a : Attrs) → inserted 1 2 (letter 0x61 a ∷ wide a ∷ right_half ∷ default_blank ∷ []) ≡ letter 0x61 a ∷ default_blank ∷ default_blank ∷ blank a ∷ []
+pair_torn_at_end : (a : Attrs) →
+    inserted 1 2 (letter 0x61 a ∷ wide a ∷ right_half ∷ default_blank ∷ [])
+    ≡ letter 0x61 a ∷ default_blank ∷ default_blank ∷ blank a ∷ []
 unfolding inserted moved
 pair_torn_at_end a = refl
 
-inserted_behind_pair : (a : Attrs) → inserted 1 1 (wide a ∷ right_half ∷ letter 0x61 a ∷ letter 0x62 a ∷ []) ≡ wide a ∷ right_half ∷ default_blank ∷ letter 0x61 a ∷ []
+inserted_behind_pair : (a : Attrs) →
+    inserted 1 1 (wide a ∷ right_half ∷ letter 0x61 a ∷ letter 0x62 a ∷ [])
+    ≡ wide a ∷ right_half ∷ default_blank ∷ letter 0x61 a ∷ []
 unfolding inserted moved
 inserted_behind_pair a = refl
 
@@ -74,23 +94,32 @@ cut_in_pair : (a : Attrs) → resized 2 (letter 0x61 a ∷ wide a ∷ right_half
 unfolding resized moved
 cut_in_pair a = refl
 
-grown : (a : Attrs) → resized_row 3 (record { cells = letter 0x61 a ∷ []; wrapped = true }) ≡ record { cells = letter 0x61 a ∷ default_blank ∷ default_blank ∷ []; wrapped = false }
+grown : (a : Attrs) →
+    resized_row 3 (record { cells = letter 0x61 a ∷ []; wrapped = true })
+    ≡ record { cells = letter 0x61 a ∷ default_blank ∷ default_blank ∷ []; wrapped = false }
 unfolding resized moved
 grown a = refl
 
 abbrev coloured : CellValue
 coloured = blank (record default_attrs { bgcolor = Idx 1 })
 
-coloured_stays : (a : Attrs) → trimmed (letter 0x61 a ∷ default_blank ∷ coloured ∷ default_blank ∷ default_blank ∷ []) ≡ letter 0x61 a ∷ default_blank ∷ coloured ∷ []
+coloured_stays : (a : Attrs) →
+    trimmed (letter 0x61 a ∷ default_blank ∷ coloured ∷ default_blank ∷ default_blank ∷ [])
+    ≡ letter 0x61 a ∷ default_blank ∷ coloured ∷ []
 unfolding same_attrs same_color
 coloured_stays a = refl
 
 -- the flag falls where the last column is blanked, and stays where a space is put
-flag_falls : (a b : Attrs) → with_cells (record { cells = wide a ∷ right_half ∷ []; wrapped = true }) (erased 0 1 b (wide a ∷ right_half ∷ [])) ≡ record { cells = blank b ∷ default_blank ∷ []; wrapped = false }
+flag_falls : (a b : Attrs) →
+    with_cells (record { cells = wide a ∷ right_half ∷ []; wrapped = true }) (erased 0 1 b (wide a ∷ right_half ∷ []))
+    ≡ record { cells = blank b ∷ default_blank ∷ []; wrapped = false }
 unfolding put_cells
 flag_falls a b = refl
 
-flag_stays : (a b : Attrs) → with_cells (record { cells = wide a ∷ right_half ∷ []; wrapped = true }) (put_narrow 0 (0x78 ∷ []) b (wide a ∷ right_half ∷ [])) ≡ record { cells = letter 0x78 b ∷ letter 0x20 b ∷ []; wrapped = true }
+flag_stays : (a b : Attrs) →
+    with_cells (record { cells = wide a ∷ right_half ∷ []; wrapped = true })
+    (put_narrow 0 (0x78 ∷ []) b (wide a ∷ right_half ∷ []))
+    ≡ record { cells = letter 0x78 b ∷ letter 0x20 b ∷ []; wrapped = true }
 unfolding put_cells
 flag_stays a b = refl
 

@@ -1,12 +1,15 @@
 -- Moves of columns: what stands where, that pairs stay whole, and that cells stay cells.
-use Rattle.std.proofs.Common.{◌≡◌, ℕ, ◌+◌, ◌-◌, ◌<◌, ◌≤◌, ◌==◌, ◌&&◌, nat_lt, not, Bool, true, false, List, length, refl, inl, inr, sym, ap, subst, ◌∙◌, zero-add, arith}
+use Rattle.std.proofs.Common.{◌≡◌, ℕ, ◌+◌, ◌-◌, ◌<◌, ◌≤◌, ◌==◌, ◌&&◌, nat_lt, not, Bool, true, false}
+use Rattle.std.proofs.Common.{List, length, refl, inl, inr, sym, ap, subst, ◌∙◌, zero-add, arith}
 use Rattle.std.specs.Prelude.{All, if◌then◌else◌}
 use Rattle.std.proofs.lemmas.Bool.{cases_lt, cases_eq, cond_both, and_parts, and_right, eqb-true}
 use Rattle.std.proofs.lemmas.Bool.Decides.{nat_tests}
 use Rattle.std.proofs.lemmas.List.FromFn.{fill_by_all, length-map-range_with_len, get_or-map-range_with_len}
 use Rattle.std.proofs.lemmas.List.Elements.{All-from_get_or, All-get_or}
-use Rattle.vt_cells.specs.Cell.{CellValue, blank, glyph, right_half, default_blank, is_wide, is_right_half, attrs_of, IsCell}
-use Rattle.vt_rows.specs.Cells.{at, IsPaired, ends_blank, moved, moved_at, inserted, deleted, resized, insert_source, delete_source, insert_column}
+use Rattle.vt_cells.specs.Cell.{CellValue, blank, glyph, right_half, default_blank}
+use Rattle.vt_cells.specs.Cell.{is_wide, is_right_half, attrs_of, IsCell}
+use Rattle.vt_rows.specs.Cells.{at, IsPaired, ends_blank, moved, moved_at, inserted, deleted}
+use Rattle.vt_rows.specs.Cells.{resized, insert_source, delete_source, insert_column}
 use Rattle.vt_rows.specs.Row.{RowValue, IsRow, inserted_row, deleted_row, resized_row}
 use Rattle.vt_rows.proofs.Columns.{at-past}
 
@@ -14,18 +17,22 @@ pub length-moved : (n : ℕ) (source : ℕ → ℕ) (cells : List CellValue) →
 unfolding moved
 length-moved n source cells = length-map-range_with_len (moved_at n source cells) 0 n
 
-pub at-moved : (n : ℕ) (source : ℕ → ℕ) (cells : List CellValue) (k : ℕ) → k < n → at (moved n source cells) k ≡ moved_at n source cells k
+pub at-moved : (n : ℕ) (source : ℕ → ℕ) (cells : List CellValue) (k : ℕ) →
+    k < n → at (moved n source cells) k ≡ moved_at n source cells k
 unfolding moved
 at-moved n source cells k h = get_or-map-range_with_len (moved_at n source cells) 0 n k k default_blank h (zero-add k)
 
-pub moved_is : (n : ℕ) (source : ℕ → ℕ) (cells ys : List CellValue) → length ys ≡ n → ((k : ℕ) → k < n → at ys k ≡ moved_at n source cells k) → ys ≡ moved n source cells
+pub moved_is : (n : ℕ) (source : ℕ → ℕ) (cells ys : List CellValue) → length ys ≡ n →
+    ((k : ℕ) → k < n → at ys k ≡ moved_at n source cells k) → ys ≡ moved n source cells
 unfolding moved
 moved_is n source cells ys e f = fill_by_all (moved_at n source cells) ys n default_blank e f
 
 -- ---- pairs
 
 -- t: the right half comes along behind; s: the left half comes along before
-wide_moved : (t s : Bool) (x : CellValue) → is_wide (if is_wide x && not t then blank (attrs_of x) else if is_right_half x && not s then default_blank else x) ≡ (is_wide x && t)
+wide_moved : (t s : Bool) (x : CellValue) →
+    is_wide (if is_wide x && not t then blank (attrs_of x) else if is_right_half x && not s then default_blank else x)
+    ≡ (is_wide x && t)
 wide_moved t s (blank attrs) = refl
 wide_moved true s (glyph text true attrs) = refl
 wide_moved false s (glyph text true attrs) = refl
@@ -33,7 +40,10 @@ wide_moved t s (glyph text false attrs) = refl
 wide_moved t true right_half = refl
 wide_moved t false right_half = refl
 
-right_moved : (t s : Bool) (x : CellValue) → is_right_half (if is_wide x && not t then blank (attrs_of x) else if is_right_half x && not s then default_blank else x) ≡ (is_right_half x && s)
+right_moved : (t s : Bool) (x : CellValue) →
+    is_right_half
+    (if is_wide x && not t then blank (attrs_of x) else if is_right_half x && not s then default_blank else x)
+    ≡ (is_right_half x && s)
 right_moved t s (blank attrs) = refl
 right_moved true s (glyph text true attrs) = refl
 right_moved false s (glyph text true attrs) = refl
@@ -42,21 +52,34 @@ right_moved t true right_half = refl
 right_moved t false right_half = refl
 
 -- neighbours that come from columns i and j
-neighbours : (cells : List CellValue) (i j : ℕ) (room : Bool) → IsPaired cells → room ≡ true → (is_wide (at cells i) && (room && (j == i + 1))) ≡ (is_right_half (at cells j) && (j == i + 1))
+neighbours : (cells : List CellValue) (i j : ℕ) (room : Bool) → IsPaired cells → room ≡ true →
+    (is_wide (at cells i) && (room && (j == i + 1))) ≡ (is_right_half (at cells j) && (j == i + 1))
 neighbours cells i j room p r = elim (cases_eq j (i + 1)) [
   | inl same ↦
-      let t : is_wide (at cells i) ≡ is_right_half (at cells j) = p.halves i ∙ ap (λ (m : ℕ). is_right_half (at cells m)) (sym same) in
+      let t : is_wide (at cells i) ≡ is_right_half (at cells j) =
+      p.halves i ∙ ap (λ (m : ℕ). is_right_half (at cells m)) (sym same) in
       grind (arith, nat_tests)
   | inr other ↦ grind (arith, nat_tests)
 ]
 
-pub IsPaired-moved : (n : ℕ) (source : ℕ → ℕ) (cells : List CellValue) → IsPaired cells → IsPaired (moved n source cells)
+pub IsPaired-moved : (n : ℕ) (source : ℕ → ℕ) (cells : List CellValue) →
+    IsPaired cells → IsPaired (moved n source cells)
 IsPaired-moved n source cells p = record { halves = halves; first = first } where
-  wide : (k : ℕ) → k < n → is_wide (at (moved n source cells) k) ≡ (is_wide (at cells (source k)) && (nat_lt (k + 1) n && (source (k + 1) == source k + 1)))
-  wide k h = ap is_wide (at-moved n source cells k h) ∙ wide_moved (nat_lt (k + 1) n && (source (k + 1) == source k + 1)) (source k == source (k - 1) + 1) (at cells (source k))
+  wide : (k : ℕ) → k < n →
+      is_wide (at (moved n source cells) k)
+      ≡ (is_wide (at cells (source k)) && (nat_lt (k + 1) n && (source (k + 1) == source k + 1)))
+  wide k h =
+      ap is_wide (at-moved n source cells k h)
+      ∙ wide_moved (nat_lt (k + 1) n && (source (k + 1) == source k + 1))
+      (source k == source (k - 1) + 1) (at cells (source k))
 
-  right : (k : ℕ) → k < n → is_right_half (at (moved n source cells) k) ≡ (is_right_half (at cells (source k)) && (source k == source (k - 1) + 1))
-  right k h = ap is_right_half (at-moved n source cells k h) ∙ right_moved (nat_lt (k + 1) n && (source (k + 1) == source k + 1)) (source k == source (k - 1) + 1) (at cells (source k))
+  right : (k : ℕ) → k < n →
+      is_right_half (at (moved n source cells) k)
+      ≡ (is_right_half (at cells (source k)) && (source k == source (k - 1) + 1))
+  right k h =
+      ap is_right_half (at-moved n source cells k h)
+      ∙ right_moved (nat_lt (k + 1) n && (source (k + 1) == source k + 1))
+      (source k == source (k - 1) + 1) (at cells (source k))
 
   past : (k : ℕ) → n ≤ k → at (moved n source cells) k ≡ default_blank
   past k h = let l = length-moved n source cells in at-past (moved n source cells) k (omega arith)
@@ -65,8 +88,10 @@ IsPaired-moved n source cells p = record { halves = halves; first = first } wher
   halves k = elim (cases_lt (k + 1) n) [
     | inl lt ↦
         let i : k + 1 - 1 ≡ k = omega arith in
-        let r : is_right_half (at (moved n source cells) (k + 1)) ≡ (is_right_half (at cells (source (k + 1))) && (source (k + 1) == source k + 1)) =
-        right (k + 1) lt ∙ ap (λ (m : ℕ). is_right_half (at cells (source (k + 1))) && (source (k + 1) == source m + 1)) i in
+        let r : is_right_half (at (moved n source cells) (k + 1))
+        ≡ (is_right_half (at cells (source (k + 1))) && (source (k + 1) == source k + 1)) =
+        right (k + 1) lt
+        ∙ ap (λ (m : ℕ). is_right_half (at cells (source (k + 1))) && (source (k + 1) == source m + 1)) i in
         let t : nat_lt (k + 1) n ≡ true = grind (arith, nat_tests) in
         wide k (omega arith) ∙ (neighbours cells (source k) (source (k + 1)) (nat_lt (k + 1) n) p t ∙ sym r)
     | inr ge ↦
@@ -80,7 +105,8 @@ IsPaired-moved n source cells p = record { halves = halves; first = first } wher
   first : is_right_half (at (moved n source cells) 0) ≡ false
   first = elim (cases_lt 0 n) [
     | inl lt ↦
-        let r : is_right_half (at (moved n source cells) 0) ≡ (is_right_half (at cells (source 0)) && (source 0 == source 0 + 1)) = right 0 lt in
+        let r : is_right_half (at (moved n source cells) 0)
+        ≡ (is_right_half (at cells (source 0)) && (source 0 == source 0 + 1)) = right 0 lt in
         grind (arith, nat_tests)
     | inr over ↦ ap is_right_half (past 0 over)
   ]
@@ -102,7 +128,8 @@ All-moved n source cells all = All-from_get_or IsCell (moved n source cells) def
       let here = is_wide x && not (nat_lt (k + 1) n && (source (k + 1) == source k + 1)) in
       let there = is_right_half x && not (source k == source (k - 1) + 1) in
       subst IsCell (sym (at-moved n source cells k (omega arith)))
-      (cond_both here (blank (attrs_of x)) (if there then default_blank else x) IsCell (λ _. tt) (λ _. cond_both there default_blank x IsCell (λ _. tt) (λ _. IsCell-at cells (source k) all)))
+      (cond_both here (blank (attrs_of x)) (if there then default_blank else x) IsCell (λ _. tt)
+      (λ _. cond_both there default_blank x IsCell (λ _. tt) (λ _. IsCell-at cells (source k) all)))
 
 -- ---- the same number of columns
 
@@ -111,11 +138,16 @@ unfolding resized
 resized-same n cells e p = sym (moved_is n (λ k. k) cells cells e same) where
   same : (k : ℕ) → k < n → at cells k ≡ moved_at n (λ k. k) cells k
   same k h =
-      let f : k ≡ 0 → is_right_half (at cells k) ≡ false = λ z. ap (λ (j : ℕ). is_right_half (at cells j)) z ∙ p.first in
-      let w : n ≤ k + 1 → is_wide (at cells k) ≡ false = λ past. p.halves k ∙ ap is_right_half (at-past cells (k + 1) (omega arith)) in
+      let f : k ≡ 0 → is_right_half (at cells k) ≡ false =
+      λ z. ap (λ (j : ℕ). is_right_half (at cells j)) z ∙ p.first in
+      let w : n ≤ k + 1 → is_wide (at cells k) ≡ false =
+      λ past. p.halves k ∙ ap is_right_half (at-past cells (k + 1) (omega arith)) in
       elim (cases_lt (k + 1) n) [
-        | inl lt ↦ elim (cases_eq k 0) [ inl z ↦ let r = f z in grind (arith, nat_tests) | inr pos ↦ grind (arith, nat_tests) ]
-        | inr ge ↦ let v = w ge in elim (cases_eq k 0) [ inl z ↦ let r = f z in grind (arith, nat_tests) | inr pos ↦ grind (arith, nat_tests) ]
+        | inl lt ↦
+            elim (cases_eq k 0) [ inl z ↦ let r = f z in grind (arith, nat_tests) | inr pos ↦ grind (arith, nat_tests) ]
+        | inr ge ↦ let v =
+            w ge in elim (cases_eq k 0)
+            [ inl z ↦ let r = f z in grind (arith, nat_tests) | inr pos ↦ grind (arith, nat_tests) ]
       ]
 
 -- ---- inserted, deleted, resized
@@ -126,7 +158,8 @@ length-inserted c n cells = length-moved (length cells) (insert_source (length c
 
 pub IsPaired-inserted : (c n : ℕ) (cells : List CellValue) → IsPaired cells → IsPaired (inserted c n cells)
 unfolding inserted
-IsPaired-inserted c n cells p = IsPaired-moved (length cells) (insert_source (length cells) (insert_column c cells) n) cells p
+IsPaired-inserted c n cells p =
+    IsPaired-moved (length cells) (insert_source (length cells) (insert_column c cells) n) cells p
 
 pub All-inserted : (c n : ℕ) (cells : List CellValue) → All IsCell cells → All IsCell (inserted c n cells)
 unfolding inserted
@@ -179,9 +212,11 @@ IsRow-resized_row width n row r = record {
   columns = length-resized n row.cells;
   paired = IsPaired-resized n row.cells r.paired;
   flagged = λ h.
-      let both : (row.wrapped ≡ true) × ((length row.cells == n) ≡ true) = and_parts row.wrapped (length row.cells == n) h in
+      let both : (row.wrapped ≡ true) × ((length row.cells == n) ≡ true) =
+      and_parts row.wrapped (length row.cells == n) h in
       let e : length row.cells ≡ n = eqb-true (length row.cells) n both.1 in
-      subst (λ (cells : List CellValue). ends_blank cells ≡ false) (sym (resized-same n row.cells e r.paired)) (r.flagged both.0);
+      subst (λ (cells : List CellValue). ends_blank cells ≡ false)
+      (sym (resized-same n row.cells e r.paired)) (r.flagged both.0);
   sound = All-resized n row.cells r.sound;
 }
 
@@ -196,7 +231,8 @@ resized_row-same n row e p =
       kept false = refl
 
 -- a row of fewer or more columns goes on no more
-pub resized_row-other : (n : ℕ) (row : RowValue) (cells : List CellValue) → cells ≡ resized n row.cells → (length row.cells ≡ n → ⊥) → record { cells = cells; wrapped = false } ≡ resized_row n row
+pub resized_row-other : (n : ℕ) (row : RowValue) (cells : List CellValue) → cells ≡ resized n row.cells →
+    (length row.cells ≡ n → ⊥) → record { cells = cells; wrapped = false } ≡ resized_row n row
 resized_row-other n row cells e d =
     let t : (length row.cells == n) ≡ false = grind (arith, nat_tests) in
     let f : false ≡ (row.wrapped && (length row.cells == n)) = sym (and_right row.wrapped (length row.cells == n) t) in

@@ -1,5 +1,6 @@
 -- A capture has one list of pieces.
-use Rattle.std.proofs.Common.{◌≡◌, ◌≢◌, ◌↔◌, inl, inr, ℕ, ◌+◌, ◌<◌, ◌≤◌, List, [], ◌∷◌, length, take, drop, refl, sym, ap, ap₂, ◌∙◌, arith}
+use Rattle.std.proofs.Common.{◌≡◌, ◌≢◌, ◌↔◌, inl, inr, ℕ, ◌+◌, ◌<◌, ◌≤◌, List, [], ◌∷◌}
+use Rattle.std.proofs.Common.{length, take, drop, refl, sym, ap, ap₂, ◌∙◌, arith}
 use Rattle.std.proofs.lemmas.List.{length-drop, length-take}
 use Rattle.vt_rows.specs.Pieces.{Piece, end_of, IsInSome, IsPieceOf, AreApart, ArePiecesOf}
 
@@ -7,7 +8,8 @@ has_text : (text : List ℕ) → text ≢ [] → 0 < length text
 has_text [] some = absurd (some refl)
 has_text (b ∷ text) some = omega arith
 
-begins_in : (capture : List ℕ) (piece : Piece) → IsPieceOf capture piece → (0 < length piece.1) × (end_of piece ≤ length capture)
+begins_in : (capture : List ℕ) (piece : Piece) → IsPieceOf capture piece →
+    (0 < length piece.1) × (end_of piece ≤ length capture)
 begins_in capture piece is =
     let some = has_text piece.1 is.0 in
     let cut = length-take (length piece.1) (drop piece.0 capture) in
@@ -15,10 +17,12 @@ begins_in capture piece is =
     let left = length-drop piece.0 capture in
     (some, omega (arith, some, cut, same, left))
 
-not_later : (capture : List ℕ) (at k : ℕ) (pieces : List Piece) → AreApart capture at pieces → IsInSome k pieces → at ≤ k
+not_later : (capture : List ℕ) (at k : ℕ) (pieces : List Piece) →
+    AreApart capture at pieces → IsInSome k pieces → at ≤ k
 not_later capture at k [] apart h = absurd h
 not_later capture at k (piece ∷ pieces) apart (inl h) = omega (arith, apart.1, h.0)
-not_later capture at k (piece ∷ pieces) apart (inr h) = omega (arith, apart.1, not_later capture (end_of piece + 1) k pieces apart.2 h)
+not_later capture at k (piece ∷ pieces) apart (inr h) =
+    omega (arith, apart.1, not_later capture (end_of piece + 1) k pieces apart.2 h)
 
 -- lists of pieces that have the same bytes from byte `at` on
 abbrev Agree : List ℕ → ℕ → List Piece → List Piece → Type 0
@@ -28,7 +32,8 @@ turned : (capture : List ℕ) (at : ℕ) (ps qs : List Piece) → Agree capture 
 turned capture at ps qs agree k low lt = ((agree k low lt).1, (agree k low lt).0)
 
 module _ (capture : List ℕ) (at : ℕ) (p : Piece) (ps : List Piece) (q : Piece) (qs : List Piece)
-    (mine : AreApart capture at (p ∷ ps)) (yours : AreApart capture at (q ∷ qs)) (agree : Agree capture at (p ∷ ps) (q ∷ qs)) where
+    (mine : AreApart capture at (p ∷ ps)) (yours : AreApart capture at (q ∷ qs))
+    (agree : Agree capture at (p ∷ ps) (q ∷ qs)) where
   first_byte : q.0 ≤ p.0
   first_byte =
       let inside = begins_in capture p mine.0 in
@@ -40,7 +45,8 @@ module _ (capture : List ℕ) (at : ℕ) (p : Piece) (ps : List Piece) (q : Piec
   no_shorter same less =
       let mine_in = begins_in capture p mine.0 in
       let yours_in = begins_in capture q yours.0 in
-      behind ((agree (end_of p) (omega (arith, mine.1, mine_in)) (omega (arith, less, yours_in))).1 (inl (omega (arith, same, mine_in), less))) where
+      behind ((agree (end_of p) (omega (arith, mine.1, mine_in)) (omega (arith, less, yours_in))).1
+      (inl (omega (arith, same, mine_in), less))) where
         behind : IsInSome (end_of p) (p ∷ ps) → ⊥
         behind (inl h) = omega (arith, h.1)
         behind (inr h) = omega (arith, not_later capture (end_of p + 1) (end_of p) ps mine.2 h)
@@ -54,7 +60,8 @@ module _ (capture : List ℕ) (at : ℕ) (p : Piece) (ps : List Piece) (q : Piec
         behind r rs past (inl h) = absurd (omega (arith, h.1, past))
         behind r rs past (inr h) = h
 
-same_pieces : (capture : List ℕ) (at : ℕ) (ps qs : List Piece) → AreApart capture at ps → AreApart capture at qs → Agree capture at ps qs → ps ≡ qs
+same_pieces : (capture : List ℕ) (at : ℕ) (ps qs : List Piece) →
+    AreApart capture at ps → AreApart capture at qs → Agree capture at ps qs → ps ≡ qs
 same_pieces capture at [] [] mine yours agree = refl
 same_pieces capture at [] (q ∷ qs) mine yours agree =
     let inside = begins_in capture q yours.0 in
@@ -73,7 +80,8 @@ same_pieces capture at (p ∷ ps) (q ∷ qs) mine yours agree =
     let text : p.1 ≡ q.1 = sym mine.0.1 ∙ ap₂ (λ n m. take n (drop m capture)) long begin ∙ yours.0.1 in
     let same : p ≡ q = ap₂ (λ n t. (n, t)) begin text in
     let end : end_of q + 1 ≡ end_of p + 1 = omega (arith, begin, long) in
-    ap₂ (λ r rs. r ∷ rs) same (same_pieces capture (end_of p + 1) ps qs mine.2 (rw end at yours.2) (others capture at p ps q qs mine yours agree same))
+    ap₂ (λ r rs. r ∷ rs) same (same_pieces capture (end_of p + 1) ps qs mine.2
+    (rw end at yours.2) (others capture at p ps q qs mine yours agree same))
 
 pub pieces_are_one : (capture : List ℕ) (ps qs : List Piece) → ArePiecesOf capture ps → ArePiecesOf capture qs → ps ≡ qs
 pieces_are_one capture ps qs mine yours =

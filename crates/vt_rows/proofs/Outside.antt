@@ -1,5 +1,7 @@
 -- The pieces of a text, by the places of its bytes.
-use Rattle.std.proofs.Common.{◌≡◌, ◌≢◌, ◌↔◌, ◌⊎◌, inl, inr, ℕ, zero, suc, ◌+◌, ◌-◌, ◌<◌, ◌≤◌, Bool, true, false, ◌||◌, List, [], ◌∷◌, ◌++◌, length, take, drop, get_or, refl, sym, true≢false, ap, subst, ◌∙◌, append_assoc, append-nil, arith}
+use Rattle.std.proofs.Common.{◌≡◌, ◌≢◌, ◌↔◌, ◌⊎◌, inl, inr, ℕ, zero, suc, ◌+◌, ◌-◌, ◌<◌, ◌≤◌, Bool}
+use Rattle.std.proofs.Common.{true, false, ◌||◌, List, [], ◌∷◌, ◌++◌, length, take, drop, get_or, refl}
+use Rattle.std.proofs.Common.{sym, true≢false, ap, subst, ◌∙◌, append_assoc, append-nil, arith}
 use Rattle.std.specs.List.{concat, fold}
 use Rattle.std.proofs.lemmas.Bool.{eqb-true, ne_eqb}
 use Rattle.std.proofs.lemmas.Bool.Decides.{nat_tests}
@@ -42,19 +44,24 @@ goes_on_from false b (inl e) ne = rw e refl
 goes_on_from false b (inr e) ne = absurd (true≢false (sym e))
 
 -- what the test says, by places
-pub told : (within : Bool) (text : List ℕ) (k : ℕ) → k ≤ length text → in_stretch within text k ≡ true → IsInStretch text k ⊎ ((within ≡ true) × NoEnd text k)
+pub told : (within : Bool) (text : List ℕ) (k : ℕ) → k ≤ length text →
+    in_stretch within text k ≡ true → IsInStretch text k ⊎ ((within ≡ true) × NoEnd text k)
 told within [] k lt e = inr (e, λ j low. absurd (omega (arith, low, lt)))
 told true (b ∷ text) zero lt e = inr (refl, λ j low. absurd (omega (arith, low)))
-told false (b ∷ text) zero lt e = inl (0, omega arith, eqb-true b 0x1B e, λ j low high. absurd (omega (arith, low, high)))
+told false (b ∷ text) zero lt e =
+    inl (0, omega arith, eqb-true b 0x1B e, λ j low high. absurd (omega (arith, low, high)))
 told within (b ∷ text) (suc k) lt e = by (told (is_within_after within b) text k (omega (arith, lt)) e) where
-  by : IsInStretch text k ⊎ ((is_within_after within b ≡ true) × NoEnd text k) → IsInStretch (b ∷ text) (suc k) ⊎ ((within ≡ true) × NoEnd (b ∷ text) (suc k))
+  by : IsInStretch text k ⊎ ((is_within_after within b ≡ true) × NoEnd text k) →
+      IsInStretch (b ∷ text) (suc k) ⊎ ((within ≡ true) × NoEnd (b ∷ text) (suc k))
   by (inl s) = inl (later_stretch b k text s)
   by (inr s) = begun (goes_on within b s.0) where
-    begun : ((b ≡ 0x1B) ⊎ (within ≡ true)) × (b ≢ 0x6D) → IsInStretch (b ∷ text) (suc k) ⊎ ((within ≡ true) × NoEnd (b ∷ text) (suc k))
+    begun : ((b ≡ 0x1B) ⊎ (within ≡ true)) × (b ≢ 0x6D) →
+        IsInStretch (b ∷ text) (suc k) ⊎ ((within ≡ true) × NoEnd (b ∷ text) (suc k))
     begun (inl esc, ne) = inl (0, omega arith, esc, λ j low high. end_first b k text ne s.1 j high)
     begun (inr was, ne) = inr (was, end_first b k text ne s.1)
 
-tells : (within : Bool) (text : List ℕ) (k : ℕ) → k ≤ length text → IsInStretch text k ⊎ ((within ≡ true) × NoEnd text k) → in_stretch within text k ≡ true
+tells : (within : Bool) (text : List ℕ) (k : ℕ) → k ≤ length text →
+    IsInStretch text k ⊎ ((within ≡ true) × NoEnd text k) → in_stretch within text k ≡ true
 tells within [] k lt (inl s) = absurd (omega (arith, s.2))
 tells within [] k lt (inr s) = s.0
 tells true (b ∷ text) zero lt s = refl
@@ -65,7 +72,8 @@ tells within (b ∷ text) (suc k) lt (inl (zero, le, esc, h)) =
     let first = no_end_first b k text (λ j high. h j (omega arith) high) in
     tells (is_within_after within b) text k (omega (arith, lt)) (inr (goes_on_from within b (inl esc) first.0, first.1))
 tells within (b ∷ text) (suc k) lt (inl (suc i, le, esc, h)) =
-    tells (is_within_after within b) text k (omega (arith, lt)) (inl (i, omega (arith, le), esc, λ j low high. h (suc j) (omega (arith, low)) (omega (arith, high))))
+    tells (is_within_after within b) text k (omega (arith, lt))
+    (inl (i, omega (arith, le), esc, λ j low high. h (suc j) (omega (arith, low)) (omega (arith, high))))
 tells within (b ∷ text) (suc k) lt (inr s) =
     let first = no_end_first b k text s.1 in
     tells (is_within_after within b) text k (omega (arith, lt)) (inr (goes_on_from within b (inr s.0) first.0, first.1))
@@ -81,17 +89,21 @@ lacks_more : (c b : ℕ) (text : List ℕ) → Lacks c text → b ≢ c → Lack
 lacks_more c b [] h ne zero lt = ne
 lacks_more c b [] h ne (suc i) lt = absurd (omega (arith, lt))
 lacks_more c b (x ∷ text) h ne zero lt = h 0 (omega arith)
-lacks_more c b (x ∷ text) h ne (suc i) lt = lacks_more c b text (λ j low. h (suc j) (omega (arith, low))) ne i (omega (arith, lt))
+lacks_more c b (x ∷ text) h ne (suc i) lt =
+    lacks_more c b text (λ j low. h (suc j) (omega (arith, low))) ne i (omega (arith, lt))
 
 -- no ESC in the text: none of its bytes stands in a stretch, and what is behind it is as without it
-free : (text : List ℕ) (k : ℕ) → Lacks 0x1B text → k < length text → (rest : List ℕ) → in_stretch false (text ++ rest) k ≡ false
+free : (text : List ℕ) (k : ℕ) → Lacks 0x1B text → k < length text →
+    (rest : List ℕ) → in_stretch false (text ++ rest) k ≡ false
 free [] k h lt rest = absurd (omega (arith, lt))
 free (b ∷ text) zero h lt rest = ne_eqb b 0x1B (h 0 (omega arith))
 free (b ∷ text) (suc k) h lt rest =
     let goes : is_within_after false b ≡ false = ne_eqb b 0x1B (h 0 (omega arith)) in
-    ap (λ within. in_stretch within (text ++ rest) k) goes ∙ free text k (λ i low. h (suc i) (omega (arith, low))) (omega (arith, lt)) rest
+    ap (λ within. in_stretch within (text ++ rest) k) goes
+    ∙ free text k (λ i low. h (suc i) (omega (arith, low))) (omega (arith, lt)) rest
 
-behind_free : (text rest : List ℕ) (k : ℕ) → Lacks 0x1B text → in_stretch false (text ++ rest) (length text + k) ≡ in_stretch false rest k
+behind_free : (text rest : List ℕ) (k : ℕ) → Lacks 0x1B text →
+    in_stretch false (text ++ rest) (length text + k) ≡ in_stretch false rest k
 behind_free [] rest k h =
     let same : 0 + k ≡ k = omega arith in
     ap (in_stretch false rest) same
@@ -103,41 +115,55 @@ behind_free (b ∷ text) rest k h =
     ∙ behind_free text rest k (λ i low. h (suc i) (omega (arith, low)))
 
 -- pieces that begin later are no pieces of what is before them
-none_before : (capture : List ℕ) (at k : ℕ) (pieces : List Piece) → AreApart capture at pieces → k < at → ¬ (IsInSome k pieces)
+none_before : (capture : List ℕ) (at k : ℕ) (pieces : List Piece) →
+    AreApart capture at pieces → k < at → ¬ (IsInSome k pieces)
 none_before capture at k [] apart lt h = h
 none_before capture at k (piece ∷ pieces) apart lt (inl h) = absurd (omega (arith, apart.1, lt, h.0))
-none_before capture at k (piece ∷ pieces) apart lt (inr h) = none_before capture (end_of piece + 1) k pieces apart.2 (omega (arith, apart.1, lt)) h
+none_before capture at k (piece ∷ pieces) apart lt (inr h) =
+    none_before capture (end_of piece + 1) k pieces apart.2 (omega (arith, apart.1, lt)) h
 
-apart_later : (capture : List ℕ) (at low : ℕ) (pieces : List Piece) → low ≤ at → AreApart capture at pieces → AreApart capture low pieces
+apart_later : (capture : List ℕ) (at low : ℕ) (pieces : List Piece) →
+    low ≤ at → AreApart capture at pieces → AreApart capture low pieces
 apart_later capture at low [] le apart = tt
 apart_later capture at low (piece ∷ pieces) le apart = (apart.0, omega (arith, le, apart.1), apart.2)
 
 -- what one more byte changes
-covers_end : (at : ℕ) (text : List ℕ) (pieces : List Piece) (capture : List ℕ) → AreApart capture (at + 1) pieces → Covers false (at + 1) text pieces → Covers true at (0x6D ∷ text) pieces
-covers_end at text pieces capture apart covers zero lt = (λ h. absurd (none_before capture (at + 1) (at + 0) pieces apart (omega arith) h), λ e. absurd (true≢false e))
+covers_end : (at : ℕ) (text : List ℕ) (pieces : List Piece) (capture : List ℕ) →
+    AreApart capture (at + 1) pieces → Covers false (at + 1) text pieces → Covers true at (0x6D ∷ text) pieces
+covers_end at text pieces capture apart covers zero lt =
+    (λ h. absurd (none_before capture (at + 1) (at + 0) pieces apart (omega arith) h), λ e. absurd (true≢false e))
 covers_end at text pieces capture apart covers (suc k) lt =
     let same : at + suc k ≡ at + 1 + k = omega arith in
     rw same (covers k (omega (arith, lt)))
 
-covers_within : (at b : ℕ) (text : List ℕ) (pieces : List Piece) (capture : List ℕ) → ends_stretch b ≡ false → AreApart capture (at + 1) pieces → Covers true (at + 1) text pieces → Covers true at (b ∷ text) pieces
-covers_within at b text pieces capture goes apart covers zero lt = (λ h. absurd (none_before capture (at + 1) (at + 0) pieces apart (omega arith) h), λ e. absurd (true≢false e))
+covers_within : (at b : ℕ) (text : List ℕ) (pieces : List Piece) (capture : List ℕ) → ends_stretch b ≡ false →
+    AreApart capture (at + 1) pieces → Covers true (at + 1) text pieces → Covers true at (b ∷ text) pieces
+covers_within at b text pieces capture goes apart covers zero lt =
+    (λ h. absurd (none_before capture (at + 1) (at + 0) pieces apart (omega arith) h), λ e. absurd (true≢false e))
 covers_within at b text pieces capture goes apart covers (suc k) lt =
     let same : at + suc k ≡ at + 1 + k = omega arith in
     rw (same, goes) (covers k (omega (arith, lt)))
 
-one_piece : (capture : List ℕ) (at : ℕ) (piece rest : List ℕ) → drop at capture ≡ piece ++ rest → (later : List Piece) → AreApart capture (at + length piece + 1) later → AreApart capture at (piece_at at piece ++ later)
+one_piece : (capture : List ℕ) (at : ℕ) (piece rest : List ℕ) → drop at capture ≡ piece ++ rest → (later : List Piece) →
+    AreApart capture (at + length piece + 1) later → AreApart capture at (piece_at at piece ++ later)
 one_piece capture at [] rest e later apart = apart_later capture (at + 0 + 1) at later (omega arith) apart
-one_piece capture at (b ∷ piece) rest e later apart =
-    (((λ none. omega (arith, ap length none)), ap (take (length (b ∷ piece))) e ∙ take-append_seam (b ∷ piece) rest), omega arith, apart)
+one_piece capture at (b ∷ piece) rest e later apart = (
+  ((λ none. omega (arith, ap length none)), ap (take (length (b ∷ piece))) e ∙ take-append_seam (b ∷ piece) rest),
+  omega arith,
+  apart,
+)
 
-in_one : (at k : ℕ) (piece : List ℕ) (later : List Piece) → k < length piece → IsInSome (at + k) (piece_at at piece ++ later)
+in_one : (at k : ℕ) (piece : List ℕ) (later : List Piece) →
+    k < length piece → IsInSome (at + k) (piece_at at piece ++ later)
 in_one at k [] later lt = absurd (omega (arith, lt))
 in_one at k (b ∷ piece) later lt = inl (omega arith, omega (arith, lt))
 
-not_in_one : (at k : ℕ) (piece : List ℕ) (later : List Piece) → IsInSome (at + (length piece + k)) (piece_at at piece ++ later) ↔ IsInSome (at + (length piece + k)) later
+not_in_one : (at k : ℕ) (piece : List ℕ) (later : List Piece) →
+    IsInSome (at + (length piece + k)) (piece_at at piece ++ later) ↔ IsInSome (at + (length piece + k)) later
 not_in_one at k [] later = (λ h. h, λ h. h)
 not_in_one at k (b ∷ piece) later = (to, λ h. inr h) where
-  to : IsInSome (at + (length (b ∷ piece) + k)) ((at, b ∷ piece) ∷ later) → IsInSome (at + (length (b ∷ piece) + k)) later
+  to : IsInSome (at + (length (b ∷ piece) + k)) ((at, b ∷ piece) ∷ later) →
+      IsInSome (at + (length (b ∷ piece) + k)) later
   to (inl h) = absurd (omega (arith, h.1))
   to (inr h) = h
 
@@ -156,15 +182,21 @@ place (suc k) (suc n) = by (place k n) where
   by (inr (inr j)) = inr (inr (j.0, omega (arith, j.1)))
 
 -- a piece, an ESC, and what follows within the stretch
-covers_begin : (capture : List ℕ) (at : ℕ) (piece text : List ℕ) (later : List Piece) → Lacks 0x1B piece → AreApart capture (at + length piece + 1) later → Covers true (at + length piece + 1) text later → Covers false at (piece ++ 0x1B ∷ text) (piece_at at piece ++ later)
+covers_begin : (capture : List ℕ) (at : ℕ) (piece text : List ℕ) (later : List Piece) → Lacks 0x1B piece →
+    AreApart capture (at + length piece + 1) later → Covers true (at + length piece + 1) text later →
+    Covers false at (piece ++ 0x1B ∷ text) (piece_at at piece ++ later)
 covers_begin capture at piece text later lacks apart covers k lt = by (place k (length piece)) where
-  esc : IsInSome (at + (length piece + 0)) (piece_at at piece ++ later) → in_stretch false (piece ++ 0x1B ∷ text) (length piece + 0) ≡ false
-  esc h = absurd (none_before capture (at + length piece + 1) (at + (length piece + 0)) later apart (omega arith) ((not_in_one at 0 piece later).0 h))
+  esc : IsInSome (at + (length piece + 0)) (piece_at at piece ++ later) →
+      in_stretch false (piece ++ 0x1B ∷ text) (length piece + 0) ≡ false
+  esc h =
+      absurd (none_before capture (at + length piece + 1) (at + (length piece + 0))
+      later apart (omega arith) ((not_in_one at 0 piece later).0 h))
 
   here : in_stretch false (piece ++ 0x1B ∷ text) (length piece + 0) ≡ true
   here = behind_free piece (0x1B ∷ text) 0 lacks
 
-  behind : (j : ℕ) → k ≡ length piece + suc j → IsInSome (at + k) (piece_at at piece ++ later) ↔ (in_stretch false (piece ++ 0x1B ∷ text) k ≡ false)
+  behind : (j : ℕ) → k ≡ length piece + suc j →
+      IsInSome (at + k) (piece_at at piece ++ later) ↔ (in_stretch false (piece ++ 0x1B ∷ text) k ≡ false)
   behind j e =
       let same : at + (length piece + suc j) ≡ at + length piece + 1 + j = omega arith in
       let inside : j < length text = omega (arith, lt, e, length-append piece (0x1B ∷ text)) in
@@ -173,7 +205,8 @@ covers_begin capture at piece text later lacks apart covers k lt = by (place k (
       let ih = covers j inside in
       rw e (λ h. flag ∙ ih.0 (rw same at (parts.0 h)), λ f. parts.1 (rw same (ih.1 (sym flag ∙ f))))
 
-  by : Place k (length piece) → IsInSome (at + k) (piece_at at piece ++ later) ↔ (in_stretch false (piece ++ 0x1B ∷ text) k ≡ false)
+  by : Place k (length piece) →
+      IsInSome (at + k) (piece_at at piece ++ later) ↔ (in_stretch false (piece ++ 0x1B ∷ text) k ≡ false)
   by (inl low) = (λ h. free piece k lacks low (0x1B ∷ text), λ e. in_one at k piece later low)
   by (inr (inl e)) = rw e (esc, λ f. absurd (true≢false (sym here ∙ f)))
   by (inr (inr j)) = behind j.0 j.1
@@ -182,7 +215,8 @@ covers_begin capture at piece text later lacks apart covers k lt = by (place k (
 abbrev pub StandsAt : List ℕ → ℕ → List ℕ → Type 0
 StandsAt capture at text = drop at capture ≡ text
 
-pub stands_later : (capture : List ℕ) (at : ℕ) (front rest : List ℕ) (n : ℕ) → StandsAt capture at (front ++ rest) → n ≡ at + length front → StandsAt capture n rest
+pub stands_later : (capture : List ℕ) (at : ℕ) (front rest : List ℕ) (n : ℕ) →
+    StandsAt capture at (front ++ rest) → n ≡ at + length front → StandsAt capture n rest
 stands_later capture at front rest n e same =
     rw same (sym (drop-drop (length front) at capture) ∙ ap (drop (length front)) e ∙ drop-append_seam front rest)
 
@@ -190,7 +224,8 @@ record Good (capture : List ℕ) (within : Bool) (at : ℕ) (text : List ℕ) (p
   apart : AreApart capture at pieces
   covers : Covers within at text pieces
 
-good_end : (capture : List ℕ) (at : ℕ) (piece : List ℕ) → StandsAt capture at (piece ++ []) → Lacks 0x1B piece → Good capture false at (piece ++ []) (piece_at at piece)
+good_end : (capture : List ℕ) (at : ℕ) (piece : List ℕ) → StandsAt capture at (piece ++ []) →
+    Lacks 0x1B piece → Good capture false at (piece ++ []) (piece_at at piece)
 good_end capture at piece e lacks =
     let only : piece_at at piece ++ [] ≡ piece_at at piece = append-nil (piece_at at piece) in
     rw (append-nil piece) (record {
@@ -205,14 +240,16 @@ begin_differs : (b : ℕ) → begins_stretch b ≡ false → b ≢ 0x1B
 begin_differs b e same = grind (arith, nat_tests)
 
 -- one more byte: of the piece, or what begins or ends a stretch
-module _ (capture : List ℕ) (at b : ℕ) (piece text : List ℕ) (stands : StandsAt capture at (piece ++ b ∷ text)) (lacks : Lacks 0x1B piece) where
+module _ (capture : List ℕ) (at b : ℕ) (piece text : List ℕ)
+    (stands : StandsAt capture at (piece ++ b ∷ text)) (lacks : Lacks 0x1B piece) where
   abbrev Longer : Type 0
   Longer = b ≢ 0x1B → Good capture false at ((piece ++ b ∷ []) ++ text) (pieces_behind at (piece ++ b ∷ []) text)
 
   abbrev Later : Type 0
   Later = Good capture true (at + length piece + 1) text (pieces_within (at + length piece + 1) text)
 
-  good_byte : (begins : Bool) → begins ≡ begins_stretch b → Later → Longer → Good capture false at (piece ++ b ∷ text) (pieces_behind at piece (b ∷ text))
+  good_byte : (begins : Bool) → begins ≡ begins_stretch b → Later → Longer →
+      Good capture false at (piece ++ b ∷ text) (pieces_behind at piece (b ∷ text))
   good_byte true same later longer =
       let esc : b ≡ 0x1B = eqb-true b 0x1B (sym same) in
       rw esc (record {
@@ -231,31 +268,47 @@ module _ (capture : List ℕ) (at b : ℕ) (piece text : List ℕ) (stands : Sta
       let seam : length (piece ++ b ∷ []) ≡ length piece + 1 = length-append piece (b ∷ []) in
       stands_later capture at (piece ++ b ∷ []) text (at + length piece + 1) stands_more (omega (arith, seam))
 
-good_in : (capture : List ℕ) (at b : ℕ) (text : List ℕ) (ends : Bool) → ends ≡ ends_stretch b → Good capture false (at + 1) text (pieces_behind (at + 1) [] text)
-    → Good capture true (at + 1) text (pieces_within (at + 1) text) → Good capture true at (b ∷ text) (pieces_within at (b ∷ text))
+good_in : (capture : List ℕ) (at b : ℕ) (text : List ℕ) (ends : Bool) → ends ≡ ends_stretch b
+    → Good capture false (at + 1) text (pieces_behind (at + 1) [] text)
+    → Good capture true (at + 1) text (pieces_within (at + 1) text)
+    → Good capture true at (b ∷ text) (pieces_within at (b ∷ text))
 good_in capture at b text true same outside inside =
     let last : b ≡ 0x6D = eqb-true b 0x6D (sym same) in
-    rw last (record { apart = apart_later capture (at + 1) at _ (omega arith) outside.apart; covers = covers_end at text _ capture outside.apart outside.covers })
+    rw last (record {
+      apart = apart_later capture (at + 1) at _ (omega arith) outside.apart;
+      covers = covers_end at text _ capture outside.apart outside.covers;
+    })
 good_in capture at b text false same outside inside =
-    rw (sym same) (record { apart = apart_later capture (at + 1) at _ (omega arith) inside.apart; covers = covers_within at b text _ capture (sym same) inside.apart inside.covers })
+    rw (sym same) (record {
+      apart = apart_later capture (at + 1) at _ (omega arith) inside.apart;
+      covers = covers_within at b text _ capture (sym same) inside.apart inside.covers;
+    })
 
 mutual
-  good_behind : (capture : List ℕ) (at : ℕ) (piece text : List ℕ) → StandsAt capture at (piece ++ text) → Lacks 0x1B piece → Good capture false at (piece ++ text) (pieces_behind at piece text)
+  good_behind : (capture : List ℕ) (at : ℕ) (piece text : List ℕ) → StandsAt capture at (piece ++ text) →
+      Lacks 0x1B piece → Good capture false at (piece ++ text) (pieces_behind at piece text)
   good_behind capture at piece [] e lacks = good_end capture at piece e lacks
   good_behind capture at piece (b ∷ text) e lacks =
       good_byte capture at b piece text e lacks (begins_stretch b) refl
       (good_within capture (at + length piece + 1) text (stands_behind capture at b piece text e lacks))
-      (λ ne. good_behind capture at (piece ++ b ∷ []) text (stands_more capture at b piece text e lacks) (lacks_more 0x1B b piece lacks ne))
+      (λ ne. good_behind capture at (piece ++ b ∷ []) text
+      (stands_more capture at b piece text e lacks) (lacks_more 0x1B b piece lacks ne))
 
-  good_within : (capture : List ℕ) (at : ℕ) (text : List ℕ) → StandsAt capture at text → Good capture true at text (pieces_within at text)
+  good_within : (capture : List ℕ) (at : ℕ) (text : List ℕ) →
+      StandsAt capture at text → Good capture true at text (pieces_within at text)
   good_within capture at [] e = record { apart = tt; covers = λ k lt. absurd (omega (arith, lt)) }
   good_within capture at (b ∷ text) e =
       let next = stands_later capture at (b ∷ []) text (at + 1) e (omega arith) in
-      good_in capture at b text (ends_stretch b) refl (good_behind capture (at + 1) [] text next (λ i lt. absurd (omega (arith, lt)))) (good_within capture (at + 1) text next)
+      good_in capture at b text (ends_stretch b) refl
+      (good_behind capture (at + 1) [] text next (λ i lt. absurd (omega (arith, lt))))
+      (good_within capture (at + 1) text next)
 
 -- the test says the same as the places
 in_places : (text : List ℕ) (k : ℕ) → k < length text → (in_stretch false text k ≡ false) ↔ ¬ (IsInStretch text k)
-in_places text k lt = (λ e s. true≢false (sym (tells false text k (omega (arith, lt)) (inl s)) ∙ e), λ none. by (in_stretch false text k) refl none) where
+in_places text k lt = (
+  λ e s. true≢false (sym (tells false text k (omega (arith, lt)) (inl s)) ∙ e),
+  λ none. by (in_stretch false text k) refl none,
+) where
   by : (b : Bool) → b ≡ in_stretch false text k → ¬ (IsInStretch text k) → b ≡ false
   by false e none = refl
   by true e none = absurd (within (told false text k (omega (arith, lt)) (sym e))) where
@@ -269,7 +322,10 @@ at_end within [] = refl
 at_end within (b ∷ text) = at_end (is_within_after within b) text
 
 pub within_by_places : (text : List ℕ) → (is_within text ≡ true) ↔ IsInStretch text (length text)
-within_by_places text = (λ e. by (told false text (length text) (omega arith) (at_end false text ∙ e)), λ s. sym (at_end false text) ∙ tells false text (length text) (omega arith) (inl s)) where
+within_by_places text = (
+  λ e. by (told false text (length text) (omega arith) (at_end false text ∙ e)),
+  λ s. sym (at_end false text) ∙ tells false text (length text) (omega arith) (inl s),
+) where
   by : IsInStretch text (length text) ⊎ ((false ≡ true) × NoEnd text (length text)) → IsInStretch text (length text)
   by (inl s) = s
   by (inr s) = absurd (true≢false (sym s.0))
@@ -287,7 +343,8 @@ pieces_are capture =
     }
 
 -- joined they are the text without its stretches
-joined_piece : (at : ℕ) (piece : List ℕ) (later : List Piece) → concat (texts_of (piece_at at piece ++ later)) ≡ piece ++ concat (texts_of later)
+joined_piece : (at : ℕ) (piece : List ℕ) (later : List Piece) →
+    concat (texts_of (piece_at at piece ++ later)) ≡ piece ++ concat (texts_of later)
 joined_piece at [] later = refl
 joined_piece at (b ∷ piece) later = refl
 
@@ -295,8 +352,10 @@ byte_kept : (at b : ℕ) (piece text : List ℕ) (begins : Bool) → begins ≡ 
     → concat (texts_of (pieces_within (at + length piece + 1) text)) ≡ plain_from true text
     → concat (texts_of (pieces_behind at (piece ++ b ∷ []) text)) ≡ (piece ++ b ∷ []) ++ plain_from false text
     → concat (texts_of (pieces_behind at piece (b ∷ text))) ≡ piece ++ plain_from false (b ∷ text)
-byte_kept at b piece text true same later longer = rw (sym same) (joined_piece at piece _ ∙ ap (λ rest. piece ++ rest) later)
-byte_kept at b piece text false same later longer = rw (sym same) (longer ∙ append_assoc piece (b ∷ []) (plain_from false text))
+byte_kept at b piece text true same later longer =
+    rw (sym same) (joined_piece at piece _ ∙ ap (λ rest. piece ++ rest) later)
+byte_kept at b piece text false same later longer =
+    rw (sym same) (longer ∙ append_assoc piece (b ∷ []) (plain_from false text))
 
 byte_left : (at b : ℕ) (text : List ℕ) (ends : Bool) → ends ≡ ends_stretch b
     → concat (texts_of (pieces_behind (at + 1) [] text)) ≡ plain_from false text
@@ -306,24 +365,31 @@ byte_left at b text true same outside inside = rw (sym same) outside
 byte_left at b text false same outside inside = rw (sym same) inside
 
 mutual
-  joined_behind : (at : ℕ) (piece text : List ℕ) → concat (texts_of (pieces_behind at piece text)) ≡ piece ++ plain_from false text
-  joined_behind at piece [] = ap (λ only. concat (texts_of only)) (sym (append-nil (piece_at at piece))) ∙ joined_piece at piece []
-  joined_behind at piece (b ∷ text) = byte_kept at b piece text (begins_stretch b) refl (joined_within (at + length piece + 1) text) (joined_behind at (piece ++ b ∷ []) text)
+  joined_behind : (at : ℕ) (piece text : List ℕ) →
+      concat (texts_of (pieces_behind at piece text)) ≡ piece ++ plain_from false text
+  joined_behind at piece [] =
+      ap (λ only. concat (texts_of only)) (sym (append-nil (piece_at at piece))) ∙ joined_piece at piece []
+  joined_behind at piece (b ∷ text) =
+      byte_kept at b piece text (begins_stretch b) refl
+      (joined_within (at + length piece + 1) text) (joined_behind at (piece ++ b ∷ []) text)
 
   joined_within : (at : ℕ) (text : List ℕ) → concat (texts_of (pieces_within at text)) ≡ plain_from true text
   joined_within at [] = refl
-  joined_within at (b ∷ text) = byte_left at b text (ends_stretch b) refl (joined_behind (at + 1) [] text) (joined_within (at + 1) text)
+  joined_within at (b ∷ text) =
+      byte_left at b text (ends_stretch b) refl (joined_behind (at + 1) [] text) (joined_within (at + 1) text)
 
 pub pieces_joined : (capture : List ℕ) → concat (texts_of (pieces_from 0 capture)) ≡ plain_text capture
 pieces_joined capture = joined_behind 0 [] capture
 
 -- what an iterator over a whole capture has still to give
-pub whole_are : (capture : List ℕ) (len : ℕ) → len ≡ length capture → ArePiecesOf capture (pieces_from (len - length capture) capture)
+pub whole_are : (capture : List ℕ) (len : ℕ) → len ≡ length capture →
+    ArePiecesOf capture (pieces_from (len - length capture) capture)
 whole_are capture len e =
     let none : len - length capture ≡ 0 = omega (arith, e) in
     rw none (pieces_are capture)
 
-pub whole_joined : (capture : List ℕ) (len : ℕ) → len ≡ length capture → concat (texts_of (pieces_from (len - length capture) capture)) ≡ plain_text capture
+pub whole_joined : (capture : List ℕ) (len : ℕ) → len ≡ length capture →
+    concat (texts_of (pieces_from (len - length capture) capture)) ≡ plain_text capture
 whole_joined capture len e =
     let none : len - length capture ≡ 0 = omega (arith, e) in
     rw none (pieces_joined capture)

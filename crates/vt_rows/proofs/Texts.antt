@@ -1,5 +1,6 @@
 -- A text of printable ASCII in a row: one edit is an edit for each byte.
-use Rattle.std.proofs.Common.{◌≡◌, ℕ, zero, suc, ◌+◌, ◌-◌, ◌<◌, ◌≤◌, ◌==◌, ◌&&◌, false, List, [], ◌∷◌, length, get_or, refl, inl, inr, sym, ap, ◌∙◌, arith}
+use Rattle.std.proofs.Common.{◌≡◌, ℕ, zero, suc, ◌+◌, ◌-◌, ◌<◌, ◌≤◌, ◌==◌, ◌&&◌, false, List}
+use Rattle.std.proofs.Common.{[], ◌∷◌, length, get_or, refl, inl, inr, sym, ap, ◌∙◌, arith}
 use Rattle.std.specs.Prelude.{All, nat_lt, if◌then◌else◌}
 use Rattle.std.specs.Char.{encode_utf8}
 use Rattle.std.proofs.Math.Utf8.{low_scalar}
@@ -50,7 +51,8 @@ split_column c n k o x xs cells w r = elim (cases_lt k c) [
 ]
 
 -- what is put from a column on may be put in two edits, the first one of a single narrow cell
-pub put_cells_after : (c n : ℕ) (o x : CellValue) (xs cells : List CellValue) → is_wide x ≡ false → is_right_half o ≡ false → length xs ≡ n → c + suc n ≤ length cells →
+pub put_cells_after : (c n : ℕ) (o x : CellValue) (xs cells : List CellValue) →
+    is_wide x ≡ false → is_right_half o ≡ false → length xs ≡ n → c + suc n ≤ length cells →
     put_cells c o (x ∷ xs) (suc n) cells ≡ put_cells (c + 1) o xs n (put_cells c o (x ∷ []) 1 cells)
 put_cells_after c n o x xs cells w r e h =
     let one = put_cells c o (x ∷ []) 1 cells in
@@ -68,52 +70,71 @@ pub length-glyphs_of : (attrs : Attrs) (text : List ℕ) → length (glyphs_of a
 length-glyphs_of attrs text = length-map text (narrow_glyph attrs)
 
 -- the first character of a text is put, and then the others
-pub put_text_after : (c b : ℕ) (text : List ℕ) (attrs : Attrs) (cells : List CellValue) → c + suc (length text) ≤ length cells →
+pub put_text_after : (c b : ℕ) (text : List ℕ) (attrs : Attrs) (cells : List CellValue) →
+    c + suc (length text) ≤ length cells →
     put_text c (b ∷ text) attrs cells ≡ put_text (c + 1) text attrs (put_narrow c (encode_utf8 b) attrs cells)
 put_text_after c b text attrs cells h =
-    put_cells_after c (length text) (glyph (0x20 ∷ []) false attrs) (narrow_glyph attrs b) (glyphs_of attrs text) cells refl refl (length-glyphs_of attrs text) h
+    put_cells_after c (length text) (glyph (0x20 ∷ []) false attrs) (narrow_glyph attrs b)
+    (glyphs_of attrs text) cells refl refl (length-glyphs_of attrs text) h
 
 -- ---- what it leaves
 
-pub length-put_text : (c : ℕ) (text : List ℕ) (attrs : Attrs) (cells : List CellValue) → c + length text ≤ length cells → length (put_text c text attrs cells) ≡ length cells
-length-put_text c text attrs cells h = length-put_cells c (length text) (glyph (0x20 ∷ []) false attrs) (glyphs_of attrs text) cells (length-glyphs_of attrs text) h
+pub length-put_text : (c : ℕ) (text : List ℕ) (attrs : Attrs) (cells : List CellValue) →
+    c + length text ≤ length cells → length (put_text c text attrs cells) ≡ length cells
+length-put_text c text attrs cells h =
+    length-put_cells c (length text) (glyph (0x20 ∷ []) false attrs)
+    (glyphs_of attrs text) cells (length-glyphs_of attrs text) h
 
 IsPaired-glyphs_of : (attrs : Attrs) (text : List ℕ) → IsPaired (glyphs_of attrs text)
-IsPaired-glyphs_of attrs text = record { halves = λ k. wide text k ∙ sym (right text (k + 1)); first = right text 0 } where
-  wide : (text : List ℕ) (k : ℕ) → is_wide (at (glyphs_of attrs text) k) ≡ false
-  wide [] k = refl
-  wide (b ∷ text) zero = refl
-  wide (b ∷ text) (suc k) = wide text k
+IsPaired-glyphs_of attrs text =
+    record { halves = λ k. wide text k ∙ sym (right text (k + 1)); first = right text 0 } where
+      wide : (text : List ℕ) (k : ℕ) → is_wide (at (glyphs_of attrs text) k) ≡ false
+      wide [] k = refl
+      wide (b ∷ text) zero = refl
+      wide (b ∷ text) (suc k) = wide text k
 
-  right : (text : List ℕ) (k : ℕ) → is_right_half (at (glyphs_of attrs text) k) ≡ false
-  right [] k = refl
-  right (b ∷ text) zero = refl
-  right (b ∷ text) (suc k) = right text k
+      right : (text : List ℕ) (k : ℕ) → is_right_half (at (glyphs_of attrs text) k) ≡ false
+      right [] k = refl
+      right (b ∷ text) zero = refl
+      right (b ∷ text) (suc k) = right text k
 
-pub IsPaired-put_text : (c : ℕ) (text : List ℕ) (attrs : Attrs) (cells : List CellValue) → c + length text ≤ length cells → IsPaired cells → IsPaired (put_text c text attrs cells)
+pub IsPaired-put_text : (c : ℕ) (text : List ℕ) (attrs : Attrs) (cells : List CellValue) →
+    c + length text ≤ length cells → IsPaired cells → IsPaired (put_text c text attrs cells)
 IsPaired-put_text c text attrs cells h p =
-    IsPaired-put_cells c (length text) (glyph (0x20 ∷ []) false attrs) (glyphs_of attrs text) cells (length-glyphs_of attrs text) h refl refl (IsPaired-glyphs_of attrs text) p
+    IsPaired-put_cells c (length text) (glyph (0x20 ∷ []) false attrs) (glyphs_of attrs text)
+    cells (length-glyphs_of attrs text) h refl refl (IsPaired-glyphs_of attrs text) p
 
 -- printable ASCII is the text of a narrow glyph
 pub IsGlyphText-printable : (b : ℕ) → 0x20 ≤ b → b < 0x7F → IsGlyphText (encode_utf8 b) false
-IsGlyphText-printable b low high = IsGlyphText-first b false (low_scalar b (omega arith)) (λ e. absurd (omega (arith, e))) (columns_of-ascii b low high)
+IsGlyphText-printable b low high =
+    IsGlyphText-first b false (low_scalar b (omega arith))
+    (λ e. absurd (omega (arith, e))) (columns_of-ascii b low high)
 
 All-glyphs_of : (attrs : Attrs) (text : List ℕ) → IsPrintableText text → All IsCell (glyphs_of attrs text)
 All-glyphs_of attrs [] h = All-nil IsCell
 All-glyphs_of attrs (b ∷ text) h =
     let first = All-head (λ b. (0x20 ≤ b) × (b < 0x7F)) b text h in
-    All-cons IsCell (narrow_glyph attrs b) (glyphs_of attrs text) (IsGlyphText-printable b first.0 first.1) (All-glyphs_of attrs text (All-tail (λ b. (0x20 ≤ b) × (b < 0x7F)) b text h))
+    All-cons IsCell (narrow_glyph attrs b) (glyphs_of attrs text) (IsGlyphText-printable b first.0 first.1)
+    (All-glyphs_of attrs text (All-tail (λ b. (0x20 ≤ b) × (b < 0x7F)) b text h))
 
-pub All-put_text : (c : ℕ) (text : List ℕ) (attrs : Attrs) (cells : List CellValue) → IsPrintableText text → All IsCell cells → All IsCell (put_text c text attrs cells)
-All-put_text c text attrs cells h all = All-put_cells c (length text) (glyph (0x20 ∷ []) false attrs) (glyphs_of attrs text) cells (IsCell-space attrs) (All-glyphs_of attrs text h) all
+pub All-put_text : (c : ℕ) (text : List ℕ) (attrs : Attrs) (cells : List CellValue) →
+    IsPrintableText text → All IsCell cells → All IsCell (put_text c text attrs cells)
+All-put_text c text attrs cells h all =
+    All-put_cells c (length text) (glyph (0x20 ∷ []) false attrs)
+    (glyphs_of attrs text) cells (IsCell-space attrs) (All-glyphs_of attrs text h) all
 
-pub IsRow-put_text : (width : ℕ) (row : RowValue) (c : ℕ) (text : List ℕ) (attrs : Attrs) → c + length text ≤ width → IsPrintableText text → IsRow width row → IsRow width (with_cells row (put_text c text attrs row.cells))
+pub IsRow-put_text : (width : ℕ) (row : RowValue) (c : ℕ) (text : List ℕ) (attrs : Attrs) → c + length text ≤ width →
+    IsPrintableText text → IsRow width row → IsRow width (with_cells row (put_text c text attrs row.cells))
 IsRow-put_text width row c text attrs h t r =
     let l = r.columns in
-    IsRow-with_cells width row (put_text c text attrs row.cells) (length-put_text c text attrs row.cells (omega arith) ∙ l) (IsPaired-put_text c text attrs row.cells (omega arith) r.paired) (All-put_text c text attrs row.cells t r.sound)
+    IsRow-with_cells width row (put_text c text attrs row.cells)
+    (length-put_text c text attrs row.cells (omega arith) ∙ l)
+    (IsPaired-put_text c text attrs row.cells (omega arith) r.paired) (All-put_text c text attrs row.cells t r.sound)
 
 -- cells that are the glyphs of a text, one by one
-pub glyphs_of_is : (attrs : Attrs) (text : List ℕ) (cells : List CellValue) → length cells ≡ length text → ((k : ℕ) → k < length text → at cells k ≡ narrow_glyph attrs (get_or text k 0)) → cells ≡ glyphs_of attrs text
+pub glyphs_of_is : (attrs : Attrs) (text : List ℕ) (cells : List CellValue) → length cells ≡ length text →
+    ((k : ℕ) → k < length text → at cells k ≡ narrow_glyph attrs (get_or text k 0)) → cells ≡ glyphs_of attrs text
 glyphs_of_is attrs text cells e f =
     ext_get_or default_blank cells (glyphs_of attrs text) (e ∙ sym (length-glyphs_of attrs text))
-    (λ k h. let lt : k < length text = omega arith in f k lt ∙ sym (get_or-map (narrow_glyph attrs) text k 0 default_blank lt))
+    (λ k h. let lt : k < length text =
+    omega arith in f k lt ∙ sym (get_or-map (narrow_glyph attrs) text k 0 default_blank lt))

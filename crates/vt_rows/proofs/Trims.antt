@@ -1,12 +1,14 @@
 -- A row without the default blanks at its end.
-use Rattle.std.proofs.Common.{◌≡◌, ℕ, zero, suc, ◌+◌, ◌-◌, ◌<◌, ◌≤◌, Bool, true, false, List, [], ◌∷◌, length, take, refl, sym, ap, subst, ◌∙◌, arith}
+use Rattle.std.proofs.Common.{◌≡◌, ℕ, zero, suc, ◌+◌, ◌-◌, ◌<◌, ◌≤◌, Bool, true, false, List}
+use Rattle.std.proofs.Common.{[], ◌∷◌, length, take, refl, sym, ap, subst, ◌∙◌, arith}
 use Rattle.std.specs.Prelude.{All, if◌then◌else◌}
 use Rattle.std.specs.List.{list_all}
 use Rattle.std.proofs.lemmas.Bool.{cond_both, and_parts, false_from_ne_true}
 use Rattle.std.proofs.lemmas.List.{take_all}
 use Rattle.std.proofs.lemmas.List.Elements.{All-nil, All-cons, All-head, All-tail}
 use Rattle.vt_cells.specs.Attrs.{default_attrs, same_attrs}
-use Rattle.vt_cells.specs.Cell.{CellValue, blank, glyph, right_half, default_blank, is_wide, is_blank, is_right_half, is_default_blank, attrs_of, IsCell}
+use Rattle.vt_cells.specs.Cell.{CellValue, blank, glyph, right_half, default_blank, is_wide}
+use Rattle.vt_cells.specs.Cell.{is_blank, is_right_half, is_default_blank, attrs_of, IsCell}
 use Rattle.vt_cells.proofs.Same.{attrs_of-same, same_attrs-itself}
 use Rattle.vt_rows.specs.Cells.{at, IsPaired, ends_blank}
 use Rattle.vt_rows.proofs.Columns.{at-past}
@@ -38,25 +40,32 @@ all_default (x ∷ xs) f = rw (ap is_default_blank (f 0) ∙ is_default-itself) 
 all_default-at : (cells : List CellValue) (k : ℕ) → list_all is_default_blank cells ≡ true → at cells k ≡ default_blank
 all_default-at [] k e = refl
 all_default-at (x ∷ xs) zero e = default_same x (and_parts (is_default_blank x) (list_all is_default_blank xs) e).0
-all_default-at (x ∷ xs) (suc k) e = all_default-at xs k (and_parts (is_default_blank x) (list_all is_default_blank xs) e).1
+all_default-at (x ∷ xs) (suc k) e =
+    all_default-at xs k (and_parts (is_default_blank x) (list_all is_default_blank xs) e).1
 
-not_all : (cells : List CellValue) (k : ℕ) → k < length cells → is_default_blank (at cells k) ≡ false → list_all is_default_blank cells ≡ false
-not_all cells k h e = false_from_ne_true (list_all is_default_blank cells) (λ t. let a = ap is_default_blank (all_default-at cells k t) ∙ is_default-itself in cc)
+not_all : (cells : List CellValue) (k : ℕ) → k < length cells →
+    is_default_blank (at cells k) ≡ false → list_all is_default_blank cells ≡ false
+not_all cells k h e =
+    false_from_ne_true (list_all is_default_blank cells)
+    (λ t. let a = ap is_default_blank (all_default-at cells k t) ∙ is_default-itself in cc)
 
 -- cut where only default blanks follow, behind a cell that is none
-pub trimmed_is : (cells : List CellValue) (n : ℕ) → n ≤ length cells → ((k : ℕ) → n ≤ k → at cells k ≡ default_blank) → ((j : ℕ) → n ≡ suc j → is_default_blank (at cells j) ≡ false) → take n cells ≡ trimmed cells
+pub trimmed_is : (cells : List CellValue) (n : ℕ) → n ≤ length cells → ((k : ℕ) → n ≤ k → at cells k ≡ default_blank) →
+    ((j : ℕ) → n ≡ suc j → is_default_blank (at cells j) ≡ false) → take n cells ≡ trimmed cells
 trimmed_is [] zero h f g = refl
 trimmed_is [] (suc n) h f g = absurd (omega arith)
 trimmed_is (x ∷ xs) zero h f g = sym (rw (all_default (x ∷ xs) (λ k. f k (omega arith))) refl)
 trimmed_is (x ∷ xs) (suc n) h f g =
     let no : list_all is_default_blank (x ∷ xs) ≡ false = not_all (x ∷ xs) n (omega arith) (g n refl) in
-    let ih : take n xs ≡ trimmed xs = trimmed_is xs n (omega arith) (λ k le. f (suc k) (omega arith)) (λ j e. g (suc j) (ap suc e)) in
+    let ih : take n xs ≡ trimmed xs =
+    trimmed_is xs n (omega arith) (λ k le. f (suc k) (omega arith)) (λ j e. g (suc j) (ap suc e)) in
     rw no (ap (λ (ys : List CellValue). x ∷ ys) ih)
 
 pub at-trimmed : (cells : List CellValue) (k : ℕ) → at (trimmed cells) k ≡ at cells k
 at-trimmed [] k = refl
 at-trimmed (x ∷ xs) k = by_all (λ j. at-trimmed xs j) (list_all is_default_blank (x ∷ xs)) refl k where
-  by_all : ((j : ℕ) → at (trimmed xs) j ≡ at xs j) → (b : Bool) → list_all is_default_blank (x ∷ xs) ≡ b → (k : ℕ) → at (if b then [] else x ∷ trimmed xs) k ≡ at (x ∷ xs) k
+  by_all : ((j : ℕ) → at (trimmed xs) j ≡ at xs j) → (b : Bool) → list_all is_default_blank (x ∷ xs) ≡ b →
+      (k : ℕ) → at (if b then [] else x ∷ trimmed xs) k ≡ at (x ∷ xs) k
   by_all ih true e k = sym (all_default-at (x ∷ xs) k e)
   by_all ih false e zero = refl
   by_all ih false e (suc k) = ih k
@@ -65,7 +74,8 @@ pub length-trimmed : (cells : List CellValue) → length (trimmed cells) ≤ len
 length-trimmed [] = omega arith
 length-trimmed (x ∷ xs) =
     let ih = length-trimmed xs in
-    cond_both (list_all is_default_blank (x ∷ xs)) [] (x ∷ trimmed xs) (λ (ys : List CellValue). length ys ≤ length (x ∷ xs)) (λ _. omega arith) (λ _. omega arith)
+    cond_both (list_all is_default_blank (x ∷ xs)) [] (x ∷ trimmed xs)
+    (λ (ys : List CellValue). length ys ≤ length (x ∷ xs)) (λ _. omega arith) (λ _. omega arith)
 
 pub IsPaired-trimmed : (cells : List CellValue) → IsPaired cells → IsPaired (trimmed cells)
 IsPaired-trimmed cells p = record {
@@ -77,21 +87,26 @@ pub All-trimmed : (cells : List CellValue) → All IsCell cells → All IsCell (
 All-trimmed [] all = all
 All-trimmed (x ∷ xs) all =
     let ih = All-trimmed xs (All-tail IsCell x xs all) in
-    cond_both (list_all is_default_blank (x ∷ xs)) [] (x ∷ trimmed xs) (All IsCell) (λ _. All-nil IsCell) (λ _. All-cons IsCell x (trimmed xs) (All-head IsCell x xs all) ih)
+    cond_both (list_all is_default_blank (x ∷ xs)) [] (x ∷ trimmed xs) (All IsCell)
+    (λ _. All-nil IsCell) (λ _. All-cons IsCell x (trimmed xs) (All-head IsCell x xs all) ih)
 
 -- where the last cell isn't blank nothing is trimmed
 pub trimmed-none : (cells : List CellValue) → ends_blank cells ≡ false → trimmed cells ≡ cells
 trimmed-none cells e =
-    sym (trimmed_is cells (length cells) (omega arith) (λ k le. at-past cells k le) (λ j l. last j l)) ∙ take_all (length cells) cells (omega arith) where
+    sym (trimmed_is cells (length cells) (omega arith) (λ k le. at-past cells k le) (λ j l. last j l))
+    ∙ take_all (length cells) cells (omega arith) where
       last : (j : ℕ) → length cells ≡ suc j → is_default_blank (at cells j) ≡ false
       last j l =
           let i : length cells - 1 ≡ j = omega arith in
           no_default (at cells j) (ap (λ (m : ℕ). is_blank (at cells m)) (sym i) ∙ e)
 
-pub IsRow-trimmed_row : (width : ℕ) (row : RowValue) → IsRow width row → IsRow (length (trimmed row.cells)) (trimmed_row row)
+pub IsRow-trimmed_row : (width : ℕ) (row : RowValue) → IsRow width row →
+    IsRow (length (trimmed row.cells)) (trimmed_row row)
 IsRow-trimmed_row width row r = record {
   columns = refl;
   paired = IsPaired-trimmed row.cells r.paired;
-  flagged = λ h. subst (λ (cells : List CellValue). ends_blank cells ≡ false) (sym (trimmed-none row.cells (r.flagged h))) (r.flagged h);
+  flagged =
+      λ h. subst (λ (cells : List CellValue). ends_blank cells ≡ false)
+      (sym (trimmed-none row.cells (r.flagged h))) (r.flagged h);
   sound = All-trimmed row.cells r.sound;
 }

@@ -31,7 +31,8 @@ attrs_after attrs cell = if is_bare cell then attrs else attrs_of cell
 -- cells one after the other, each with the change to its attributes
 abbrev pub cells_text : Attrs → List CellValue → List ℕ
 cells_text attrs [] = []
-cells_text attrs (cell ∷ cells) = change_text attrs (attrs_after attrs cell) ++ (shown_text cell ++ cells_text (attrs_after attrs cell) cells)
+cells_text attrs (cell ∷ cells) =
+    change_text attrs (attrs_after attrs cell) ++ (shown_text cell ++ cells_text (attrs_after attrs cell) cells)
 
 abbrev pub attrs_after_all : Attrs → List CellValue → Attrs
 attrs_after_all attrs [] = attrs
@@ -43,4 +44,5 @@ basic_text written row = (if written.is_due then 0x0A ∷ [] else []) ++ cells_t
 
 -- after a row a line end is due, unless its text goes on in the next one
 abbrev pub written_after : Written → RowValue → Written
-written_after written row = record { attrs = attrs_after_all written.attrs (trimmed row.cells); is_due = not row.wrapped }
+written_after written row =
+    record { attrs = attrs_after_all written.attrs (trimmed row.cells); is_due = not row.wrapped }

@@ -1,5 +1,6 @@
 -- The rows of a capture on a terminal of some width.
-use Rattle.std.specs.Prelude.{◌≡◌, ◌⊎◌, ℕ, Bool, true, false, not, ◌==◌, ◌&&◌, nat_lt, List, [], ◌∷◌, ◌+◌, ◌<◌, IsUtf8, chars, get_or, length, take, drop}
+use Rattle.std.specs.Prelude.{◌≡◌, ◌⊎◌, ℕ, Bool, true, false, not, ◌==◌, ◌&&◌, nat_lt, List, []}
+use Rattle.std.specs.Prelude.{◌∷◌, ◌+◌, ◌<◌, IsUtf8, chars, get_or, length, take, drop}
 use Rattle.vt_rows.specs.Pieces.{Piece, end_of}
 use Rattle.vt_rows.specs.Stretches.{columns_added, columns_in, is_within}
 
@@ -16,7 +17,9 @@ overflows width row c = is_beyond width (columns_in row) (columns_added (is_with
 
 -- no character k of the row ends or overflows what stands before it in the row
 abbrev pub IsUncut : ℕ → List ℕ → Type 0
-IsUncut width row = (k : ℕ) → k < length row → (ends_row (take k row) (get_or row k 0) ≡ false) × (overflows width (take k row) (get_or row k 0) ≡ false)
+IsUncut width row =
+    (k : ℕ) → k < length row →
+    (ends_row (take k row) (get_or row k 0) ≡ false) × (overflows width (take k row) (get_or row k 0) ≡ false)
 
 -- a row is the slice of the capture at its place, of whole characters, and uncut
 pub record IsRowOf (width : ℕ) (capture : List ℕ) (row : Piece) : Type 0 where
@@ -42,7 +45,8 @@ abbrev pub AreRowsFrom : ℕ → List ℕ → ℕ → List Piece → Type 0
 AreRowsFrom width capture at [] = ⊥
 AreRowsFrom width capture at (row ∷ []) = (row.0 ≡ at) × IsRowOf width capture row × (end_of row ≡ length capture)
 AreRowsFrom width capture at (row ∷ next ∷ rows) =
-    (row.0 ≡ at) × IsRowOf width capture row × (IsBehindEnd capture row next ⊎ IsBehindFull width row next) × AreRowsFrom width capture next.0 (next ∷ rows)
+    (row.0 ≡ at) × IsRowOf width capture row × (IsBehindEnd capture row next ⊎ IsBehindFull width row next)
+    × AreRowsFrom width capture next.0 (next ∷ rows)
 
 -- the rows of a capture
 abbrev pub AreRowsOf : ℕ → List ℕ → List Piece → Type 0

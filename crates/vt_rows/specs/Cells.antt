@@ -1,7 +1,9 @@
 -- The cells of a row by column, and what a change of some columns makes of them.
-use Rattle.std.specs.Prelude.{◌≡◌, ℕ, ◌+◌, ◌-◌, ◌&&◌, ◌==◌, nat_lt, not, Bool, true, false, List, [], ◌∷◌, ◌++◌, length, take, drop, replicate, map, slice_index_or, slice_set, if◌then◌else◌}
+use Rattle.std.specs.Prelude.{◌≡◌, ℕ, ◌+◌, ◌-◌, ◌&&◌, ◌==◌, nat_lt, not, Bool, true, false, List, [], ◌∷◌, ◌++◌}
+use Rattle.std.specs.Prelude.{length, take, drop, replicate, map, slice_index_or, slice_set, if◌then◌else◌}
 use Rattle.std.specs.List.{range_with_len}
-use Rattle.vt_cells.specs.Cell.{CellValue, blank, glyph, right_half, default_blank, is_wide, is_blank, is_right_half, attrs_of, marked, widened}
+use Rattle.vt_cells.specs.Cell.{CellValue, blank, glyph, right_half, default_blank, is_wide}
+use Rattle.vt_cells.specs.Cell.{is_blank, is_right_half, attrs_of, marked, widened}
 use Rattle.vt_cells.specs.Attrs.{Attrs}
 
 -- the cell at a column; past the end a default blank
@@ -87,7 +89,8 @@ narrowed_at k attrs cells = put_cells k (glyph (0x20 ∷ []) false attrs) (widen
 -- a half whose partner does not come along is blank in its own attributes
 abbrev pub moved_at : ℕ → (ℕ → ℕ) → List CellValue → ℕ → CellValue
 moved_at n source cells k =
-    if is_wide (at cells (source k)) && not (nat_lt (k + 1) n && (source (k + 1) == source k + 1)) then blank (attrs_of (at cells (source k)))
+    if is_wide (at cells (source k)) && not (nat_lt (k + 1) n && (source (k + 1) == source k + 1))
+    then blank (attrs_of (at cells (source k)))
     else if is_right_half (at cells (source k)) && not (source k == source (k - 1) + 1) then default_blank
     else at cells (source k)
 

@@ -1,5 +1,7 @@
--- What the helpers of the edits leave, and what iterators over captures have still to give; for their contracts, that of `shifts::turn`, and proofs.
-use Rattle.std.specs.Prelude.{◌≡◌, ℕ, ◌+◌, ◌-◌, ◌<◌, ◌&&◌, nat_le, nat_lt, true, List, [], ◌∷◌, ◌++◌, length, replicate, slice_set, chars, encode_utf8_all, map, if◌then◌else◌}
+-- What the helpers of the edits leave, and what iterators over captures have still to give; for their contracts, that
+-- of `shifts::turn`, and proofs.
+use Rattle.std.specs.Prelude.{◌≡◌, ℕ, ◌+◌, ◌-◌, ◌<◌, ◌&&◌, nat_le, nat_lt, true, List, [], ◌∷◌, ◌++◌}
+use Rattle.std.specs.Prelude.{length, replicate, slice_set, chars, encode_utf8_all, map, if◌then◌else◌}
 use Rattle.vt_cells.specs.Cell.{CellValue, blank, glyph, right_half, is_wide, is_right_half, attrs_of}
 use Rattle.vt_rows.specs.CaptureRows.{ends_row, overflows}
 use Rattle.vt_rows.specs.Cells.{at}
@@ -8,7 +10,8 @@ use Rattle.vt_rows.specs.Stretches.{begins_stretch, ends_stretch}
 
 -- before column c is overwritten: the left half of a right half there is blank, in its own attributes
 unfoldable pub left_blanked : ℕ → List CellValue → List CellValue
-left_blanked c cells = if is_right_half (at cells c) then slice_set cells (c - 1) (blank (attrs_of (at cells (c - 1)))) else cells
+left_blanked c cells =
+    if is_right_half (at cells c) then slice_set cells (c - 1) (blank (attrs_of (at cells (c - 1)))) else cells
 
 -- before column c is overwritten: the right half of a left half there becomes `cell`
 unfoldable pub right_replaced : ℕ → CellValue → List CellValue → List CellValue
@@ -21,11 +24,13 @@ HasRoom c cells = is_wide (at cells c) ≡ true → c + 1 < length cells
 -- cells cut or moved at their end: a left half in the last column is blank, in its own attributes
 unfoldable pub end_blanked : List CellValue → List CellValue
 end_blanked cells =
-    if is_wide (at cells (length cells - 1)) then slice_set cells (length cells - 1) (blank (attrs_of (at cells (length cells - 1)))) else cells
+    if is_wide (at cells (length cells - 1))
+    then slice_set cells (length cells - 1) (blank (attrs_of (at cells (length cells - 1)))) else cells
 
 -- where each item comes from after the part from..to is rotated left by n
 abbrev pub turn_source : ℕ → ℕ → ℕ → ℕ → ℕ
-turn_source from to n k = if nat_le from k && nat_lt k to then (if nat_lt (k + n) to then k + n else k + n - (to - from)) else k
+turn_source from to n k =
+    if nat_le from k && nat_lt k to then (if nat_lt (k + n) to then k + n else k + n - (to - from)) else k
 
 -- the text of a cell behind n columns without a glyph: these are written only where a glyph follows
 abbrev pub text_behind : ℕ → CellValue → List ℕ
@@ -52,7 +57,9 @@ abbrev mutual
   -- the pieces of a text behind the plain text `piece`, which begins at byte `at`
   pub pieces_behind : ℕ → List ℕ → List ℕ → List Piece
   pieces_behind at piece [] = piece_at at piece
-  pieces_behind at piece (b ∷ text) = if begins_stretch b then piece_at at piece ++ pieces_within (at + length piece + 1) text else pieces_behind at (piece ++ b ∷ []) text
+  pieces_behind at piece (b ∷ text) =
+      if begins_stretch b then piece_at at piece ++ pieces_within (at + length piece + 1) text
+      else pieces_behind at (piece ++ b ∷ []) text
 
   -- the pieces of a text that begins at byte `at`, within a stretch
   pub pieces_within : ℕ → List ℕ → List Piece

@@ -1,5 +1,6 @@
 -- The plain text of a capture: the longest pieces that stand outside each stretch of SGR.
-use Rattle.std.specs.Prelude.{◌≡◌, ◌≢◌, ◌<◌, ◌≤◌, ◌↔◌, ◌⊎◌, ℕ, Bool, true, false, List, [], ◌∷◌, ◌+◌, length, take, drop, map, if◌then◌else◌, ⊤}
+use Rattle.std.specs.Prelude.{◌≡◌, ◌≢◌, ◌<◌, ◌≤◌, ◌↔◌, ◌⊎◌, ℕ, Bool, true, false, List, []}
+use Rattle.std.specs.Prelude.{◌∷◌, ◌+◌, length, take, drop, map, if◌then◌else◌, ⊤}
 use Rattle.vt_rows.specs.Stretches.{IsInStretch, begins_stretch, is_within_after}
 
 -- a slice of a capture, with the number of bytes before it
@@ -25,7 +26,8 @@ IsPieceOf capture piece = (piece.1 ≢ []) × (take (length piece.1) (drop piece
 -- pieces in order, from byte `at` on, with a byte at least between one and the next
 abbrev pub AreApart : List ℕ → ℕ → List Piece → Type 0
 AreApart capture at [] = ⊤
-AreApart capture at (piece ∷ pieces) = IsPieceOf capture piece × (at ≤ piece.0) × AreApart capture (end_of piece + 1) pieces
+AreApart capture at (piece ∷ pieces) =
+    IsPieceOf capture piece × (at ≤ piece.0) × AreApart capture (end_of piece + 1) pieces
 
 -- the pieces of a capture: a byte stands in one of them exactly if it stands in no stretch
 pub record ArePiecesOf (capture : List ℕ) (pieces : List Piece) : Type 0 where

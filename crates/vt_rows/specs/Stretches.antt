@@ -1,5 +1,6 @@
 -- SGR within a capture: a stretch from ESC through the next `m`, or to the end (ECMA-48's CSI and SGR).
-use Rattle.std.specs.Prelude.{◌≡◌, ◌≢◌, ◌<◌, ◌≤◌, get_or, ℕ, not, Bool, true, false, ◌==◌, min, List, [], ◌∷◌, ◌+◌, Option, Some, None, if◌then◌else◌}
+use Rattle.std.specs.Prelude.{◌≡◌, ◌≢◌, ◌<◌, ◌≤◌, get_or, ℕ, not, Bool, true, false, ◌==◌}
+use Rattle.std.specs.Prelude.{min, List, [], ◌∷◌, ◌+◌, Option, Some, None, if◌then◌else◌}
 use Rattle.std.specs.List.{fold}
 use Rattle.unicode_width.specs.Width.{char_width}
 

@@ -16,6 +16,7 @@ narrow_glyph attrs c = glyph (encode_utf8 c) false attrs
 abbrev pub glyphs_of : Attrs → List ℕ → List CellValue
 glyphs_of attrs text = map (narrow_glyph attrs) text
 
--- a narrow glyph for each character from column c on; on a left half in the last of these columns, the right half becomes a space in the glyphs' attributes
+-- a narrow glyph for each character from column c on; on a left half in the last of these columns, the right half
+-- becomes a space in the glyphs' attributes
 abbrev pub put_text : ℕ → List ℕ → Attrs → List CellValue → List CellValue
 put_text c text attrs cells = put_cells c (glyph (0x20 ∷ []) false attrs) (glyphs_of attrs text) (length text) cells

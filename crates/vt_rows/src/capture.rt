@@ -1,11 +1,13 @@
 //! Rows that are lent to be read, and their texts.
 
-ghost use Rattle.std.specs.Prelude.{◌≡◌, ◌<◌, ◌↔◌, [], ◌∷◌, ◌++◌, if◌then◌else◌, false, length, true, IfOk, IfSome, IsSome, OnErr, OnOk};
+ghost use Rattle.std.specs.Prelude.{◌≡◌, ◌<◌, ◌↔◌, [], ◌∷◌, ◌++◌, if◌then◌else◌, false};
+ghost use Rattle.std.specs.Prelude.{length, true, IfOk, IfSome, IsSome, OnErr, OnOk};
 ghost use Rattle.vt_rows.specs.Cells.{at};
 ghost use Rattle.vt_cells.specs.Cell.{attrs_of};
 ghost use Rattle.vt_cells.specs.Op.{change_text};
 ghost use Rattle.vt_cells.specs.PieceKeeping.{gathered};
-ghost use Rattle.vt_rows.specs.Basic.{attrs_after, attrs_after_all, basic_text, cells_text, shown_text, unwritten, written_after};
+ghost use Rattle.vt_rows.specs.Basic.{attrs_after, attrs_after_all, basic_text, cells_text};
+ghost use Rattle.vt_rows.specs.Basic.{shown_text, unwritten, written_after};
 ghost use Rattle.vt_rows.specs.Row.{IsRow, trimmed_row};
 
 mod plain;
@@ -179,7 +181,8 @@ fn add_cell<S: Sink>(
     attrs: &mut Attrs,
 ) -> Result<(), S::Error>
     ensures text { OnOk result (gathered (S.text sink.new) piece.new
-        ≡ gathered (S.text sink.old) piece.old ++ (change_text attrs.old (attrs_after attrs.old cell.now) ++ shown_text cell.now)) }
+        ≡ gathered (S.text sink.old) piece.old
+        ++ (change_text attrs.old (attrs_after attrs.old cell.now) ++ shown_text cell.now)) }
     ensures attrs { OnOk result (attrs.new ≡ attrs_after attrs.old cell.now) }
 {
     if cell.is_wide_continuation() {
@@ -199,7 +202,8 @@ fn add_cell<S: Sink>(
 #[inline]
 #[tactic(auto, using(crate::proofs::BasicTexts::attrs_kept))]
 fn keeps_attrs(cell: &Cell, attrs: &Attrs) -> bool
-    ensures yes { result ≡ true → (attrs_after attrs.now cell.now ≡ attrs.now) × (change_text attrs.now (attrs_after attrs.now cell.now) ≡ []) }
+    ensures yes { result ≡ true →
+        (attrs_after attrs.now cell.now ≡ attrs.now) × (change_text attrs.now (attrs_after attrs.now cell.now) ≡ []) }
     ensures no { result ≡ false → attrs_after attrs.now cell.now ≡ attrs_of cell.now }
 {
     if cell.has_attrs(attrs) {

@@ -4,10 +4,13 @@
 //! a half alone: each one says what becomes of the partner of a half that it
 //! overwrites.
 
-ghost use Rattle.std.specs.Prelude.{◌≡◌, ◌≢◌, ◌<◌, ◌≤◌, ◌+◌, ◌-◌, ◌&&◌, ◌∷◌, [], All, Some, encode_utf8, false, true, length, not};
-ghost use Rattle.vt_cells.specs.Cell.{IsCell, attrs_of, blank, glyph, is_blank, is_right_half, is_wide, text_of, widened};
+ghost use Rattle.std.specs.Prelude.{◌≡◌, ◌≢◌, ◌<◌, ◌≤◌, ◌+◌, ◌-◌, ◌&&◌, ◌∷◌, [], All};
+ghost use Rattle.std.specs.Prelude.{Some, encode_utf8, false, true, length, not};
+ghost use Rattle.vt_cells.specs.Cell.{IsCell, attrs_of, blank, glyph, is_blank};
+ghost use Rattle.vt_cells.specs.Cell.{is_right_half, is_wide, text_of, widened};
 ghost use Rattle.vt_cells.specs.Glyph.{columns_of};
-ghost use Rattle.vt_rows.specs.Cells.{IsPaired, at, blanks, ends_blank, erased, marked_at, narrowed_at, put_narrow, put_wide, widened_at};
+ghost use Rattle.vt_rows.specs.Cells.{IsPaired, at, blanks, ends_blank, erased, marked_at};
+ghost use Rattle.vt_rows.specs.Cells.{narrowed_at, put_narrow, put_wide, widened_at};
 ghost use Rattle.vt_rows.specs.Keeping.{HasRoom, left_blanked, right_replaced};
 ghost use Rattle.vt_rows.specs.Texts.{IsPrintableText, glyphs_of, put_text};
 

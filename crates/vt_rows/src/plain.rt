@@ -83,7 +83,8 @@ fn add_cell<S: Sink>(
     gap: usize,
 ) -> Result<usize, S::Error>
     requires { gap + 1 ≤ 18446744073709551615 }
-    ensures text { OnOk result (gathered (S.text sink.new) piece.new ≡ gathered (S.text sink.old) piece.old ++ text_behind gap cell.now) }
+    ensures text { OnOk result
+        (gathered (S.text sink.new) piece.new ≡ gathered (S.text sink.old) piece.old ++ text_behind gap cell.now) }
     ensures gap { IfOk result (λ new. new ≡ gap_behind gap cell.now) }
 {
     if cell.has_contents() {
@@ -100,7 +101,8 @@ fn add_cell<S: Sink>(
 /// Adds a number of spaces.
 #[inline]
 fn add_spaces<S: Sink>(sink: &mut S, piece: &mut Piece, count: usize) -> Result<(), S::Error>
-    ensures { OnOk result (gathered (S.text sink.new) piece.new ≡ gathered (S.text sink.old) piece.old ++ replicate count 0x20) }
+    ensures { OnOk result
+        (gathered (S.text sink.new) piece.new ≡ gathered (S.text sink.old) piece.old ++ replicate count 0x20) }
 {
     let mut left = count;
     while left >= SPACES.len() {

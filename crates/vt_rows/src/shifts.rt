@@ -54,7 +54,8 @@ pub fn turn<T>(items: &mut [T], from: usize, to: usize, count: usize)
     requires in_order { from + count ≤ to }
     requires inside { to ≤ length items.old }
     ensures len { length items.new ≡ length items.old }
-    ensures by_index { (k : ℕ) (d : T) → slice_index_or items.new k d ≡ slice_index_or items.old (turn_source from to count k) d }
+    ensures by_index { (k : ℕ) (d : T) →
+        slice_index_or items.new k d ≡ slice_index_or items.old (turn_source from to count k) d }
 {
     items[from..to].rotate_left(count);
 }

@@ -1,14 +1,17 @@
 -- States of the automaton that read alike: one and the same scanner may be in both, and no byte ever tells them apart.
-use Rattle.std.proofs.Common.{◌≡◌, ◌≢◌, ℕ, Bool, true, false, not, ◌⊎◌, List, [], ◌∷◌, ◌++◌, take, filter, inl, inr, refl, sym, subst, ◌∙◌, ap, rules}
+use Rattle.std.proofs.Common.{◌≡◌, ◌≢◌, ℕ, Bool, true, false, not, ◌⊎◌, List, [], ◌∷◌, ◌++◌}
+use Rattle.std.proofs.Common.{take, filter, inl, inr, refl, sym, subst, ◌∙◌, ap, rules}
 use Rattle.std.proofs.Math.Logic.{⊎_elim}
 use Rattle.vt_scan.specs.Table.{turn_of, class_of}
 use Rattle.vt_scan.specs.Parameters.{GroupTable, table_of}
-use Rattle.vt_scan.specs.Automaton.{State, Step, EscDispatch, CsiDispatch, OscDispatch, Executed, is_parameter, parameter_text, marks_of, parts_of, given, after, step_in}
+use Rattle.vt_scan.specs.Automaton.{State, Step, EscDispatch, CsiDispatch, OscDispatch, Executed, is_parameter}
+use Rattle.vt_scan.specs.Automaton.{parameter_text, marks_of, parts_of, given, after, step_in}
 use Rattle.vt_scan.specs.Run.{run}
 use Rattle.vt_scan.specs.Scanner.{Held, Reads, ReadsSequence, StandsFor}
 use Rattle.vt_scan.specs.Keeping.{Fits, FitsEnding}
 use Rattle.vt_scan.specs.declared.table.Kind.{Kind}
-use Rattle.vt_scan.specs.declared.table.Kind.TheVariants.{Ground, Escape, EscapeIntermediate, CsiEntry, CsiParam, CsiIntermediate, CsiIgnore, OscString, Skip}
+use Rattle.vt_scan.specs.declared.table.Kind.TheVariants.{Ground, Escape, EscapeIntermediate, CsiEntry, CsiParam}
+use Rattle.vt_scan.specs.declared.table.Kind.TheVariants.{CsiIntermediate, CsiIgnore, OscString, Skip}
 use Rattle.vt_scan.specs.declared.table.Class.{Class}
 use Rattle.vt_scan.specs.declared.table.Turn.{Turn}
 use Rattle.vt_scan.specs.declared.table.Turn.TheVariants.{Collect, Drop, Execute, End}
@@ -79,7 +82,9 @@ pub both_stand : (held : Held) (s t : State) → StandsFor held s → StandsFor 
 both_stand held s t p q =
     record {
       kind = sym p.kind ∙ q.kind;
-      reads = subst (λ (k : Kind). AlikeIn k s.collected t.collected) p.kind (both_read held.kind held s.collected t.collected p.reads q.reads);
+      reads =
+          subst (λ (k : Kind). AlikeIn k s.collected t.collected) p.kind
+          (both_read held.kind held s.collected t.collected p.reads q.reads);
     }
 
 -- and a scanner that may be in one of them may be in the other
@@ -87,7 +92,9 @@ pub other_stands : (held : Held) (s t : State) → Alike s t → StandsFor held 
 other_stands held s t e p =
     record {
       kind = p.kind ∙ e.kind;
-      reads = other_reads held.kind held s.collected t.collected (subst (λ (k : Kind). AlikeIn k s.collected t.collected) (sym p.kind) e.reads) p.reads;
+      reads =
+          other_reads held.kind held s.collected t.collected
+          (subst (λ (k : Kind). AlikeIn k s.collected t.collected) (sym p.kind) e.reads) p.reads;
     }
 
 -- one byte
@@ -105,13 +112,18 @@ turn_fits : (kind : Kind) (class : Class) → Fits kind (turn_of kind class)
 turn_fits kind class = search rules
 
 -- of two texts that are alike within a sequence, also those with one more byte are
-sequence_more : (kind next : Kind) (a b : List ℕ) (x : ℕ) → ReadsSequence (held_of (at kind a)) b → ReadsSequence (held_of (at next (a ++ x ∷ []))) (b ++ x ∷ [])
+sequence_more : (kind next : Kind) (a b : List ℕ) (x : ℕ) → ReadsSequence (held_of (at kind a)) b →
+    ReadsSequence (held_of (at next (a ++ x ∷ []))) (b ++ x ∷ [])
 sequence_more kind next a b x r = by (is_parameter x) refl
   where
     by : (t : Bool) → is_parameter x ≡ t → ReadsSequence (held_of (at next (a ++ x ∷ []))) (b ++ x ∷ [])
     by true is = record {
-      table = ap table_of (filter-yes is_parameter a x is) ∙ table-more (parameter_text a) (parameter_text b) x is r.table ∙ ap table_of (sym (filter-yes is_parameter b x is));
-      marks = ap (take 2) (filter-no (λ y. not (is_parameter y)) a x (ap not is)) ∙ r.marks ∙ ap (take 2) (sym (filter-no (λ y. not (is_parameter y)) b x (ap not is)));
+      table =
+          ap table_of (filter-yes is_parameter a x is) ∙ table-more (parameter_text a) (parameter_text b) x is r.table
+          ∙ ap table_of (sym (filter-yes is_parameter b x is));
+      marks =
+          ap (take 2) (filter-no (λ y. not (is_parameter y)) a x (ap not is)) ∙ r.marks
+          ∙ ap (take 2) (sym (filter-no (λ y. not (is_parameter y)) b x (ap not is)));
     }
     by false is = record {
       table = ap table_of (filter-no is_parameter a x is) ∙ r.table ∙ ap table_of (sym (filter-no is_parameter b x is));
@@ -124,13 +136,17 @@ sequence_more kind next a b x r = by (is_parameter x) refl
 same_text : (kind : Kind) (a b : List ℕ) → kind ≡ OscString → AlikeIn kind a b → a ≡ b
 same_text kind a b is r = subst (λ (k : Kind). AlikeIn k a b) is r
 
-collects_alike : (kind next : Kind) (a b : List ℕ) (x : ℕ) → Fits kind (Collect next) → AlikeIn kind a b → AlikeIn next (a ++ x ∷ []) (b ++ x ∷ [])
+collects_alike : (kind next : Kind) (a b : List ℕ) (x : ℕ) → Fits kind (Collect next) →
+    AlikeIn kind a b → AlikeIn next (a ++ x ∷ []) (b ++ x ∷ [])
 collects_alike kind next a b x (inl (old, new)) r =
-    sequence_to next (held_of (at next (a ++ x ∷ []))) (b ++ x ∷ []) new (sequence_more kind next a b x (sequence_from kind (held_of (at kind a)) b old r))
+    sequence_to next (held_of (at next (a ++ x ∷ []))) (b ++ x ∷ []) new
+    (sequence_more kind next a b x (sequence_from kind (held_of (at kind a)) b old r))
 collects_alike kind next a b x (inr (old, new)) r =
-    subst (λ (l : List ℕ). AlikeIn next (a ++ x ∷ []) (l ++ x ∷ [])) (same_text kind a b old r) (reads_itself next (a ++ x ∷ []))
+    subst (λ (l : List ℕ). AlikeIn next (a ++ x ∷ []) (l ++ x ∷ []))
+    (same_text kind a b old r) (reads_itself next (a ++ x ∷ []))
 
-given_alike : (kind next : Kind) (end : ending.Ending) (a b : List ℕ) (x : ℕ) → FitsEnding kind next end → AlikeIn kind a b → given end a x ≡ given end b x
+given_alike : (kind next : Kind) (end : ending.Ending) (a b : List ℕ) (x : ℕ) →
+    FitsEnding kind next end → AlikeIn kind a b → given end a x ≡ given end b x
 given_alike kind next ends.Nothing a b x fits r = refl
 given_alike kind next ends.Character a b x fits r = refl
 given_alike kind next ends.Executed a b x fits r = refl
@@ -139,17 +155,24 @@ given_alike kind next ends.EscDispatch a b x fits r =
     ap (λ marks. EscDispatch marks x ∷ []) reads.marks
 given_alike kind next ends.CsiDispatch a b x fits r =
     let reads = sequence_from kind (held_of (at kind a)) b fits.0 r in
-    ap (λ (t : GroupTable). CsiDispatch t.groups (marks_of a) x ∷ []) reads.table ∙ ap (λ marks. CsiDispatch (table_of (parameter_text b)).groups marks x ∷ []) reads.marks
-given_alike kind next ends.OscDispatch a b x fits r = ap (λ text. OscDispatch (parts_of text) ∷ []) (same_text kind a b fits.0 r)
-given_alike kind next ends.OscDispatchAndExecuted a b x fits r = ap (λ text. OscDispatch (parts_of text) ∷ Executed x ∷ []) (same_text kind a b fits.0 r)
+    ap (λ (t : GroupTable). CsiDispatch t.groups (marks_of a) x ∷ []) reads.table
+    ∙ ap (λ marks. CsiDispatch (table_of (parameter_text b)).groups marks x ∷ []) reads.marks
+given_alike kind next ends.OscDispatch a b x fits r =
+    ap (λ text. OscDispatch (parts_of text) ∷ []) (same_text kind a b fits.0 r)
+given_alike kind next ends.OscDispatchAndExecuted a b x fits r =
+    ap (λ text. OscDispatch (parts_of text) ∷ Executed x ∷ []) (same_text kind a b fits.0 r)
 
-after_alike : (kind : Kind) (a b : List ℕ) (x : ℕ) (turn : Turn) → Fits kind turn → AlikeIn kind a b → Same (after kind a x turn) (after kind b x turn)
-after_alike kind a b x (Collect next) fits r = record { alike = record { kind = refl; reads = collects_alike kind next a b x fits r }; events = refl }
+after_alike : (kind : Kind) (a b : List ℕ) (x : ℕ) (turn : Turn) → Fits kind turn →
+    AlikeIn kind a b → Same (after kind a x turn) (after kind b x turn)
+after_alike kind a b x (Collect next) fits r =
+    record { alike = record { kind = refl; reads = collects_alike kind next a b x fits r }; events = refl }
 after_alike kind a b x Drop fits r = record { alike = record { kind = refl; reads = r }; events = refl }
 after_alike kind a b x Execute fits r = record { alike = record { kind = refl; reads = r }; events = refl }
-after_alike kind a b x (End next end) fits r = record { alike = itself (at next []); events = given_alike kind next end a b x fits r }
+after_alike kind a b x (End next end) fits r =
+    record { alike = itself (at next []); events = given_alike kind next end a b x fits r }
 
-in_table : (kind : Kind) (a b : List ℕ) (x : ℕ) → kind ≢ Ground → AlikeIn kind a b → Same (step_in kind a x) (step_in kind b x)
+in_table : (kind : Kind) (a b : List ℕ) (x : ℕ) → kind ≢ Ground →
+    AlikeIn kind a b → Same (step_in kind a x) (step_in kind b x)
 in_table kind a b x other r =
     rw (step_in-table kind a x other, step_in-table kind b x other)
     (after_alike kind a b x (turn_of kind (class_of x)) (turn_fits kind (class_of x)) r)
@@ -174,4 +197,7 @@ runs_alike s t (x ∷ bytes) e =
     let other = step_in t.kind t.collected x in
     let step : Same first other = rw (sym e.kind) (step_alike s.kind s.collected t.collected x e.reads) in
     let rest = runs_alike first.state other.state bytes step.alike in
-    record { alike = rest.alike; events = ap (λ l. l ++ (run first.state bytes).events) step.events ∙ ap (λ l. other.events ++ l) rest.events }
+    record {
+      alike = rest.alike;
+      events = ap (λ l. l ++ (run first.state bytes).events) step.events ∙ ap (λ l. other.events ++ l) rest.events;
+    }

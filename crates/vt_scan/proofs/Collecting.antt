@@ -1,5 +1,6 @@
 -- One more collected byte of a sequence: a byte of the parameter text, or a mark.
-use Rattle.std.proofs.Common.{◌≡◌, ◌≢◌, ℕ, Bool, true, false, not, cond, List, [], ◌∷◌, ◌++◌, take, filter, sym, ◌∙◌, ap, inl, inr}
+use Rattle.std.proofs.Common.{◌≡◌, ◌≢◌, ℕ, Bool, true, false, not, cond, List, []}
+use Rattle.std.proofs.Common.{◌∷◌, ◌++◌, take, filter, sym, ◌∙◌, ap, inl, inr}
 use Rattle.std.proofs.lemmas.List.{append-nil}
 use Rattle.std.proofs.lemmas.List.Elements.{filter-append}
 use Rattle.vt_scan.specs.Parameters.{table_of}
@@ -7,11 +8,13 @@ use Rattle.vt_scan.specs.Automaton.{is_parameter}
 use Rattle.vt_scan.specs.Scanner.{Held, Reads, ReadsSequence}
 use Rattle.vt_scan.specs.Keeping.{InSequence, Fits}
 use Rattle.vt_scan.specs.declared.table.Kind.{Kind}
-use Rattle.vt_scan.specs.declared.table.Kind.TheVariants.{Ground, Escape, EscapeIntermediate, CsiEntry, CsiParam, CsiIntermediate, CsiIgnore, OscString, Skip}
+use Rattle.vt_scan.specs.declared.table.Kind.TheVariants.{Ground, Escape, EscapeIntermediate, CsiEntry, CsiParam}
+use Rattle.vt_scan.specs.declared.table.Kind.TheVariants.{CsiIntermediate, CsiIgnore, OscString, Skip}
 use Rattle.vt_scan.specs.declared.table.Turn.TheVariants.{Collect}
 
 -- a sequence is read alike in each of its kinds
-pub sequence_from : (kind : Kind) (held : Held) (text : List ℕ) → InSequence kind → Reads held kind text → ReadsSequence held text
+pub sequence_from : (kind : Kind) (held : Held) (text : List ℕ) →
+    InSequence kind → Reads held kind text → ReadsSequence held text
 sequence_from Ground held text s r = absurd s
 sequence_from Escape held text s r = r
 sequence_from EscapeIntermediate held text s r = r
@@ -22,7 +25,8 @@ sequence_from CsiIgnore held text s r = absurd s
 sequence_from OscString held text s r = absurd s
 sequence_from Skip held text s r = absurd s
 
-pub sequence_to : (kind : Kind) (held : Held) (text : List ℕ) → InSequence kind → ReadsSequence held text → Reads held kind text
+pub sequence_to : (kind : Kind) (held : Held) (text : List ℕ) →
+    InSequence kind → ReadsSequence held text → Reads held kind text
 sequence_to Ground held text s r = absurd s
 sequence_to Escape held text s r = r
 sequence_to EscapeIntermediate held text s r = r
@@ -33,17 +37,20 @@ sequence_to CsiIgnore held text s r = absurd s
 sequence_to OscString held text s r = absurd s
 sequence_to Skip held text s r = absurd s
 
-pub filter-yes : (p : ℕ → Bool) (text : List ℕ) (b : ℕ) → p b ≡ true → filter p (text ++ b ∷ []) ≡ filter p text ++ b ∷ []
+pub filter-yes : (p : ℕ → Bool) (text : List ℕ) (b : ℕ) →
+    p b ≡ true → filter p (text ++ b ∷ []) ≡ filter p text ++ b ∷ []
 filter-yes p text b h = filter-append p text (b ∷ []) ∙ ap (λ t. filter p text ++ cond t (b ∷ []) []) h
 
 pub filter-no : (p : ℕ → Bool) (text : List ℕ) (b : ℕ) → p b ≡ false → filter p (text ++ b ∷ []) ≡ filter p text
-filter-no p text b h = filter-append p text (b ∷ []) ∙ ap (λ t. filter p text ++ cond t (b ∷ []) []) h ∙ append-nil (filter p text)
+filter-no p text b h =
+    filter-append p text (b ∷ []) ∙ ap (λ t. filter p text ++ cond t (b ∷ []) []) h ∙ append-nil (filter p text)
 
 in_sequence : (old new : Kind) → Fits old (Collect new) → old ≢ OscString → InSequence old × InSequence new
 in_sequence old new (inl s) other = s
 in_sequence old new (inr s) other = absurd (other s.0)
 
-pub collect_mark : (old new : Held) (kind : Kind) (b : ℕ) → Fits old.kind (Collect kind) → old.kind ≢ OscString → is_parameter b ≡ false
+pub collect_mark : (old new : Held) (kind : Kind) (b : ℕ)
+    → Fits old.kind (Collect kind) → old.kind ≢ OscString → is_parameter b ≡ false
     → new.table ≡ old.table → ((all : List ℕ) → old.marks ≡ take 2 all → new.marks ≡ take 2 (all ++ b ∷ []))
     → (text : List ℕ) → Reads old old.kind text → Reads new kind (text ++ b ∷ [])
 collect_mark old new kind b fits other is same pushed text reads =
@@ -51,7 +58,9 @@ collect_mark old new kind b fits other is same pushed text reads =
     let was = sequence_from old.kind old text both.0 reads in
     sequence_to kind new (text ++ b ∷ []) both.1 (record {
       table = same ∙ was.table ∙ ap table_of (sym (filter-no is_parameter text b is));
-      marks = pushed (filter (λ x. not (is_parameter x)) text) was.marks ∙ ap (take 2) (sym (filter-yes (λ x. not (is_parameter x)) text b (ap not is)));
+      marks =
+          pushed (filter (λ x. not (is_parameter x)) text) was.marks
+          ∙ ap (take 2) (sym (filter-yes (λ x. not (is_parameter x)) text b (ap not is)));
     })
 
 pub collect_parameter : (old new : Held) (kind : Kind) (b : ℕ) → Fits old.kind (Collect kind) → old.kind ≢ OscString

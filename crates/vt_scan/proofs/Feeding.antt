@@ -23,7 +23,8 @@ use Rattle.vt_scan.specs.declared.unfinished.Extended.TheVariants.{Further, Char
 use Rattle.vt_scan.proofs.Collecting.{sequence_from}
 use Rattle.vt_scan.proofs.Stepping.{gives, step_in-table}
 use Rattle.vt_scan.proofs.Stepping.{fresh_step-character, fresh_step-control, fresh_step-escape, fresh_step-begun}
-use Rattle.vt_scan.proofs.Stepping.{fresh_step-broken, character_step-whole, character_step-further, character_step-broken, step_in-character}
+use Rattle.vt_scan.proofs.Stepping.{fresh_step-broken, character_step-whole, character_step-further}
+use Rattle.vt_scan.proofs.Stepping.{character_step-broken, step_in-character}
 
 abbrev pub no_event : Events
 no_event = record { first = None; second = None }
@@ -35,67 +36,98 @@ pub some_from : (text : List ℕ) → false ≡ (length text == 0) → text ≢ 
 some_from text e none = false≢true (e ∙ ap (λ (t : List ℕ). length t == 0) none)
 
 -- a step that is known
-pub follows_as : (new : Held) (answer : Events) (step known : Step) → step ≡ known → Follows new answer known → Follows new answer step
+pub follows_as : (new : Held) (answer : Events) (step known : Step) →
+    step ≡ known → Follows new answer known → Follows new answer step
 follows_as new answer step known e f = subst (λ (s : Step). Follows new answer s) (sym e) f
 
 -- in Ground an unfinished character is all that is held
-pub stands_at : (held : Held) (text : List ℕ) → held.kind ≡ Ground → held.unfinished ≡ text → StandsFor held (record { kind = Ground; collected = text })
+pub stands_at : (held : Held) (text : List ℕ) → held.kind ≡ Ground →
+    held.unfinished ≡ text → StandsFor held (record { kind = Ground; collected = text })
 stands_at held text is same = record { kind = is; reads = subst (λ (k : Kind). Reads held k text) (sym is) same }
 
-further : (unfinished : List ℕ) (new : Held) (b : ℕ) (answer : Events) → unfinished ≢ [] → new.kind ≡ Ground → Extends unfinished b Further new.unfinished
+further : (unfinished : List ℕ) (new : Held) (b : ℕ) (answer : Events)
+    → unfinished ≢ [] → new.kind ≡ Ground → Extends unfinished b Further new.unfinished
     → answer ≡ no_event → Follows new answer (step_in Ground unfinished b)
 further unfinished new b answer some is extends e =
     follows_as new answer (step_in Ground unfinished b) (gives Ground (unfinished ++ b ∷ []) [])
     (step_in-character unfinished b some ∙ character_step-further unfinished b extends.0 extends.1)
     (record { stands = stands_at new (unfinished ++ b ∷ []) is extends.2; means = ap (events_in new) e })
 
-pub fed_further : (unfinished now : List ℕ) (new : Held) (b : ℕ) (answer : Events) → unfinished ≡ now → unfinished ≢ [] → new.kind ≡ Ground → Extends unfinished b Further new.unfinished
+pub fed_further : (unfinished now : List ℕ) (new : Held) (b : ℕ) (answer : Events) → unfinished ≡ now
+    → unfinished ≢ [] → new.kind ≡ Ground → Extends unfinished b Further new.unfinished
     → answer ≡ no_event → Follows new answer (step_in Ground now b)
 fed_further unfinished now new b answer same some is extends e =
-    subst (λ (l : List ℕ). Follows new answer (step_in Ground l b)) same (further unfinished new b answer some is extends e)
+    subst (λ (l : List ℕ). Follows new answer (step_in Ground l b))
+    same (further unfinished new b answer some is extends e)
 
-character : (unfinished : List ℕ) (new : Held) (b code : ℕ) (answer : Events) → unfinished ≢ [] → new.kind ≡ Ground → Extends unfinished b (Character code) new.unfinished
+character : (unfinished : List ℕ) (new : Held) (b code : ℕ) (answer : Events) → unfinished ≢ []
+    → new.kind ≡ Ground → Extends unfinished b (Character code) new.unfinished
     → answer ≡ one_event (given.Character code) → Follows new answer (step_in Ground unfinished b)
 character unfinished new b code answer some is extends e =
-    follows_as new answer (step_in Ground unfinished b) (gives Ground [] (automaton.Character (character_of (unfinished ++ b ∷ [])) ∷ []))
+    follows_as new answer (step_in Ground unfinished b)
+    (gives Ground [] (automaton.Character (character_of (unfinished ++ b ∷ [])) ∷ []))
     (step_in-character unfinished b some ∙ character_step-whole unfinished b extends.0)
-    (record { stands = stands_at new [] is extends.2; means = ap (events_in new) e ∙ ap (λ k. automaton.Character k ∷ []) extends.1 })
+    (record {
+      stands = stands_at new [] is extends.2;
+      means = ap (events_in new) e ∙ ap (λ k. automaton.Character k ∷ []) extends.1;
+    })
 
-pub fed_character : (unfinished now : List ℕ) (new : Held) (b code : ℕ) (answer : Events) → unfinished ≡ now → unfinished ≢ [] → new.kind ≡ Ground
-    → Extends unfinished b (Character code) new.unfinished → answer ≡ one_event (given.Character code) → Follows new answer (step_in Ground now b)
+pub fed_character : (unfinished now : List ℕ) (new : Held) (b code : ℕ) (answer : Events)
+    → unfinished ≡ now → unfinished ≢ [] → new.kind ≡ Ground
+    → Extends unfinished b (Character code) new.unfinished
+    → answer ≡ one_event (given.Character code) → Follows new answer (step_in Ground now b)
 fed_character unfinished now new b code answer same some is extends e =
-    subst (λ (l : List ℕ). Follows new answer (step_in Ground l b)) same (character unfinished new b code answer some is extends e)
+    subst (λ (l : List ℕ). Follows new answer (step_in Ground l b))
+    same (character unfinished new b code answer some is extends e)
 
 -- an answer of one event, behind another one
 alone : (held : Held) (e : automaton.Event) (events : Events) → events.second ≡ None
     → e ∷ map (event_of held) (option_to_list events.first) ≡ e ∷ events_in held events
-alone held e events s = ap (λ l. e ∷ map (event_of held) l) (sym (ap (λ o. option_to_list events.first ++ option_to_list o) s ∙ append-nil (option_to_list events.first)))
+alone held e events s =
+    ap (λ l. e ∷ map (event_of held) l)
+    (sym (ap (λ o. option_to_list events.first ++ option_to_list o) s ∙ append-nil (option_to_list events.first)))
 
 -- the second event of an answer is the first one of another
-pub fed_broken : (unfinished : List ℕ) (new : Held) (b : ℕ) (events answer : Events) (left : List ℕ) → unfinished ≢ [] → Extends unfinished b Broken left
-    → Follows new events (fresh_step b) → events.second ≡ None → answer ≡ record { first = Some (given.Character 0xFFFD); second = events.first }
+pub fed_broken : (unfinished : List ℕ) (new : Held) (b : ℕ) (events answer : Events) (left : List ℕ)
+    → unfinished ≢ [] → Extends unfinished b Broken left
+    → Follows new events (fresh_step b) → events.second ≡ None
+    → answer ≡ record { first = Some (given.Character 0xFFFD); second = events.first }
     → Follows new answer (step_in Ground unfinished b)
 fed_broken unfinished new b events answer left some extends f single e =
-    follows_as new answer (step_in Ground unfinished b) (record { state = (fresh_step b).state; events = automaton.Character 0xFFFD ∷ (fresh_step b).events })
+    follows_as new answer (step_in Ground unfinished b)
+    (record { state = (fresh_step b).state; events = automaton.Character 0xFFFD ∷ (fresh_step b).events })
     (step_in-character unfinished b some ∙ character_step-broken unfinished b extends.0 extends.1)
-    (record { stands = f.stands; means = ap (events_in new) e ∙ alone new (automaton.Character 0xFFFD) events single ∙ ap (λ l. automaton.Character 0xFFFD ∷ l) f.means })
+    (record {
+      stands = f.stands;
+      means =
+          ap (events_in new) e ∙ alone new (automaton.Character 0xFFFD) events single
+          ∙ ap (λ l. automaton.Character 0xFFFD ∷ l) f.means;
+    })
 
 -- a byte where no character is unfinished
-pub fresh_character : (held : Held) (b code : ℕ) (answer : Events) → held.kind ≡ Ground → held.unfinished ≡ [] → 0x20 ≤ b → b < 0x80 → code ≡ b
+pub fresh_character : (held : Held) (b code : ℕ) (answer : Events)
+    → held.kind ≡ Ground → held.unfinished ≡ [] → 0x20 ≤ b → b < 0x80 → code ≡ b
     → answer ≡ one_event (given.Character code) → Follows held answer (fresh_step b)
 fresh_character held b code answer is none low high same e =
-    let known : Follows held (one_event (given.Character b)) (gives Ground [] (automaton.Character b ∷ [])) = record { stands = stands_at held [] is none; means = refl } in
-    follows_as held answer (fresh_step b) (gives Ground [] (automaton.Character b ∷ [])) (fresh_step-character b low high)
-    (subst (λ (a : Events). Follows held a (gives Ground [] (automaton.Character b ∷ []))) (sym (e ∙ ap (λ k. one_event (given.Character k)) same)) known)
+    let known : Follows held (one_event (given.Character b)) (gives Ground [] (automaton.Character b ∷ [])) =
+    record { stands = stands_at held [] is none; means = refl } in
+    follows_as held answer (fresh_step b)
+    (gives Ground [] (automaton.Character b ∷ [])) (fresh_step-character b low high)
+    (subst (λ (a : Events). Follows held a (gives Ground [] (automaton.Character b ∷ [])))
+    (sym (e ∙ ap (λ k. one_event (given.Character k)) same)) known)
 
-pub fresh_control : (held : Held) (b : ℕ) (answer : Events) → held.kind ≡ Ground → held.unfinished ≡ [] → b < 0x20 → b ≢ 0x1B
+pub fresh_control : (held : Held) (b : ℕ) (answer : Events)
+    → held.kind ≡ Ground → held.unfinished ≡ [] → b < 0x20 → b ≢ 0x1B
     → answer ≡ one_event (given.Executed b) → Follows held answer (fresh_step b)
 fresh_control held b answer is none high other e =
-    let known : Follows held (one_event (given.Executed b)) (gives Ground [] (automaton.Executed b ∷ [])) = record { stands = stands_at held [] is none; means = refl } in
-    follows_as held answer (fresh_step b) (gives Ground [] (automaton.Executed b ∷ [])) (fresh_step-control b high other)
+    let known : Follows held (one_event (given.Executed b)) (gives Ground [] (automaton.Executed b ∷ [])) =
+    record { stands = stands_at held [] is none; means = refl } in
+    follows_as held answer (fresh_step b)
+    (gives Ground [] (automaton.Executed b ∷ [])) (fresh_step-control b high other)
     (subst (λ (a : Events). Follows held a (gives Ground [] (automaton.Executed b ∷ []))) (sym e) known)
 
-pub fresh_escape : (old new : Held) (b : ℕ) (answer : Events) → b ≡ 0x1B → Begins old new Escape → answer ≡ no_event → Follows new answer (fresh_step b)
+pub fresh_escape : (old new : Held) (b : ℕ) (answer : Events) → b ≡ 0x1B →
+    Begins old new Escape → answer ≡ no_event → Follows new answer (fresh_step b)
 fresh_escape old new b answer is begun e =
     let known : Follows new no_event (gives Escape [] []) = record {
       stands = record { kind = begun.kind; reads = subst (λ (k : Kind). Reads new k []) (sym begun.kind) begun.reads };
@@ -104,22 +136,28 @@ fresh_escape old new b answer is begun e =
     follows_as new answer (fresh_step b) (gives Escape [] []) (ap fresh_step is ∙ fresh_step-escape)
     (subst (λ (a : Events). Follows new a (gives Escape [] [])) (sym e) known)
 
-pub fresh_begun : (held : Held) (b : ℕ) (answer : Events) → held.kind ≡ Ground → held.unfinished ≡ b ∷ [] → 0x80 ≤ b → is_beginning (b ∷ []) ≡ true
+pub fresh_begun : (held : Held) (b : ℕ) (answer : Events) → held.kind ≡ Ground
+    → held.unfinished ≡ b ∷ [] → 0x80 ≤ b → is_beginning (b ∷ []) ≡ true
     → answer ≡ no_event → Follows held answer (fresh_step b)
 fresh_begun held b answer is same high begins e =
-    let known : Follows held no_event (gives Ground (b ∷ []) []) = record { stands = stands_at held (b ∷ []) is same; means = refl } in
+    let known : Follows held no_event (gives Ground (b ∷ []) []) =
+    record { stands = stands_at held (b ∷ []) is same; means = refl } in
     follows_as held answer (fresh_step b) (gives Ground (b ∷ []) []) (fresh_step-begun b high begins)
     (subst (λ (a : Events). Follows held a (gives Ground (b ∷ []) [])) (sym e) known)
 
-pub fresh_broken : (held : Held) (b : ℕ) (answer : Events) → held.kind ≡ Ground → held.unfinished ≡ [] → 0x80 ≤ b → is_beginning (b ∷ []) ≡ false
+pub fresh_broken : (held : Held) (b : ℕ) (answer : Events) → held.kind ≡ Ground
+    → held.unfinished ≡ [] → 0x80 ≤ b → is_beginning (b ∷ []) ≡ false
     → answer ≡ one_event (given.Character 0xFFFD) → Follows held answer (fresh_step b)
 fresh_broken held b answer is none high broken e =
-    let known : Follows held (one_event (given.Character 0xFFFD)) (gives Ground [] (automaton.Character 0xFFFD ∷ [])) = record { stands = stands_at held [] is none; means = refl } in
-    follows_as held answer (fresh_step b) (gives Ground [] (automaton.Character 0xFFFD ∷ [])) (fresh_step-broken b high broken)
+    let known : Follows held (one_event (given.Character 0xFFFD)) (gives Ground [] (automaton.Character 0xFFFD ∷ [])) =
+    record { stands = stands_at held [] is none; means = refl } in
+    follows_as held answer (fresh_step b)
+    (gives Ground [] (automaton.Character 0xFFFD ∷ [])) (fresh_step-broken b high broken)
     (subst (λ (a : Events). Follows held a (gives Ground [] (automaton.Character 0xFFFD ∷ []))) (sym e) known)
 
 -- a printable character in plain text leaves all as it is
-pub plain_feeds : (held : Held) (b : ℕ) → held.kind ≡ Ground → held.unfinished ≡ [] → 0x20 ≤ b → b < 0x80 → Feeds held b held (one_event (given.Character b))
+pub plain_feeds : (held : Held) (b : ℕ) → held.kind ≡ Ground → held.unfinished ≡ [] →
+    0x20 ≤ b → b < 0x80 → Feeds held b held (one_event (given.Character b))
 plain_feeds held b is none low high = λ s stands.
     let kind : s.kind ≡ Ground = sym stands.kind ∙ is in
     let read : Reads held Ground s.collected = subst (λ (k : Kind). Reads held k s.collected) is stands.reads in

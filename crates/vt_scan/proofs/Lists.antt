@@ -1,5 +1,6 @@
 -- Lists that change at their last element, and texts that are split and grow at their end.
-use Rattle.std.proofs.Common.{◌≡◌, ◌<◌, Bool, true, false, cond, List, [], ◌∷◌, ◌++◌, map, length, refl, sym, ◌∙◌, ap, arith}
+use Rattle.std.proofs.Common.{◌≡◌, ◌<◌, Bool, true, false, cond, List, [], ◌∷◌}
+use Rattle.std.proofs.Common.{◌++◌, map, length, refl, sym, ◌∙◌, ap, arith}
 use Rattle.std.specs.List.{slice_split, onto_first}
 
 -- the list with its last element changed
@@ -14,7 +15,8 @@ on_last-push f (y ∷ []) x = refl
 on_last-push f (y ∷ z ∷ xs) x = ap (λ l. y ∷ l) (on_last-push f (z ∷ xs) x)
 
 -- changed before or after a map
-pub map-on_last : {A B : Type 0} (h : A → B) (f : A → A) (g : B → B) → ((x : A) → h (f x) ≡ g (h x)) → (xs : List A) → map h (on_last f xs) ≡ on_last g (map h xs)
+pub map-on_last : {A B : Type 0} (h : A → B) (f : A → A) (g : B → B) →
+    ((x : A) → h (f x) ≡ g (h x)) → (xs : List A) → map h (on_last f xs) ≡ on_last g (map h xs)
 map-on_last h f g e [] = refl
 map-on_last h f g e (x ∷ []) = ap (λ y. y ∷ []) (e x)
 map-on_last h f g e (x ∷ y ∷ ys) = ap (λ l. h x ∷ l) (map-on_last h f g e (y ∷ ys))
@@ -24,17 +26,20 @@ length-on_last f [] = refl
 length-on_last f (x ∷ []) = refl
 length-on_last f (x ∷ y ∷ ys) = omega (arith, length-on_last f (y ∷ ys))
 
-pub on_last-front : {A : Type 0} (f : A → A) (x : A) (xs : List A) → 0 < length xs → on_last f (x ∷ xs) ≡ x ∷ on_last f xs
+pub on_last-front : {A : Type 0} (f : A → A) (x : A) (xs : List A) →
+    0 < length xs → on_last f (x ∷ xs) ≡ x ∷ on_last f xs
 on_last-front f x [] h = absurd (omega arith)
 on_last-front f x (y ∷ ys) h = refl
 
 -- a further front element stays in front
-on_last-onto_first : {A : Type 0} (b c : A) (parts : List (List A)) → 0 < length parts → onto_first b (on_last (λ part. part ++ c ∷ []) parts) ≡ on_last (λ part. part ++ c ∷ []) (onto_first b parts)
+on_last-onto_first : {A : Type 0} (b c : A) (parts : List (List A)) → 0 < length parts →
+    onto_first b (on_last (λ part. part ++ c ∷ []) parts) ≡ on_last (λ part. part ++ c ∷ []) (onto_first b parts)
 on_last-onto_first b c [] h = absurd (omega arith)
 on_last-onto_first b c (part ∷ []) h = refl
 on_last-onto_first b c (part ∷ other ∷ parts) h = refl
 
-onto_first-append : {A : Type 0} (b : A) (parts more : List (List A)) → 0 < length parts → onto_first b (parts ++ more) ≡ onto_first b parts ++ more
+onto_first-append : {A : Type 0} (b : A) (parts more : List (List A)) →
+    0 < length parts → onto_first b (parts ++ more) ≡ onto_first b parts ++ more
 onto_first-append b [] more h = absurd (omega arith)
 onto_first-append b (part ∷ parts) more h = refl
 
@@ -51,18 +56,21 @@ slice_split-some {A = A} p (x ∷ xs) = by (p x)
     by false = length-onto_first x (slice_split p xs)
 
 -- an element that doesn't cut joins the last part
-pub slice_split-push : {A : Type 0} (p : A → Bool) (xs : List A) (c : A) → p c ≡ false → slice_split p (xs ++ c ∷ []) ≡ on_last (λ part. part ++ c ∷ []) (slice_split p xs)
+pub slice_split-push : {A : Type 0} (p : A → Bool) (xs : List A) (c : A) → p c ≡ false →
+    slice_split p (xs ++ c ∷ []) ≡ on_last (λ part. part ++ c ∷ []) (slice_split p xs)
 slice_split-push p [] c h = rw h refl
 slice_split-push {A = A} p (x ∷ xs) c h = by (p x) (slice_split-push p xs c h)
   where
     by : (t : Bool) → slice_split p (xs ++ c ∷ []) ≡ on_last (λ part. part ++ c ∷ []) (slice_split p xs)
         → cond t ([] ∷ slice_split p (xs ++ c ∷ [])) (onto_first x (slice_split p (xs ++ c ∷ [])))
         ≡ on_last (λ part. part ++ c ∷ []) (cond t ([] ∷ slice_split p xs) (onto_first x (slice_split p xs)))
-    by true e = ap (λ l. [] ∷ l) e ∙ sym (on_last-front (λ part. part ++ c ∷ []) [] (slice_split p xs) (slice_split-some p xs))
+    by true e =
+        ap (λ l. [] ∷ l) e ∙ sym (on_last-front (λ part. part ++ c ∷ []) [] (slice_split p xs) (slice_split-some p xs))
     by false e = ap (onto_first x) e ∙ on_last-onto_first x c (slice_split p xs) (slice_split-some p xs)
 
 -- an element that cuts begins an empty part
-pub slice_split-push_cut : {A : Type 0} (p : A → Bool) (xs : List A) (c : A) → p c ≡ true → slice_split p (xs ++ c ∷ []) ≡ slice_split p xs ++ [] ∷ []
+pub slice_split-push_cut : {A : Type 0} (p : A → Bool) (xs : List A) (c : A) →
+    p c ≡ true → slice_split p (xs ++ c ∷ []) ≡ slice_split p xs ++ [] ∷ []
 slice_split-push_cut p [] c h = rw h refl
 slice_split-push_cut {A = A} p (x ∷ xs) c h = by (p x) (slice_split-push_cut p xs c h)
   where

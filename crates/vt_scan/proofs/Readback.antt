@@ -1,5 +1,6 @@
 -- Characters, controls and escape sequences that are written whole are read as they were meant.
-use Rattle.std.proofs.Common.{◌≡◌, ◌≢◌, ℕ, ◌+◌, ◌/◌, ◌<◌, ◌≤◌, ◌==◌, nat_lt, true, false, List, [], ◌∷◌, ◌++◌, map, encode_utf8_all, refl, ◌∙◌, ap, ◌⊎◌, inl, inr, arith}
+use Rattle.std.proofs.Common.{◌≡◌, ◌≢◌, ℕ, ◌+◌, ◌/◌, ◌<◌, ◌≤◌, ◌==◌, nat_lt, true, false, List, [], ◌∷◌}
+use Rattle.std.proofs.Common.{◌++◌, map, encode_utf8_all, refl, ◌∙◌, ap, ◌⊎◌, inl, inr, arith}
 use Rattle.std.proofs.Math.Logic.{⊎_elim}
 use Rattle.std.proofs.lemmas.Bool.Decides.{nat_tests}
 use Rattle.std.proofs.lemmas.Bool.{cases_lt}
@@ -13,27 +14,32 @@ use Rattle.vt_scan.specs.Run.{run}
 use Rattle.vt_scan.specs.Texts.{back_with}
 use Rattle.vt_scan.specs.declared.table.Kind.TheVariants.{Ground, Escape}
 use Rattle.vt_scan.specs.declared.table.Class.{Class}
-use Rattle.vt_scan.proofs.Stepping.{gives, either, class_of-text, fresh_step-character, fresh_step-control, fresh_step-escape, fresh_step-begun, character_step-whole, character_step-further}
+use Rattle.vt_scan.proofs.Stepping.{gives, either, class_of-text, fresh_step-character, fresh_step-control}
+use Rattle.vt_scan.proofs.Stepping.{fresh_step-escape, fresh_step-begun, character_step-whole, character_step-further}
 use Rattle.vt_scan.proofs.Running.{behind, run-append}
 
 -- a run whose first step is known
-pub run-known : (state : State) (b : ℕ) (bytes : List ℕ) (known : Step) → step_in state.kind state.collected b ≡ known → run state (b ∷ bytes) ≡ behind known.events (run known.state bytes)
+pub run-known : (state : State) (b : ℕ) (bytes : List ℕ) (known : Step) →
+    step_in state.kind state.collected b ≡ known → run state (b ∷ bytes) ≡ behind known.events (run known.state bytes)
 run-known state b bytes known e = ap (λ (s : Step). behind s.events (run s.state bytes)) e
 
 -- a printable byte of ASCII is that character
 pub read_ascii : (b : ℕ) → 0x20 ≤ b → b ≤ 0x7F → run start (b ∷ []) ≡ back_with (Character b ∷ [])
-read_ascii b low high = run-known start b [] (gives Ground [] (Character b ∷ [])) (fresh_step-character b low (omega arith))
+read_ascii b low high =
+    run-known start b [] (gives Ground [] (Character b ∷ [])) (fresh_step-character b low (omega arith))
 
 -- a control function of one byte is executed
 pub read_control : (b : ℕ) → b < 0x20 → b ≢ 0x1B → run start (b ∷ []) ≡ back_with (Executed b ∷ [])
 read_control b high other = run-known start b [] (gives Ground [] (Executed b ∷ [])) (fresh_step-control b high other)
 
 -- ESC begins a sequence
-pub read_escape_start : (bytes : List ℕ) → run start (0x1B ∷ bytes) ≡ run (record { kind = Escape; collected = [] }) bytes
+pub read_escape_start : (bytes : List ℕ) →
+    run start (0x1B ∷ bytes) ≡ run (record { kind = Escape; collected = [] }) bytes
 read_escape_start bytes = run-known start 0x1B bytes (gives Escape [] []) fresh_step-escape
 
 -- an escape sequence of two bytes
-pub read_escape : (b : ℕ) → 0x30 ≤ b → b ≤ 0x7E → b ≢ 0x5B → b ≢ 0x5D → b ≢ 0x50 → b ≢ 0x58 → b ≢ 0x5E → b ≢ 0x5F → run start (0x1B ∷ b ∷ []) ≡ back_with (EscDispatch [] b ∷ [])
+pub read_escape : (b : ℕ) → 0x30 ≤ b → b ≤ 0x7E → b ≢ 0x5B → b ≢ 0x5D → b ≢ 0x50 → b ≢ 0x58 →
+    b ≢ 0x5E → b ≢ 0x5F → run start (0x1B ∷ b ∷ []) ≡ back_with (EscDispatch [] b ∷ [])
 read_escape b low high csi osc dcs sos pm apc =
     let P : Class → Type 0 = λ k. after Escape [] b (turn_of Escape k) ≡ gives Ground [] (EscDispatch [] b ∷ []) in
     let t0 : nat_lt b 0x30 ≡ false = grind (arith, nat_tests) in
@@ -46,21 +52,29 @@ read_escape b low high csi osc dcs sos pm apc =
     let t7 : (b == 0x5F) ≡ false = grind (arith, nat_tests) in
     read_escape_start (b ∷ [])
     ∙ run-known (record { kind = Escape; collected = [] }) b [] (gives Ground [] (EscDispatch [] b ∷ []))
-    (class_of-text P b (omega arith) (rw (t0, t1, t2, t3, t4, t5, t6, t7) (either P (nat_lt b 0x3C) _ _ refl (either P (nat_lt b 0x40) _ _ refl refl))))
+    (class_of-text P b (omega arith)
+    (rw (t0, t1, t2, t3, t4, t5, t6, t7) (either P (nat_lt b 0x3C) _ _ refl (either P (nat_lt b 0x40) _ _ refl refl))))
 
 -- UTF-8, byte by byte
 
-pub read_last : (text : List ℕ) (a b code : ℕ) → is_character (a ∷ (text ++ b ∷ [])) ≡ true → character_of (a ∷ (text ++ b ∷ [])) ≡ code
+pub read_last : (text : List ℕ) (a b code : ℕ) → is_character (a ∷ (text ++ b ∷ [])) ≡ true
+    → character_of (a ∷ (text ++ b ∷ [])) ≡ code
     → run (record { kind = Ground; collected = a ∷ text }) (b ∷ []) ≡ back_with (Character code ∷ [])
 read_last text a b code is means =
-    run-known (record { kind = Ground; collected = a ∷ text }) b [] (gives Ground [] (Character (character_of (a ∷ (text ++ b ∷ []))) ∷ [])) (character_step-whole (a ∷ text) b is)
+    run-known (record { kind = Ground; collected = a ∷ text }) b []
+    (gives Ground [] (Character (character_of (a ∷ (text ++ b ∷ []))) ∷ [])) (character_step-whole (a ∷ text) b is)
     ∙ ap (λ k. back_with (Character k ∷ [])) means
 
-pub read_next : (text : List ℕ) (a b : ℕ) (bytes : List ℕ) → is_character (a ∷ (text ++ b ∷ [])) ≡ false → is_beginning (a ∷ (text ++ b ∷ [])) ≡ true
-    → run (record { kind = Ground; collected = a ∷ text }) (b ∷ bytes) ≡ run (record { kind = Ground; collected = a ∷ (text ++ b ∷ []) }) bytes
-read_next text a b bytes other is = run-known (record { kind = Ground; collected = a ∷ text }) b bytes (gives Ground (a ∷ (text ++ b ∷ [])) []) (character_step-further (a ∷ text) b other is)
+pub read_next : (text : List ℕ) (a b : ℕ) (bytes : List ℕ)
+    → is_character (a ∷ (text ++ b ∷ [])) ≡ false → is_beginning (a ∷ (text ++ b ∷ [])) ≡ true
+    → run (record { kind = Ground; collected = a ∷ text }) (b ∷ bytes)
+    ≡ run (record { kind = Ground; collected = a ∷ (text ++ b ∷ []) }) bytes
+read_next text a b bytes other is =
+    run-known (record { kind = Ground; collected = a ∷ text }) b bytes
+    (gives Ground (a ∷ (text ++ b ∷ [])) []) (character_step-further (a ∷ text) b other is)
 
-pub read_first : (a : ℕ) (bytes : List ℕ) → 0x80 ≤ a → is_beginning (a ∷ []) ≡ true → run start (a ∷ bytes) ≡ run (record { kind = Ground; collected = a ∷ [] }) bytes
+pub read_first : (a : ℕ) (bytes : List ℕ) → 0x80 ≤ a → is_beginning (a ∷ []) ≡ true →
+    run start (a ∷ bytes) ≡ run (record { kind = Ground; collected = a ∷ [] }) bytes
 read_first a bytes high is = run-known start a bytes (gives Ground (a ∷ []) []) (fresh_step-begun a high is)
 
 read_two : (c : ℕ) → 0x80 ≤ c → c < 0x800 → run start ((192 + c / 64) ∷ next c ∷ []) ≡ back_with (Character c ∷ [])
@@ -71,7 +85,8 @@ read_two c low high =
     read_first (192 + c / 64) (next c ∷ []) (omega arith) b1
     ∙ read_last [] (192 + c / 64) (next c) c w (omega arith)
 
-read_three : (c : ℕ) → 0x800 ≤ c → c < 0x10000 → (c < 0xD800) ⊎ (0xE000 ≤ c) → run start ((224 + c / 4096) ∷ next (c / 64) ∷ next c ∷ []) ≡ back_with (Character c ∷ [])
+read_three : (c : ℕ) → 0x800 ≤ c → c < 0x10000 → (c < 0xD800) ⊎ (0xE000 ≤ c) →
+    run start ((224 + c / 4096) ∷ next (c / 64) ∷ next c ∷ []) ≡ back_with (Character c ∷ [])
 unfolding is_character is_beginning
 read_three c low high plane =
     let a = 224 + c / 4096 in
@@ -84,7 +99,8 @@ read_three c low high plane =
     ∙ read_next [] a (next (c / 64)) (next c ∷ []) n2 b2
     ∙ read_last (next (c / 64) ∷ []) a (next c) c w (omega arith)
 
-read_four : (c : ℕ) → 0x10000 ≤ c → c < 0x110000 → run start ((240 + c / 262144) ∷ next (c / 4096) ∷ next (c / 64) ∷ next c ∷ []) ≡ back_with (Character c ∷ [])
+read_four : (c : ℕ) → 0x10000 ≤ c → c < 0x110000 →
+    run start ((240 + c / 262144) ∷ next (c / 4096) ∷ next (c / 64) ∷ next c ∷ []) ≡ back_with (Character c ∷ [])
 unfolding is_character is_beginning
 read_four c low high =
     let a = 240 + c / 262144 in
@@ -94,7 +110,8 @@ read_four c low high =
     let b2 : is_beginning (a ∷ next (c / 4096) ∷ []) ≡ true = rw second (grind (arith, nat_tests)) in
     let n3 : is_character (a ∷ next (c / 4096) ∷ next (c / 64) ∷ []) ≡ false = grind (arith, nat_tests) in
     let b3 : is_beginning (a ∷ next (c / 4096) ∷ next (c / 64) ∷ []) ≡ true = rw second (grind (arith, nat_tests)) in
-    let w : is_character (a ∷ next (c / 4096) ∷ next (c / 64) ∷ next c ∷ []) ≡ true = rw second (grind (arith, nat_tests)) in
+    let w : is_character (a ∷ next (c / 4096) ∷ next (c / 64) ∷ next c ∷ []) ≡ true =
+    rw second (grind (arith, nat_tests)) in
     read_first a (next (c / 4096) ∷ next (c / 64) ∷ next c ∷ []) (omega arith) b1
     ∙ read_next [] a (next (c / 4096)) (next (c / 64) ∷ next c ∷ []) n2 b2
     ∙ read_next (next (c / 4096) ∷ []) a (next (c / 64)) (next c ∷ []) n3 b3
@@ -106,7 +123,8 @@ unfolding encode_utf8
 read_character c scalar high =
     let t0 : nat_lt c 128 ≡ false = grind (arith, nat_tests) in
     ⊎_elim
-    (λ (small : c < 0x800). let t1 : nat_lt c 2048 ≡ true = grind (arith, nat_tests) in rw (t0, t1) (read_two c high small))
+    (λ (small : c < 0x800). let t1 : nat_lt c 2048 ≡ true =
+    grind (arith, nat_tests) in rw (t0, t1) (read_two c high small))
     (λ (wide : 0x800 ≤ c).
     let t1 : nat_lt c 2048 ≡ false = grind (arith, nat_tests) in
     ⊎_elim
@@ -122,12 +140,14 @@ pub read_written : (c : ℕ) → IsScalar c → 0x20 ≤ c → run start (encode
 unfolding encode_utf8
 read_written c scalar low =
     ⊎_elim
-    (λ (small : c < 0x80). let t0 : nat_lt c 128 ≡ true = grind (arith, nat_tests) in rw t0 (read_ascii c low (omega arith)))
+    (λ (small : c < 0x80). let t0 : nat_lt c 128 ≡ true =
+    grind (arith, nat_tests) in rw t0 (read_ascii c low (omega arith)))
     (λ (large : 0x80 ≤ c). read_character c scalar large)
     (cases_lt c 0x80)
 
 -- a text of such characters, one event each
-pub read_text : (cs : List ℕ) → AllByRecursion (λ c. IsScalar c × (0x20 ≤ c)) cs → run start (encode_utf8_all cs) ≡ back_with (map Character cs)
+pub read_text : (cs : List ℕ) → AllByRecursion (λ c. IsScalar c × (0x20 ≤ c)) cs →
+    run start (encode_utf8_all cs) ≡ back_with (map Character cs)
 read_text [] all = refl
 read_text (c ∷ cs) all =
     run-append start (encode_utf8 c) (encode_utf8_all cs)

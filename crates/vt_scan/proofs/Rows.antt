@@ -1,7 +1,9 @@
 -- The first numbers of groups that grow at their end, and groups in an array with the places of their ends.
-use Rattle.std.proofs.Common.{◌≡◌, ℕ, zero, suc, ◌+◌, ◌-◌, ◌<◌, ◌≤◌, ◌==◌, false, List, [], ◌∷◌, ◌++◌, length, get_or, set, take, drop, refl, sym, subst, ◌∙◌, ap, ◌⊎◌, inl, inr, arith, length-append}
+use Rattle.std.proofs.Common.{◌≡◌, ℕ, zero, suc, ◌+◌, ◌-◌, ◌<◌, ◌≤◌, ◌==◌, false, List, [], ◌∷◌, ◌++◌, length, get_or}
+use Rattle.std.proofs.Common.{set, take, drop, refl, sym, subst, ◌∙◌, ap, ◌⊎◌, inl, inr, arith, length-append}
 use Rattle.std.proofs.Math.Logic.{⊎_elim}
-use Rattle.std.proofs.lemmas.List.{take-append-le, take_all, take-set-le, drop-set-add, take_more, take_more_set, get_or-drop, get_or-take, drop_more, drop_all, length-drop, length-take}
+use Rattle.std.proofs.lemmas.List.{take-append-le, take_all, take-set-le, drop-set-add, take_more, take_more_set}
+use Rattle.std.proofs.lemmas.List.{get_or-drop, get_or-take, drop_more, drop_all, length-drop, length-take}
 use Rattle.std.proofs.lemmas.Bool.Decides.{nat_tests}
 use Rattle.vt_scan.specs.Parameters.{total, first_numbers}
 use Rattle.vt_scan.specs.Keeping.{groups_from, Ascends}
@@ -27,7 +29,8 @@ first_numbers-zero [] = refl
 first_numbers-zero (group ∷ groups) = refl
 
 -- one step, by whether numbers are still kept
-first_numbers-step : (n : ℕ) (group : List ℕ) (groups : List (List ℕ)) → 0 < n → first_numbers n (group ∷ groups) ≡ take n group ∷ first_numbers (n - length group) groups
+first_numbers-step : (n : ℕ) (group : List ℕ) (groups : List (List ℕ)) → 0 < n →
+    first_numbers n (group ∷ groups) ≡ take n group ∷ first_numbers (n - length group) groups
 first_numbers-step n group groups h = let e : (n == 0) ≡ false = grind (arith, nat_tests) in rw e refl
 
 none_or_some : (n : ℕ) → (n ≡ 0) ⊎ (0 < n)
@@ -35,7 +38,8 @@ none_or_some zero = inl refl
 none_or_some (suc n) = inr (omega arith)
 
 -- all numbers are kept
-pub first_numbers-all : (n : ℕ) (groups : List (List ℕ)) → AllSome groups → total groups ≤ n → first_numbers n groups ≡ groups
+pub first_numbers-all : (n : ℕ) (groups : List (List ℕ)) →
+    AllSome groups → total groups ≤ n → first_numbers n groups ≡ groups
 first_numbers-all n [] s h = refl
 first_numbers-all n (group ∷ groups) s h =
     let some : 0 < length group = s.0 in
@@ -50,17 +54,21 @@ take-on_last f (suc k) [] l = refl
 take-on_last f (suc k) (x ∷ []) l = absurd (omega arith)
 take-on_last f (suc k) (x ∷ y ∷ ys) l = ap (λ t. x ∷ t) (take-on_last f k (y ∷ ys) (omega arith))
 
-first_numbers-at_zero : (n : ℕ) (groups others : List (List ℕ)) → n ≡ 0 → first_numbers n groups ≡ first_numbers n others
+first_numbers-at_zero : (n : ℕ) (groups others : List (List ℕ)) →
+    n ≡ 0 → first_numbers n groups ≡ first_numbers n others
 first_numbers-at_zero n groups others e =
-    ap (λ k. first_numbers k groups) e ∙ first_numbers-zero groups ∙ sym (ap (λ k. first_numbers k others) e ∙ first_numbers-zero others)
+    ap (λ k. first_numbers k groups) e ∙ first_numbers-zero groups
+    ∙ sym (ap (λ k. first_numbers k others) e ∙ first_numbers-zero others)
 
 -- a digit behind the kept numbers changes nothing
-pub first_numbers-digit : (f : ℕ → ℕ) (n : ℕ) (groups : List (List ℕ)) → n < total groups → first_numbers n (on_last (on_last f) groups) ≡ first_numbers n groups
+pub first_numbers-digit : (f : ℕ → ℕ) (n : ℕ) (groups : List (List ℕ)) → n < total groups →
+    first_numbers n (on_last (on_last f) groups) ≡ first_numbers n groups
 first_numbers-digit f n [] h = refl
 first_numbers-digit f n (group ∷ []) h =
     ⊎_elim
     (first_numbers-at_zero n (on_last f group ∷ []) (group ∷ []))
-    (λ some. first_numbers-step n (on_last f group) [] some ∙ ap (λ g. g ∷ []) (take-on_last f n group (omega arith)) ∙ sym (first_numbers-step n group [] some))
+    (λ some. first_numbers-step n (on_last f group) [] some
+    ∙ ap (λ g. g ∷ []) (take-on_last f n group (omega arith)) ∙ sym (first_numbers-step n group [] some))
     (none_or_some n)
 first_numbers-digit f n (group ∷ other ∷ groups) h =
     ⊎_elim
@@ -75,14 +83,16 @@ first_numbers-digit f n (group ∷ other ∷ groups) h =
     (none_or_some n)
 
 -- nor does a further number
-pub first_numbers-number : (n : ℕ) (groups : List (List ℕ)) → n ≤ total groups → first_numbers n (on_last with_number groups) ≡ first_numbers n groups
+pub first_numbers-number : (n : ℕ) (groups : List (List ℕ)) → n ≤ total groups →
+    first_numbers n (on_last with_number groups) ≡ first_numbers n groups
 first_numbers-number n [] h = refl
 first_numbers-number n (group ∷ []) h =
     ⊎_elim
     (first_numbers-at_zero n (with_number group ∷ []) (group ∷ []))
     (λ some.
     let fits : n ≤ length group = omega arith in
-    first_numbers-step n (with_number group) [] some ∙ ap (λ g. g ∷ []) (take-append-le n group (0 ∷ []) fits) ∙ sym (first_numbers-step n group [] some))
+    first_numbers-step n (with_number group) [] some
+    ∙ ap (λ g. g ∷ []) (take-append-le n group (0 ∷ []) fits) ∙ sym (first_numbers-step n group [] some))
     (none_or_some n)
 first_numbers-number n (group ∷ other ∷ groups) h =
     ⊎_elim
@@ -93,8 +103,10 @@ first_numbers-number n (group ∷ other ∷ groups) h =
     (none_or_some n)
 
 -- nor do further groups
-pub first_numbers-groups : (n : ℕ) (groups more : List (List ℕ)) → n ≤ total groups → first_numbers n (groups ++ more) ≡ first_numbers n groups
-first_numbers-groups n [] more h = let e : n ≡ 0 = omega arith in ap (λ k. first_numbers k more) e ∙ first_numbers-zero more
+pub first_numbers-groups : (n : ℕ) (groups more : List (List ℕ)) →
+    n ≤ total groups → first_numbers n (groups ++ more) ≡ first_numbers n groups
+first_numbers-groups n [] more h =
+    let e : n ≡ 0 = omega arith in ap (λ k. first_numbers k more) e ∙ first_numbers-zero more
 first_numbers-groups n (group ∷ groups) more h =
     ⊎_elim
     (first_numbers-at_zero n (group ∷ (groups ++ more)) (group ∷ groups))
@@ -104,7 +116,8 @@ first_numbers-groups n (group ∷ groups) more h =
     (none_or_some n)
 
 -- a part of a list before its place i doesn't see a change there
-part-set : (from to i : ℕ) (xs : List ℕ) (v : ℕ) → to ≤ i → from ≤ to → take (to - from) (drop from (set xs i v)) ≡ take (to - from) (drop from xs)
+part-set : (from to i : ℕ) (xs : List ℕ) (v : ℕ) → to ≤ i → from ≤ to →
+    take (to - from) (drop from (set xs i v)) ≡ take (to - from) (drop from xs)
 part-set from to i xs v h l =
     let at : i ≡ from + (i - from) = omega arith in
     ap (λ k. take (to - from) (drop from (set xs k v))) at
@@ -112,7 +125,8 @@ part-set from to i xs v h l =
     ∙ take-set-le (to - from) (drop from xs) (i - from) v (omega arith)
 
 -- one more place
-part-more : (from to : ℕ) (xs : List ℕ) (v : ℕ) → from ≤ to → to < length xs → take (to + 1 - from) (drop from (set xs to v)) ≡ take (to - from) (drop from xs) ++ v ∷ []
+part-more : (from to : ℕ) (xs : List ℕ) (v : ℕ) → from ≤ to → to < length xs →
+    take (to + 1 - from) (drop from (set xs to v)) ≡ take (to - from) (drop from xs) ++ v ∷ []
 part-more from to xs v l h =
     let at : to ≡ from + (to - from) = omega arith in
     let long : to + 1 - from ≡ to - from + 1 = omega arith in
@@ -121,15 +135,18 @@ part-more from to xs v l h =
     ∙ ap (λ k. take k (set (drop from xs) (to - from) v)) long
     ∙ take_more_set (drop from xs) (to - from) v (omega (arith, length-drop from xs))
 
-pub part-last : (from to : ℕ) (xs : List ℕ) → from ≤ to → to < length xs → take (to + 1 - from) (drop from xs) ≡ take (to - from) (drop from xs) ++ get_or xs to 0 ∷ []
+pub part-last : (from to : ℕ) (xs : List ℕ) → from ≤ to → to < length xs →
+    take (to + 1 - from) (drop from xs) ≡ take (to - from) (drop from xs) ++ get_or xs to 0 ∷ []
 part-last from to xs l h =
     let at : from + (to - from) ≡ to = omega arith in
     let long : to + 1 - from ≡ to - from + 1 = omega arith in
     ap (λ k. take k (drop from xs)) long
     ∙ take_more (drop from xs) (to - from) 0 (omega (arith, length-drop from xs))
-    ∙ ap (λ x. take (to - from) (drop from xs) ++ x ∷ []) (get_or-drop from xs (to - from) 0 ∙ ap (λ k. get_or xs k 0) at)
+    ∙ ap (λ x. take (to - from) (drop from xs) ++ x ∷ [])
+    (get_or-drop from xs (to - from) 0 ∙ ap (λ k. get_or xs k 0) at)
 
-groups_from-front : (f : List ℕ → List ℕ) (x : List ℕ) (from : ℕ) (ends : List ℕ) (len : ℕ) (numbers : List ℕ) → on_last f (x ∷ groups_from from ends len numbers) ≡ x ∷ on_last f (groups_from from ends len numbers)
+groups_from-front : (f : List ℕ → List ℕ) (x : List ℕ) (from : ℕ) (ends : List ℕ) (len : ℕ) (numbers : List ℕ) →
+    on_last f (x ∷ groups_from from ends len numbers) ≡ x ∷ on_last f (groups_from from ends len numbers)
 groups_from-front f x from [] len numbers = refl
 groups_from-front f x from (to ∷ ends) len numbers = refl
 
@@ -139,28 +156,34 @@ Ascends-below from (to ∷ ends) len a = omega (arith, Ascends-below to ends len
 
 -- the last number changes
 -- one group more than are closed
-pub length-groups_from : (from : ℕ) (ends : List ℕ) (len : ℕ) (numbers : List ℕ) → length (groups_from from ends len numbers) ≡ length ends + 1
+pub length-groups_from : (from : ℕ) (ends : List ℕ) (len : ℕ) (numbers : List ℕ) →
+    length (groups_from from ends len numbers) ≡ length ends + 1
 length-groups_from from [] len numbers = refl
 length-groups_from from (to ∷ ends) len numbers = omega (arith, length-groups_from to ends len numbers)
 
-pub groups_from-digit : (f : ℕ → ℕ) (from : ℕ) (ends : List ℕ) (len at : ℕ) (numbers : List ℕ) → len ≡ at + 1 → Ascends from ends len → at < length numbers →
-    groups_from from ends len (set numbers at (f (get_or numbers at 0))) ≡ on_last (on_last f) (groups_from from ends len numbers)
+pub groups_from-digit : (f : ℕ → ℕ) (from : ℕ) (ends : List ℕ) (len at : ℕ) (numbers : List ℕ) →
+    len ≡ at + 1 → Ascends from ends len → at < length numbers →
+    groups_from from ends len (set numbers at (f (get_or numbers at 0)))
+    ≡ on_last (on_last f) (groups_from from ends len numbers)
 groups_from-digit f from [] len at numbers e a h =
     let below : from < len = a in
     ap (λ g. g ∷ [])
     (ap (λ k. take (k - from) (drop from (set numbers at (f (get_or numbers at 0))))) e
     ∙ part-more from at numbers (f (get_or numbers at 0)) (omega arith) h
     ∙ sym (on_last-push f (take (at - from) (drop from numbers)) (get_or numbers at 0))
-    ∙ ap (on_last f) (sym (ap (λ k. take (k - from) (drop from numbers)) e ∙ part-last from at numbers (omega arith) h)))
+    ∙ ap (on_last f)
+    (sym (ap (λ k. take (k - from) (drop from numbers)) e ∙ part-last from at numbers (omega arith) h)))
 groups_from-digit f from (to ∷ ends) len at numbers e a h =
     let rises : from < to = a.0 in
     let below : to < len = Ascends-below to ends len a.1 in
-    ap (λ g. g ∷ groups_from to ends len (set numbers at (f (get_or numbers at 0)))) (part-set from to at numbers (f (get_or numbers at 0)) (omega arith) (omega arith))
+    ap (λ g. g ∷ groups_from to ends len (set numbers at (f (get_or numbers at 0))))
+    (part-set from to at numbers (f (get_or numbers at 0)) (omega arith) (omega arith))
     ∙ ap (λ l. take (to - from) (drop from numbers) ∷ l) (groups_from-digit f to ends len at numbers e a.1 h)
     ∙ sym (groups_from-front (on_last f) (take (to - from) (drop from numbers)) to ends len numbers)
 
 -- the last group gets a further number
-pub groups_from-number : (from : ℕ) (ends : List ℕ) (len : ℕ) (numbers : List ℕ) → Ascends from ends len → len < length numbers →
+pub groups_from-number : (from : ℕ) (ends : List ℕ) (len : ℕ) (numbers : List ℕ) →
+    Ascends from ends len → len < length numbers →
     groups_from from ends (len + 1) (set numbers len 0) ≡ on_last with_number (groups_from from ends len numbers)
 groups_from-number from [] len numbers a h =
     let below : from < len = a in
@@ -168,57 +191,80 @@ groups_from-number from [] len numbers a h =
 groups_from-number from (to ∷ ends) len numbers a h =
     let rises : from < to = a.0 in
     let below : to < len = Ascends-below to ends len a.1 in
-    ap (λ g. g ∷ groups_from to ends (len + 1) (set numbers len 0)) (part-set from to len numbers 0 (omega arith) (omega arith))
+    ap (λ g. g ∷ groups_from to ends (len + 1) (set numbers len 0))
+    (part-set from to len numbers 0 (omega arith) (omega arith))
     ∙ ap (λ l. take (to - from) (drop from numbers) ∷ l) (groups_from-number to ends len numbers a.1 h)
     ∙ sym (groups_from-front with_number (take (to - from) (drop from numbers)) to ends len numbers)
 
 -- the last group ends, and a further one begins
-pub groups_from-group : (from : ℕ) (ends : List ℕ) (len : ℕ) (numbers : List ℕ) → Ascends from ends len → len < length numbers →
-    groups_from from (ends ++ len ∷ []) (len + 1) (set numbers len 0) ≡ groups_from from ends len numbers ++ (0 ∷ []) ∷ []
+pub groups_from-group : (from : ℕ) (ends : List ℕ) (len : ℕ) (numbers : List ℕ) →
+    Ascends from ends len → len < length numbers →
+    groups_from from (ends ++ len ∷ []) (len + 1) (set numbers len 0)
+    ≡ groups_from from ends len numbers ++ (0 ∷ []) ∷ []
 groups_from-group from [] len numbers a h =
     let below : from < len = a in
     let one : len - len ≡ 0 = omega arith in
-    ap (λ g. g ∷ take (len + 1 - len) (drop len (set numbers len 0)) ∷ []) (part-set from len len numbers 0 (omega arith) (omega arith))
-    ∙ ap (λ g. take (len - from) (drop from numbers) ∷ g ∷ []) (part-more len len numbers 0 (omega arith) h ∙ ap (λ k. take k (drop len numbers) ++ 0 ∷ []) one)
+    ap (λ g. g ∷ take (len + 1 - len) (drop len (set numbers len 0)) ∷ [])
+    (part-set from len len numbers 0 (omega arith) (omega arith))
+    ∙ ap (λ g. take (len - from) (drop from numbers) ∷ g ∷ [])
+    (part-more len len numbers 0 (omega arith) h ∙ ap (λ k. take k (drop len numbers) ++ 0 ∷ []) one)
 groups_from-group from (to ∷ ends) len numbers a h =
     let rises : from < to = a.0 in
     let below : to < len = Ascends-below to ends len a.1 in
-    ap (λ g. g ∷ groups_from to (ends ++ len ∷ []) (len + 1) (set numbers len 0)) (part-set from to len numbers 0 (omega arith) (omega arith))
+    ap (λ g. g ∷ groups_from to (ends ++ len ∷ []) (len + 1) (set numbers len 0))
+    (part-set from to len numbers 0 (omega arith) (omega arith))
     ∙ ap (λ l. take (to - from) (drop from numbers) ∷ l) (groups_from-group to ends len numbers a.1 h)
 
 -- there are as many numbers as places
-pub groups_from-total : (from : ℕ) (ends : List ℕ) (len : ℕ) (numbers : List ℕ) → Ascends from ends len → len ≤ length numbers → total (groups_from from ends len numbers) ≡ len - from
-groups_from-total from [] len numbers a h = omega (arith, length-take (len - from) (drop from numbers), length-drop from numbers)
+pub groups_from-total : (from : ℕ) (ends : List ℕ) (len : ℕ) (numbers : List ℕ) →
+    Ascends from ends len → len ≤ length numbers → total (groups_from from ends len numbers) ≡ len - from
+groups_from-total from [] len numbers a h =
+    omega (arith, length-take (len - from) (drop from numbers), length-drop from numbers)
 groups_from-total from (to ∷ ends) len numbers a h =
     let rises : from < to = a.0 in
     let below : to < len = Ascends-below to ends len a.1 in
-    omega (arith, length-take (to - from) (drop from numbers), length-drop from numbers, groups_from-total to ends len numbers a.1 h)
+    omega (
+      arith,
+      length-take (to - from) (drop from numbers),
+      length-drop from numbers,
+      groups_from-total to ends len numbers a.1 h,
+    )
 
 -- the places still rise
 pub Ascends-number : (from : ℕ) (ends : List ℕ) (len : ℕ) → Ascends from ends len → Ascends from ends (len + 1)
 Ascends-number from [] len a = omega arith
 Ascends-number from (to ∷ ends) len a = (a.0, Ascends-number to ends len a.1)
 
-pub Ascends-group : (from : ℕ) (ends : List ℕ) (len : ℕ) → Ascends from ends len → Ascends from (ends ++ len ∷ []) (len + 1)
+pub Ascends-group : (from : ℕ) (ends : List ℕ) (len : ℕ) →
+    Ascends from ends len → Ascends from (ends ++ len ∷ []) (len + 1)
 Ascends-group from [] len a = (a, omega arith)
 Ascends-group from (to ∷ ends) len a = (a.0, Ascends-group to ends len a.1)
 
 -- the place where group i ends, read from the array
-next_place : (ends : List ℕ) (i closed : ℕ) → i < closed → closed ≤ length ends → drop i (take closed ends) ≡ get_or ends i 0 ∷ drop (i + 1) (take closed ends)
+next_place : (ends : List ℕ) (i closed : ℕ) → i < closed → closed ≤ length ends →
+    drop i (take closed ends) ≡ get_or ends i 0 ∷ drop (i + 1) (take closed ends)
 next_place ends i closed below fits =
     drop_more (take closed ends) i 0 (omega (arith, length-take closed ends))
     ∙ ap (λ e. e ∷ drop (i + 1) (take closed ends)) (get_or-take closed ends i 0 below)
 
-pub next_rises : (start : ℕ) (ends : List ℕ) (i closed len : ℕ) → i < closed → closed ≤ length ends → Ascends start (drop i (take closed ends)) len →
-    (start < get_or ends i 0) × (get_or ends i 0 < len) × Ascends (get_or ends i 0) (drop (i + 1) (take closed ends)) len
+pub next_rises : (start : ℕ) (ends : List ℕ) (i closed len : ℕ) → i < closed →
+    closed ≤ length ends → Ascends start (drop i (take closed ends)) len →
+    (start < get_or ends i 0) × (get_or ends i 0 < len)
+    × Ascends (get_or ends i 0) (drop (i + 1) (take closed ends)) len
 next_rises start ends i closed len below fits rises =
-    let now : Ascends start (get_or ends i 0 ∷ drop (i + 1) (take closed ends)) len = subst (λ (l : List ℕ). Ascends start l len) (next_place ends i closed below fits) rises in
+    let now : Ascends start (get_or ends i 0 ∷ drop (i + 1) (take closed ends)) len =
+    subst (λ (l : List ℕ). Ascends start l len) (next_place ends i closed below fits) rises in
     (now.0, Ascends-below (get_or ends i 0) (drop (i + 1) (take closed ends)) len now.1, now.1)
 
 pub next_group : (start : ℕ) (ends : List ℕ) (i closed len : ℕ) (numbers : List ℕ) → i < closed → closed ≤ length ends →
     groups_from start (drop i (take closed ends)) len numbers
-    ≡ take (get_or ends i 0 - start) (drop start numbers) ∷ groups_from (get_or ends i 0) (drop (i + 1) (take closed ends)) len numbers
-next_group start ends i closed len numbers below fits = ap (λ l. groups_from start l len numbers) (next_place ends i closed below fits)
+    ≡ take (get_or ends i 0 - start) (drop start numbers)
+    ∷ groups_from (get_or ends i 0) (drop (i + 1) (take closed ends)) len numbers
+next_group start ends i closed len numbers below fits =
+    ap (λ l. groups_from start l len numbers) (next_place ends i closed below fits)
 
-pub last_group : (start : ℕ) (ends : List ℕ) (closed len : ℕ) (numbers : List ℕ) → groups_from start (drop closed (take closed ends)) len numbers ≡ take (len - start) (drop start numbers) ∷ []
-last_group start ends closed len numbers = ap (λ l. groups_from start l len numbers) (drop_all closed (take closed ends) (omega (arith, length-take closed ends)))
+pub last_group : (start : ℕ) (ends : List ℕ) (closed len : ℕ) (numbers : List ℕ) →
+    groups_from start (drop closed (take closed ends)) len numbers ≡ take (len - start) (drop start numbers) ∷ []
+last_group start ends closed len numbers =
+    ap (λ l. groups_from start l len numbers)
+    (drop_all closed (take closed ends) (omega (arith, length-take closed ends)))

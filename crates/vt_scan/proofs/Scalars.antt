@@ -1,5 +1,6 @@
 -- The characters of events are code points of Unicode, whatever the bytes are.
-use Rattle.std.proofs.Common.{◌≡◌, ◌≢◌, ℕ, ◌+◌, ◌*◌, ◌%◌, ◌<◌, ◌≤◌, nat_lt, Bool, true, false, List, [], ◌∷◌, ◌++◌, refl, sym, subst, rules, arith}
+use Rattle.std.proofs.Common.{◌≡◌, ◌≢◌, ℕ, ◌+◌, ◌*◌, ◌%◌, ◌<◌, ◌≤◌, nat_lt, Bool, true, false}
+use Rattle.std.proofs.Common.{List, [], ◌∷◌, ◌++◌, refl, sym, subst, rules, arith}
 use Rattle.std.specs.Char.{IsScalar}
 use Rattle.std.specs.List.{AllByRecursion}
 use Rattle.std.specs.Prelude.{if◌then◌else◌}
@@ -12,7 +13,8 @@ use Rattle.vt_scan.specs.Table.{class_of, turn_of}
 use Rattle.vt_scan.specs.declared.table.Class.{Class}
 use Rattle.vt_scan.specs.declared.table.Ending.TheVariants as ends
 use Rattle.vt_scan.specs.declared.table.Kind.{Kind}
-use Rattle.vt_scan.specs.declared.table.Kind.TheVariants.{Ground, Escape, EscapeIntermediate, CsiEntry, CsiParam, CsiIntermediate, CsiIgnore, OscString, Skip}
+use Rattle.vt_scan.specs.declared.table.Kind.TheVariants.{Ground, Escape, EscapeIntermediate, CsiEntry, CsiParam}
+use Rattle.vt_scan.specs.declared.table.Kind.TheVariants.{CsiIntermediate, CsiIgnore, OscString, Skip}
 use Rattle.vt_scan.specs.declared.table.Turn.{Turn}
 use Rattle.vt_scan.specs.declared.table.Turn.TheVariants.{Collect, Drop, Execute, End}
 use Rattle.vt_scan.proofs.Stepping.{step_in-table}
@@ -42,7 +44,8 @@ three_bytes : (a b c : ℕ) → is_character (a ∷ b ∷ c ∷ []) ≡ true →
 unfolding is_character
 three_bytes a b c e = grind (arith, nat_tests, low_scalar, high_scalar)
 
-four_bytes : (a b c d : ℕ) → is_character (a ∷ b ∷ c ∷ d ∷ []) ≡ true → IsScalar (a % 8 * 262144 + b % 64 * 4096 + c % 64 * 64 + d % 64)
+four_bytes : (a b c d : ℕ) → is_character (a ∷ b ∷ c ∷ d ∷ []) ≡ true →
+    IsScalar (a % 8 * 262144 + b % 64 * 4096 + c % 64 * 64 + d % 64)
 unfolding is_character
 four_bytes a b c d e = grind (arith, nat_tests, low_scalar, high_scalar)
 
@@ -64,7 +67,8 @@ PrintsIn kind _ = Unit {0}
 turn_prints : (kind : Kind) (class : Class) → PrintsIn kind (turn_of kind class)
 turn_prints kind class = search rules
 
-coded_given : (kind : Kind) (end : _) (text : List ℕ) (b : ℕ) (next : Kind) → PrintsIn kind (End next end) → (kind ≡ Ground → b < 0x80) → AreCoded (given end text b)
+coded_given : (kind : Kind) (end : _) (text : List ℕ) (b : ℕ) (next : Kind) →
+    PrintsIn kind (End next end) → (kind ≡ Ground → b < 0x80) → AreCoded (given end text b)
 coded_given kind ends.Nothing text b next p h = tt
 coded_given kind ends.Character text b next p h = (low_scalar b (let l = h p in omega arith), tt)
 coded_given kind ends.Executed text b next p h = (tt, tt)
@@ -73,13 +77,15 @@ coded_given kind ends.CsiDispatch text b next p h = (tt, tt)
 coded_given kind ends.OscDispatch text b next p h = (tt, tt)
 coded_given kind ends.OscDispatchAndExecuted text b next p h = (tt, (tt, tt))
 
-coded_after : (kind : Kind) (text : List ℕ) (b : ℕ) (turn : Turn) → PrintsIn kind turn → (kind ≡ Ground → b < 0x80) → AreCoded (after kind text b turn).events
+coded_after : (kind : Kind) (text : List ℕ) (b : ℕ) (turn : Turn) → PrintsIn kind turn →
+    (kind ≡ Ground → b < 0x80) → AreCoded (after kind text b turn).events
 coded_after kind text b (Collect next) p h = tt
 coded_after kind text b Drop p h = tt
 coded_after kind text b Execute p h = (tt, tt)
 coded_after kind text b (End next end) p h = coded_given kind end text b next p h
 
-coded_if : (b : Bool) (x y : Step) → (b ≡ true → AreCoded x.events) → (b ≡ false → AreCoded y.events) → AreCoded (if b then x else y).events
+coded_if : (b : Bool) (x y : Step) → (b ≡ true → AreCoded x.events) →
+    (b ≡ false → AreCoded y.events) → AreCoded (if b then x else y).events
 coded_if true x y f g = f refl
 coded_if false x y f g = g refl
 
@@ -89,7 +95,8 @@ replacement = high_scalar 0xFFFD (omega arith) (omega arith)
 coded_fresh : (b : ℕ) → AreCoded (fresh_step b).events
 unfolding fresh_step
 coded_fresh b =
-    coded_if (nat_lt b 0x80) _ _ (λ small. coded_after Ground [] b (turn_of Ground (class_of b)) (turn_prints Ground (class_of b)) (λ e. grind (arith, nat_tests)))
+    coded_if (nat_lt b 0x80) _ _ (λ small. coded_after Ground [] b (turn_of Ground (class_of b))
+    (turn_prints Ground (class_of b)) (λ e. grind (arith, nat_tests)))
     (λ large. coded_if (is_beginning (b ∷ [])) _ _ (λ begins. tt) (λ other. (replacement, tt)))
 
 coded_more : (text : List ℕ) (b : ℕ) → AreCoded (character_step text b).events
@@ -121,4 +128,5 @@ pub coded_run : (state : State) (bytes : List ℕ) → AreCoded (run state bytes
 coded_run state [] = tt
 coded_run state (b ∷ bytes) =
     let step = step_in state.kind state.collected b in
-    coded_then step.events (run step.state bytes).events (coded_step state.kind state.collected b) (coded_run step.state bytes)
+    coded_then step.events (run step.state bytes).events
+    (coded_step state.kind state.collected b) (coded_run step.state bytes)

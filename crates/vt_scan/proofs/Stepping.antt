@@ -1,11 +1,13 @@
 -- The steps of the automaton, case by case.
-use Rattle.std.proofs.Common.{◌≡◌, ◌≢◌, ℕ, ◌<◌, ◌≤◌, ◌==◌, ◌||◌, nat_lt, Bool, true, false, cond, List, [], ◌∷◌, ◌++◌, refl, ◌∙◌, ap, arith}
+use Rattle.std.proofs.Common.{◌≡◌, ◌≢◌, ℕ, ◌<◌, ◌≤◌, ◌==◌, ◌||◌, nat_lt, Bool, true}
+use Rattle.std.proofs.Common.{false, cond, List, [], ◌∷◌, ◌++◌, refl, ◌∙◌, ap, arith}
 use Rattle.std.proofs.lemmas.Bool.Decides.{nat_tests}
 use Rattle.vt_scan.specs.Table.{class_of, turn_of}
 use Rattle.vt_scan.specs.Characters.{is_character, is_beginning, character_of}
 use Rattle.vt_scan.specs.Automaton.{Step, Event, Character, Executed, after, fresh_step, character_step, step_in}
 use Rattle.vt_scan.specs.declared.table.Kind.{Kind}
-use Rattle.vt_scan.specs.declared.table.Kind.TheVariants.{Ground, Escape, EscapeIntermediate, CsiEntry, CsiParam, CsiIntermediate, CsiIgnore, OscString, Skip}
+use Rattle.vt_scan.specs.declared.table.Kind.TheVariants.{Ground, Escape, EscapeIntermediate, CsiEntry, CsiParam}
+use Rattle.vt_scan.specs.declared.table.Kind.TheVariants.{CsiIntermediate, CsiIgnore, OscString, Skip}
 use Rattle.vt_scan.specs.declared.table.Class.{Class}
 use Rattle.vt_scan.specs.declared.table.Class.TheVariants as class
 
@@ -19,8 +21,11 @@ either P false x y p q = q
 
 -- the classes of the columns of the code table
 pub class_of-text : (P : Class → Type 0) (b : ℕ) → 0x20 ≤ b
-    → P (cond (nat_lt b 0x30) class.Intermediate (cond (nat_lt b 0x3C) class.Parameter (cond (nat_lt b 0x40) class.Marker (cond (nat_lt b 0x7F)
-    (cond (b == 0x5B) class.CsiStart (cond (b == 0x5D) class.OscStart (cond (b == 0x50 || (b == 0x58 || (b == 0x5E || b == 0x5F))) class.SkipStart class.Final)))
+    → P (cond (nat_lt b 0x30) class.Intermediate
+    (cond (nat_lt b 0x3C) class.Parameter (cond (nat_lt b 0x40) class.Marker (cond (nat_lt b 0x7F)
+    (cond (b == 0x5B) class.CsiStart
+    (cond (b == 0x5D) class.OscStart
+    (cond (b == 0x50 || (b == 0x58 || (b == 0x5E || b == 0x5F))) class.SkipStart class.Final)))
     (cond (b == 0x7F) class.Delete class.High)))))
     → P (class_of b)
 unfolding class_of
@@ -45,8 +50,10 @@ fresh_step-character b low high =
     let P : Class → Type 0 = λ k. after Ground [] b (turn_of Ground k) ≡ gives Ground [] (Character b ∷ []) in
     fresh_step-low b high
     ∙ class_of-text P b low
-    (either P (nat_lt b 0x30) _ _ refl (either P (nat_lt b 0x3C) _ _ refl (either P (nat_lt b 0x40) _ _ refl (either P (nat_lt b 0x7F) _ _
-    (either P (b == 0x5B) _ _ refl (either P (b == 0x5D) _ _ refl (either P (b == 0x50 || (b == 0x58 || (b == 0x5E || b == 0x5F))) _ _ refl refl)))
+    (either P (nat_lt b 0x30) _ _ refl
+    (either P (nat_lt b 0x3C) _ _ refl (either P (nat_lt b 0x40) _ _ refl (either P (nat_lt b 0x7F) _ _
+    (either P (b == 0x5B) _ _ refl
+    (either P (b == 0x5D) _ _ refl (either P (b == 0x50 || (b == 0x58 || (b == 0x5E || b == 0x5F))) _ _ refl refl)))
     (either P (b == 0x7F) _ _ refl refl)))))
 
 -- a control function of one byte
@@ -64,19 +71,23 @@ pub fresh_step-begun : (b : ℕ) → 0x80 ≤ b → is_beginning (b ∷ []) ≡ 
 unfolding fresh_step
 fresh_step-begun b high is = let test : nat_lt b 0x80 ≡ false = grind (arith, nat_tests) in rw (test, is) refl
 
-pub fresh_step-broken : (b : ℕ) → 0x80 ≤ b → is_beginning (b ∷ []) ≡ false → fresh_step b ≡ gives Ground [] (Character 0xFFFD ∷ [])
+pub fresh_step-broken : (b : ℕ) → 0x80 ≤ b → is_beginning (b ∷ []) ≡ false →
+    fresh_step b ≡ gives Ground [] (Character 0xFFFD ∷ [])
 unfolding fresh_step
 fresh_step-broken b high is = let test : nat_lt b 0x80 ≡ false = grind (arith, nat_tests) in rw (test, is) refl
 
-pub character_step-whole : (text : List ℕ) (b : ℕ) → is_character (text ++ b ∷ []) ≡ true → character_step text b ≡ gives Ground [] (Character (character_of (text ++ b ∷ [])) ∷ [])
+pub character_step-whole : (text : List ℕ) (b : ℕ) → is_character (text ++ b ∷ []) ≡ true →
+    character_step text b ≡ gives Ground [] (Character (character_of (text ++ b ∷ [])) ∷ [])
 unfolding character_step
 character_step-whole text b is = rw is refl
 
-pub character_step-further : (text : List ℕ) (b : ℕ) → is_character (text ++ b ∷ []) ≡ false → is_beginning (text ++ b ∷ []) ≡ true → character_step text b ≡ gives Ground (text ++ b ∷ []) []
+pub character_step-further : (text : List ℕ) (b : ℕ) → is_character (text ++ b ∷ []) ≡ false →
+    is_beginning (text ++ b ∷ []) ≡ true → character_step text b ≡ gives Ground (text ++ b ∷ []) []
 unfolding character_step
 character_step-further text b other is = rw (other, is) refl
 
-pub character_step-broken : (text : List ℕ) (b : ℕ) → is_character (text ++ b ∷ []) ≡ false → is_beginning (text ++ b ∷ []) ≡ false
+pub character_step-broken : (text : List ℕ) (b : ℕ)
+    → is_character (text ++ b ∷ []) ≡ false → is_beginning (text ++ b ∷ []) ≡ false
     → character_step text b ≡ record { state = (fresh_step b).state; events = Character 0xFFFD ∷ (fresh_step b).events }
 unfolding character_step
 character_step-broken text b other none = rw (other, none) refl
@@ -89,7 +100,8 @@ step_in-character [] b n = absurd (n refl)
 step_in-character (x ∷ xs) b n = refl
 
 -- the other kinds go by the table
-pub step_in-table : (kind : Kind) (text : List ℕ) (b : ℕ) → kind ≢ Ground → step_in kind text b ≡ after kind text b (turn_of kind (class_of b))
+pub step_in-table : (kind : Kind) (text : List ℕ) (b : ℕ) → kind ≢ Ground →
+    step_in kind text b ≡ after kind text b (turn_of kind (class_of b))
 step_in-table Ground text b n = absurd (n refl)
 step_in-table Escape text b n = refl
 step_in-table EscapeIntermediate text b n = refl

@@ -1,5 +1,6 @@
 -- Characters of more than one byte that are read at once.
-use Rattle.std.proofs.Common.{◌≡◌, ℕ, ◌≤◌, true, false, List, [], ◌∷◌, ◌++◌, Option, Some, None, length, take, drop, get_or, refl, sym, subst, ◌∙◌, ap, arith}
+use Rattle.std.proofs.Common.{◌≡◌, ℕ, ◌≤◌, true, false, List, [], ◌∷◌, ◌++◌, Option, Some, None}
+use Rattle.std.proofs.Common.{length, take, drop, get_or, refl, sym, subst, ◌∙◌, ap, arith}
 use Rattle.std.specs.Prelude.{IfSome}
 use Rattle.std.proofs.lemmas.Bool.{false≢true}
 use Rattle.std.proofs.lemmas.Bool.Decides.{nat_tests}
@@ -14,23 +15,27 @@ use Rattle.vt_scan.specs.declared.table.Kind.TheVariants.{Ground}
 use Rattle.vt_scan.proofs.Feeding.{stands_at}
 use Rattle.vt_scan.proofs.Readback.{read_first, read_next, read_last}
 
-two : (a b : ℕ) → is_character (a ∷ b ∷ []) ≡ true → run start (a ∷ b ∷ []) ≡ back_with (Character (character_of (a ∷ b ∷ [])) ∷ [])
+two : (a b : ℕ) → is_character (a ∷ b ∷ []) ≡ true →
+    run start (a ∷ b ∷ []) ≡ back_with (Character (character_of (a ∷ b ∷ [])) ∷ [])
 unfolding is_character is_beginning
 two a b e =
     let b1 : is_beginning (a ∷ []) ≡ true = grind (arith, nat_tests) in
     let high : 0x80 ≤ a = grind (arith, nat_tests) in
     read_first a (b ∷ []) high b1 ∙ read_last [] a b (character_of (a ∷ b ∷ [])) e refl
 
-three : (a b c : ℕ) → is_character (a ∷ b ∷ c ∷ []) ≡ true → run start (a ∷ b ∷ c ∷ []) ≡ back_with (Character (character_of (a ∷ b ∷ c ∷ [])) ∷ [])
+three : (a b c : ℕ) → is_character (a ∷ b ∷ c ∷ []) ≡ true →
+    run start (a ∷ b ∷ c ∷ []) ≡ back_with (Character (character_of (a ∷ b ∷ c ∷ [])) ∷ [])
 unfolding is_character is_beginning
 three a b c e =
     let b1 : is_beginning (a ∷ []) ≡ true = grind (arith, nat_tests) in
     let high : 0x80 ≤ a = grind (arith, nat_tests) in
     let n2 : is_character (a ∷ b ∷ []) ≡ false = grind (arith, nat_tests) in
     let b2 : is_beginning (a ∷ b ∷ []) ≡ true = grind (arith, nat_tests) in
-    read_first a (b ∷ c ∷ []) high b1 ∙ read_next [] a b (c ∷ []) n2 b2 ∙ read_last (b ∷ []) a c (character_of (a ∷ b ∷ c ∷ [])) e refl
+    read_first a (b ∷ c ∷ []) high b1 ∙ read_next [] a b (c ∷ []) n2 b2
+    ∙ read_last (b ∷ []) a c (character_of (a ∷ b ∷ c ∷ [])) e refl
 
-four : (a b c d : ℕ) → is_character (a ∷ b ∷ c ∷ d ∷ []) ≡ true → run start (a ∷ b ∷ c ∷ d ∷ []) ≡ back_with (Character (character_of (a ∷ b ∷ c ∷ d ∷ [])) ∷ [])
+four : (a b c d : ℕ) → is_character (a ∷ b ∷ c ∷ d ∷ []) ≡ true →
+    run start (a ∷ b ∷ c ∷ d ∷ []) ≡ back_with (Character (character_of (a ∷ b ∷ c ∷ d ∷ [])) ∷ [])
 unfolding is_character is_beginning
 four a b c d e =
     let b1 : is_beginning (a ∷ []) ≡ true = grind (arith, nat_tests) in
@@ -45,7 +50,8 @@ four a b c d e =
     ∙ read_last (b ∷ c ∷ []) a d (character_of (a ∷ b ∷ c ∷ d ∷ [])) e refl
 
 -- a whole character is read as itself
-read_whole : (text : List ℕ) → is_character text ≡ true → run start text ≡ back_with (Character (character_of text) ∷ [])
+read_whole : (text : List ℕ) → is_character text ≡ true →
+    run start text ≡ back_with (Character (character_of text) ∷ [])
 unfolding is_character
 read_whole [] e = absurd (false≢true e)
 read_whole (a ∷ []) e = absurd (false≢true e)
@@ -54,13 +60,15 @@ read_whole (a ∷ b ∷ c ∷ []) e = three a b c e
 read_whole (a ∷ b ∷ c ∷ d ∷ []) e = four a b c d e
 read_whole (a ∷ b ∷ c ∷ d ∷ x ∷ xs) e = absurd (false≢true e)
 
-whole_fed : (held : Held) (text : List ℕ) (code : ℕ) → held.kind ≡ Ground → held.unfinished ≡ [] → is_character text ≡ true → code ≡ character_of text → FeedsAll held text held (Character code ∷ [])
+whole_fed : (held : Held) (text : List ℕ) (code : ℕ) → held.kind ≡ Ground → held.unfinished ≡ [] →
+    is_character text ≡ true → code ≡ character_of text → FeedsAll held text held (Character code ∷ [])
 whole_fed held text code is none e means = λ s stands.
     let kind : s.kind ≡ Ground = sym stands.kind ∙ is in
     let read : Reads held Ground s.collected = subst (λ (k : Kind). Reads held k s.collected) is stands.reads in
     let collected : s.collected ≡ [] = sym read ∙ none in
     let at : s ≡ start = λ i. record { kind = kind i; collected = collected i } in
-    rw (ap (λ (z : State). run z text) at ∙ read_whole text e) (stands_at held [] is none, ap (λ (k : ℕ). Character k ∷ []) (sym means))
+    rw (ap (λ (z : State). run z text) at ∙ read_whole text e)
+    (stands_at held [] is none, ap (λ (k : ℕ). Character k ∷ []) (sym means))
 
 pub found_fed : (held : Held) (bytes : List ℕ) (found : Option (ℕ × ℕ)) → held.kind ≡ Ground → held.unfinished ≡ []
     → IfSome found (λ f. is_character (take f.1 bytes) ≡ true) → IfSome found (λ f. f.0 ≡ character_of (take f.1 bytes))
@@ -75,7 +83,8 @@ pub record Begun (bytes : List ℕ) : Type 0 where
   pub first : 0xC2 ≤ get_or bytes 0 0
   pub second : is_second (get_or bytes 0 0) (get_or bytes 1 0) ≡ true
   pub third : 0xE0 ≤ get_or bytes 0 0 → (3 ≤ length bytes) × (continues (get_or bytes 2 0) ≡ true)
-  pub last : 0xF0 ≤ get_or bytes 0 0 → (4 ≤ length bytes) × (get_or bytes 0 0 ≤ 0xF4) × (continues (get_or bytes 3 0) ≡ true)
+  pub last : 0xF0 ≤ get_or bytes 0 0 →
+      (4 ≤ length bytes) × (get_or bytes 0 0 ≤ 0xF4) × (continues (get_or bytes 3 0) ≡ true)
 
 begun_by : (text rest : List ℕ) → is_character text ≡ true → Begun (text ++ rest)
 unfolding is_character

@@ -1,5 +1,6 @@
 -- Numbers that are written in decimal, and joined by `;`, are read as they were.
-use Rattle.std.proofs.Common.{◌≡◌, ℕ, zero, suc, ◌+◌, ◌-◌, ◌*◌, ◌%◌, ◌^◌, ◌<◌, ◌≤◌, ◌==◌, false, List, [], ◌∷◌, ◌++◌, map, min, length, decimal, refl, ◌∙◌, ap, arith}
+use Rattle.std.proofs.Common.{◌≡◌, ℕ, zero, suc, ◌+◌, ◌-◌, ◌*◌, ◌%◌, ◌^◌, ◌<◌, ◌≤◌, ◌==◌, false, List}
+use Rattle.std.proofs.Common.{[], ◌∷◌, ◌++◌, map, min, length, decimal, refl, ◌∙◌, ap, arith}
 use Rattle.std.specs.List.{All, slice_split}
 use Rattle.std.proofs.lemmas.Fmt.{decimal_by_steps}
 use Rattle.std.proofs.lemmas.Bool.Decides.{nat_tests}
@@ -40,17 +41,22 @@ no_semicolon b d = let high : b ≤ 0x39 = d.1 in grind (arith, nat_tests)
 decimal_numbers : (n : ℕ) → n ≤ 65535 → numbers_of (decimal n) ≡ n ∷ []
 unfolding numbers_of
 decimal_numbers n small =
-    ap (map number_of) (slice_split_none (λ b. b == 0x3A) (decimal n) (All-weaker IsDigit (λ b. (b == 0x3A) ≡ false) no_colon (decimal n) (decimal_digits n (omega arith))))
+    ap (map number_of) (slice_split_none (λ b. b == 0x3A) (decimal n)
+    (All-weaker IsDigit (λ b. (b == 0x3A) ≡ false) no_colon (decimal n) (decimal_digits n (omega arith))))
     ∙ ap (λ k. k ∷ []) (decimal_number n small)
 
 decimal_no_semicolon : (n : ℕ) → n ≤ 65535 → All (λ b. (b == 0x3B) ≡ false) (decimal n)
-decimal_no_semicolon n small = All-weaker IsDigit (λ b. (b == 0x3B) ≡ false) no_semicolon (decimal n) (decimal_digits n (omega arith))
+decimal_no_semicolon n small =
+    All-weaker IsDigit (λ b. (b == 0x3B) ≡ false) no_semicolon (decimal n) (decimal_digits n (omega arith))
 
 pub groups_of-decimal : (n : ℕ) → n ≤ 65535 → groups_of (decimal n) ≡ (n ∷ []) ∷ []
 unfolding groups_of
-groups_of-decimal n small = ap (map numbers_of) (slice_split_none (λ b. b == 0x3B) (decimal n) (decimal_no_semicolon n small)) ∙ ap (λ g. g ∷ []) (decimal_numbers n small)
+groups_of-decimal n small =
+    ap (map numbers_of) (slice_split_none (λ b. b == 0x3B) (decimal n) (decimal_no_semicolon n small))
+    ∙ ap (λ g. g ∷ []) (decimal_numbers n small)
 
-pub groups_of-further : (n : ℕ) (text : List ℕ) → n ≤ 65535 → groups_of (decimal n ++ 0x3B ∷ text) ≡ (n ∷ []) ∷ groups_of text
+pub groups_of-further : (n : ℕ) (text : List ℕ) → n ≤ 65535 →
+    groups_of (decimal n ++ 0x3B ∷ text) ≡ (n ∷ []) ∷ groups_of text
 unfolding groups_of
 groups_of-further n text small =
     ap (map numbers_of) (slice_split_at (λ b. b == 0x3B) (decimal n) 0x3B text (decimal_no_semicolon n small) refl)
@@ -70,7 +76,8 @@ total-alone : (ns : List ℕ) → total (alone ns) ≡ length ns
 total-alone [] = refl
 total-alone (n ∷ ns) = omega (arith, total-alone ns)
 
-kept : (text : List ℕ) (groups : List (List ℕ)) → groups_of text ≡ groups → total groups ≤ 32 → (table_of text).groups ≡ groups
+kept : (text : List ℕ) (groups : List (List ℕ)) → groups_of text ≡ groups →
+    total groups ≤ 32 → (table_of text).groups ≡ groups
 kept text groups e few =
     let fits : total (groups_of text) ≤ 32 = rw e few in
     ap (λ t. t.groups) (whole text fits) ∙ e
@@ -82,16 +89,21 @@ empty_groups = kept [] ((0 ∷ []) ∷ []) groups_of-empty (omega arith)
 pub decimal_groups : (n : ℕ) → n ≤ 65535 → (table_of (decimal n)).groups ≡ (n ∷ []) ∷ []
 decimal_groups n small = kept (decimal n) ((n ∷ []) ∷ []) (groups_of-decimal n small) (omega arith)
 
-pub joined_groups : (ns : List ℕ) → 0 < length ns → length ns ≤ 32 → All (λ k. k ≤ 65535) ns → (table_of (joined ns)).groups ≡ map (λ n. n ∷ []) ns
+pub joined_groups : (ns : List ℕ) → 0 < length ns → length ns ≤ 32 →
+    All (λ k. k ≤ 65535) ns → (table_of (joined ns)).groups ≡ map (λ n. n ∷ []) ns
 joined_groups [] some few small = absurd (omega arith)
-joined_groups (n ∷ ns) some few small = kept (joined (n ∷ ns)) (alone (n ∷ ns)) (groups_of-joined n ns small) (omega (arith, total-alone (n ∷ ns)))
+joined_groups (n ∷ ns) some few small =
+    kept (joined (n ∷ ns)) (alone (n ∷ ns)) (groups_of-joined n ns small) (omega (arith, total-alone (n ∷ ns)))
 
-two_groups : (n m : ℕ) → n ≤ 65535 → m ≤ 65535 → (table_of (decimal n ++ 0x3B ∷ decimal m)).groups ≡ (n ∷ []) ∷ (m ∷ []) ∷ []
+two_groups : (n m : ℕ) → n ≤ 65535 → m ≤ 65535 →
+    (table_of (decimal n ++ 0x3B ∷ decimal m)).groups ≡ (n ∷ []) ∷ (m ∷ []) ∷ []
 two_groups n m small fits =
-    kept (decimal n ++ 0x3B ∷ decimal m) ((n ∷ []) ∷ (m ∷ []) ∷ []) (groups_of-further n (decimal m) small ∙ ap (λ g. (n ∷ []) ∷ g) (groups_of-decimal m fits)) (omega arith)
+    kept (decimal n ++ 0x3B ∷ decimal m) ((n ∷ []) ∷ (m ∷ []) ∷ [])
+    (groups_of-further n (decimal m) small ∙ ap (λ g. (n ∷ []) ∷ g) (groups_of-decimal m fits)) (omega arith)
 
 -- CUP's text, for a position on a screen
-pub place_groups_are : (row col : ℕ) → row < 65535 → col < 65535 → (table_of (place row col)).groups ≡ place_groups row col
+pub place_groups_are : (row col : ℕ) → row < 65535 → col < 65535 →
+    (table_of (place row col)).groups ≡ place_groups row col
 place_groups_are zero zero r c = empty_groups
 place_groups_are zero (suc col) r c = two_groups (zero + 1) (suc col + 1) (omega arith) (omega arith)
 place_groups_are (suc row) col r c = two_groups (suc row + 1) (col + 1) (omega arith) (omega arith)
@@ -105,23 +117,30 @@ parameters_from (b ∷ text) all =
     let high : b ≤ 0x39 = digit.1 in
     (digit.0, omega arith, parameters_from text (All-tail IsDigit b text all))
 
-pub parameters-append : (text more : List ℕ) → IsParameterText text → IsParameterText more → IsParameterText (text ++ more)
+pub parameters-append : (text more : List ℕ) → IsParameterText text →
+    IsParameterText more → IsParameterText (text ++ more)
 parameters-append [] more is are = are
 parameters-append (b ∷ text) more is are = (is.0, is.1, parameters-append text more is.2 are)
 
 pub decimal_is_parameter : (n : ℕ) → n ≤ 65535 → IsParameterText (decimal n)
 decimal_is_parameter n small = parameters_from (decimal n) (decimal_digits n (omega arith))
 
-further_is_parameter : (n : ℕ) (text : List ℕ) → n ≤ 65535 → IsParameterText text → IsParameterText (decimal n ++ 0x3B ∷ text)
-further_is_parameter n text small is = parameters-append (decimal n) (0x3B ∷ text) (decimal_is_parameter n small) (omega arith, omega arith, is)
+further_is_parameter : (n : ℕ) (text : List ℕ) → n ≤ 65535 →
+    IsParameterText text → IsParameterText (decimal n ++ 0x3B ∷ text)
+further_is_parameter n text small is =
+    parameters-append (decimal n) (0x3B ∷ text) (decimal_is_parameter n small) (omega arith, omega arith, is)
 
 pub joined_is_parameter : (ns : List ℕ) → All (λ k. k ≤ 65535) ns → IsParameterText (joined ns)
 joined_is_parameter [] small = tt
 joined_is_parameter (n ∷ []) small = decimal_is_parameter n (All-head (λ k. k ≤ 65535) n [] small)
 joined_is_parameter (n ∷ m ∷ ns) small =
-    further_is_parameter n (joined (m ∷ ns)) (All-head (λ k. k ≤ 65535) n (m ∷ ns) small) (joined_is_parameter (m ∷ ns) (All-tail (λ k. k ≤ 65535) n (m ∷ ns) small))
+    further_is_parameter n (joined (m ∷ ns)) (All-head (λ k. k ≤ 65535) n (m ∷ ns) small)
+    (joined_is_parameter (m ∷ ns) (All-tail (λ k. k ≤ 65535) n (m ∷ ns) small))
 
 pub place_is_parameter : (row col : ℕ) → row < 65535 → col < 65535 → IsParameterText (place row col)
 place_is_parameter zero zero r c = tt
-place_is_parameter zero (suc col) r c = further_is_parameter (zero + 1) (decimal (suc col + 1)) (omega arith) (decimal_is_parameter (suc col + 1) (omega arith))
-place_is_parameter (suc row) col r c = further_is_parameter (suc row + 1) (decimal (col + 1)) (omega arith) (decimal_is_parameter (col + 1) (omega arith))
+place_is_parameter zero (suc col) r c =
+    further_is_parameter (zero + 1) (decimal (suc col + 1))
+    (omega arith) (decimal_is_parameter (suc col + 1) (omega arith))
+place_is_parameter (suc row) col r c =
+    further_is_parameter (suc row + 1) (decimal (col + 1)) (omega arith) (decimal_is_parameter (col + 1) (omega arith))

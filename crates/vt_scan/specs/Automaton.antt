@@ -1,6 +1,8 @@
 -- The state of the automaton, and what a byte makes of it: the state that follows, and at most two events.
--- A state is a kind and the bytes collected in it; sequences are read from all of these at once, when their last byte comes.
-use Rattle.std.specs.Prelude.{ℕ, Bool, not, ◌&&◌, ◌==◌, nat_lt, nat_le, List, [], ◌∷◌, ◌++◌, take, filter, if◌then◌else◌}
+-- A state is a kind and the bytes collected in it; sequences are read from all of these at once, when their last byte
+-- comes.
+use Rattle.std.specs.Prelude.{ℕ, Bool, not, ◌&&◌, ◌==◌, nat_lt, nat_le, List}
+use Rattle.std.specs.Prelude.{[], ◌∷◌, ◌++◌, take, filter, if◌then◌else◌}
 use Rattle.std.specs.List.{slice_split}
 use Rattle.vt_scan.specs.Table.{class_of, turn_of}
 use Rattle.vt_scan.specs.Parameters.{table_of}
@@ -74,12 +76,14 @@ fresh_step b =
     else if is_beginning (b ∷ []) then record { state = record { kind = Ground; collected = b ∷ [] }; events = [] }
     else record { state = start; events = Character 0xFFFD ∷ [] }
 
--- a character is unfinished: a byte that can't go on it ends it as one U+FFFD, and is read anew (Unicode 3.9, the greatest
--- part that begins a well-formed sequence is replaced as one)
+-- a character is unfinished: a byte that can't go on it ends it as one U+FFFD, and is read anew (Unicode 3.9, the
+-- greatest part that begins a well-formed sequence is replaced as one)
 unfoldable pub character_step : List ℕ → ℕ → Step
 character_step text b =
-    if is_character (text ++ b ∷ []) then record { state = start; events = Character (character_of (text ++ b ∷ [])) ∷ [] }
-    else if is_beginning (text ++ b ∷ []) then record { state = record { kind = Ground; collected = text ++ b ∷ [] }; events = [] }
+    if is_character (text ++ b ∷ [])
+    then record { state = start; events = Character (character_of (text ++ b ∷ [])) ∷ [] }
+    else if is_beginning (text ++ b ∷ [])
+    then record { state = record { kind = Ground; collected = text ++ b ∷ [] }; events = [] }
     else record { state = (fresh_step b).state; events = Character 0xFFFD ∷ (fresh_step b).events }
 
 -- one byte

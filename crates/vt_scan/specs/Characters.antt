@@ -1,4 +1,5 @@
--- UTF-8 in whole byte lists, as Table 3-7 of the Unicode Standard prints its well-formed sequences, and as Table 3-6 gives their bits.
+-- UTF-8 in whole byte lists, as Table 3-7 of the Unicode Standard prints its well-formed sequences,
+-- and as Table 3-6 gives their bits.
 use Rattle.std.specs.Prelude.{ℕ, ◌+◌, ◌*◌, ◌%◌, Bool, false, ◌&&◌, ◌==◌, nat_le, List, [], ◌∷◌, if◌then◌else◌}
 
 abbrev pub is_within : ℕ → ℕ → ℕ → Bool

@@ -60,8 +60,10 @@ is_unfinished (x ∷ xs) = is_beginning (x ∷ xs)
 
 -- one more byte of an unfinished character
 abbrev pub Extends : List ℕ → ℕ → Extended → List ℕ → Type 0
-Extends old b Further new = (is_character (old ++ b ∷ []) ≡ false) × (is_beginning (old ++ b ∷ []) ≡ true) × (new ≡ old ++ b ∷ [])
-Extends old b (Character c) new = (is_character (old ++ b ∷ []) ≡ true) × (c ≡ character_of (old ++ b ∷ [])) × (new ≡ [])
+Extends old b Further new =
+    (is_character (old ++ b ∷ []) ≡ false) × (is_beginning (old ++ b ∷ []) ≡ true) × (new ≡ old ++ b ∷ [])
+Extends old b (Character c) new =
+    (is_character (old ++ b ∷ []) ≡ true) × (c ≡ character_of (old ++ b ∷ [])) × (new ≡ [])
 Extends old b Broken new = (is_character (old ++ b ∷ []) ≡ false) × (is_beginning (old ++ b ∷ []) ≡ false) × (new ≡ [])
 
 -- the groups of numbers that end at these places, and the last one that ends at len

@@ -1,4 +1,5 @@
--- The numbers of a control sequence, read from its whole parameter text. ECMA-48 section 5.4.2, with the colon of ISO 8613-6.
+-- The numbers of a control sequence, read from its whole parameter text.
+-- ECMA-48 section 5.4.2, with the colon of ISO 8613-6.
 use Rattle.std.specs.Prelude.{ℕ, ◌+◌, ◌-◌, Bool, ◌==◌, nat_lt, List, [], ◌∷◌, map, length, min, take, if◌then◌else◌}
 use Rattle.std.specs.List.{slice_split}
 use Rattle.std.specs.Int.Digits.{number_from_digits}

@@ -1,11 +1,13 @@
--- What the scanner holds of the bytes that it has read, which states of the automaton that stands for, and what its answer means.
+-- What the scanner holds of the bytes that it has read, which states of the automaton that stands for, and what its
+-- answer means.
 use Rattle.std.specs.Prelude.{◌≡◌, ℕ, ◌<◌, ◌≤◌, ◌==◌, ◌&&◌, Bool, false, List, [], ◌++◌, length, map, option_to_list}
 use Rattle.vt_scan.specs.Parameters.{GroupTable, table_of}
 use Rattle.vt_scan.specs.Automaton as automaton
 use Rattle.vt_scan.specs.Automaton.{State, Step, is_parameter, parameter_text, marks_of, parts_of, step_in}
 use Rattle.vt_scan.specs.Run.{run}
 use Rattle.vt_scan.specs.declared.table.Kind.{Kind}
-use Rattle.vt_scan.specs.declared.table.Kind.TheVariants.{Ground, Escape, CsiEntry, CsiParam, CsiIgnore, OscString, Skip}
+use Rattle.vt_scan.specs.declared.table.Kind.TheVariants.{Ground, Escape, CsiEntry, CsiParam}
+use Rattle.vt_scan.specs.declared.table.Kind.TheVariants.{CsiIgnore, OscString, Skip}
 use Rattle.vt_scan.specs.declared.event.Event as event
 use Rattle.vt_scan.specs.declared.event.Event.TheVariants as given
 use Rattle.vt_scan.specs.declared.event.Events.{Events}
@@ -66,14 +68,16 @@ ReadsItself held b = (held.kind ≡ Ground) × (held.unfinished ≡ []) × (0x20
 
 -- whatever state the scanner was in, it is then in the one that follows by this byte
 abbrev pub Feeds : Held → ℕ → Held → Events → Type 0
-Feeds old b new answer = (state : State) → StandsFor old state → Follows new answer (step_in state.kind state.collected b)
+Feeds old b new answer =
+    (state : State) → StandsFor old state → Follows new answer (step_in state.kind state.collected b)
 
 -- the same for bytes, one after the other, and all their events
 abbrev pub FeedsAll : Held → List ℕ → Held → List automaton.Event → Type 0
 FeedsAll old bytes new events =
     (state : State) → StandsFor old state → StandsFor new (run state bytes).state × ((run state bytes).events ≡ events)
 
--- a byte that leads into a control sequence: ESC in plain text with nothing unfinished, then `[`, then what is of the parameter text
+-- a byte that leads into a control sequence: ESC in plain text with nothing unfinished, then `[`,
+-- then what is of the parameter text
 abbrev pub leads_in : Kind → List ℕ → ℕ → Bool
 leads_in Ground unfinished b = (length unfinished == 0) && (b == 0x1B)
 leads_in Escape unfinished b = b == 0x5B

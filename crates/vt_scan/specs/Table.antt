@@ -1,13 +1,16 @@
--- The byte automaton but for UTF-8: what each byte does in each kind of state. After Williams' parser for ANSI terminals,
--- with the structure of sequences of ECMA-48 section 5.4 and of its escape sequences in ECMA-35.
+-- The byte automaton but for UTF-8: what each byte does in each kind of state. After Williams' parser for ANSI
+-- terminals, with the structure of sequences of ECMA-48 section 5.4 and of its escape sequences in ECMA-35.
 use Rattle.std.specs.Prelude.{ℕ, ◌==◌, ◌||◌, nat_lt, if◌then◌else◌}
 use Rattle.vt_scan.specs.declared.table.Kind.{Kind}
-use Rattle.vt_scan.specs.declared.table.Kind.TheVariants.{Ground, Escape, EscapeIntermediate, CsiEntry, CsiParam, CsiIntermediate, CsiIgnore, OscString, Skip}
+use Rattle.vt_scan.specs.declared.table.Kind.TheVariants.{Ground, Escape, EscapeIntermediate, CsiEntry, CsiParam}
+use Rattle.vt_scan.specs.declared.table.Kind.TheVariants.{CsiIntermediate, CsiIgnore, OscString, Skip}
 use Rattle.vt_scan.specs.declared.table.Class.{Class}
-use Rattle.vt_scan.specs.declared.table.Class.TheVariants.{Control, Bell, Cancel, Introducer, Intermediate, Parameter, Marker, Final, CsiStart, OscStart, SkipStart, Delete, High}
+use Rattle.vt_scan.specs.declared.table.Class.TheVariants.{Control, Bell, Cancel, Introducer, Intermediate, Parameter}
+use Rattle.vt_scan.specs.declared.table.Class.TheVariants.{Marker, Final, CsiStart, OscStart, SkipStart, Delete, High}
 use Rattle.vt_scan.specs.declared.table.Turn.{Turn}
 use Rattle.vt_scan.specs.declared.table.Turn.TheVariants.{Collect, Drop, Execute, End}
-use Rattle.vt_scan.specs.declared.table.Ending.TheVariants.{Nothing, Character, Executed, EscDispatch, CsiDispatch, OscDispatch, OscDispatchAndExecuted}
+use Rattle.vt_scan.specs.declared.table.Ending.TheVariants.{Nothing, Character, Executed, EscDispatch}
+use Rattle.vt_scan.specs.declared.table.Ending.TheVariants.{CsiDispatch, OscDispatch, OscDispatchAndExecuted}
 
 -- the columns of ECMA-48's code table, with the bytes that have a meaning of their own
 unfoldable pub class_of : ℕ → Class
@@ -28,7 +31,8 @@ class_of b =
     else if b == 0x7F then Delete
     else High
 
--- what a byte of this class does; the first line that fits holds. In Ground bytes from 80 on are UTF-8 and don't go by this table
+-- what a byte of this class does; the first line that fits holds.
+-- In Ground bytes from 80 on are UTF-8 and don't go by this table
 abbrev pub turn_of : Kind → Class → Turn
 turn_of OscString Bell = End Ground OscDispatch
 turn_of OscString Cancel = End Ground OscDispatchAndExecuted

@@ -1,7 +1,9 @@
 //! The scanner: from bytes to events.
 
-ghost use Rattle.std.specs.Prelude.{◌≡◌, ◌≢◌, ◌≤◌, ◌<◌, ◌==◌, ◌&&◌, ◌↔◌, ◌⊎◌, ℕ, List, [], ◌∷◌, ◌++◌, All, IfOk, IfSome};
-ghost use Rattle.std.specs.Prelude.{IsErr, IsSome, IsTrue, None, OnErr, OnOk, Some, false, length, slice_index_or, take};
+ghost use Rattle.std.specs.Prelude.{◌≡◌, ◌≢◌, ◌≤◌, ◌<◌, ◌==◌, ◌&&◌, ◌↔◌, ◌⊎◌, ℕ};
+ghost use Rattle.std.specs.Prelude.{List, [], ◌∷◌, ◌++◌, All, IfOk, IfSome};
+ghost use Rattle.std.specs.Prelude.{IsErr, IsSome, IsTrue, None, OnErr, OnOk, Some};
+ghost use Rattle.std.specs.Prelude.{false, length, slice_index_or, take};
 ghost use Rattle.std.specs.Prelude.{true};
 ghost use Rattle.vt_cells.specs.Refusals.{OnlyOutOfMemory};
 ghost use Rattle.vt_scan.specs.Automaton.{Character, State, fresh_step, is_parameter, parts_of, start, step_in};
@@ -126,7 +128,8 @@ impl Scanner {
     pub fn lead_in(&mut self, bytes: &[u8]) -> usize
         ensures inside { result ≤ length bytes.now }
         ensures fed { FeedsAll self.old (take result bytes.now) self.new [] }
-        ensures longest { result < length bytes.now → leads_in self.new.kind self.new.unfinished (slice_index_or bytes.now result 0) ≡ false }
+        ensures longest { result < length bytes.now →
+            leads_in self.new.kind self.new.unfinished (slice_index_or bytes.now result 0) ≡ false }
     {
         let mut count = 0;
         while count < bytes.len() && self.takes_lead(bytes[count]) {
@@ -142,8 +145,10 @@ impl Scanner {
     #[inline]
     pub fn whole_character(&self, bytes: &[u8]) -> Option<(char, usize)>
         ensures inside { IfSome result (λ found. (0 < found.1) × (found.1 ≤ length bytes.now)) }
-        ensures fed { IfSome result (λ found. FeedsAll self.now (take found.1 bytes.now) self.now (Character found.0 ∷ [])) }
-        ensures all { (n : ℕ) → self.now.kind ≡ Kind.Ground → self.now.unfinished ≡ [] → is_character (take n bytes.now) ≡ true → IsSome result }
+        ensures fed { IfSome result
+            (λ found. FeedsAll self.now (take found.1 bytes.now) self.now (Character found.0 ∷ [])) }
+        ensures all { (n : ℕ) → self.now.kind ≡ Kind.Ground → self.now.unfinished ≡ [] →
+            is_character (take n bytes.now) ≡ true → IsSome result }
     {
         if self.is_fresh() {
             first_character(bytes)

@@ -1,6 +1,7 @@
 //! The numbers of a control sequence.
 
-ghost use Rattle.std.specs.Prelude.{◌≡◌, ℕ, ◌+◌, ◌*◌, ◌<◌, ◌≤◌, ◌↔◌, List, [], ◌∷◌, ◌++◌, IsTrue, false, length, min, take, true};
+ghost use Rattle.std.specs.Prelude.{◌≡◌, ℕ, ◌+◌, ◌*◌, ◌<◌, ◌≤◌, ◌↔◌, List, [], ◌∷◌};
+ghost use Rattle.std.specs.Prelude.{◌++◌, IsTrue, false, length, min, take, true};
 ghost use Rattle.vt_scan.specs.Parameters.{GroupTable, table_of};
 ghost use Rattle.vt_scan.specs.Keeping.{Ascends, groups_from};
 
@@ -26,7 +27,8 @@ impl Model for Parameters {
 
     ghost view = { λ p. record { groups = groups_from 0 (take p.closed p.ends) p.len p.numbers; is_cut = p.is_cut } };
 
-    ghost invariant = { λ p. (p.len ≤ 32) × (p.closed < p.len) × Ascends 0 (take p.closed p.ends) p.len × (p.is_cut ≡ true → p.len ≡ 32) };
+    ghost invariant = { λ p. (p.len ≤ 32) × (p.closed < p.len)
+        × Ascends 0 (take p.closed p.ends) p.len × (p.is_cut ≡ true → p.len ≡ 32) };
 }
 
 impl Parameters {

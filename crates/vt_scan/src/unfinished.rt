@@ -1,7 +1,8 @@
 //! The bytes of a character that isn't finished.
 #![tactic(auto, unfolding(crate::specs::Characters::is_character, crate::specs::Characters::is_beginning))]
 
-ghost use Rattle.std.specs.Prelude.{◌≡◌, ◌≢◌, ℕ, ◌<◌, ◌≤◌, ◌==◌, true, List, [], ◌∷◌, IfSome, IsSome, length, take, if◌then◌else◌};
+ghost use Rattle.std.specs.Prelude.{◌≡◌, ◌≢◌, ℕ, ◌<◌, ◌≤◌, ◌==◌, true, List, [], ◌∷◌};
+ghost use Rattle.std.specs.Prelude.{IfSome, IsSome, length, take, if◌then◌else◌};
 ghost use Rattle.vt_scan.specs.Characters.{character_of, continues, is_beginning, is_character, is_second};
 ghost use Rattle.vt_scan.specs.Keeping.{Extends, bytes_in, is_unfinished};
 

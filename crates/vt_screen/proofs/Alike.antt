@@ -1,5 +1,7 @@
--- Rows that differ at most in the default blanks at their ends: what is trimmed, grown or stacked stays alike, and has one text.
-use Rattle.std.proofs.Common.{◌≡◌, ℕ, suc, ◌+◌, ◌<◌, ◌≤◌, ◌==◌, ◌&&◌, nat_lt, Bool, true, false, List, [], ◌∷◌, length, refl, inl, inr, sym, ap, ap₂, ◌∙◌, arith}
+-- Rows that differ at most in the default blanks at their ends: what is trimmed,
+-- grown or stacked stays alike, and has one text.
+use Rattle.std.proofs.Common.{◌≡◌, ℕ, suc, ◌+◌, ◌<◌, ◌≤◌, ◌==◌, ◌&&◌, nat_lt, Bool, true, false}
+use Rattle.std.proofs.Common.{List, [], ◌∷◌, length, refl, inl, inr, sym, ap, ap₂, ◌∙◌, arith}
 use Rattle.std.specs.Prelude.{if◌then◌else◌}
 use Rattle.std.specs.List.{list_all}
 use Rattle.std.proofs.lemmas.Bool.{cases_lt, cases_eq, false_from_ne_true}
@@ -30,7 +32,9 @@ trimmed-nothing (x ∷ xs) e = rw e refl
 all-trimmed : (cells : List CellValue) → list_all is_default_blank (trimmed cells) ≡ list_all is_default_blank cells
 all-trimmed [] = refl
 all-trimmed (x ∷ xs) = by (list_all is_default_blank (x ∷ xs)) refl (all-trimmed xs) where
-  by : (b : Bool) → list_all is_default_blank (x ∷ xs) ≡ b → list_all is_default_blank (trimmed xs) ≡ list_all is_default_blank xs → list_all is_default_blank (if b then [] else x ∷ trimmed xs) ≡ list_all is_default_blank (x ∷ xs)
+  by : (b : Bool) → list_all is_default_blank (x ∷ xs) ≡ b →
+      list_all is_default_blank (trimmed xs) ≡ list_all is_default_blank xs →
+      list_all is_default_blank (if b then [] else x ∷ trimmed xs) ≡ list_all is_default_blank (x ∷ xs)
   by true e ih = sym e
   by false e ih = ap (λ (b : Bool). is_default_blank x && b) ih
 
@@ -40,30 +44,40 @@ same_trimmed [] b f = sym (trimmed-nothing b (all_default b (λ k. sym (f k))))
 same_trimmed (x ∷ xs) [] f = trimmed-nothing (x ∷ xs) (all_default (x ∷ xs) (λ k. f k))
 same_trimmed (x ∷ xs) (y ∷ ys) f =
     let ih = same_trimmed xs ys (λ k. f (suc k)) in
-    let rest : list_all is_default_blank xs ≡ list_all is_default_blank ys = sym (all-trimmed xs) ∙ (ap (list_all is_default_blank) ih ∙ all-trimmed ys) in
+    let rest : list_all is_default_blank xs ≡ list_all is_default_blank ys =
+    sym (all-trimmed xs) ∙ (ap (list_all is_default_blank) ih ∙ all-trimmed ys) in
     ap₂ (λ (z : CellValue) (b : Bool). if is_default_blank z && b then [] else z ∷ trimmed xs) (f 0) rest
     ∙ ap (λ (zs : List CellValue). if list_all is_default_blank (y ∷ ys) then [] else y ∷ zs) ih
 
-grown_at : (n : ℕ) (cells : List CellValue) (k : ℕ) → length cells < n → IsPaired cells → k < n → moved_at n (λ k. k) cells k ≡ at cells k
+grown_at : (n : ℕ) (cells : List CellValue) (k : ℕ) → length cells < n →
+    IsPaired cells → k < n → moved_at n (λ k. k) cells k ≡ at cells k
 grown_at n cells k l p h =
     let f : k ≡ 0 → is_right_half (at cells k) ≡ false = λ z. ap (λ (j : ℕ). is_right_half (at cells j)) z ∙ p.first in
-    let w : n ≤ k + 1 → is_wide (at cells k) ≡ false = λ past. p.halves k ∙ ap is_right_half (at-past cells (k + 1) (omega arith)) in
+    let w : n ≤ k + 1 → is_wide (at cells k) ≡ false =
+    λ past. p.halves k ∙ ap is_right_half (at-past cells (k + 1) (omega arith)) in
     elim (cases_lt (k + 1) n) [
-      | inl lt ↦ elim (cases_eq k 0) [ inl z ↦ let r = f z in grind (arith, nat_tests) | inr pos ↦ grind (arith, nat_tests) ]
-      | inr ge ↦ let v = w ge in elim (cases_eq k 0) [ inl z ↦ let r = f z in grind (arith, nat_tests) | inr pos ↦ grind (arith, nat_tests) ]
+      | inl lt ↦
+          elim (cases_eq k 0) [ inl z ↦ let r = f z in grind (arith, nat_tests) | inr pos ↦ grind (arith, nat_tests) ]
+      | inr ge ↦ let v =
+          w ge in elim (cases_eq k 0)
+          [ inl z ↦ let r = f z in grind (arith, nat_tests) | inr pos ↦ grind (arith, nat_tests) ]
     ]
 
-at-grown : (n : ℕ) (cells : List CellValue) → length cells < n → IsPaired cells → (k : ℕ) → at (resized n cells) k ≡ at cells k
+at-grown : (n : ℕ) (cells : List CellValue) → length cells < n →
+    IsPaired cells → (k : ℕ) → at (resized n cells) k ≡ at cells k
 unfolding resized
 at-grown n cells l p k = elim (cases_lt k n) [
   | inl lt ↦ at-moved n (λ k. k) cells k lt ∙ grown_at n cells k l p lt
-  | inr past ↦ let m = length-moved n (λ k. k) cells in at-past (resized n cells) k (omega arith) ∙ sym (at-past cells k (omega arith))
+  | inr past ↦ let m =
+      length-moved n (λ k. k) cells in at-past (resized n cells) k (omega arith) ∙ sym (at-past cells k (omega arith))
 ]
 
 -- ---- rows
 
 pub trimmed_twice : (row : RowValue) → trimmed_row (trimmed_row row) ≡ trimmed_row row
-trimmed_twice row = ap (λ (cells : List CellValue). record { cells = cells; wrapped = row.wrapped }) (same_trimmed (trimmed row.cells) row.cells (at-trimmed row.cells))
+trimmed_twice row =
+    ap (λ (cells : List CellValue). record { cells = cells; wrapped = row.wrapped })
+    (same_trimmed (trimmed row.cells) row.cells (at-trimmed row.cells))
 
 -- a row whose text goes on below has this many columns
 abbrev pub IsWide : ℕ → RowValue → Type 0
@@ -72,13 +86,15 @@ IsWide width row = row.wrapped ≡ true → width ≤ length row.cells
 unwrapped : (width : ℕ) (row : RowValue) → IsWide width row → length row.cells < width → row.wrapped ≡ false
 unwrapped width row w h = false_from_ne_true row.wrapped (λ t. omega (arith, w t))
 
-pub trimmed_grown : (width : ℕ) (row : RowValue) → IsRow (length row.cells) row → IsWide width row → trimmed_row (grown_row width row) ≡ trimmed_row row
+pub trimmed_grown : (width : ℕ) (row : RowValue) → IsRow (length row.cells) row →
+    IsWide width row → trimmed_row (grown_row width row) ≡ trimmed_row row
 trimmed_grown width row r w = elim (cases_lt (length row.cells) width) [
   | inl lt ↦
       let narrow : nat_lt (length row.cells) width ≡ true = grind (arith, nat_tests) in
       let no = unwrapped width row w lt in
       let flag : (row.wrapped && (length row.cells == width)) ≡ row.wrapped = rw no refl in
-      rw narrow (ap₂ (λ (cells : List CellValue) (wrapped : Bool). record { cells = cells; wrapped = wrapped }) (same_trimmed (resized width row.cells) row.cells (at-grown width row.cells lt r.paired)) flag)
+      rw narrow (ap₂ (λ (cells : List CellValue) (wrapped : Bool). record { cells = cells; wrapped = wrapped })
+      (same_trimmed (resized width row.cells) row.cells (at-grown width row.cells lt r.paired)) flag)
   | inr ge ↦
       let wide : nat_lt (length row.cells) width ≡ false = grind (arith, nat_tests) in
       rw wide refl

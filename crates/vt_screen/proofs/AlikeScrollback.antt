@@ -1,5 +1,6 @@
 -- Rows that are pushed, or come into view, in scrollback: told and kept together they are alike to those before.
-use Rattle.std.proofs.Common.{◌≡◌, ℕ, ◌+◌, ◌-◌, ◌≤◌, nat_lt, List, [], ◌∷◌, ◌++◌, length, take, drop, map, refl, sym, ap, ap₂, subst, ◌∙◌, arith, min}
+use Rattle.std.proofs.Common.{◌≡◌, ℕ, ◌+◌, ◌-◌, ◌≤◌, nat_lt, List, [], ◌∷◌, ◌++◌, length, take}
+use Rattle.std.proofs.Common.{drop, map, refl, sym, ap, ap₂, subst, ◌∙◌, arith, min}
 use Rattle.std.specs.Prelude.{All}
 use Rattle.std.proofs.lemmas.List.{drop-drop, take-append-drop, append-nil}
 use Rattle.std.proofs.lemmas.List.Elements.{All-append, All-drop, All-head, All-map, All-tail, All-take, All-weaker}
@@ -8,7 +9,8 @@ use Rattle.vt_rows.specs.Cells.{resized}
 use Rattle.vt_rows.specs.Row.{RowValue, IsRow, resized_row, trimmed_row}
 use Rattle.vt_rows.proofs.Moves.{IsRow-resized_row, length-moved}
 use Rattle.vt_rows.proofs.Trims.{trimmed-none}
-use Rattle.vt_grid.specs.Scrollback.{Scrollback, before_last, grown_in_view, grown_row, kept_after, pushed, reported, stacked, viewed}
+use Rattle.vt_grid.specs.Scrollback.{Scrollback, before_last, grown_in_view, grown_row}
+use Rattle.vt_grid.specs.Scrollback.{kept_after, pushed, reported, stacked, viewed}
 use Rattle.vt_grid.proofs.Stacking.{All-stacked}
 use Rattle.vt_screen.specs.Streamed.{AreAlike}
 use Rattle.vt_screen.proofs.Alike.{IsWide, trimmed_twice, trimmed_grown}
@@ -20,11 +22,13 @@ map-append f (x ∷ xs) ys = ap (λ (zs : List _). f x ∷ zs) (map-append f xs 
 -- ---- rows that are alike, one list behind the other
 
 pub alike_then : (a b c d : List RowValue) → AreAlike a b → AreAlike c d → AreAlike (a ++ c) (b ++ d)
-alike_then a b c d e f = map-append trimmed_row a c ∙ (ap₂ (λ (xs ys : List RowValue). xs ++ ys) e f ∙ sym (map-append trimmed_row b d))
+alike_then a b c d e f =
+    map-append trimmed_row a c ∙ (ap₂ (λ (xs ys : List RowValue). xs ++ ys) e f ∙ sym (map-append trimmed_row b d))
 
 alike_trimmed : (rows : List RowValue) → AreAlike (map trimmed_row rows) rows
 alike_trimmed [] = refl
-alike_trimmed (row ∷ rows) = ap₂ (λ (x : RowValue) (xs : List RowValue). x ∷ xs) (trimmed_twice row) (alike_trimmed rows)
+alike_trimmed (row ∷ rows) =
+    ap₂ (λ (x : RowValue) (xs : List RowValue). x ∷ xs) (trimmed_twice row) (alike_trimmed rows)
 
 -- rows of scrollback, each sound in its own width
 abbrev pub AreSound : List RowValue → Type 0
@@ -40,31 +44,40 @@ alike_grown : (width : ℕ) (rows : List RowValue) → All (IsFit width) rows �
 alike_grown width [] all = refl
 alike_grown width (row ∷ rows) all =
     let fit = All-head (IsFit width) row rows all in
-    ap₂ (λ (x : RowValue) (xs : List RowValue). x ∷ xs) (trimmed_grown width row fit.0 fit.1) (alike_grown width rows (All-tail (IsFit width) row rows all))
+    ap₂ (λ (x : RowValue) (xs : List RowValue). x ∷ xs) (trimmed_grown width row fit.0 fit.1)
+    (alike_grown width rows (All-tail (IsFit width) row rows all))
 
 fit_all : (width : ℕ) (rows : List RowValue) → AreSound rows → All (IsWide width) rows → All (IsFit width) rows
 fit_all width rows all wide = λ i d h. (all i d h, wide i d h)
 
-pub alike_grown_in_view : (height width : ℕ) (above : Scrollback) → AreSound above.rows → All (IsWide width) above.rows → AreAlike (grown_in_view height width above).rows above.rows
+pub alike_grown_in_view : (height width : ℕ) (above : Scrollback) → AreSound above.rows →
+    All (IsWide width) above.rows → AreAlike (grown_in_view height width above).rows above.rows
 unfolding grown_in_view
 alike_grown_in_view height width above all wide =
     let first = length above.rows - above.offset in
     let rest = drop first above.rows in
     let seen = take height rest in
-    let fit = All-take (IsFit width) height rest (All-drop (IsFit width) first above.rows (fit_all width above.rows all wide)) in
+    let fit =
+    All-take (IsFit width) height rest (All-drop (IsFit width) first above.rows (fit_all width above.rows all wide)) in
     let whole : take first above.rows ++ (seen ++ drop (first + height) above.rows) ≡ above.rows
-    = ap (λ (xs : List RowValue). take first above.rows ++ (seen ++ xs)) (sym (drop-drop height first above.rows ∙ ap (λ (n : ℕ). drop n above.rows) (omega arith)))
-    ∙ (ap (λ (xs : List RowValue). take first above.rows ++ xs) (take-append-drop height rest) ∙ take-append-drop first above.rows) in
+    = ap (λ (xs : List RowValue). take first above.rows ++ (seen ++ xs))
+    (sym (drop-drop height first above.rows ∙ ap (λ (n : ℕ). drop n above.rows) (omega arith)))
+    ∙ (ap (λ (xs : List RowValue). take first above.rows ++ xs) (take-append-drop height rest)
+    ∙ take-append-drop first above.rows) in
     alike_then (take first above.rows) (take first above.rows) _ (seen ++ drop (first + height) above.rows) refl
-    (alike_then (map (grown_row width) seen) seen (drop (first + height) above.rows) (drop (first + height) above.rows) (alike_grown width seen fit) refl)
+    (alike_then (map (grown_row width) seen) seen (drop (first + height) above.rows)
+    (drop (first + height) above.rows) (alike_grown width seen fit) refl)
     ∙ ap (map trimmed_row) whole
 
 -- what is grown is as wide as the screen
 wide_grown : (width : ℕ) (row : RowValue) → IsWide width row → IsWide width (grown_row width row)
 unfolding resized
-wide_grown width row w = cond_both _ (resized_row width row) row (IsWide width) (λ _ h. let n = length-moved width (λ k. k) row.cells in omega (arith, n)) (λ _. w)
+wide_grown width row w =
+    cond_both _ (resized_row width row) row (IsWide width)
+    (λ _ h. let n = length-moved width (λ k. k) row.cells in omega (arith, n)) (λ _. w)
 
-pub wide_grown_in_view : (height width : ℕ) (above : Scrollback) → All (IsWide width) above.rows → All (IsWide width) (grown_in_view height width above).rows
+pub wide_grown_in_view : (height width : ℕ) (above : Scrollback) →
+    All (IsWide width) above.rows → All (IsWide width) (grown_in_view height width above).rows
 unfolding grown_in_view
 wide_grown_in_view height width above all =
     let first = length above.rows - above.offset in
@@ -72,15 +85,21 @@ wide_grown_in_view height width above all =
     let wide = All-take (IsWide width) height (drop first above.rows) (All-drop (IsWide width) first above.rows all) in
     All-append (IsWide width) (take first above.rows) _ (All-take (IsWide width) first above.rows all)
     (All-append (IsWide width) (map (grown_row width) seen) (drop (first + height) above.rows)
-    (All-map (IsWide width) (grown_row width) seen (All-weaker (IsWide width) (λ row. IsWide width (grown_row width row)) (wide_grown width) seen wide))
+    (All-map (IsWide width) (grown_row width) seen
+    (All-weaker (IsWide width) (λ row. IsWide width (grown_row width row)) (wide_grown width) seen wide))
     (All-drop (IsWide width) (first + height) above.rows all))
 
-sound_grown : (width : ℕ) (row : RowValue) → IsRow (length row.cells) row → IsRow (length (grown_row width row).cells) (grown_row width row)
+sound_grown : (width : ℕ) (row : RowValue) → IsRow (length row.cells) row →
+    IsRow (length (grown_row width row).cells) (grown_row width row)
 sound_grown width row r =
     cond_both (nat_lt (length row.cells) width) (resized_row width row) row (λ x. IsRow (length x.cells) x)
-    (λ _. let s = IsRow-resized_row (length row.cells) width row r in subst (λ (n : ℕ). IsRow n (resized_row width row)) (sym s.columns) s) (λ _. r)
+    (λ _. let s =
+    IsRow-resized_row (length row.cells) width row r in subst
+    (λ (n : ℕ). IsRow n (resized_row width row)) (sym s.columns) s)
+    (λ _. r)
 
-sound_grown_in_view : (height width : ℕ) (above : Scrollback) → AreSound above.rows → AreSound (grown_in_view height width above).rows
+sound_grown_in_view : (height width : ℕ) (above : Scrollback) →
+    AreSound above.rows → AreSound (grown_in_view height width above).rows
 unfolding grown_in_view
 sound_grown_in_view height width above all =
     let P : RowValue → Type 0 = λ row. IsRow (length row.cells) row in
@@ -88,67 +107,92 @@ sound_grown_in_view height width above all =
     let seen = take height (drop first above.rows) in
     All-append P (take first above.rows) _ (All-take P first above.rows all)
     (All-append P (map (grown_row width) seen) (drop (first + height) above.rows)
-    (All-map P (grown_row width) seen (All-weaker P (λ row. P (grown_row width row)) (sound_grown width) seen (All-take P height (drop first above.rows) (All-drop P first above.rows all))))
+    (All-map P (grown_row width) seen
+    (All-weaker P (λ row. P (grown_row width row)) (sound_grown width) seen
+    (All-take P height (drop first above.rows) (All-drop P first above.rows all))))
     (All-drop P (first + height) above.rows all))
 
-pub sound_viewed : (height width n : ℕ) (above : Scrollback) → AreSound above.rows → AreSound (viewed height width n above).rows
+pub sound_viewed : (height width n : ℕ) (above : Scrollback) →
+    AreSound above.rows → AreSound (viewed height width n above).rows
 unfolding viewed
-sound_viewed height width n above sound = sound_grown_in_view height width (record above { offset = min n (length above.rows) }) sound
+sound_viewed height width n above sound =
+    sound_grown_in_view height width (record above { offset = min n (length above.rows) }) sound
 
 -- ---- rows are pushed
 
 -- a row of a page that goes on below loses no column
 wide_trimmed : (width : ℕ) (row : RowValue) → IsRow width row → IsWide width (trimmed_row row)
-wide_trimmed width row r h = subst (λ (cells : List _). width ≤ length cells) (sym (trimmed-none row.cells (r.flagged h))) (omega (arith, r.columns))
+wide_trimmed width row r h =
+    subst (λ (cells : List _). width ≤ length cells)
+    (sym (trimmed-none row.cells (r.flagged h))) (omega (arith, r.columns))
 
-pub wide_stacked : (width : ℕ) (gone : List RowValue) (above : Scrollback) → All (IsRow width) gone → All (IsWide width) above.rows → All (IsWide width) (stacked gone above)
+pub wide_stacked : (width : ℕ) (gone : List RowValue) (above : Scrollback) →
+    All (IsRow width) gone → All (IsWide width) above.rows → All (IsWide width) (stacked gone above)
 wide_stacked width gone above rows wide =
     All-append (IsWide width) above.rows (map trimmed_row gone) wide
-    (All-map (IsWide width) trimmed_row gone (All-weaker (IsRow width) (λ row. IsWide width (trimmed_row row)) (wide_trimmed width) gone rows))
+    (All-map (IsWide width) trimmed_row gone
+    (All-weaker (IsRow width) (λ row. IsWide width (trimmed_row row)) (wide_trimmed width) gone rows))
 
-sound_kept : (width : ℕ) (gone : List RowValue) (above : Scrollback) → All (IsRow width) gone → AreSound above.rows → AreSound (kept_after gone above).rows
+sound_kept : (width : ℕ) (gone : List RowValue) (above : Scrollback) →
+    All (IsRow width) gone → AreSound above.rows → AreSound (kept_after gone above).rows
 unfolding kept_after
 sound_kept width gone above rows sound =
-    All-drop (λ row. IsRow (length row.cells) row) (length (stacked gone above) - above.capacity) (stacked gone above) (All-stacked width gone above.rows rows sound)
+    All-drop (λ row. IsRow (length row.cells) row) (length (stacked gone above) - above.capacity)
+    (stacked gone above) (All-stacked width gone above.rows rows sound)
 
-kept_rows : (width : ℕ) (gone : List RowValue) (above : Scrollback) → All (IsRow width) gone → AreSound above.rows → All (IsWide width) above.rows → AreSound (kept_after gone above).rows × All (IsWide width) (kept_after gone above).rows
+kept_rows : (width : ℕ) (gone : List RowValue) (above : Scrollback) →
+    All (IsRow width) gone → AreSound above.rows → All (IsWide width) above.rows →
+    AreSound (kept_after gone above).rows × All (IsWide width) (kept_after gone above).rows
 unfolding kept_after
 kept_rows width gone above rows sound wide =
     let n = length (stacked gone above) - above.capacity in (
-      All-drop (λ row. IsRow (length row.cells) row) n (stacked gone above) (All-stacked width gone above.rows rows sound),
+      All-drop (λ row. IsRow (length row.cells) row) n (stacked gone above)
+          (All-stacked width gone above.rows rows sound),
       All-drop (IsWide width) n (stacked gone above) (wide_stacked width gone above rows wide),
     )
 
-told_and_kept : (gone : List RowValue) (above : Scrollback) → before_last above.capacity (stacked gone above) ++ (kept_after gone above).rows ≡ stacked gone above
+told_and_kept : (gone : List RowValue) (above : Scrollback) →
+    before_last above.capacity (stacked gone above) ++ (kept_after gone above).rows ≡ stacked gone above
 unfolding kept_after
 told_and_kept gone above = take-append-drop (length (stacked gone above) - above.capacity) (stacked gone above)
 
 -- what was reported, and what is kept now, is what was kept before and what left
-pub alike_pushed : (height width : ℕ) (gone : List RowValue) (above : Scrollback) → All (IsRow width) gone → AreSound above.rows → All (IsWide width) above.rows
+pub alike_pushed : (height width : ℕ) (gone : List RowValue) (above : Scrollback)
+    → All (IsRow width) gone → AreSound above.rows → All (IsWide width) above.rows
     → AreAlike (reported gone above ++ (pushed height width gone above).rows) (above.rows ++ gone)
 alike_pushed height width [] above rows sound wide = ap (map trimmed_row) (sym (append-nil above.rows))
 alike_pushed height width (row ∷ gone) above rows sound wide =
     let all = row ∷ gone in
     let k = kept_rows width all above rows sound wide in
-    alike_then (before_last above.capacity (stacked all above)) (before_last above.capacity (stacked all above)) (pushed height width all above).rows (kept_after all above).rows refl
+    alike_then (before_last above.capacity (stacked all above)) (before_last above.capacity (stacked all above))
+    (pushed height width all above).rows (kept_after all above).rows refl
     (alike_grown_in_view height width (kept_after all above) k.0 k.1)
-    ∙ (ap (map trimmed_row) (told_and_kept all above) ∙ alike_then above.rows above.rows (map trimmed_row all) all refl (alike_trimmed all))
+    ∙ (ap (map trimmed_row) (told_and_kept all above)
+    ∙ alike_then above.rows above.rows (map trimmed_row all) all refl (alike_trimmed all))
 
-pub wide_pushed : (height width : ℕ) (gone : List RowValue) (above : Scrollback) → All (IsRow width) gone → AreSound above.rows → All (IsWide width) above.rows → All (IsWide width) (pushed height width gone above).rows
+pub wide_pushed : (height width : ℕ) (gone : List RowValue) (above : Scrollback) → All (IsRow width) gone →
+    AreSound above.rows → All (IsWide width) above.rows → All (IsWide width) (pushed height width gone above).rows
 wide_pushed height width [] above rows sound wide = wide
 wide_pushed height width (row ∷ gone) above rows sound wide =
-    wide_grown_in_view height width (kept_after (row ∷ gone) above) (kept_rows width (row ∷ gone) above rows sound wide).1
+    wide_grown_in_view height width (kept_after (row ∷ gone) above)
+    (kept_rows width (row ∷ gone) above rows sound wide).1
 
 -- ---- other rows come into view
 
-pub alike_viewed : (height width n : ℕ) (above : Scrollback) → AreSound above.rows → All (IsWide width) above.rows → AreAlike (viewed height width n above).rows above.rows
+pub alike_viewed : (height width n : ℕ) (above : Scrollback) → AreSound above.rows →
+    All (IsWide width) above.rows → AreAlike (viewed height width n above).rows above.rows
 unfolding viewed
-alike_viewed height width n above sound wide = alike_grown_in_view height width (record above { offset = min n (length above.rows) }) sound wide
+alike_viewed height width n above sound wide =
+    alike_grown_in_view height width (record above { offset = min n (length above.rows) }) sound wide
 
-pub wide_viewed : (height width n : ℕ) (above : Scrollback) → All (IsWide width) above.rows → All (IsWide width) (viewed height width n above).rows
+pub wide_viewed : (height width n : ℕ) (above : Scrollback) →
+    All (IsWide width) above.rows → All (IsWide width) (viewed height width n above).rows
 unfolding viewed
-wide_viewed height width n above wide = wide_grown_in_view height width (record above { offset = min n (length above.rows) }) wide
+wide_viewed height width n above wide =
+    wide_grown_in_view height width (record above { offset = min n (length above.rows) }) wide
 
-pub sound_pushed : (height width : ℕ) (gone : List RowValue) (above : Scrollback) → All (IsRow width) gone → AreSound above.rows → AreSound (pushed height width gone above).rows
+pub sound_pushed : (height width : ℕ) (gone : List RowValue) (above : Scrollback) →
+    All (IsRow width) gone → AreSound above.rows → AreSound (pushed height width gone above).rows
 sound_pushed height width [] above rows sound = sound
-sound_pushed height width (row ∷ gone) above rows sound = sound_grown_in_view height width (kept_after (row ∷ gone) above) (sound_kept width (row ∷ gone) above rows sound)
+sound_pushed height width (row ∷ gone) above rows sound =
+    sound_grown_in_view height width (kept_after (row ∷ gone) above) (sound_kept width (row ∷ gone) above rows sound)

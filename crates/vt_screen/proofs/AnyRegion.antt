@@ -1,5 +1,7 @@
--- The redraw for terminals in any region, read by such a terminal: it gives them the whole page as region first, and is a redraw then.
-use Rattle.std.proofs.Common.{◌≡◌, ℕ, ◌+◌, Bool, true, false, List, [], ◌∷◌, ◌++◌, length, min, Option, Some, None, refl, sym, ap, subst, ◌∙◌, arith}
+-- The redraw for terminals in any region, read by such a terminal:
+-- it gives them the whole page as region first, and is a redraw then.
+use Rattle.std.proofs.Common.{◌≡◌, ℕ, ◌+◌, Bool, true, false, List, [], ◌∷◌, ◌++◌, length}
+use Rattle.std.proofs.Common.{min, Option, Some, None, refl, sym, ap, subst, ◌∙◌, arith}
 use Rattle.std.specs.Prelude.{IfSome, drop, if◌then◌else◌, nat_lt}
 use Rattle.vt_cells.specs.Op.{bytes_of_all, csi}
 use Rattle.vt_grid.specs.Canvas.{and_then}
@@ -36,13 +38,18 @@ origin_read : (screen : ScreenValue) → ReadsTo (csi (0x3F ∷ 0x36 ∷ []) 0x6
 unfolding read_byte fresh_step class_of table_of groups_of numbers_of number_of private_steps marked_steps mode_step
 origin_read screen = refl
 
-region_read : (screen : ScreenValue) → ReadsTo (csi [] 0x72) screen (stepped (SetRegion 0 (last_row screen.page)) screen)
+region_read : (screen : ScreenValue) →
+    ReadsTo (csi [] 0x72) screen (stepped (SetRegion 0 (last_row screen.page)) screen)
 unfolding counted_step scrolling_steps other_steps
-region_read screen = csi_read [] 0x72 ((0 ∷ []) ∷ []) screen (stepped (SetRegion 0 (last_row screen.page)) screen) tt (omega arith, omega arith) empty_groups refl
+region_read screen =
+    csi_read [] 0x72 ((0 ∷ []) ∷ []) screen (stepped (SetRegion 0 (last_row screen.page)) screen)
+    tt (omega arith, omega arith) empty_groups refl
 
 -- a region of one row or of more
 whole_when : (b : Bool) (page : Page) (end last : ℕ) → end ≡ last
-    → (if b then record page { top = 0; bottom = end; row = 0; column = 0 } else record page { top = 0; bottom = last; row = 0; column = 0 }) ≡ record page { top = 0; bottom = last; row = 0; column = 0 }
+    → (if b then record page { top = 0; bottom = end; row = 0; column = 0 }
+    else record page { top = 0; bottom = last; row = 0; column = 0 })
+    ≡ record page { top = 0; bottom = last; row = 0; column = 0 }
 whole_when true page end last e = rw e refl
 whole_when false page end last e = refl
 
@@ -56,16 +63,19 @@ whole_read : (screen : ScreenValue) → ReadsTo whole_region_text screen (in_who
 whole_read screen =
     let middle = stepped (UseOrigin false) screen in
     let end = stepped (SetRegion 0 (last_row screen.page)) middle in
-    reads_then (terminal start screen) (terminal start middle) (terminal start (in_whole screen)) (csi (0x3F ∷ 0x36 ∷ []) 0x6C) (csi [] 0x72) (origin_read screen)
+    reads_then (terminal start screen) (terminal start middle) (terminal start (in_whole screen))
+    (csi (0x3F ∷ 0x36 ∷ []) 0x6C) (csi [] 0x72) (origin_read screen)
     (region_read middle ∙ ap (λ (page : Page). Some (terminal start (with_page page screen))) (whole_is screen.page))
 
 -- ---- the terminal then
 
 whole_sound : (page : Page) → IsPage page → IsPage (whole_page page)
 whole_sound page is =
-    subst IsPage (whole_is page) (page_region_set 0 (last_row page) (origin_set false page) (page_origin_set false page is))
+    subst IsPage (whole_is page)
+    (page_region_set 0 (last_row page) (origin_set false page) (page_origin_set false page is))
 
-whole_other : (other : Option Page) (page : Page) → IfSome other (λ p. IsPage p × SameSize p page) → IfSome other (λ p. IsPage p × SameSize p (whole_page page))
+whole_other : (other : Option Page) (page : Page) → IfSome other (λ p. IsPage p × SameSize p page) →
+    IfSome other (λ p. IsPage p × SameSize p (whole_page page))
 whole_other None page is = is
 whole_other (Some p) page is = (is.0, record { width = is.1.width; height = is.1.height })
 
@@ -81,17 +91,20 @@ in_whole_is screen is = record {
 whole_end : (page : Page) → IsPage page → last_row page + 1 ≡ length page.rows
 whole_end page is = let some = is.cursor_row in omega arith
 
-plain_reader : (picture : Picture) (reader : ScreenValue) → IsReaderInAnyRegion picture reader → IsReader picture (in_whole reader)
+plain_reader : (picture : Picture) (reader : ScreenValue) →
+    IsReaderInAnyRegion picture reader → IsReader picture (in_whole reader)
 plain_reader picture reader r = record {
   sound = in_whole_is reader r.sound;
-  plain = record { page = record { whole = (refl, whole_end reader.page r.sound.page); origin = refl }; offset = r.offset };
+  plain =
+      record { page = record { whole = (refl, whole_end reader.page r.sound.page); origin = refl }; offset = r.offset };
   size = record { width = r.size.width; height = r.size.height };
 }
 
 -- ---- the whole text
 
 -- what is read behind a text that is read
-behind : (first rest : List ℕ) (reader middle after : ScreenValue) → ReadsTo first reader middle → ReadsTo (first ++ rest) reader after → ReadsTo rest middle after
+behind : (first rest : List ℕ) (reader middle after : ScreenValue) →
+    ReadsTo first reader middle → ReadsTo (first ++ rest) reader after → ReadsTo rest middle after
 behind first rest reader middle after p q =
     sym (reads_append (terminal start reader) first rest ∙ ap (and_then (λ (u : Terminal). read u rest)) p) ∙ q
 
@@ -103,30 +116,48 @@ pub record Resets (picture : Picture) (text : List ℕ) : Type 0 where
   pub cursor : Makes (IsReaderInAnyRegion picture) text (HasCursor picture)
   pub rest : Makes (IsReaderInAnyRegion picture) text KeepsRestButRegion
 
-resets : (picture : Picture) (text : List ℕ) → Redraws (IsReader picture) picture text → Resets picture (whole_region_text ++ text)
+resets : (picture : Picture) (text : List ℕ) →
+    Redraws (IsReader picture) picture text → Resets picture (whole_region_text ++ text)
 resets picture text d = record {
   quiet = λ reader r.
-      let (after, reads) = d.quiet (in_whole reader) (plain_reader picture reader r) in
-      (after, reads_then (terminal start reader) (terminal start (in_whole reader)) (terminal start after) whole_region_text text (whole_read reader) reads);
-  shows = λ reader after r e. d.shows (in_whole reader) after (plain_reader picture reader r) (read_behind reader after e);
-  rows = λ reader after r e. d.rows (in_whole reader) after (plain_reader picture reader r) (read_behind reader after e);
+      let (after, reads) = d.quiet (in_whole reader) (plain_reader picture reader r) in (
+        after,
+        reads_then (terminal start reader) (terminal start (in_whole reader))
+            (terminal start after) whole_region_text text (whole_read reader) reads,
+      );
+  shows =
+      λ reader after r e. d.shows (in_whole reader) after (plain_reader picture reader r) (read_behind reader after e);
+  rows =
+      λ reader after r e. d.rows (in_whole reader) after (plain_reader picture reader r) (read_behind reader after e);
   cursor = λ reader after r e.
       let has = d.cursor (in_whole reader) after (plain_reader picture reader r) (read_behind reader after e) in
       record { row = has.row; column = has.column; attrs = has.attrs; hidden = has.hidden };
   rest = λ reader after r e.
       let kept = d.rest (in_whole reader) after (plain_reader picture reader r) (read_behind reader after e) in
       let most = kept.but_modes in
-      record { other = most.other; is_alternate = most.is_alternate; scrollback = most.scrollback; width = most.width; modes = kept.modes };
+      record {
+        other = most.other;
+        is_alternate = most.is_alternate;
+        scrollback = most.scrollback;
+        width = most.width;
+        modes = kept.modes;
+      };
 } where
-  read_behind : (reader after : ScreenValue) → ReadsTo (whole_region_text ++ text) reader after → ReadsTo text (in_whole reader) after
+  read_behind : (reader after : ScreenValue) →
+      ReadsTo (whole_region_text ++ text) reader after → ReadsTo text (in_whole reader) after
   read_behind reader after e = behind whole_region_text text reader (in_whole reader) after (whole_read reader) e
 
-pub reset_resets : (self : ScreenValue) (text : List ℕ) → text ≡ reset_text (shown self) → IsScreen self → IsColored self → IsSteady (shown self) → Resets (shown self) text
+pub reset_resets : (self : ScreenValue) (text : List ℕ) → text ≡ reset_text (shown self) →
+    IsScreen self → IsColored self → IsSteady (shown self) → Resets (shown self) text
 reset_resets self text told is colored steady =
     let picture = shown self in
-    subst (Resets picture) (sym told) (resets picture (bytes_of_all (redraw picture)) (redraw_redraws self (bytes_of_all (redraw picture)) refl is colored steady))
+    subst (Resets picture) (sym told)
+    (resets picture (bytes_of_all (redraw picture))
+    (redraw_redraws self (bytes_of_all (redraw picture)) refl is colored steady))
 
 -- equal texts come from screens that show the same
-pub resets_tell : (a b : ScreenValue) → IsScreen a → IsColored a → IsSteady (shown a) → IsScreen b → IsColored b → IsSteady (shown b) → SamePictureSize (shown a) (shown b) → reset_text (shown a) ≡ reset_text (shown b) → shown a ≡ shown b
+pub resets_tell : (a b : ScreenValue) → IsScreen a → IsColored a → IsSteady (shown a) →
+    IsScreen b → IsColored b → IsSteady (shown b) → SamePictureSize (shown a) (shown b) →
+    reset_text (shown a) ≡ reset_text (shown b) → shown a ≡ shown b
 resets_tell a b is colored steady other colored_other steady_other size e =
     redraws_tell a b is colored steady other colored_other steady_other size (ap (drop (length whole_region_text)) e)

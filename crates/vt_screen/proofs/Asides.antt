@@ -1,5 +1,7 @@
--- What a screen has beside its active page stays whole where that page changes, rows are pushed into scrollback, or the pages change places.
-use Rattle.std.proofs.Common.{◌≡◌, ℕ, zero, suc, ◌+◌, ◌-◌, ◌<◌, ◌≤◌, ◌==◌, min, take, Bool, true, false, not, List, [], Option, Some, None, refl, sym, subst, ap, ◌∙◌, arith}
+-- What a screen has beside its active page stays whole where that page changes,
+-- rows are pushed into scrollback, or the pages change places.
+use Rattle.std.proofs.Common.{◌≡◌, ℕ, zero, suc, ◌+◌, ◌-◌, ◌<◌, ◌≤◌, ◌==◌, min, take, Bool, true, false}
+use Rattle.std.proofs.Common.{not, List, [], Option, Some, None, refl, sym, subst, ap, ◌∙◌, arith}
 use Rattle.std.specs.Prelude.{if◌then◌else◌, IfSome, All, length, map, option_map, ◌^◌}
 use Rattle.std.proofs.lemmas.List.{length-map, length-replicate, length-set}
 use Rattle.std.proofs.lemmas.List.Elements.{All-take}
@@ -16,24 +18,31 @@ use Rattle.vt_grid.proofs.Scrolling.{IsScrollback-pushed, IsScrollback-viewed}
 use Rattle.vt_grid.specs.Page.{Page, IsPage, blank_page, cursor_row, row_or}
 use Rattle.vt_grid.proofs.Pages.{page_blank, IsRow-cursor_row}
 use Rattle.vt_screen.proofs.Stable.{stable_blank}
-use Rattle.vt_grid.specs.Scrollback.{Scrollback, cleared, no_scrollback, grown_in_view, pushed, viewed, visible, reported, TakesMemory}
+use Rattle.vt_grid.specs.Scrollback.{Scrollback, cleared, no_scrollback, grown_in_view}
+use Rattle.vt_grid.specs.Scrollback.{pushed, viewed, visible, reported, TakesMemory}
 use Rattle.std.proofs.lemmas.Bool.{false≢true}
 use Rattle.vt_grid.specs.Resize.{leaving, out_of_view, page_resized, returning, scrollback_resized, window}
 use Rattle.vt_grid.proofs.Resizing.{length-window, page_page_resized, scrollback_resized_is}
 use Rattle.vt_grid.specs.Page.{SameSize}
 use Rattle.vt_screen.specs.Screen.{IsPrintable}
-use Rattle.vt_screen.specs.Keeping.{AreColored, Aside, IsAbove, IsKept, IsNothing, IsOther, main_scrollback, alternate_scrollback}
+use Rattle.vt_screen.specs.Keeping.{AreColored, Aside, IsAbove, IsKept, IsNothing}
+use Rattle.vt_screen.specs.Keeping.{IsOther, main_scrollback, alternate_scrollback}
 use Rattle.vt_screen.proofs.Sizes.{same_back, same_through}
-use Rattle.vt_screen.proofs.StableScrollback.{stable_page_resized, stable_pushed, stable_scrollback_resized, stable_viewed, pushed_capacity, grown_nothing, pushed_nothing, reported_nothing, visible_nothing}
+use Rattle.vt_screen.proofs.StableScrollback.{stable_page_resized, stable_pushed, stable_scrollback_resized}
+use Rattle.vt_screen.proofs.StableScrollback.{stable_viewed, pushed_capacity, grown_nothing, pushed_nothing}
+use Rattle.vt_screen.proofs.StableScrollback.{reported_nothing, visible_nothing}
 use Rattle.vt_screen.proofs.Coloring.{coloring}
 
 -- ---- the active page changes
 
-other_stays : (page new : Page) (other : Option Page) → SameSize new page → IfSome other (IsOther page) → IfSome other (IsOther new)
-other_stays page new (Some p) s k = record { sound = k.sound; colored = k.colored; same = same_through p page new k.same (same_back new page s) }
+other_stays : (page new : Page) (other : Option Page) → SameSize new page →
+    IfSome other (IsOther page) → IfSome other (IsOther new)
+other_stays page new (Some p) s k =
+    record { sound = k.sound; colored = k.colored; same = same_through p page new k.same (same_back new page s) }
 other_stays page new None s k = k
 
-pub kept_page : (page new : Page) (last : Option ℕ) (aside : Aside) → IsPage new → AreColored new.rows → SameSize new page → IsKept page last aside → IsKept new last aside
+pub kept_page : (page new : Page) (last : Option ℕ) (aside : Aside) → IsPage new →
+    AreColored new.rows → SameSize new page → IsKept page last aside → IsKept new last aside
 kept_page page new last aside sound colored same k = record {
   sound = sound;
   colored = colored;
@@ -44,24 +53,40 @@ kept_page page new last aside sound colored same k = record {
   above = k.above;
 }
 
-pub kept_last : (page : Page) (last new : Option ℕ) (aside : Aside) → IfSome new IsPrintable → IsKept page last aside → IsKept page new aside
+pub kept_last : (page : Page) (last new : Option ℕ) (aside : Aside) →
+    IfSome new IsPrintable → IsKept page last aside → IsKept page new aside
 kept_last page last new aside printable k =
-    record { sound = k.sound; colored = k.colored; printable = printable; other = k.other; entered = k.entered; nothing = k.nothing; above = k.above }
+    record {
+      sound = k.sound;
+      colored = k.colored;
+      printable = printable;
+      other = k.other;
+      entered = k.entered;
+      nothing = k.nothing;
+      above = k.above;
+    }
 
 -- ---- scrollback changes
 
-pub nothing_pushed : (height width : ℕ) (gone : List RowValue) (above : Scrollback) → IsNothing above → IsNothing (pushed height width gone above)
+pub nothing_pushed : (height width : ℕ) (gone : List RowValue) (above : Scrollback) →
+    IsNothing above → IsNothing (pushed height width gone above)
 nothing_pushed height width gone above n =
     let p = pushed_nothing height width gone above n.capacity n.rows n.offset in
     record { capacity = pushed_capacity height width gone above ∙ n.capacity; rows = p.0; offset = p.1 }
 
-pub nothing_viewed : (height width n : ℕ) (above : Scrollback) → IsNothing above → IsNothing (viewed height width n above)
+pub nothing_viewed : (height width n : ℕ) (above : Scrollback) →
+    IsNothing above → IsNothing (viewed height width n above)
 unfolding viewed grown_in_view
 nothing_viewed height width n above k =
-    record { capacity = k.capacity; rows = grown_nothing height width (record above { offset = min n (length above.rows) }) (rw k.rows refl); offset = rw k.rows (omega arith) }
+    record {
+      capacity = k.capacity;
+      rows = grown_nothing height width (record above { offset = min n (length above.rows) }) (rw k.rows refl);
+      offset = rw k.rows (omega arith);
+    }
 
 -- scrollback above the active page becomes another
-pub kept_above : (page : Page) (last : Option ℕ) (aside : Aside) (above : Scrollback) → (IsNothing aside.active → IsNothing above) → (IsAbove aside.active → IsAbove above)
+pub kept_above : (page : Page) (last : Option ℕ) (aside : Aside) (above : Scrollback)
+    → (IsNothing aside.active → IsNothing above) → (IsAbove aside.active → IsAbove above)
     → IsKept page last aside → IsKept page last (record aside { active = above })
 kept_above page last aside above f g k = record {
   sound = k.sound;
@@ -72,16 +97,19 @@ kept_above page last aside above f g k = record {
   nothing = nothing_above aside.is_alternate aside.active above aside.idle f k.nothing;
   above = is_above aside.is_alternate aside.active above aside.idle g k.above;
 } where
-  nothing_above : (b : Bool) (active above idle : Scrollback) → (IsNothing active → IsNothing above) → IsNothing (alternate_scrollback b active idle) → IsNothing (alternate_scrollback b above idle)
+  nothing_above : (b : Bool) (active above idle : Scrollback) → (IsNothing active → IsNothing above) →
+      IsNothing (alternate_scrollback b active idle) → IsNothing (alternate_scrollback b above idle)
   nothing_above true active above idle f n = f n
   nothing_above false active above idle f n = n
 
-  is_above : (b : Bool) (active above idle : Scrollback) → (IsAbove active → IsAbove above) → IsAbove (main_scrollback b active idle) → IsAbove (main_scrollback b above idle)
+  is_above : (b : Bool) (active above idle : Scrollback) → (IsAbove active → IsAbove above) →
+      IsAbove (main_scrollback b active idle) → IsAbove (main_scrollback b above idle)
   is_above true active above idle g c = c
   is_above false active above idle g c = g c
 
 -- rows left the active page
-pub kept_sent : (height : ℕ) (gone : List RowValue) (page : Page) (last : Option ℕ) (aside : Aside) (width : ℕ) → All (IsRow width) gone → AreColored gone → IsKept page last aside
+pub kept_sent : (height : ℕ) (gone : List RowValue) (page : Page) (last : Option ℕ) (aside : Aside) (width : ℕ)
+    → All (IsRow width) gone → AreColored gone → IsKept page last aside
     → IsKept page last (record aside { active = pushed height width gone aside.active })
 kept_sent height gone page last aside width sound colored k =
     kept_above page last aside (pushed height width gone aside.active) (nothing_pushed height width gone aside.active)
@@ -92,14 +120,20 @@ kept_sent height gone page last aside width sound colored k =
     k
 
 pub above_none : (capacity : ℕ) → IsAbove (no_scrollback capacity)
-above_none capacity = record { sound = record { kept = omega arith; in_view = omega arith; sound = λ i d h. absurd (omega (arith, h)) }; colored = λ i d h. absurd (omega (arith, h)) }
+above_none capacity = record {
+  sound = record { kept = omega arith; in_view = omega arith; sound = λ i d h. absurd (omega (arith, h)) };
+  colored = λ i d h. absurd (omega (arith, h));
+}
 
-pub kept_cleared : (page : Page) (last : Option ℕ) (aside : Aside) → IsKept page last aside → IsKept page last (record aside { active = cleared aside.active })
+pub kept_cleared : (page : Page) (last : Option ℕ) (aside : Aside) → IsKept page last aside →
+    IsKept page last (record aside { active = cleared aside.active })
 kept_cleared page last aside k =
-    kept_above page last aside (cleared aside.active) (λ n. record { capacity = n.capacity; rows = refl; offset = refl }) (λ a. above_none aside.active.capacity) k
+    kept_above page last aside (cleared aside.active)
+    (λ n. record { capacity = n.capacity; rows = refl; offset = refl }) (λ a. above_none aside.active.capacity) k
 
 -- other rows come into view
-pub kept_viewed : (height width n : ℕ) (page : Page) (last : Option ℕ) (aside : Aside) → IsKept page last aside → IsKept page last (record aside { active = viewed height width n aside.active })
+pub kept_viewed : (height width n : ℕ) (page : Page) (last : Option ℕ) (aside : Aside) →
+    IsKept page last aside → IsKept page last (record aside { active = viewed height width n aside.active })
 kept_viewed height width n page last aside k =
     kept_above page last aside (viewed height width n aside.active) (nothing_viewed height width n aside.active)
     (λ a. record {
@@ -108,57 +142,79 @@ kept_viewed height width n page last aside k =
     })
     k
 
-pub kept_out_of_view : (page : Page) (last : Option ℕ) (aside : Aside) → IsKept page last aside → IsKept page last (record aside { active = out_of_view aside.active })
+pub kept_out_of_view : (page : Page) (last : Option ℕ) (aside : Aside) → IsKept page last aside →
+    IsKept page last (record aside { active = out_of_view aside.active })
 kept_out_of_view page last aside k =
-    kept_above page last aside (out_of_view aside.active) (λ n. record { capacity = n.capacity; rows = n.rows; offset = refl })
-    (λ a. record { sound = record { kept = a.sound.kept; in_view = omega arith; sound = a.sound.sound }; colored = a.colored }) k
+    kept_above page last aside (out_of_view aside.active)
+    (λ n. record { capacity = n.capacity; rows = n.rows; offset = refl })
+    (λ a.
+    record {
+      sound = record { kept = a.sound.kept; in_view = omega arith; sound = a.sound.sound };
+      colored = a.colored;
+    })
+    k
 
 -- ---- the rows that leave the active page are rows of it
 
-rows_where : (width : ℕ) (b : Bool) (rows : List RowValue) → All (IsRow width) rows → All (IsRow width) (if b then rows else [])
+rows_where : (width : ℕ) (b : Bool) (rows : List RowValue) →
+    All (IsRow width) rows → All (IsRow width) (if b then rows else [])
 rows_where width true rows all = all
 rows_where width false rows all = λ i d h. absurd (omega (arith, h))
 
 pub rows_fed_out : (page : Page) → IsPage page → All (IsRow page.width) (fed_out page)
-rows_fed_out page p = rows_where page.width (feeds_out page) (take 1 page.rows) (All-take (IsRow page.width) 1 page.rows p.rows)
+rows_fed_out page p =
+    rows_where page.width (feeds_out page) (take 1 page.rows) (All-take (IsRow page.width) 1 page.rows p.rows)
 
 pub rows_scrolled_out : (n : ℕ) (page : Page) → IsPage page → All (IsRow page.width) (scrolled_out n page)
 rows_scrolled_out n page p =
-    rows_where page.width (page.top == 0) (take (min n (page.bottom + 1)) page.rows) (All-take (IsRow page.width) (min n (page.bottom + 1)) page.rows p.rows)
+    rows_where page.width (page.top == 0) (take (min n (page.bottom + 1)) page.rows)
+    (All-take (IsRow page.width) (min n (page.bottom + 1)) page.rows p.rows)
 
 before : (b : Bool) (column width : ℕ) → 0 < width → column ≤ width → (if b then column - 2 else column - 1) < width
 before true column width h k = omega arith
 before false column width h k = omega arith
 
-rows_left : (columns : Option ℕ) (attrs : Attrs) (page : Page) → IsPage page → All (IsRow page.width) (left_by columns attrs page).rows
+rows_left : (columns : Option ℕ) (attrs : Attrs) (page : Page) →
+    IsPage page → All (IsRow page.width) (left_by columns attrs page).rows
 rows_left None attrs page p = p.rows
 rows_left (Some (suc n)) attrs page p = p.rows
 rows_left (Some zero) attrs page p =
     let k : mark_column page < length (cursor_row page).cells
-    = omega (arith, before (is_right_half (at (cursor_row page).cells (page.column - 1))) page.column page.width p.has_columns p.cursor_column, (IsRow-cursor_row page p).columns) in
+    = omega (
+      arith,
+      before (is_right_half (at (cursor_row page).cells (page.column - 1)))
+          page.column page.width p.has_columns p.cursor_column,
+      (IsRow-cursor_row page p).columns,
+    ) in
     (page_lifted (mark_column page) attrs page k p).rows
 
-pub rows_printed_out : (c : ℕ) (attrs : Attrs) (page : Page) → IsPage page → All (IsRow page.width) (printed_out c attrs page)
+pub rows_printed_out : (c : ℕ) (attrs : Attrs) (page : Page) →
+    IsPage page → All (IsRow page.width) (printed_out c attrs page)
 rows_printed_out c attrs page p =
     let left = (left_by (columns_of c) attrs page).rows in
-    rows_where page.width (pushes c page) (take 1 left) (All-take (IsRow page.width) 1 left (rows_left (columns_of c) attrs page p))
+    rows_where page.width (pushes c page) (take 1 left)
+    (All-take (IsRow page.width) 1 left (rows_left (columns_of c) attrs page p))
 
 -- ---- the other page
 
 one_other : (page other : Page) (o : Option Page) → o ≡ Some other → IfSome o (IsOther page) → IsOther page other
 one_other page other o e k = subst (λ (x : Option Page). IfSome x (IsOther page)) e k
 
-nothing_turned : (b : Bool) (active idle : Scrollback) → IsNothing (alternate_scrollback b active idle) → IsNothing (alternate_scrollback (not b) idle active)
+nothing_turned : (b : Bool) (active idle : Scrollback) →
+    IsNothing (alternate_scrollback b active idle) → IsNothing (alternate_scrollback (not b) idle active)
 nothing_turned true active idle n = n
 nothing_turned false active idle n = n
 
-above_turned : (b : Bool) (active idle : Scrollback) → IsAbove (main_scrollback b active idle) → IsAbove (main_scrollback (not b) idle active)
+above_turned : (b : Bool) (active idle : Scrollback) →
+    IsAbove (main_scrollback b active idle) → IsAbove (main_scrollback (not b) idle active)
 above_turned true active idle c = c
 above_turned false active idle c = c
 
 -- the pages change places
-pub kept_exchanged : (page other : Page) (last : Option ℕ) (aside : Aside) → aside.other ≡ Some other → IsKept page last aside
-    → IsKept other last (record { other = Some page; is_alternate = not aside.is_alternate; active = aside.idle; idle = aside.active })
+pub kept_exchanged : (page other : Page) (last : Option ℕ) (aside : Aside)
+    → aside.other ≡ Some other → IsKept page last aside
+    → IsKept other last
+    (record { other = Some page; is_alternate = not aside.is_alternate; active = aside.idle; idle = aside.active })
 kept_exchanged page other last aside e k =
     let o = one_other page other aside.other e k.other in
     record {
@@ -172,14 +228,17 @@ kept_exchanged page other last aside e k =
     }
 
 -- a fresh page of the same size
-other_fresh : (page : Page) (height width : ℕ) → height ≡ length page.rows → width ≡ page.width → IsPage page → IsOther page (blank_page height width)
+other_fresh : (page : Page) (height width : ℕ) → height ≡ length page.rows →
+    width ≡ page.width → IsPage page → IsOther page (blank_page height width)
 other_fresh page height width h w p = record {
-  sound = page_blank height width (omega (arith, h, p.cursor_row)) (rw h p.height) (rw w p.has_columns) (rw w p.columns);
+  sound =
+      page_blank height width (omega (arith, h, p.cursor_row)) (rw h p.height) (rw w p.has_columns) (rw w p.columns);
   colored = stable_blank coloring height width;
   same = record { width = w; height = length-replicate height (blank_row default_attrs width) ∙ h };
 }
 
-pub kept_other : (page : Page) (last : Option ℕ) (aside : Aside) (height width : ℕ) → height ≡ length page.rows → width ≡ page.width → IsKept page last aside
+pub kept_other : (page : Page) (last : Option ℕ) (aside : Aside) (height width : ℕ)
+    → height ≡ length page.rows → width ≡ page.width → IsKept page last aside
     → IsKept page last (record aside { other = Some (blank_page height width) })
 kept_other page last aside height width h w k = record {
   sound = k.sound;
@@ -192,13 +251,16 @@ kept_other page last aside height width h w k = record {
 }
 
 -- the size of the other page
-pub other_height : (page other : Page) (last : Option ℕ) (aside : Aside) → aside.other ≡ Some other → IsKept page last aside → length other.rows ≡ length page.rows
+pub other_height : (page other : Page) (last : Option ℕ) (aside : Aside) →
+    aside.other ≡ Some other → IsKept page last aside → length other.rows ≡ length page.rows
 other_height page other last aside e k = (one_other page other aside.other e k.other).same.height
 
-pub other_width : (page other : Page) (last : Option ℕ) (aside : Aside) → aside.other ≡ Some other → IsKept page last aside → other.width ≡ page.width
+pub other_width : (page other : Page) (last : Option ℕ) (aside : Aside) →
+    aside.other ≡ Some other → IsKept page last aside → other.width ≡ page.width
 other_width page other last aside e k = (one_other page other aside.other e k.other).same.width
 
-pub kept_fresh : (page : Page) (last : Option ℕ) (aside : Aside) → IsKept page last aside → IsKept (blank_page (length page.rows) page.width) last aside
+pub kept_fresh : (page : Page) (last : Option ℕ) (aside : Aside) →
+    IsKept page last aside → IsKept (blank_page (length page.rows) page.width) last aside
 kept_fresh page last aside k =
     let o = other_fresh page (length page.rows) page.width refl refl k.sound in
     kept_page page (blank_page (length page.rows) page.width) last aside o.sound o.colored o.same k
@@ -206,29 +268,36 @@ kept_fresh page last aside k =
 -- ---- what the active page's scrollback is to the screen
 
 -- scrollback after rows left the active page: the main page's has them
-pub sent_if : {X : Type 0} (b : Bool) (f : Scrollback → X) (height width : ℕ) (gone : List RowValue) (active idle above whole : Scrollback) → whole ≡ main_scrollback b active idle → above ≡ pushed height width gone active
+pub sent_if : {X : Type 0} (b : Bool) (f : Scrollback → X) (height width : ℕ)
+    (gone : List RowValue) (active idle above whole : Scrollback)
+    → whole ≡ main_scrollback b active idle → above ≡ pushed height width gone active
     → (if b then f whole else f (pushed height width gone whole)) ≡ f (main_scrollback b above idle)
 sent_if true f height width gone active idle above whole w a = ap f w
-sent_if false f height width gone active idle above whole w a = ap (λ (s : Scrollback). f (pushed height width gone s)) w ∙ ap f (sym a)
+sent_if false f height width gone active idle above whole w a =
+    ap (λ (s : Scrollback). f (pushed height width gone s)) w ∙ ap f (sym a)
 
-pub reported_if : (b : Bool) (gone : List RowValue) (active idle whole : Scrollback) → whole ≡ main_scrollback b active idle → IsNothing (alternate_scrollback b active idle)
+pub reported_if : (b : Bool) (gone : List RowValue) (active idle whole : Scrollback)
+    → whole ≡ main_scrollback b active idle → IsNothing (alternate_scrollback b active idle)
     → reported gone active ≡ reported gone (if b then no_scrollback 0 else whole)
 reported_if true gone active idle whole w n = reported_nothing gone active n.capacity n.rows
 reported_if false gone active idle whole w n = ap (reported gone) (sym w)
 
-pub takes_if : (b : Bool) (gone : List RowValue) (active idle whole : Scrollback) → whole ≡ main_scrollback b active idle → IsNothing (alternate_scrollback b active idle)
+pub takes_if : (b : Bool) (gone : List RowValue) (active idle whole : Scrollback)
+    → whole ≡ main_scrollback b active idle → IsNothing (alternate_scrollback b active idle)
     → TakesMemory gone active → TakesMemory gone (if b then no_scrollback 0 else whole)
 takes_if true gone active idle whole w n t = (t.0, rw (← n.capacity) t.1)
 takes_if false gone active idle whole w n t = rw w t
 
-pub visible_if : (b : Bool) (rows : List RowValue) (active idle whole : Scrollback) → whole ≡ main_scrollback b active idle → IsNothing (alternate_scrollback b active idle)
+pub visible_if : (b : Bool) (rows : List RowValue) (active idle whole : Scrollback)
+    → whole ≡ main_scrollback b active idle → IsNothing (alternate_scrollback b active idle)
     → visible active rows ≡ visible (if b then no_scrollback 0 else whole) rows
 visible_if true rows active idle whole w n = visible_nothing rows active n.rows n.offset
 visible_if false rows active idle whole w n = ap (λ (s : Scrollback). visible s rows) (sym w)
 
 -- ---- another size
 
-pub height_resized : (height width : ℕ) (above : Scrollback) (page : Page) → length (page_resized height width above page).rows ≡ height
+pub height_resized : (height width : ℕ) (above : Scrollback) (page : Page) →
+    length (page_resized height width above page).rows ≡ height
 unfolding page_resized
 height_resized height width above page =
     let down = leaving height page in
@@ -238,18 +307,22 @@ height_resized height width above page =
     length-set cut (length rows - 1) (record (row_or width cut (length rows - 1)) { wrapped = false })
     ∙ (length-map rows (resized_row width) ∙ length-window page.width height down up above.rows page.rows)
 
-width_resized : (height width : ℕ) (above : Scrollback) (page : Page) → (page_resized height width above page).width ≡ width
+width_resized : (height width : ℕ) (above : Scrollback) (page : Page) →
+    (page_resized height width above page).width ≡ width
 unfolding page_resized
 width_resized height width above page = refl
 
-pub same_resized : (height width : ℕ) (above beyond : Scrollback) (page other : Page) → SameSize (page_resized height width above page) (page_resized height width beyond other)
+pub same_resized : (height width : ℕ) (above beyond : Scrollback) (page other : Page) →
+    SameSize (page_resized height width above page) (page_resized height width beyond other)
 same_resized height width above beyond page other = record {
   width = width_resized height width above page ∙ sym (width_resized height width beyond other);
   height = height_resized height width above page ∙ sym (height_resized height width beyond other);
 }
 
-other_resized : (height width : ℕ) (above : Scrollback) (page : Page) (other : Option Page) → 0 < height → height < 2 ^ 16 → 0 < width → width < 2 ^ 16 → IfSome other (IsOther page)
-    → IfSome (option_map (page_resized height width (no_scrollback 0)) other) (IsOther (page_resized height width above page))
+other_resized : (height width : ℕ) (above : Scrollback) (page : Page) (other : Option Page)
+    → 0 < height → height < 2 ^ 16 → 0 < width → width < 2 ^ 16 → IfSome other (IsOther page)
+    → IfSome (option_map (page_resized height width (no_scrollback 0)) other)
+    (IsOther (page_resized height width above page))
 other_resized height width above page None a b c d k = k
 other_resized height width above page (Some p) a b c d k = record {
   sound = page_page_resized height width (no_scrollback 0) p k.sound (above_none 0).sound a b c d;
@@ -265,12 +338,21 @@ main_back : (b : Bool) (active idle : Scrollback) → b ≡ false → IsAbove ac
 main_back true active idle e k = absurd (false≢true (sym e))
 main_back false active idle e k = k
 
-nothing_back : (b : Bool) (active idle : Scrollback) → b ≡ false → IsNothing idle → IsNothing (alternate_scrollback b active idle)
+nothing_back : (b : Bool) (active idle : Scrollback) → b ≡ false →
+    IsNothing idle → IsNothing (alternate_scrollback b active idle)
 nothing_back true active idle e k = absurd (false≢true (sym e))
 nothing_back false active idle e k = k
 
-pub kept_resized : (height width : ℕ) (page : Page) (last : Option ℕ) (aside : Aside) (idle : Scrollback) → 0 < height → height < 2 ^ 16 → 0 < width → width < 2 ^ 16 → aside.is_alternate ≡ false → IsNothing idle → IsKept page last aside
-    → IsKept (page_resized height width aside.active page) last (record { other = option_map (page_resized height width (no_scrollback 0)) aside.other; is_alternate = aside.is_alternate; active = scrollback_resized height page aside.active; idle = idle })
+pub kept_resized : (height width : ℕ) (page : Page) (last : Option ℕ) (aside : Aside) (idle : Scrollback)
+    → 0 < height → height < 2 ^ 16 → 0 < width → width < 2 ^ 16
+    → aside.is_alternate ≡ false → IsNothing idle → IsKept page last aside
+    → IsKept (page_resized height width aside.active page) last
+    (record {
+      other = option_map (page_resized height width (no_scrollback 0)) aside.other;
+      is_alternate = aside.is_alternate;
+      active = scrollback_resized height page aside.active;
+      idle = idle;
+    })
 kept_resized height width page last aside idle a b c d main n k =
     let above = main_if aside.is_alternate aside.active aside.idle main k.above in
     record {

@@ -11,11 +11,14 @@ use Rattle.vt_screen.proofs.Readback.{cleared_read, changed_read}
 use Rattle.vt_screen.proofs.ReadbackTexts.{reads_then}
 
 -- every terminal in the midst of nothing takes these attributes, and stays as it is otherwise
-pub attributes_set : (attrs : Attrs) (text : List ℕ) → text ≡ attributes_text attrs → FitsAttrs attrs → SetsAttrs attrs text
+pub attributes_set : (attrs : Attrs) (text : List ℕ) →
+    text ≡ attributes_text attrs → FitsAttrs attrs → SetsAttrs attrs text
 attributes_set attrs text told fits reader =
     let plain : ScreenValue = record reader { attrs = default_attrs } in
     let first = cleared_read reader in
-    let second = changed_read default_attrs attrs plain fits ∙ ap (λ (a : Attrs). Some (terminal start (record reader { attrs = a }))) (changed_attrs-new default_attrs attrs) in
+    let second = changed_read default_attrs attrs plain fits
+    ∙ ap (λ (a : Attrs). Some (terminal start (record reader { attrs = a }))) (changed_attrs-new default_attrs attrs) in
     let change = change_text default_attrs attrs in
     ap (read (terminal start reader)) (told ∙ ap (λ (t : List ℕ). csi [] 0x6D ++ t) (append-nil change))
-    ∙ reads_then (terminal start reader) (terminal start plain) (terminal start (record reader { attrs = attrs })) (csi [] 0x6D) change first second
+    ∙ reads_then (terminal start reader) (terminal start plain)
+    (terminal start (record reader { attrs = attrs })) (csi [] 0x6D) change first second

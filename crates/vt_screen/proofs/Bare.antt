@@ -9,7 +9,14 @@ use Rattle.vt_scan.specs.Run.{run}
 use Rattle.vt_screen.specs.Pages.{fresh_page, page_aside, entered, left, restored, saved}
 use Rattle.vt_screen.specs.Screen.{ScreenValue, scrolled_back}
 use Rattle.vt_screen.specs.Controls.{seen_of, steps_of}
-use Rattle.vt_screen.specs.Steps.{Step, Print, CarriageReturn, LineFeed, ReverseIndex, MoveUp, MoveDown, MoveRight, MoveLeft, NextLine, PreviousLine, Tab, MoveTo, MoveToColumn, MoveToRow, SetRegion, UseOrigin, EraseBelow, EraseAbove, ErasePage, EraseScrollback, EraseRest, EraseStart, EraseRow, EraseChars, InsertChars, DeleteChars, InsertLines, DeleteLines, ScrollUp, ScrollDown, Render, HideCursor, UseApplicationCursor, UseBracketedPaste, SetMouseMode, ClearMouseMode, SetMouseEncoding, ClearMouseEncoding, SetCursorStyle, SaveCursor, RestoreCursor, EnterAlternate, EnterFresh, LeaveAlternate, LeaveRestoring, Reset, UseApplicationKeypad, Tell, scrolled, stepped}
+use Rattle.vt_screen.specs.Steps.{Step, Print, CarriageReturn, LineFeed, ReverseIndex, MoveUp, MoveDown, MoveRight}
+use Rattle.vt_screen.specs.Steps.{MoveLeft, NextLine, PreviousLine, Tab, MoveTo, MoveToColumn, MoveToRow, SetRegion}
+use Rattle.vt_screen.specs.Steps.{UseOrigin, EraseBelow, EraseAbove, ErasePage, EraseScrollback, EraseRest, EraseStart}
+use Rattle.vt_screen.specs.Steps.{EraseRow, EraseChars, InsertChars, DeleteChars, InsertLines, DeleteLines, ScrollUp}
+use Rattle.vt_screen.specs.Steps.{ScrollDown, Render, HideCursor, UseApplicationCursor, UseBracketedPaste, SetMouseMode}
+use Rattle.vt_screen.specs.Steps.{ClearMouseMode, SetMouseEncoding, ClearMouseEncoding, SetCursorStyle, SaveCursor}
+use Rattle.vt_screen.specs.Steps.{RestoreCursor, EnterAlternate, EnterFresh, LeaveAlternate, LeaveRestoring, Reset}
+use Rattle.vt_screen.specs.Steps.{UseApplicationKeypad, Tell, scrolled, stepped}
 use Rattle.vt_screen.specs.Streamed.{bare, sent_off, sent_off_all, sent_off_in}
 use Rattle.vt_screen.specs.Telling.{screen_in, stepped_all, steps_in, steps_of_all}
 
@@ -19,20 +26,27 @@ SameBare s t = bare s ≡ bare t
 
 -- ---- one step
 
-bare_if : (b : Bool) (x y : ScreenValue) (p q : Scrollback) → SameBare x y → SameBare (if b then x else record x { scrollback = p }) (if b then y else record y { scrollback = q })
+bare_if : (b : Bool) (x y : ScreenValue) (p q : Scrollback) → SameBare x y →
+    SameBare (if b then x else record x { scrollback = p }) (if b then y else record y { scrollback = q })
 bare_if true x y p q e = e
 bare_if false x y p q e = e
 
 bare_entered : (s : ScreenValue) → SameBare (entered s) (entered (bare s))
 bare_entered s = by s.is_alternate where
-  by : (b : Bool) → SameBare (if b then s else record s { page = page_aside s; other = Some s.page; is_alternate = true; scrollback = out_of_view s.scrollback })
-      (if b then bare s else record (bare s) { page = page_aside s; other = Some s.page; is_alternate = true; scrollback = out_of_view (bare s).scrollback })
+  by : (b : Bool) →
+      SameBare (if b then s
+      else record s
+      { page = page_aside s; other = Some s.page; is_alternate = true; scrollback = out_of_view s.scrollback })
+      (if b then bare s
+      else record (bare s)
+      { page = page_aside s; other = Some s.page; is_alternate = true; scrollback = out_of_view (bare s).scrollback })
   by true = refl
   by false = refl
 
 bare_left : (s : ScreenValue) → SameBare (left s) (left (bare s))
 bare_left s = by s.is_alternate where
-  by : (b : Bool) → SameBare (if b then record s { page = page_aside s; other = Some s.page; is_alternate = false } else s)
+  by : (b : Bool) →
+      SameBare (if b then record s { page = page_aside s; other = Some s.page; is_alternate = false } else s)
       (if b then record (bare s) { page = page_aside s; other = Some s.page; is_alternate = false } else bare s)
   by true = refl
   by false = refl
@@ -40,8 +54,10 @@ bare_left s = by s.is_alternate where
 bare_step : (x : Step) (s : ScreenValue) → SameBare (scrolled x s) (scrolled x (bare s))
 bare_step (Print c) s = bare_if s.is_alternate (stepped (Print c) s) (stepped (Print c) (bare s)) _ _ refl
 bare_step LineFeed s = bare_if s.is_alternate (stepped LineFeed s) (stepped LineFeed (bare s)) _ _ refl
-bare_step (ScrollUp count) s = bare_if s.is_alternate (stepped (ScrollUp count) s) (stepped (ScrollUp count) (bare s)) _ _ refl
-bare_step EraseScrollback s = bare_if s.is_alternate s (bare s) (cleared s.scrollback) (cleared (bare s).scrollback) refl
+bare_step (ScrollUp count) s =
+    bare_if s.is_alternate (stepped (ScrollUp count) s) (stepped (ScrollUp count) (bare s)) _ _ refl
+bare_step EraseScrollback s =
+    bare_if s.is_alternate s (bare s) (cleared s.scrollback) (cleared (bare s).scrollback) refl
 bare_step EnterAlternate s = bare_entered s
 bare_step EnterFresh s = ap (λ (t : ScreenValue). record t { page = fresh_page s }) (bare_entered (saved s))
 bare_step LeaveAlternate s = bare_left s
@@ -145,20 +161,25 @@ both_sent x s t e = sent_bare x s ∙ (ap (sent_off x) e ∙ sym (sent_bare x t)
 
 -- ---- steps, one after the other
 
-pub both_stepped : (steps : List Step) (s t : ScreenValue) → SameBare s t → SameBare (stepped_all steps s) (stepped_all steps t)
+pub both_stepped : (steps : List Step) (s t : ScreenValue) →
+    SameBare s t → SameBare (stepped_all steps s) (stepped_all steps t)
 both_stepped [] s t e = e
 both_stepped (x ∷ steps) s t e = both_stepped steps (scrolled x s) (scrolled x t) (both_step x s t e)
 
 pub both_sent_all : (steps : List Step) (s t : ScreenValue) → SameBare s t → sent_off_all steps s ≡ sent_off_all steps t
 both_sent_all [] s t e = refl
-both_sent_all (x ∷ steps) s t e = ap₂ (λ (xs ys : List RowValue). xs ++ ys) (both_sent x s t e) (both_sent_all steps (scrolled x s) (scrolled x t) (both_step x s t e))
+both_sent_all (x ∷ steps) s t e =
+    ap₂ (λ (xs ys : List RowValue). xs ++ ys) (both_sent x s t e)
+    (both_sent_all steps (scrolled x s) (scrolled x t) (both_step x s t e))
 
 -- ---- events
 
-both_steps : (event : Event) (s t : ScreenValue) → SameBare s t → steps_of event (seen_of s) ≡ steps_of event (seen_of t)
+both_steps : (event : Event) (s t : ScreenValue) → SameBare s t →
+    steps_of event (seen_of s) ≡ steps_of event (seen_of t)
 both_steps event s t e = ap (λ (u : ScreenValue). steps_of event (seen_of u)) e
 
-pub both_steps_all : (events : List Event) (s t : ScreenValue) → SameBare s t → steps_of_all events s ≡ steps_of_all events t
+pub both_steps_all : (events : List Event) (s t : ScreenValue) →
+    SameBare s t → steps_of_all events s ≡ steps_of_all events t
 both_steps_all [] s t e = refl
 both_steps_all (event ∷ events) s t e =
     let steps = steps_of event (seen_of s) in
@@ -168,17 +189,22 @@ both_steps_all (event ∷ events) s t e =
 
 -- ---- bytes
 
-pub both_sent_in : (scan : State) (s t : ScreenValue) (bytes : List ℕ) → SameBare s t → sent_off_in scan s bytes ≡ sent_off_in scan t bytes
+pub both_sent_in : (scan : State) (s t : ScreenValue) (bytes : List ℕ) →
+    SameBare s t → sent_off_in scan s bytes ≡ sent_off_in scan t bytes
 both_sent_in scan s t bytes e =
-    both_sent_all (steps_in scan s bytes) s t e ∙ ap (λ (steps : List Step). sent_off_all steps t) (both_steps_all (run scan bytes).events s t e)
+    both_sent_all (steps_in scan s bytes) s t e
+    ∙ ap (λ (steps : List Step). sent_off_all steps t) (both_steps_all (run scan bytes).events s t e)
 
-pub both_screen_in : (scan : State) (s t : ScreenValue) (bytes : List ℕ) → SameBare s t → SameBare (screen_in scan s bytes) (screen_in scan t bytes)
+pub both_screen_in : (scan : State) (s t : ScreenValue) (bytes : List ℕ) →
+    SameBare s t → SameBare (screen_in scan s bytes) (screen_in scan t bytes)
 both_screen_in scan s t bytes e =
-    both_stepped (steps_in scan s bytes) s t e ∙ ap (λ (steps : List Step). bare (stepped_all steps t)) (both_steps_all (run scan bytes).events s t e)
+    both_stepped (steps_in scan s bytes) s t e
+    ∙ ap (λ (steps : List Step). bare (stepped_all steps t)) (both_steps_all (run scan bytes).events s t e)
 
 -- another number of rows in view
 pub bare_scrolled_back : (n : ℕ) (s : ScreenValue) → SameBare (scrolled_back n s) s
 bare_scrolled_back n s = by s.is_alternate where
-  by : (b : Bool) → SameBare (if b then s else record s { scrollback = viewed (length s.page.rows) s.page.width n s.scrollback }) s
+  by : (b : Bool) →
+      SameBare (if b then s else record s { scrollback = viewed (length s.page.rows) s.page.width n s.scrollback }) s
   by true = refl
   by false = refl

@@ -9,43 +9,63 @@ use Rattle.vt_redraw.specs.Steady.{IsSteady}
 use Rattle.vt_redraw.proofs.Cuts.{cut_same}
 use Rattle.vt_redraw.proofs.Difference.{flags_end_of}
 use Rattle.vt_screen.specs.Screen.{ScreenValue, IsScreen, IsColored, above_page}
-use Rattle.vt_screen.specs.Shown.{IsPlain, IsReader, IsReaderOf, IsReadBy, Makes, ShowsPlainly, HasRows, HasCursor, KeepsRest, shown, showing}
+use Rattle.vt_screen.specs.Shown.{IsPlain, IsReader, IsReaderOf, IsReadBy, Makes, ShowsPlainly}
+use Rattle.vt_screen.specs.Shown.{HasRows, HasCursor, KeepsRest, shown, showing}
 use Rattle.vt_screen.proofs.Redrawing.{Became, Becomes, became, redraw_read, difference_read}
 use Rattle.vt_screen.proofs.Shown.{none_above, shown_height, shown_is}
 
 -- a plain screen with other rows shows them
-shown_showing : (picture : Picture) (saved : Saved) (last : Option ℕ) (reader : ScreenValue) → IsPicture picture → IsReader picture reader → shown (showing picture saved last reader) ≡ picture
+shown_showing : (picture : Picture) (saved : Saved) (last : Option ℕ) (reader : ScreenValue) →
+    IsPicture picture → IsReader picture reader → shown (showing picture saved last reader) ≡ picture
 shown_showing picture saved last reader is r =
     let width = reader.page.width in
-    ap (λ (rows : List RowValue). record picture { rows = cut_rows width rows; width = width }) (none_above (above_page reader) picture.rows r.plain.offset)
+    ap (λ (rows : List RowValue). record picture { rows = cut_rows width rows; width = width })
+    (none_above (above_page reader) picture.rows r.plain.offset)
     ∙ (ap (λ (w : ℕ). record picture { rows = cut_rows w picture.rows; width = w }) (sym r.size.width)
     ∙ ap (λ (rows : List RowValue). record picture { rows = rows })
-    (cut_same picture.width picture.rows (recursion_from_All (IsRow picture.width) picture.rows is.rows) (flags_end_of picture.width picture.rows is.last)))
+    (cut_same picture.width picture.rows (recursion_from_All (IsRow picture.width) picture.rows is.rows)
+    (flags_end_of picture.width picture.rows is.last)))
 
-plain_showing : (picture : Picture) (saved : Saved) (last : Option ℕ) (reader : ScreenValue) → IsReader picture reader → IsPlain (showing picture saved last reader)
+plain_showing : (picture : Picture) (saved : Saved) (last : Option ℕ) (reader : ScreenValue) →
+    IsReader picture reader → IsPlain (showing picture saved last reader)
 plain_showing picture saved last reader r =
     let tall = r.size.height in
     let height = shown_height reader in
     let whole = r.plain.page.whole.1 in
-    record { page = record { whole = (r.plain.page.whole.0, omega arith); origin = r.plain.page.origin }; offset = r.plain.offset }
+    record {
+      page = record { whole = (r.plain.page.whole.0, omega arith); origin = r.plain.page.origin };
+      offset = r.plain.offset;
+    }
 
 -- ---- the parts
 
-pub shows_plainly : (picture : Picture) (reader after : ScreenValue) → IsPicture picture → IsReader picture reader → Became picture reader after → ShowsPlainly picture reader after
+pub shows_plainly : (picture : Picture) (reader after : ScreenValue) → IsPicture picture →
+    IsReader picture reader → Became picture reader after → ShowsPlainly picture reader after
 shows_plainly picture reader after is r b =
-    subst (λ (s : ScreenValue). ShowsPlainly picture reader s) (sym b.is) (plain_showing picture b.saved b.last reader r, shown_showing picture b.saved b.last reader is r)
+    subst (λ (s : ScreenValue). ShowsPlainly picture reader s) (sym b.is)
+    (plain_showing picture b.saved b.last reader r, shown_showing picture b.saved b.last reader is r)
 
 has_rows : (picture : Picture) (reader after : ScreenValue) → Became picture reader after → HasRows picture reader after
 has_rows picture reader after b = ap (λ (s : ScreenValue). s.page.rows) b.is
 
-has_cursor : (picture : Picture) (reader after : ScreenValue) → Became picture reader after → HasCursor picture reader after
+has_cursor : (picture : Picture) (reader after : ScreenValue) →
+    Became picture reader after → HasCursor picture reader after
 has_cursor picture reader after b =
-    subst (λ (s : ScreenValue). HasCursor picture reader s) (sym b.is) (record { row = refl; column = refl; attrs = refl; hidden = refl })
+    subst (λ (s : ScreenValue). HasCursor picture reader s) (sym b.is)
+    (record { row = refl; column = refl; attrs = refl; hidden = refl })
 
 pub keeps_rest : (picture : Picture) (reader after : ScreenValue) → Became picture reader after → KeepsRest reader after
 keeps_rest picture reader after b =
     subst (KeepsRest reader) (sym b.is) (record {
-      but_modes = record { other = refl; is_alternate = refl; scrollback = refl; width = refl; top = refl; bottom = refl; origin = refl };
+      but_modes = record {
+        other = refl;
+        is_alternate = refl;
+        scrollback = refl;
+        width = refl;
+        top = refl;
+        bottom = refl;
+        origin = refl;
+      };
       modes = refl;
     })
 
@@ -57,25 +77,34 @@ pub record Redraws (Reader : ScreenValue → Type 0) (picture : Picture) (text :
   pub cursor : Makes Reader text (HasCursor picture)
   pub rest : Makes Reader text KeepsRest
 
-redraws : (Reader : ScreenValue → Type 0) (picture : Picture) (text : List ℕ) → IsPicture picture → ((reader : ScreenValue) → Reader reader → IsReader picture reader) → ((reader : ScreenValue) → Reader reader → Becomes picture text reader)
+redraws : (Reader : ScreenValue → Type 0) (picture : Picture) (text : List ℕ)
+    → IsPicture picture → ((reader : ScreenValue) → Reader reader → IsReader picture reader)
+    → ((reader : ScreenValue) → Reader reader → Becomes picture text reader)
     → Redraws Reader picture text
 redraws Reader picture text is readers reads = record {
   quiet = λ reader r. let b = reads reader r in (showing picture b.saved b.last reader, b.reads);
-  shows = λ reader after r e. shows_plainly picture reader after is (readers reader r) (became picture text reader after (reads reader r) e);
+  shows =
+      λ reader after r e. shows_plainly picture reader after is
+      (readers reader r) (became picture text reader after (reads reader r) e);
   rows = λ reader after r e. has_rows picture reader after (became picture text reader after (reads reader r) e);
   cursor = λ reader after r e. has_cursor picture reader after (became picture text reader after (reads reader r) e);
   rest = λ reader after r e. keeps_rest picture reader after (became picture text reader after (reads reader r) e);
 }
 
-pub redraw_redraws : (self : ScreenValue) (text : List ℕ) → text ≡ bytes_of_all (redraw (shown self)) → IsScreen self → IsColored self → IsSteady (shown self) → Redraws (IsReader (shown self)) (shown self) text
+pub redraw_redraws : (self : ScreenValue) (text : List ℕ) → text ≡ bytes_of_all (redraw (shown self)) →
+    IsScreen self → IsColored self → IsSteady (shown self) → Redraws (IsReader (shown self)) (shown self) text
 redraw_redraws self text told is colored steady =
     let picture = shown self in
     redraws (IsReader picture) picture text (shown_is self is) (λ reader r. r)
-    (λ reader r. subst (λ (t : List ℕ). Becomes picture t reader) (sym told) (redraw_read self reader is colored steady r))
+    (λ reader r. subst (λ (t : List ℕ). Becomes picture t reader)
+    (sym told) (redraw_read self reader is colored steady r))
 
-pub difference_redraws : (self prev : ScreenValue) (text : List ℕ) → text ≡ bytes_of_all (difference (shown self) (shown prev)) → IsScreen self → IsColored self → IsSteady (shown self) → IsScreen prev → IsColored prev → SamePictureSize (shown self) (shown prev)
+pub difference_redraws : (self prev : ScreenValue) (text : List ℕ)
+    → text ≡ bytes_of_all (difference (shown self) (shown prev)) → IsScreen self → IsColored self
+    → IsSteady (shown self) → IsScreen prev → IsColored prev → SamePictureSize (shown self) (shown prev)
     → Redraws (IsReaderOf (shown self) (shown prev)) (shown self) text
 difference_redraws self prev text told is colored steady other colored_other size =
     let picture = shown self in
     redraws (IsReaderOf picture (shown prev)) picture text (shown_is self is) (λ reader r. r.is)
-    (λ reader r. subst (λ (t : List ℕ). Becomes picture t reader) (sym told) (difference_read self prev reader is colored steady other colored_other size r))
+    (λ reader r. subst (λ (t : List ℕ). Becomes picture t reader) (sym told)
+    (difference_read self prev reader is colored steady other colored_other size r))

@@ -1,5 +1,6 @@
 -- Basic texts of rows have no controls but line ends and SGR changes.
-use Rattle.std.proofs.Common.{◌≡◌, ◌⊎◌, inl, inr, ℕ, zero, suc, Bool, true, false, List, [], ◌∷◌, ◌++◌, length, replicate, refl, sym, ap, ap₂, subst, ◌∙◌, append_assoc, append-nil, arith, if◌then◌else◌}
+use Rattle.std.proofs.Common.{◌≡◌, ◌⊎◌, inl, inr, ℕ, zero, suc, Bool, true, false, List, [], ◌∷◌, ◌++◌, length}
+use Rattle.std.proofs.Common.{replicate, refl, sym, ap, ap₂, subst, ◌∙◌, append_assoc, append-nil, arith, if◌then◌else◌}
 use Rattle.std.specs.List.{All, AllByRecursion, flat_map}
 use Rattle.std.proofs.lemmas.List.Elements.{recursion_from_All}
 use Rattle.vt_cells.specs.Attrs.{default_attrs, same_attrs, same_color, Attrs}
@@ -22,13 +23,16 @@ use Rattle.vt_screen.proofs.Shown.{any_visible, none_above}
 
 -- ---- texts one behind the other
 
-all_append : (ps qs : List Part) → AllByRecursion IsPart ps → AllByRecursion IsPart qs → AllByRecursion IsPart (ps ++ qs)
+all_append : (ps qs : List Part) → AllByRecursion IsPart ps →
+    AllByRecursion IsPart qs → AllByRecursion IsPart (ps ++ qs)
 all_append [] qs h k = k
 all_append (p ∷ ps) qs h k = (h.0, all_append ps qs h.1 k)
 
 texts_append : (ps qs : List Part) → flat_map part_text (ps ++ qs) ≡ flat_map part_text ps ++ flat_map part_text qs
 texts_append [] qs = refl
-texts_append (p ∷ ps) qs = ap (λ (rest : List ℕ). part_text p ++ rest) (texts_append ps qs) ∙ sym (append_assoc (part_text p) (flat_map part_text ps) (flat_map part_text qs))
+texts_append (p ∷ ps) qs =
+    ap (λ (rest : List ℕ). part_text p ++ rest) (texts_append ps qs)
+    ∙ sym (append_assoc (part_text p) (flat_map part_text ps) (flat_map part_text qs))
 
 captured_append : (text rest : List ℕ) → IsCaptureText text → IsCaptureText rest → IsCaptureText (text ++ rest)
 captured_append text rest t r = record {
@@ -50,7 +54,8 @@ graphic [] h = tt
 graphic (c ∷ cs) h = (shown_range c h.0.shown, graphic cs h.1)
 
 captured_glyph : (text : List ℕ) → IsPrintableText text → IsCaptureText text
-captured_glyph text is = subst IsCaptureText is.spelled (captured_part (Text is.characters) (graphic is.characters is.printable))
+captured_glyph text is =
+    subst IsCaptureText is.spelled (captured_part (Text is.characters) (graphic is.characters is.printable))
 
 captured_shown : (cell : CellValue) → IsCell cell → IsCaptureText (shown_text cell)
 unfolding encode_utf8
@@ -58,7 +63,8 @@ captured_shown (blank attrs) is = captured_part (Text (0x20 ∷ [])) (inl (omega
 captured_shown (glyph text wide attrs) is = captured_glyph text (printable_text text wide is)
 captured_shown right_half is = captured_nothing
 
-captured_if : (b : Bool) (text rest : List ℕ) → IsCaptureText text → IsCaptureText rest → IsCaptureText (if b then text else rest)
+captured_if : (b : Bool) (text rest : List ℕ) → IsCaptureText text →
+    IsCaptureText rest → IsCaptureText (if b then text else rest)
 captured_if true text rest t r = t
 captured_if false text rest t r = r
 
@@ -66,34 +72,44 @@ captured_change : (was new : Attrs) → IsCaptureText (change_text was new)
 unfolding change_text
 captured_change was new =
     captured_if (same_attrs was new) [] _ captured_nothing
-    (captured_if (same_attrs new default_attrs) (csi [] 0x6D) _ (captured_part (Change []) tt) (captured_part (Change (change_numbers was new)) tt))
+    (captured_if (same_attrs new default_attrs) (csi [] 0x6D) _
+    (captured_part (Change []) tt) (captured_part (Change (change_numbers was new)) tt))
 
-captured_cells : (attrs : Attrs) (cells : List CellValue) → AllByRecursion IsCell cells → IsCaptureText (cells_text attrs cells)
+captured_cells : (attrs : Attrs) (cells : List CellValue) →
+    AllByRecursion IsCell cells → IsCaptureText (cells_text attrs cells)
 captured_cells attrs [] are = captured_nothing
 captured_cells attrs (cell ∷ cells) are =
     let after = attrs_after attrs cell in
     captured_append (change_text attrs after) (shown_text cell ++ cells_text after cells) (captured_change attrs after)
-    (captured_append (shown_text cell) (cells_text after cells) (captured_shown cell are.0) (captured_cells after cells are.1))
+    (captured_append (shown_text cell) (cells_text after cells)
+    (captured_shown cell are.0) (captured_cells after cells are.1))
 
 -- ---- rows
 
 trimmed_are : (cells : List CellValue) → AllByRecursion IsCell cells → AllByRecursion IsCell (trimmed cells)
 trimmed_are [] are = tt
-trimmed_are (cell ∷ cells) are = kept (list_all is_default_blank (cell ∷ cells)) (cell ∷ trimmed cells) (are.0, trimmed_are cells are.1) where
-  kept : (b : Bool) (rest : List CellValue) → AllByRecursion IsCell rest → AllByRecursion IsCell (if b then [] else rest)
-  kept true rest h = tt
-  kept false rest h = h
+trimmed_are (cell ∷ cells) are =
+    kept (list_all is_default_blank (cell ∷ cells)) (cell ∷ trimmed cells) (are.0, trimmed_are cells are.1) where
+      kept : (b : Bool) (rest : List CellValue) → AllByRecursion IsCell rest →
+          AllByRecursion IsCell (if b then [] else rest)
+      kept true rest h = tt
+      kept false rest h = h
 
-captured_rows : (written : Written) (rows : List RowValue) → AllByRecursion IsAnyRow rows → IsCaptureText (basic_texts written rows)
+captured_rows : (written : Written) (rows : List RowValue) →
+    AllByRecursion IsAnyRow rows → IsCaptureText (basic_texts written rows)
 captured_rows written [] are = captured_nothing
 captured_rows written (row ∷ rows) are =
     let cells = trimmed_are row.cells (recursion_from_All IsCell row.cells are.0.sound) in
     captured_append (basic_text written row) (basic_texts (written_after written row) rows)
-    (captured_append _ (cells_text written.attrs (trimmed row.cells)) (captured_if written.is_due (0x0A ∷ []) [] (captured_part LineEnd tt) captured_nothing) (captured_cells written.attrs (trimmed row.cells) cells))
+    (captured_append _ (cells_text written.attrs (trimmed row.cells))
+    (captured_if written.is_due (0x0A ∷ []) [] (captured_part LineEnd tt) captured_nothing)
+    (captured_cells written.attrs (trimmed row.cells) cells))
     (captured_rows (written_after written row) rows are.1)
 
 pub capture_is : (screen : ScreenValue) → IsScreen screen → IsCaptureText (basic_texts unwritten (visible_rows screen))
-capture_is screen is = captured_rows unwritten (visible_rows screen) (recursion_from_All IsAnyRow (visible_rows screen) (any_visible screen is))
+capture_is screen is =
+    captured_rows unwritten (visible_rows screen)
+    (recursion_from_All IsAnyRow (visible_rows screen) (any_visible screen is))
 
 -- ---- fresh rows
 
@@ -106,13 +122,17 @@ trimmed_blanks : (width : ℕ) → trimmed (blanks default_attrs width) ≡ []
 trimmed_blanks zero = refl
 trimmed_blanks (suc width) = rw (all_default (suc width)) refl
 
-fresh_rows : (written : Written) (n width : ℕ) → basic_texts (record written { is_due = true }) (replicate n (blank_row default_attrs width)) ≡ replicate n 0x0A
+fresh_rows : (written : Written) (n width : ℕ) →
+    basic_texts (record written { is_due = true }) (replicate n (blank_row default_attrs width)) ≡ replicate n 0x0A
 fresh_rows written zero width = refl
 fresh_rows written (suc n) width =
     let none = trimmed_blanks width in
     rw none (ap (λ (rest : List ℕ). 0x0A ∷ rest) (fresh_rows written n width))
 
-pub fresh_capture : (rows cols capacity : ℕ) → basic_texts unwritten (visible_rows (fresh_screen (suc rows) cols capacity)) ≡ replicate rows 0x0A
+pub fresh_capture : (rows cols capacity : ℕ) →
+    basic_texts unwritten (visible_rows (fresh_screen (suc rows) cols capacity)) ≡ replicate rows 0x0A
 fresh_capture rows cols capacity =
     let none = trimmed_blanks cols in
-    ap (basic_texts unwritten) (none_above (no_scrollback capacity) (replicate (suc rows) (blank_row default_attrs cols)) refl) ∙ rw none (fresh_rows unwritten rows cols)
+    ap (basic_texts unwritten)
+    (none_above (no_scrollback capacity) (replicate (suc rows) (blank_row default_attrs cols)) refl)
+    ∙ rw none (fresh_rows unwritten rows cols)

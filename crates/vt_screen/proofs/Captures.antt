@@ -1,5 +1,7 @@
 -- The texts of rows that are written one by one.
-use Rattle.std.proofs.Common.{◌≡◌, ℕ, zero, suc, ◌+◌, ◌-◌, ◌<◌, ◌≤◌, Bool, true, false, List, [], ◌∷◌, ◌++◌, length, take, drop, get_or, refl, sym, ap, ap₂, ◌∙◌, append_assoc, append-nil, arith, if◌then◌else◌}
+use Rattle.std.proofs.Common.{◌≡◌, ℕ, zero, suc, ◌+◌, ◌-◌, ◌<◌, ◌≤◌, Bool, true, false, List}
+use Rattle.std.proofs.Common.{[], ◌∷◌, ◌++◌, length, take, drop, get_or, refl, sym, ap, ap₂}
+use Rattle.std.proofs.Common.{◌∙◌, append_assoc, append-nil, arith, if◌then◌else◌}
 use Rattle.std.specs.List.{slice_range}
 use Rattle.std.proofs.Math.Seq.{take-suc}
 use Rattle.std.proofs.lemmas.List.{get_or-drop, length-drop, drop-append-le, length-take}
@@ -12,17 +14,21 @@ use Rattle.std.specs.declared.result.Result.{Result}
 use Rattle.std.specs.declared.result.Result.TheVariants.{Ok, Err}
 use Rattle.vt_screen.specs.Keeping.{IsAbove, IsNothing, alternate_scrollback, main_scrollback}
 
-pub texts_more : (before : Written) (rows : List RowValue) (row : RowValue) → basic_texts before (rows ++ row ∷ []) ≡ basic_texts before rows ++ basic_text (written_after_all before rows) row
+pub texts_more : (before : Written) (rows : List RowValue) (row : RowValue) →
+    basic_texts before (rows ++ row ∷ []) ≡ basic_texts before rows ++ basic_text (written_after_all before rows) row
 texts_more before [] row = append-nil (basic_text before row)
 texts_more before (first ∷ rows) row =
     ap (λ (rest : List ℕ). basic_text before first ++ rest) (texts_more (written_after before first) rows row)
-    ∙ sym (append_assoc (basic_text before first) (basic_texts (written_after before first) rows) (basic_text (written_after_all (written_after before first) rows) row))
+    ∙ sym (append_assoc (basic_text before first) (basic_texts (written_after before first) rows)
+    (basic_text (written_after_all (written_after before first) rows) row))
 
-pub after_more : (before : Written) (rows : List RowValue) (row : RowValue) → written_after_all before (rows ++ row ∷ []) ≡ written_after (written_after_all before rows) row
+pub after_more : (before : Written) (rows : List RowValue) (row : RowValue) →
+    written_after_all before (rows ++ row ∷ []) ≡ written_after (written_after_all before rows) row
 after_more before [] row = refl
 after_more before (first ∷ rows) row = after_more (written_after before first) rows row
 
-pub slice_more : {X : Type 0} (xs : List X) (start k : ℕ) (d : X) → start ≤ k → k < length xs → slice_range xs start (k + 1) ≡ slice_range xs start k ++ get_or xs k d ∷ []
+pub slice_more : {X : Type 0} (xs : List X) (start k : ℕ) (d : X) → start ≤ k →
+    k < length xs → slice_range xs start (k + 1) ≡ slice_range xs start k ++ get_or xs k d ∷ []
 slice_more xs start k d le lt =
     let one : k + 1 - start ≡ suc (k - start) = omega arith in
     let there : start + (k - start) ≡ k = omega arith in
@@ -30,14 +36,16 @@ slice_more xs start k d le lt =
     let inside : k - start < length (drop start xs) = omega arith in
     ap (λ n. take n (drop start xs)) one
     ∙ take-suc (drop start xs) (k - start) d inside
-    ∙ ap (λ x. take (k - start) (drop start xs) ++ x ∷ []) (get_or-drop start xs (k - start) d ∙ ap (λ n. get_or xs n d) there)
+    ∙ ap (λ x. take (k - start) (drop start xs) ++ x ∷ [])
+    (get_or-drop start xs (k - start) d ∙ ap (λ n. get_or xs n d) there)
 
 pub slice_none : {X : Type 0} (xs : List X) (start : ℕ) → slice_range xs start start ≡ []
 slice_none xs start =
     let none : start - start ≡ 0 = omega arith in
     ap (λ n. take n (drop start xs)) none
 
-pub length-slice : {X : Type 0} (xs : List X) (start end : ℕ) → start ≤ end → end ≤ length xs → length (slice_range xs start end) ≡ end - start
+pub length-slice : {X : Type 0} (xs : List X) (start end : ℕ) → start ≤ end →
+    end ≤ length xs → length (slice_range xs start end) ≡ end - start
 length-slice xs start end le most =
     let cut = length-take (end - start) (drop start xs) in
     let left = length-drop start xs in
@@ -49,7 +57,8 @@ take_of_take (suc m) zero xs le = absurd (omega arith)
 take_of_take (suc m) (suc n) [] le = refl
 take_of_take (suc m) (suc n) (x ∷ xs) le = ap (λ ys. x ∷ ys) (take_of_take m n xs (omega arith))
 
-pub slice_front : {X : Type 0} (xs : List X) (start k end : ℕ) → start ≤ k → k ≤ end → take (k - start) (slice_range xs start end) ≡ slice_range xs start k
+pub slice_front : {X : Type 0} (xs : List X) (start k end : ℕ) → start ≤ k →
+    k ≤ end → take (k - start) (slice_range xs start end) ≡ slice_range xs start k
 slice_front xs start k end low high = take_of_take (k - start) (end - start) (drop start xs) (omega arith)
 
 pub slice_whole : {X : Type 0} (xs : List X) (n : ℕ) → n ≡ length xs → slice_range xs 0 n ≡ xs
@@ -62,61 +71,75 @@ slice_whole xs n e =
 
 -- the rows that are shown are a part of all rows
 pub visible_slice : (above : Scrollback) (rows : List RowValue) → above.offset ≤ length above.rows
-    → slice_range (above.rows ++ rows) (length above.rows - above.offset) (length above.rows - above.offset + length rows) ≡ visible above rows
+    → slice_range (above.rows ++ rows) (length above.rows - above.offset)
+    (length above.rows - above.offset + length rows)
+    ≡ visible above rows
 visible_slice above rows le =
     let first = length above.rows - above.offset in
     let many : first + length rows - first ≡ length rows = omega arith in
     rw many (ap (take (length rows)) (drop-append-le first above.rows rows (omega arith)))
 
 -- scrollback above the active page
-pub above_rows : (is_alternate : Bool) (active idle : Scrollback) → IsNothing (alternate_scrollback is_alternate active idle)
+pub above_rows : (is_alternate : Bool) (active idle : Scrollback)
+    → IsNothing (alternate_scrollback is_alternate active idle)
     → (if is_alternate then no_scrollback 0 else main_scrollback is_alternate active idle).rows ≡ active.rows
 above_rows true active idle nothing = sym nothing.rows
 above_rows false active idle nothing = refl
 
-pub above_offset : (is_alternate : Bool) (active idle : Scrollback) → IsNothing (alternate_scrollback is_alternate active idle)
+pub above_offset : (is_alternate : Bool) (active idle : Scrollback)
+    → IsNothing (alternate_scrollback is_alternate active idle)
     → (if is_alternate then no_scrollback 0 else main_scrollback is_alternate active idle).offset ≡ active.offset
 above_offset true active idle nothing = sym nothing.offset
 above_offset false active idle nothing = refl
 
 -- one more row written
-pub texts_step : (before state : Written) (start front text : List ℕ) (rows longer : List RowValue) (row : RowValue) → front ≡ start ++ basic_texts before rows
-    → state ≡ written_after_all before rows → text ≡ front ++ basic_text state row → longer ≡ rows ++ row ∷ [] → text ≡ start ++ basic_texts before longer
+pub texts_step : (before state : Written) (start front text : List ℕ) (rows longer : List RowValue) (row : RowValue)
+    → front ≡ start ++ basic_texts before rows
+    → state ≡ written_after_all before rows → text ≡ front ++ basic_text state row
+    → longer ≡ rows ++ row ∷ [] → text ≡ start ++ basic_texts before longer
 texts_step before state start front text rows longer row ahead behind wrote more =
     wrote
     ∙ ap₂ (λ (x : List ℕ) (w : Written). x ++ basic_text w row) ahead behind
     ∙ append_assoc start (basic_texts before rows) (basic_text (written_after_all before rows) row)
     ∙ ap (λ (x : List ℕ). start ++ x) (sym (texts_more before rows row) ∙ ap (basic_texts before) (sym more))
 
-pub after_step : (before state after : Written) (rows longer : List RowValue) (row : RowValue) → state ≡ written_after_all before rows → after ≡ written_after state row
+pub after_step : (before state after : Written) (rows longer : List RowValue) (row : RowValue)
+    → state ≡ written_after_all before rows → after ≡ written_after state row
     → longer ≡ rows ++ row ∷ [] → after ≡ written_after_all before longer
 after_step before state after rows longer row behind wrote more =
-    wrote ∙ ap (λ w. written_after w row) behind ∙ sym (after_more before rows row) ∙ ap (written_after_all before) (sym more)
+    wrote ∙ ap (λ w. written_after w row) behind
+    ∙ sym (after_more before rows row) ∙ ap (written_after_all before) (sym more)
 
 pub on_err_any : {T E P : Type 0} (r : Result T E) → P → OnErr r P
 on_err_any (Ok x) p = tt
 on_err_any (Err e) p = p
 
 -- refused at a row: the state is that behind those before it
-pub behind_some : (before after : Written) (rows : List RowValue) (start k end : ℕ) → start ≤ k → k < end → end ≤ length rows
-    → after ≡ written_after_all before (slice_range rows start k) → IsBehindSome before (slice_range rows start end) after
+pub behind_some : (before after : Written) (rows : List RowValue) (start k end : ℕ)
+    → start ≤ k → k < end → end ≤ length rows
+    → after ≡ written_after_all before (slice_range rows start k)
+    → IsBehindSome before (slice_range rows start end) after
 behind_some before after rows start k end low high inside e =
     let many = length-slice rows start end (omega arith) inside in
     (k - start, omega arith, e ∙ ap (written_after_all before) (sym (slice_front rows start k end low (omega arith))))
 
-pub active_in_view : (is_alternate : Bool) (active idle : Scrollback) → IsNothing (alternate_scrollback is_alternate active idle) → IsAbove (main_scrollback is_alternate active idle)
+pub active_in_view : (is_alternate : Bool) (active idle : Scrollback)
+    → IsNothing (alternate_scrollback is_alternate active idle) → IsAbove (main_scrollback is_alternate active idle)
     → active.offset ≤ length active.rows
 active_in_view true active idle nothing above =
     let none = nothing.offset in
     omega arith
 active_in_view false active idle nothing above = above.sound.in_view
 
-pub same_visible : (above active : Scrollback) (rows : List RowValue) → above.rows ≡ active.rows → above.offset ≡ active.offset → visible above rows ≡ visible active rows
+pub same_visible : (above active : Scrollback) (rows : List RowValue) → above.rows ≡ active.rows →
+    above.offset ≡ active.offset → visible above rows ≡ visible active rows
 same_visible above active rows e o = rw (e, o) refl
 
 -- the rows that are shown, by their places among all rows
-pub visible_part : (active : Scrollback) (rows all shown : List RowValue) (start end : ℕ) → active.offset ≤ length active.rows → all ≡ active.rows ++ rows → shown ≡ visible active rows
-    → end ≡ length active.rows + length rows - active.offset → start ≡ end - length rows → slice_range all start end ≡ shown
+pub visible_part : (active : Scrollback) (rows all shown : List RowValue) (start end : ℕ)
+    → active.offset ≤ length active.rows → all ≡ active.rows ++ rows → shown ≡ visible active rows
+    → end ≡ length active.rows + length rows - active.offset
+    → start ≡ end - length rows → slice_range all start end ≡ shown
 visible_part active rows all shown start end le a s e t =
     let first : start ≡ length active.rows - active.offset = omega arith in
     let last : end ≡ length active.rows - active.offset + length rows = omega arith in

@@ -1,5 +1,6 @@
 -- The text of a screen, row by row, and without the line ends at its end.
-use Rattle.std.proofs.Common.{◌≡◌, ℕ, suc, ◌+◌, ◌-◌, ◌<◌, ◌≤◌, Bool, false, List, [], ◌∷◌, ◌++◌, length, take, drop, min, slice_index, refl, sym, ap, ◌∙◌, arith}
+use Rattle.std.proofs.Common.{◌≡◌, ℕ, suc, ◌+◌, ◌-◌, ◌<◌, ◌≤◌, Bool, false, List, [], ◌∷◌, ◌++◌}
+use Rattle.std.proofs.Common.{length, take, drop, min, slice_index, refl, sym, ap, ◌∙◌, arith}
 use Rattle.std.specs.Prelude.{◌==◌}
 use Rattle.std.specs.List.{flat_map, range_with_len}
 use Rattle.std.proofs.lemmas.List.{drop_more, drop_all, take_more, take_all, length-take, length-append}
@@ -14,14 +15,16 @@ use Rattle.vt_screen.specs.Screen.{ScreenValue, above_page, visible_row, visible
 length_visible : (above : Scrollback) (rows : List RowValue) → length (visible above rows) ≡ length rows
 length_visible above rows =
     let shown = last_of above.offset above.rows in
-    let a : length (take (length rows) (shown ++ rows)) ≡ min (length rows) (length (shown ++ rows)) = length-take (length rows) (shown ++ rows) in
+    let a : length (take (length rows) (shown ++ rows)) ≡ min (length rows) (length (shown ++ rows)) =
+    length-take (length rows) (shown ++ rows) in
     let b : length (shown ++ rows) ≡ length shown + length rows = length-append shown rows in
     omega (arith, a, b)
 
 pub shown_rows : (screen : ScreenValue) → length (visible_rows screen) ≡ length screen.page.rows
 shown_rows screen = length_visible (above_page screen) screen.page.rows
 
-rows_more : (screen : ScreenValue) (r : ℕ) → r < length screen.page.rows → drop r (visible_rows screen) ≡ visible_row screen r ∷ drop (r + 1) (visible_rows screen)
+rows_more : (screen : ScreenValue) (r : ℕ) → r < length screen.page.rows →
+    drop r (visible_rows screen) ≡ visible_row screen r ∷ drop (r + 1) (visible_rows screen)
 rows_more screen r h =
     let l = shown_rows screen in
     drop_more (visible_rows screen) r (blank_row default_attrs screen.page.width) (omega arith)
@@ -36,22 +39,27 @@ pub lines_more : (screen : ScreenValue) (width : ℕ) (goes_on : Bool) (r : ℕ)
     → lines_of width goes_on (drop r (visible_rows screen))
     ≡ gap_line width goes_on (visible_row screen r)
     ++ (plain_text 0 width (visible_row screen r).cells
-    ++ (line_end (visible_row screen r) ++ lines_of width (visible_row screen r).wrapped (drop (r + 1) (visible_rows screen))))
+    ++ (line_end (visible_row screen r)
+    ++ lines_of width (visible_row screen r).wrapped (drop (r + 1) (visible_rows screen))))
 lines_more screen width goes_on r h = ap (lines_of width goes_on) (rows_more screen r h)
 
-pub lines_done : (screen : ScreenValue) (width : ℕ) (goes_on : Bool) (r : ℕ) → length screen.page.rows ≤ r → lines_of width goes_on (drop r (visible_rows screen)) ≡ []
+pub lines_done : (screen : ScreenValue) (width : ℕ) (goes_on : Bool) (r : ℕ) →
+    length screen.page.rows ≤ r → lines_of width goes_on (drop r (visible_rows screen)) ≡ []
 lines_done screen width goes_on r h = ap (lines_of width goes_on) (rows_done screen r h)
 
 -- the texts of the rows from one on
 pub texts_more : (screen : ScreenValue) (start stop r : ℕ) → r < length screen.page.rows
-    → row_texts start stop (drop r (visible_rows screen)) ≡ plain_text start stop (visible_row screen r).cells ∷ row_texts start stop (drop (r + 1) (visible_rows screen))
+    → row_texts start stop (drop r (visible_rows screen))
+    ≡ plain_text start stop (visible_row screen r).cells ∷ row_texts start stop (drop (r + 1) (visible_rows screen))
 texts_more screen start stop r h = ap (row_texts start stop) (rows_more screen r h)
 
-pub texts_done : (screen : ScreenValue) (start stop r : ℕ) → length screen.page.rows ≤ r → row_texts start stop (drop r (visible_rows screen)) ≡ []
+pub texts_done : (screen : ScreenValue) (start stop r : ℕ) →
+    length screen.page.rows ≤ r → row_texts start stop (drop r (visible_rows screen)) ≡ []
 texts_done screen start stop r h = ap (row_texts start stop) (rows_done screen r h)
 
 -- numbers from one up to another
-pub parts_more : (f : ℕ → List ℕ) (r past : ℕ) → r < past → flat_map f (range_with_len r (past - r)) ≡ f r ++ flat_map f (range_with_len (r + 1) (past - (r + 1)))
+pub parts_more : (f : ℕ → List ℕ) (r past : ℕ) → r < past →
+    flat_map f (range_with_len r (past - r)) ≡ f r ++ flat_map f (range_with_len (r + 1) (past - (r + 1)))
 parts_more f r past h =
     let n : past - r ≡ suc (past - (r + 1)) = omega arith in
     ap (λ (m : ℕ). flat_map f (range_with_len r m)) n
@@ -75,13 +83,16 @@ other_kept : (text : List ℕ) (d : ℕ) → (d == 0x0A) ≡ false → without_l
 other_kept [] d e = rw e refl
 other_kept (c ∷ text) d e = ap (before c) (other_kept text d e) ∙ before_more c text d
 
-last_split : (text : List ℕ) → 0 < length text → text ≡ take (length text - 1) text ++ slice_index text (length text - 1) ∷ []
+last_split : (text : List ℕ) → 0 < length text →
+    text ≡ take (length text - 1) text ++ slice_index text (length text - 1) ∷ []
 last_split text h =
     let n : length text - 1 + 1 ≡ length text = omega arith in
-    sym (take_all (length text) text (omega arith)) ∙ (ap (λ (m : ℕ). take m text) (sym n) ∙ take_more text (length text - 1) 0 (omega arith))
+    sym (take_all (length text) text (omega arith))
+    ∙ (ap (λ (m : ℕ). take m text) (sym n) ∙ take_more text (length text - 1) 0 (omega arith))
 
 -- a line end at the end is dropped
-pub trim_more : (text new : List ℕ) → 0 < length text → slice_index text (length text - 1) ≡ 0x0A → new ≡ take (length text - 1) text → without_line_ends new ≡ without_line_ends text
+pub trim_more : (text new : List ℕ) → 0 < length text → slice_index text (length text - 1) ≡ 0x0A →
+    new ≡ take (length text - 1) text → without_line_ends new ≡ without_line_ends text
 trim_more text new h e is =
     ap without_line_ends is
     ∙ (sym (line_end_dropped (take (length text - 1) text))
@@ -92,7 +103,8 @@ pub trim_none : (text : List ℕ) → length text ≡ 0 → without_line_ends te
 trim_none [] e = refl
 trim_none (c ∷ text) e = absurd (omega arith)
 
-pub trim_other : (text : List ℕ) → 0 < length text → (slice_index text (length text - 1) == 0x0A) ≡ false → without_line_ends text ≡ text
+pub trim_other : (text : List ℕ) → 0 < length text →
+    (slice_index text (length text - 1) == 0x0A) ≡ false → without_line_ends text ≡ text
 trim_other text h e =
     let s = last_split text h in
     ap without_line_ends s ∙ (other_kept (take (length text - 1) text) (slice_index text (length text - 1)) e ∙ sym s)

@@ -1,5 +1,6 @@
 -- The steps of each event: what they print, whether they start the screen anew, and that they tell of no row.
-use Rattle.std.proofs.Common.{◌≡◌, ◌≢◌, ℕ, zero, suc, ◌==◌, Bool, true, false, List, [], ◌∷◌, ◌++◌, Option, Some, None, refl, ap, replicate, arith}
+use Rattle.std.proofs.Common.{◌≡◌, ◌≢◌, ℕ, zero, suc, ◌==◌, Bool, true, false, List, [], ◌∷◌}
+use Rattle.std.proofs.Common.{◌++◌, Option, Some, None, refl, ap, replicate, arith}
 use Rattle.std.specs.Prelude.{◌||◌, IfSome, if◌then◌else◌}
 use Rattle.std.specs.Char.{IsScalar}
 use Rattle.std.specs.List.{AllByRecursion}
@@ -15,7 +16,12 @@ use Rattle.vt_screen.specs.Screen.{ScreenValue, IsPrintable}
 use Rattle.vt_screen.specs.Sgr.{group_read}
 use Rattle.vt_screen.specs.Streamed.{HasNoRis, ris, row_told, sent_off_in}
 use Rattle.vt_screen.specs.Telling.{calls_in, screen_in, stepped_all, steps_in, steps_of_all}
-use Rattle.vt_screen.specs.Controls.{alternate_step, character_steps, clipboard_steps, control_steps, counted_step, csi_steps, encoding_step, escape_steps, fresh_alternate_step, marked_steps, mark_at, mode_step, mode_steps, mouse_step, named_steps, number_or, one_or, osc_steps, other_steps, page_erasing, plain_steps, private_steps, reading_steps, repeated, row_erasing, scrolling_steps, Seen, seen_of, sgr_from, space_steps, steps_of, style_steps, window_steps}
+use Rattle.vt_screen.specs.Controls.{alternate_step, character_steps, clipboard_steps, control_steps, counted_step}
+use Rattle.vt_screen.specs.Controls.{csi_steps, encoding_step, escape_steps, fresh_alternate_step, marked_steps}
+use Rattle.vt_screen.specs.Controls.{mark_at, mode_step, mode_steps, mouse_step, named_steps, number_or, one_or}
+use Rattle.vt_screen.specs.Controls.{osc_steps, other_steps, page_erasing, plain_steps, private_steps, reading_steps}
+use Rattle.vt_screen.specs.Controls.{repeated, row_erasing, scrolling_steps, Seen, seen_of, sgr_from, space_steps}
+use Rattle.vt_screen.specs.Controls.{steps_of, style_steps, window_steps}
 use Rattle.vt_screen.specs.Steps.{Step, Print, Reset, Tell}
 use Rattle.vt_screen.specs.declared.sgr.Reading.{Reading}
 use Rattle.vt_screen.specs.declared.sgr.Reading.TheVariants.{Silent, Set, Unhandled}
@@ -103,7 +109,8 @@ stream_sgr : {Q : ℕ → Type 0} {R : Type 0} → (groups : List (List ℕ)) (w
 stream_sgr groups wanted [] = none
 stream_sgr groups wanted (group ∷ rest) =
     let read = group_read wanted group in
-    all_then (reading_steps groups read.reading) (sgr_from groups read.wanted rest) (stream_reading groups read.reading) (stream_sgr groups read.wanted rest)
+    all_then (reading_steps groups read.reading) (sgr_from groups read.wanted rest)
+    (stream_reading groups read.reading) (stream_sgr groups read.wanted rest)
 
 stream_page_erasing : {Q : ℕ → Type 0} {R : Type 0} → (report : CallValue) (n : ℕ) → row_told report ≡ []
     → AllAmong Q R (page_erasing report n)
@@ -131,7 +138,8 @@ stream_repeated {Q} {R} n (Some c) k = by n where
 stream_other : {Q : ℕ → Type 0} {R : Type 0} → (groups : List (List ℕ)) (b : ℕ) (seen : Seen)
     → AllAmong Q R (other_steps groups b seen)
 unfolding other_steps
-stream_other groups b seen = search (all_if, own, stream_page_erasing, stream_row_erasing, stream_sgr, stream_window) depth 20
+stream_other groups b seen =
+    search (all_if, own, stream_page_erasing, stream_row_erasing, stream_sgr, stream_window) depth 20
 
 stream_scrolling : {Q : ℕ → Type 0} {R : Type 0} → (groups : List (List ℕ)) (b : ℕ) (seen : Seen)
     → IfSome seen.last Q → AllAmong Q R (scrolling_steps groups b seen)
@@ -151,7 +159,8 @@ stream_plain : {Q : ℕ → Type 0} {R : Type 0} → (groups : List (List ℕ)) 
     → AllAmong Q R (plain_steps groups b seen)
 stream_plain groups b seen k =
     let n = number_or 1 0 groups in
-    stream_one_or (counted_step b n) (scrolling_steps groups b seen) (stream_counted b n) (stream_scrolling groups b seen k)
+    stream_one_or (counted_step b n) (scrolling_steps groups b seen)
+    (stream_counted b n) (stream_scrolling groups b seen k)
 
 -- ---- modes and other marked sequences
 
@@ -187,7 +196,9 @@ stream_modes : {Q : ℕ → Type 0} {R : Type 0} → (on : Bool) (report : CallV
     → row_told report ≡ [] → AllAmong Q R (mode_steps on report groups)
 stream_modes on report [] e = none
 stream_modes on report ([] ∷ groups) e = record { all = (e, (stream_modes on report groups e).all) }
-stream_modes on report ((n ∷ []) ∷ groups) e = all_then (mode_step on report n) (mode_steps on report groups) (stream_mode on report n e) (stream_modes on report groups e)
+stream_modes on report ((n ∷ []) ∷ groups) e =
+    all_then (mode_step on report n) (mode_steps on report groups)
+    (stream_mode on report n e) (stream_modes on report groups e)
 stream_modes on report ((n ∷ m ∷ more) ∷ groups) e = record { all = (e, (stream_modes on report groups e).all) }
 
 stream_private : {Q : ℕ → Type 0} {R : Type 0} → (second : Option ℕ) (groups : List (List ℕ)) (b : ℕ)
@@ -246,9 +257,12 @@ stream_events (event ∷ events) s coded others k =
     let now : AllAmong IsPrintable ⊥ steps =
     stream_event event (seen_of s) coded.0 (record { prints = λ c e is. is; resets = others.0 }) k.last in
     let there = steps_stream steps s now.all k in
-    all_then steps (steps_of_all events (stepped_all steps s)) now (stream_events events (stepped_all steps s) coded.1 others.1 there.held)
+    all_then steps (steps_of_all events (stepped_all steps s)) now
+    (stream_events events (stepped_all steps s) coded.1 others.1 there.held)
 
 -- a run over bytes
 pub run_streams : (scan : State) (s : ScreenValue) (bytes : List ℕ) → HasNoRis scan bytes → Held s
     → Streamed (calls_in scan s bytes) (sent_off_in scan s bytes) s (screen_in scan s bytes)
-run_streams scan s bytes others k = steps_stream (steps_in scan s bytes) s (stream_events (run scan bytes).events s (coded_run scan bytes) others k).all k
+run_streams scan s bytes others k =
+    steps_stream (steps_in scan s bytes) s
+    (stream_events (run scan bytes).events s (coded_run scan bytes) others k).all k

@@ -20,11 +20,13 @@ is_there : (o : Option Page) (d : Page) → IsSome o → Some (unwrap_or o d) �
 is_there (Some p) d h = refl
 is_there None d h = absurd (false≢true h)
 
-aside_size : (o : Option Page) (page d : Page) → IfSome o (λ p. IsPage p × SameSize p page) → IsSome o → SameSize (unwrap_or o d) page
+aside_size : (o : Option Page) (page d : Page) →
+    IfSome o (λ p. IsPage p × SameSize p page) → IsSome o → SameSize (unwrap_or o d) page
 aside_size (Some p) page d s h = s.1
 aside_size None page d s h = absurd (false≢true h)
 
-aside_or : (o : Option Page) (page d : Page) → IfSome o (λ p. IsPage p × SameSize p page) → SameSize d page → SameSize (unwrap_or o d) page
+aside_or : (o : Option Page) (page d : Page) → IfSome o (λ p. IsPage p × SameSize p page) →
+    SameSize d page → SameSize (unwrap_or o d) page
 aside_or (Some p) page d s h = s.1
 aside_or None page d s h = h
 
@@ -32,12 +34,16 @@ same_fresh : (p q : Page) → SameSize p q → blank_page (length p.rows) p.widt
 same_fresh p q s = ap (λ (n : ℕ). blank_page n p.width) s.height ∙ ap (λ (n : ℕ). blank_page (length q.rows) n) s.width
 
 fresh_size : (page : Page) → SameSize (blank_page (length page.rows) page.width) page
-fresh_size page = record { width = refl; height = length-replicate (length page.rows) (blank_row default_attrs page.width) }
+fresh_size page =
+    record { width = refl; height = length-replicate (length page.rows) (blank_row default_attrs page.width) }
 
 -- ---- entering
 
-entered_if : (b : Bool) (s : ScreenValue) → s.is_alternate ≡ b → (b ≡ true → IsSome s.other) → entered (with_other s) ≡ entered s
-entered_if true s e h = rw e (ap (λ (o : Option Page). record s { other = o; is_alternate = true }) (is_there s.other (fresh_page s) (h refl)))
+entered_if : (b : Bool) (s : ScreenValue) → s.is_alternate ≡ b →
+    (b ≡ true → IsSome s.other) → entered (with_other s) ≡ entered s
+entered_if true s e h =
+    rw e
+    (ap (λ (o : Option Page). record s { other = o; is_alternate = true }) (is_there s.other (fresh_page s) (h refl)))
 entered_if false s e h = rw e refl
 
 pub entered_with : (s : ScreenValue) → IsScreen s → entered (with_other s) ≡ entered s
@@ -45,16 +51,20 @@ entered_with s i = entered_if s.is_alternate s refl i.entered
 
 -- a screen whose alternate page is the active one, but for that page itself
 abbrev entered_as : ScreenValue → ScreenValue
-entered_as s = record (saved s) { other = Some (cursor_saved s.page); is_alternate = true; scrollback = out_of_view s.scrollback }
+entered_as s =
+    record (saved s) { other = Some (cursor_saved s.page); is_alternate = true; scrollback = out_of_view s.scrollback }
 
-fresh_if : (b : Bool) (s : ScreenValue) → s.is_alternate ≡ b → (b ≡ true → IsSome s.other) → IsScreen s → with_fresh_page (entered (saved (with_other s))) ≡ entered_fresh s
+fresh_if : (b : Bool) (s : ScreenValue) → s.is_alternate ≡ b → (b ≡ true → IsSome s.other) →
+    IsScreen s → with_fresh_page (entered (saved (with_other s))) ≡ entered_fresh s
 fresh_if true s e h i =
-    rw e (ap (λ (o : Option Page). record (saved s) { page = fresh_page s; other = o; is_alternate = true }) (is_there s.other (fresh_page s) (h refl)))
+    rw e (ap (λ (o : Option Page). record (saved s) { page = fresh_page s; other = o; is_alternate = true })
+    (is_there s.other (fresh_page s) (h refl)))
 fresh_if false s e h i =
     let same = same_fresh (page_aside s) s.page (aside_or s.other s.page (fresh_page s) i.other (fresh_size s.page)) in
     rw e (ap (λ (page : Page). record (entered_as s) { page = page }) same)
 
-pub entered_fresh_with : (s : ScreenValue) → IsScreen s → with_fresh_page (entered (saved (with_other s))) ≡ entered_fresh s
+pub entered_fresh_with : (s : ScreenValue) → IsScreen s →
+    with_fresh_page (entered (saved (with_other s))) ≡ entered_fresh s
 entered_fresh_with s i = fresh_if s.is_alternate s refl i.entered i
 
 -- ---- starting anew
@@ -70,7 +80,8 @@ made : (o : Option Page) (page : Page) → IsSome o → Some page ≡ option_map
 made (Some p) page h = refl
 made None page h = absurd (false≢true h)
 
-left_if : (b : Bool) (s : ScreenValue) → s.is_alternate ≡ b → (b ≡ true → IsSome s.other) → IsScreen s → IsLeft s (left s)
+left_if : (b : Bool) (s : ScreenValue) → s.is_alternate ≡ b →
+    (b ≡ true → IsSome s.other) → IsScreen s → IsLeft s (left s)
 left_if true s e h i = record {
   main = rw e refl;
   size = rw e (same_fresh (page_aside s) s.page (aside_size s.other s.page (fresh_page s) i.other (h refl)));
@@ -93,16 +104,31 @@ renewed s page other capacity = record {
   last = None;
 }
 
-pub reset_is : (s v : ScreenValue) (active idle above : Scrollback) → IsScreen s → v ≡ with_fresh_page (with_fresh_other (left s)) → v.scrollback ≡ main_scrollback v.is_alternate active idle → above ≡ cleared active
-    → record { page = v.page; other = v.other; is_alternate = v.is_alternate; scrollback = main_scrollback v.is_alternate above idle; attrs = default_attrs; saved_attrs = default_attrs; hidden = false; modes = no_modes; last = None } ≡ reset s
+pub reset_is : (s v : ScreenValue) (active idle above : Scrollback)
+    → IsScreen s → v ≡ with_fresh_page (with_fresh_other (left s))
+    → v.scrollback ≡ main_scrollback v.is_alternate active idle → above ≡ cleared active
+    → record {
+      page = v.page;
+      other = v.other;
+      is_alternate = v.is_alternate;
+      scrollback = main_scrollback v.is_alternate above idle;
+      attrs = default_attrs;
+      saved_attrs = default_attrs;
+      hidden = false;
+      modes = no_modes;
+      last = None;
+    } ≡ reset s
 reset_is s v active idle above i e w a =
     let l = left_if s.is_alternate s refl i.entered i in
-    let fresh : with_fresh_page (with_fresh_other (left s)) ≡ record (left s) { page = fresh_page s; other = option_map (λ _. fresh_page s) s.other }
+    let fresh : with_fresh_page (with_fresh_other (left s))
+    ≡ record (left s) { page = fresh_page s; other = option_map (λ _. fresh_page s) s.other }
     = ap (λ (p : Page). record (left s) { page = p; other = option_map (λ _. p) (left s).other }) l.size
     ∙ ap (λ (o : Option Page). record (left s) { page = fresh_page s; other = o }) (l.other (fresh_page s)) in
     let whole = e ∙ fresh in
     let main : v.is_alternate ≡ false = ap (λ (x : ScreenValue). x.is_alternate) whole ∙ l.main in
-    let kept : s.scrollback ≡ active = sym (ap (λ (x : ScreenValue). x.scrollback) whole ∙ l.above) ∙ (w ∙ ap (λ (b : Bool). main_scrollback b active idle) main) in
+    let kept : s.scrollback ≡ active =
+    sym (ap (λ (x : ScreenValue). x.scrollback) whole ∙ l.above)
+    ∙ (w ∙ ap (λ (b : Bool). main_scrollback b active idle) main) in
     rw main (rw a (
     ap (λ (p : Page). renewed s p v.other active.capacity) (ap (λ (x : ScreenValue). x.page) whole)
     ∙ ap (λ (o : Option Page). renewed s (fresh_page s) o active.capacity) (ap (λ (x : ScreenValue). x.other) whole)

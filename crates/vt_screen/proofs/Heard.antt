@@ -1,4 +1,5 @@
--- What callbacks hear in a run, if they leave the screen alone: the calls of the model, one by one, while the screen is that of the model.
+-- What callbacks hear in a run, if they leave the screen alone: the calls of the model, one by one,
+-- while the screen is that of the model.
 use Rattle.std.proofs.Common.{◌≡◌, List, [], ◌∷◌, map, refl, sym, ap, subst}
 use Rattle.std.specs.List.{FoldsTo}
 use Rattle.vt_rows.specs.Row.{RowValue}
@@ -9,37 +10,62 @@ use Rattle.vt_screen.specs.Screen.{ScreenValue}
 use Rattle.vt_screen.specs.Run as act
 use Rattle.vt_screen.specs.Run.{Hears, Performs, Scrolls, Takes, Told, state}
 use Rattle.vt_screen.specs.Controls.{seen_of, steps_of}
-use Rattle.vt_screen.specs.Steps.{Step, Print, CarriageReturn, LineFeed, ReverseIndex, MoveUp, MoveDown, MoveRight, MoveLeft, NextLine, PreviousLine, Tab, MoveTo, MoveToColumn, MoveToRow, SetRegion, UseOrigin, EraseBelow, EraseAbove, ErasePage, EraseScrollback, EraseRest, EraseStart, EraseRow, EraseChars, InsertChars, DeleteChars, InsertLines, DeleteLines, ScrollUp, ScrollDown, Render, HideCursor, UseApplicationCursor, UseBracketedPaste, SetMouseMode, ClearMouseMode, SetMouseEncoding, ClearMouseEncoding, SetCursorStyle, SaveCursor, RestoreCursor, EnterAlternate, EnterFresh, LeaveAlternate, LeaveRestoring, Reset, UseApplicationKeypad, Tell, reports, scrolled, stepped}
+use Rattle.vt_screen.specs.Steps.{Step, Print, CarriageReturn, LineFeed, ReverseIndex, MoveUp, MoveDown, MoveRight}
+use Rattle.vt_screen.specs.Steps.{MoveLeft, NextLine, PreviousLine, Tab, MoveTo, MoveToColumn, MoveToRow, SetRegion}
+use Rattle.vt_screen.specs.Steps.{UseOrigin, EraseBelow, EraseAbove, ErasePage, EraseScrollback, EraseRest, EraseStart}
+use Rattle.vt_screen.specs.Steps.{EraseRow, EraseChars, InsertChars, DeleteChars, InsertLines, DeleteLines, ScrollUp}
+use Rattle.vt_screen.specs.Steps.{ScrollDown, Render, HideCursor, UseApplicationCursor, UseBracketedPaste, SetMouseMode}
+use Rattle.vt_screen.specs.Steps.{ClearMouseMode, SetMouseEncoding, ClearMouseEncoding, SetCursorStyle, SaveCursor}
+use Rattle.vt_screen.specs.Steps.{RestoreCursor, EnterAlternate, EnterFresh, LeaveAlternate, LeaveRestoring, Reset}
+use Rattle.vt_screen.specs.Steps.{UseApplicationKeypad, Tell, reports, scrolled, stepped}
 use Rattle.vt_screen.specs.Telling.{Heard, LeavesScreen, calls_of, calls_of_all, stepped_all, steps_of_all}
 use Rattle.vt_screen.proofs.Reporting.{told_rows}
 
 -- a screen was reached, and these calls were heard on the way
-pub record Hearing {S : Type 0} (does : CallValue → S → ScreenValue → S → ScreenValue → Type 0) (a : act.State S) (calls : List CallValue) (screen : ScreenValue) (b : act.State S) : Type 0 where
+pub record Hearing {S : Type 0} (does : CallValue → S → ScreenValue → S → ScreenValue → Type 0)
+    (a : act.State S) (calls : List CallValue) (screen : ScreenValue) (b : act.State S) : Type 0 where
   pub shown : b.screen ≡ screen
   pub heard : FoldsTo (Heard does) a.callbacks calls b.callbacks
 
 -- ---- one step
 
-heard_nothing : {S : Type 0} (does : CallValue → S → ScreenValue → S → ScreenValue → Type 0) (a b : act.State S) (screen : ScreenValue) → b ≡ state a.callbacks screen → Hearing does a [] screen b
-heard_nothing {S} does a b screen e = record { shown = ap (λ (s : act.State S). s.screen) e; heard = sym (ap (λ (s : act.State S). s.callbacks) e) }
+heard_nothing : {S : Type 0} (does : CallValue → S → ScreenValue → S → ScreenValue → Type 0)
+    (a b : act.State S) (screen : ScreenValue) →
+    b ≡ state a.callbacks screen → Hearing does a [] screen b
+heard_nothing {S} does a b screen e =
+    record { shown = ap (λ (s : act.State S). s.screen) e; heard = sym (ap (λ (s : act.State S). s.callbacks) e) }
 
-heard_told : {S : Type 0} (does : CallValue → S → ScreenValue → S → ScreenValue → Type 0) (screen : ScreenValue) (calls : List CallValue) (old new : S) → FoldsTo (Told does) old calls new → FoldsTo (Heard does) old calls new
+heard_told : {S : Type 0} (does : CallValue → S → ScreenValue → S → ScreenValue → Type 0)
+    (screen : ScreenValue) (calls : List CallValue) (old new : S) →
+    FoldsTo (Told does) old calls new → FoldsTo (Heard does) old calls new
 heard_told does screen [] old new e = e
 heard_told does screen (call ∷ calls) old new t = (t.0, (screen, t.1 screen), heard_told does screen calls t.0 new t.2)
 
-heard_scroll : {S : Type 0} (does : CallValue → S → ScreenValue → S → ScreenValue → Type 0) (x : Step) (a b : act.State S) → Scrolls does a x b → Hearing does a (map (λ (row : RowValue). OnScroll row a.screen.is_alternate) (reports x a.screen)) (scrolled x a.screen) b
+heard_scroll : {S : Type 0} (does : CallValue → S → ScreenValue → S → ScreenValue → Type 0)
+    (x : Step) (a b : act.State S) →
+    Scrolls does a x b →
+    Hearing does a (map (λ (row : RowValue). OnScroll row a.screen.is_alternate) (reports x a.screen))
+    (scrolled x a.screen) b
 heard_scroll does x a b t = record {
   shown = t.screen;
-  heard = heard_told does a.screen (map (λ (row : RowValue). OnScroll row a.screen.is_alternate) (reports x a.screen)) a.callbacks b.callbacks
+  heard =
+      heard_told does a.screen
+      (map (λ (row : RowValue). OnScroll row a.screen.is_alternate) (reports x a.screen)) a.callbacks b.callbacks
       (told_rows does a.screen.is_alternate (reports x a.screen) a.callbacks b.callbacks t.heard);
 }
 
-heard_call : {S : Type 0} (does : CallValue → S → ScreenValue → S → ScreenValue → Type 0) → LeavesScreen does → (call : CallValue) (a b : act.State S) → does call a.callbacks a.screen b.callbacks b.screen → Hearing does a (call ∷ []) a.screen b
+heard_call : {S : Type 0} (does : CallValue → S → ScreenValue → S → ScreenValue → Type 0) →
+    LeavesScreen does → (call : CallValue) (a b : act.State S) →
+    does call a.callbacks a.screen b.callbacks b.screen → Hearing does a (call ∷ []) a.screen b
 heard_call does leaves call a b t =
     let same = leaves call a.callbacks b.callbacks a.screen b.screen t in
-    record { shown = same; heard = (b.callbacks, (a.screen, subst (does call a.callbacks a.screen b.callbacks) same t), refl) }
+    record {
+      shown = same;
+      heard = (b.callbacks, (a.screen, subst (does call a.callbacks a.screen b.callbacks) same t), refl);
+    }
 
-heard_step : {S : Type 0} (does : CallValue → S → ScreenValue → S → ScreenValue → Type 0) → LeavesScreen does → (x : Step) (a b : act.State S) → Takes does a x b → Hearing does a (calls_of x a.screen) (scrolled x a.screen) b
+heard_step : {S : Type 0} (does : CallValue → S → ScreenValue → S → ScreenValue → Type 0) → LeavesScreen does →
+    (x : Step) (a b : act.State S) → Takes does a x b → Hearing does a (calls_of x a.screen) (scrolled x a.screen) b
 heard_step does leaves (Tell call) a b t = heard_call does leaves call a b t
 heard_step does leaves (Print c) a b t = heard_scroll does (Print c) a b t
 heard_step does leaves LineFeed a b t = heard_scroll does LineFeed a b t
@@ -80,33 +106,53 @@ heard_step does leaves (DeleteLines count) a b t = heard_nothing does a b (stepp
 heard_step does leaves (ScrollDown count) a b t = heard_nothing does a b (stepped (ScrollDown count) a.screen) t
 heard_step does leaves (Render setting) a b t = heard_nothing does a b (stepped (Render setting) a.screen) t
 heard_step does leaves (HideCursor hidden) a b t = heard_nothing does a b (stepped (HideCursor hidden) a.screen) t
-heard_step does leaves (UseApplicationKeypad on) a b t = heard_nothing does a b (stepped (UseApplicationKeypad on) a.screen) t
-heard_step does leaves (UseApplicationCursor on) a b t = heard_nothing does a b (stepped (UseApplicationCursor on) a.screen) t
+heard_step does leaves (UseApplicationKeypad on) a b t =
+    heard_nothing does a b (stepped (UseApplicationKeypad on) a.screen) t
+heard_step does leaves (UseApplicationCursor on) a b t =
+    heard_nothing does a b (stepped (UseApplicationCursor on) a.screen) t
 heard_step does leaves (UseBracketedPaste on) a b t = heard_nothing does a b (stepped (UseBracketedPaste on) a.screen) t
 heard_step does leaves (SetMouseMode mode) a b t = heard_nothing does a b (stepped (SetMouseMode mode) a.screen) t
 heard_step does leaves (ClearMouseMode mode) a b t = heard_nothing does a b (stepped (ClearMouseMode mode) a.screen) t
-heard_step does leaves (SetMouseEncoding form) a b t = heard_nothing does a b (stepped (SetMouseEncoding form) a.screen) t
-heard_step does leaves (ClearMouseEncoding form) a b t = heard_nothing does a b (stepped (ClearMouseEncoding form) a.screen) t
+heard_step does leaves (SetMouseEncoding form) a b t =
+    heard_nothing does a b (stepped (SetMouseEncoding form) a.screen) t
+heard_step does leaves (ClearMouseEncoding form) a b t =
+    heard_nothing does a b (stepped (ClearMouseEncoding form) a.screen) t
 heard_step does leaves (SetCursorStyle look) a b t = heard_nothing does a b (stepped (SetCursorStyle look) a.screen) t
 
 -- ---- steps and events
 
-heard_steps : {S : Type 0} (does : CallValue → S → ScreenValue → S → ScreenValue → Type 0) → LeavesScreen does → (steps : List Step) (a b : act.State S) → FoldsTo (Takes does) a steps b → Hearing does a (calls_of_all steps a.screen) (stepped_all steps a.screen) b
-heard_steps {S} does leaves [] a b e = record { shown = sym (ap (λ (s : act.State S). s.screen) e); heard = ap (λ (s : act.State S). s.callbacks) e }
+heard_steps : {S : Type 0} (does : CallValue → S → ScreenValue → S → ScreenValue → Type 0) →
+    LeavesScreen does → (steps : List Step) (a b : act.State S) → FoldsTo (Takes does) a steps b →
+    Hearing does a (calls_of_all steps a.screen) (stepped_all steps a.screen) b
+heard_steps {S} does leaves [] a b e =
+    record { shown = sym (ap (λ (s : act.State S). s.screen) e); heard = ap (λ (s : act.State S). s.callbacks) e }
 heard_steps does leaves (x ∷ steps) a b t =
     let one = heard_step does leaves x a t.0 t.1 in
-    let rest = subst (λ (screen : ScreenValue). Hearing does t.0 (calls_of_all steps screen) (stepped_all steps screen) b) one.shown (heard_steps does leaves steps t.0 b t.2) in
-    record { shown = rest.shown; heard = folds_then (Heard does) (calls_of x a.screen) (calls_of_all steps (scrolled x a.screen)) a.callbacks t.0.callbacks b.callbacks one.heard rest.heard }
+    let rest = subst
+    (λ (screen : ScreenValue). Hearing does t.0 (calls_of_all steps screen) (stepped_all steps screen) b)
+    one.shown (heard_steps does leaves steps t.0 b t.2) in
+    record {
+      shown = rest.shown;
+      heard =
+          folds_then (Heard does) (calls_of x a.screen) (calls_of_all steps (scrolled x a.screen))
+          a.callbacks t.0.callbacks b.callbacks one.heard rest.heard;
+    }
 
 -- the steps of all events are those that the model lists
-steps_listed : {S : Type 0} (does : CallValue → S → ScreenValue → S → ScreenValue → Type 0) → LeavesScreen does → (events : List Event) (a b : act.State S) → FoldsTo (Performs does) a events b → FoldsTo (Takes does) a (steps_of_all events a.screen) b
+steps_listed : {S : Type 0} (does : CallValue → S → ScreenValue → S → ScreenValue → Type 0) →
+    LeavesScreen does → (events : List Event) (a b : act.State S) →
+    FoldsTo (Performs does) a events b → FoldsTo (Takes does) a (steps_of_all events a.screen) b
 steps_listed does leaves [] a b e = e
 steps_listed does leaves (event ∷ events) a b t =
     let steps = steps_of event (seen_of a.screen) in
     let there = (heard_steps does leaves steps a t.0 t.1).shown in
-    let rest = subst (λ (screen : ScreenValue). FoldsTo (Takes does) t.0 (steps_of_all events screen) b) there (steps_listed does leaves events t.0 b t.2) in
+    let rest = subst (λ (screen : ScreenValue). FoldsTo (Takes does) t.0 (steps_of_all events screen) b)
+    there (steps_listed does leaves events t.0 b t.2) in
     folds_then (Takes does) steps (steps_of_all events (stepped_all steps a.screen)) a t.0 b t.1 rest
 
-pub heard_events : {S : Type 0} (does : CallValue → S → ScreenValue → S → ScreenValue → Type 0) → LeavesScreen does → (events : List Event) (a b : act.State S) → FoldsTo (Performs does) a events b
-    → Hearing does a (calls_of_all (steps_of_all events a.screen) a.screen) (stepped_all (steps_of_all events a.screen) a.screen) b
-heard_events does leaves events a b t = heard_steps does leaves (steps_of_all events a.screen) a b (steps_listed does leaves events a b t)
+pub heard_events : {S : Type 0} (does : CallValue → S → ScreenValue → S → ScreenValue → Type 0)
+    → LeavesScreen does → (events : List Event) (a b : act.State S) → FoldsTo (Performs does) a events b
+    → Hearing does a (calls_of_all (steps_of_all events a.screen) a.screen)
+    (stepped_all (steps_of_all events a.screen) a.screen) b
+heard_events does leaves events a b t =
+    heard_steps does leaves (steps_of_all events a.screen) a b (steps_listed does leaves events a b t)

@@ -1,6 +1,7 @@
 -- The texts of input modes, read by any terminal in the midst of nothing, set these modes and nothing else.
 use Rattle.std.proofs.Common.{◌≡◌, ℕ, Bool, true, false, List, [], ◌++◌, Some, refl, sym, ap, subst, ◌∙◌}
-use Rattle.vt_cells.specs.InputModes.{keypad_text, application_cursor_text, bracketed_paste_text, mouse_mode_change, mouse_encoding_change, cursor_style_change}
+use Rattle.vt_cells.specs.InputModes.{keypad_text, application_cursor_text, bracketed_paste_text}
+use Rattle.vt_cells.specs.InputModes.{mouse_mode_change, mouse_encoding_change, cursor_style_change}
 use Rattle.vt_cells.specs.declared.modes.CursorStyle.{CursorStyle}
 use Rattle.vt_cells.specs.declared.modes.CursorStyle.TheVariants as style
 use Rattle.vt_cells.specs.declared.modes.MouseProtocolEncoding.{MouseProtocolEncoding}
@@ -20,7 +21,8 @@ use Rattle.vt_screen.proofs.ReadbackTexts.{reads_then}
 
 -- a terminal with the one modes reads the text, and has the others then
 abbrev Sets : List ℕ → (was new : Modes) → Type 0
-Sets text was new = (reader : ScreenValue) → ReadsTo text (record reader { modes = was }) (record reader { modes = new })
+Sets text was new =
+    (reader : ScreenValue) → ReadsTo text (record reader { modes = was }) (record reader { modes = new })
 
 -- ---- one mode
 
@@ -39,7 +41,8 @@ unfolding read_byte fresh_step class_of table_of groups_of numbers_of number_of 
 paste_sets true m reader = refl
 paste_sets false m reader = refl
 
-mouse_mode_sets : (was new : MouseProtocolMode) (m : Modes) → Sets (mouse_mode_change was new) (record m { mouse_mode = was }) (record m { mouse_mode = new })
+mouse_mode_sets : (was new : MouseProtocolMode) (m : Modes) →
+    Sets (mouse_mode_change was new) (record m { mouse_mode = was }) (record m { mouse_mode = new })
 unfolding read_byte fresh_step class_of table_of groups_of numbers_of number_of private_steps marked_steps mode_step
 mouse_mode_sets mouse.None mouse.None m reader = refl
 mouse_mode_sets mouse.Press mouse.Press m reader = refl
@@ -48,14 +51,16 @@ mouse_mode_sets mouse.ButtonMotion mouse.ButtonMotion m reader = refl
 mouse_mode_sets mouse.AnyMotion mouse.AnyMotion m reader = refl
 mouse_mode_sets _ _ m reader = refl
 
-mouse_encoding_sets : (was new : MouseProtocolEncoding) (m : Modes) → Sets (mouse_encoding_change was new) (record m { mouse_encoding = was }) (record m { mouse_encoding = new })
+mouse_encoding_sets : (was new : MouseProtocolEncoding) (m : Modes) →
+    Sets (mouse_encoding_change was new) (record m { mouse_encoding = was }) (record m { mouse_encoding = new })
 unfolding read_byte fresh_step class_of table_of groups_of numbers_of number_of private_steps marked_steps mode_step
 mouse_encoding_sets encoding.Default encoding.Default m reader = refl
 mouse_encoding_sets encoding.Utf8 encoding.Utf8 m reader = refl
 mouse_encoding_sets encoding.Sgr encoding.Sgr m reader = refl
 mouse_encoding_sets _ _ m reader = refl
 
-cursor_style_sets : (was new : CursorStyle) (m : Modes) → Sets (cursor_style_change was new) (record m { cursor_style = was }) (record m { cursor_style = new })
+cursor_style_sets : (was new : CursorStyle) (m : Modes) →
+    Sets (cursor_style_change was new) (record m { cursor_style = was }) (record m { cursor_style = new })
 unfolding read_byte fresh_step class_of table_of groups_of numbers_of number_of space_steps marked_steps style_of
 cursor_style_sets style.Default style.Default m reader = refl
 cursor_style_sets style.BlinkBlock style.BlinkBlock m reader = refl
@@ -68,19 +73,25 @@ cursor_style_sets _ _ m reader = refl
 
 -- where it stays, nothing is written
 
-keypad_changes : (was new : Bool) (m : Modes) → Sets (where_changed was new (keypad_text new)) (record m { application_keypad = was }) (record m { application_keypad = new })
+keypad_changes : (was new : Bool) (m : Modes) →
+    Sets (where_changed was new (keypad_text new))
+    (record m { application_keypad = was }) (record m { application_keypad = new })
 keypad_changes true true m reader = refl
 keypad_changes false false m reader = refl
 keypad_changes true false m reader = keypad_sets false (record m { application_keypad = true }) reader
 keypad_changes false true m reader = keypad_sets true (record m { application_keypad = false }) reader
 
-cursor_keys_change : (was new : Bool) (m : Modes) → Sets (where_changed was new (application_cursor_text new)) (record m { application_cursor = was }) (record m { application_cursor = new })
+cursor_keys_change : (was new : Bool) (m : Modes) →
+    Sets (where_changed was new (application_cursor_text new))
+    (record m { application_cursor = was }) (record m { application_cursor = new })
 cursor_keys_change true true m reader = refl
 cursor_keys_change false false m reader = refl
 cursor_keys_change true false m reader = cursor_keys_set false (record m { application_cursor = true }) reader
 cursor_keys_change false true m reader = cursor_keys_set true (record m { application_cursor = false }) reader
 
-paste_changes : (was new : Bool) (m : Modes) → Sets (where_changed was new (bracketed_paste_text new)) (record m { bracketed_paste = was }) (record m { bracketed_paste = new })
+paste_changes : (was new : Bool) (m : Modes) →
+    Sets (where_changed was new (bracketed_paste_text new))
+    (record m { bracketed_paste = was }) (record m { bracketed_paste = new })
 paste_changes true true m reader = refl
 paste_changes false false m reader = refl
 paste_changes true false m reader = paste_sets false (record m { bracketed_paste = true }) reader
@@ -90,13 +101,16 @@ paste_changes false true m reader = paste_sets true (record m { bracketed_paste 
 
 one_then : (a b : List ℕ) (was middle new : Modes) → Sets a was middle → Sets b middle new → Sets (a ++ b) was new
 one_then a b was middle new p q reader =
-    reads_then (terminal start (record reader { modes = was })) (terminal start (record reader { modes = middle })) (terminal start (record reader { modes = new })) a b (p reader) (q reader)
+    reads_then (terminal start (record reader { modes = was })) (terminal start (record reader { modes = middle }))
+    (terminal start (record reader { modes = new })) a b (p reader) (q reader)
 
 -- the mouse and the look of the cursor of one, and the rest of the other
 abbrev with_mouse_and_style : (mouse rest : Modes) → Modes
-with_mouse_and_style mouse rest = record rest { mouse_mode = mouse.mouse_mode; mouse_encoding = mouse.mouse_encoding; cursor_style = mouse.cursor_style }
+with_mouse_and_style mouse rest = record rest
+    { mouse_mode = mouse.mouse_mode; mouse_encoding = mouse.mouse_encoding; cursor_style = mouse.cursor_style }
 
-mouse_and_style_set : (was new m : Modes) → Sets (mouse_and_style_text was new) (with_mouse_and_style was m) (with_mouse_and_style new m)
+mouse_and_style_set : (was new m : Modes) →
+    Sets (mouse_and_style_text was new) (with_mouse_and_style was m) (with_mouse_and_style new m)
 mouse_and_style_set was new m =
     let first : Modes = with_mouse_and_style was m in
     let second : Modes = record first { mouse_mode = new.mouse_mode } in
@@ -104,8 +118,10 @@ mouse_and_style_set was new m =
     let mode = mouse_mode_change was.mouse_mode new.mouse_mode in
     let form = mouse_encoding_change was.mouse_encoding new.mouse_encoding in
     let look = cursor_style_change was.cursor_style new.cursor_style in
-    one_then mode (form ++ look) first second (with_mouse_and_style new m) (mouse_mode_sets was.mouse_mode new.mouse_mode first)
-    (one_then form look second third (with_mouse_and_style new m) (mouse_encoding_sets was.mouse_encoding new.mouse_encoding second)
+    one_then mode (form ++ look) first second (with_mouse_and_style new m)
+    (mouse_mode_sets was.mouse_mode new.mouse_mode first)
+    (one_then form look second third (with_mouse_and_style new m)
+    (mouse_encoding_sets was.mouse_encoding new.mouse_encoding second)
     (cursor_style_sets was.cursor_style new.cursor_style third))
 
 -- any keypad, cursor keys and paste, and the mouse and look of a fresh screen
@@ -128,12 +144,16 @@ input_changes was new =
     let second : Modes = record was { application_keypad = new.application_keypad } in
     let third : Modes = record second { application_cursor = new.application_cursor } in
     let keypad = where_changed was.application_keypad new.application_keypad (keypad_text new.application_keypad) in
-    let keys = where_changed was.application_cursor new.application_cursor (application_cursor_text new.application_cursor) in
+    let keys =
+    where_changed was.application_cursor new.application_cursor (application_cursor_text new.application_cursor) in
     let paste = where_changed was.bracketed_paste new.bracketed_paste (bracketed_paste_text new.bracketed_paste) in
     let rest = mouse_and_style_text was new in
-    one_then keypad (keys ++ (paste ++ rest)) was second new (keypad_changes was.application_keypad new.application_keypad was)
-    (one_then keys (paste ++ rest) second third new (cursor_keys_change was.application_cursor new.application_cursor second)
-    (one_then paste rest third (with_mouse_and_style was new) new (paste_changes was.bracketed_paste new.bracketed_paste third)
+    one_then keypad (keys ++ (paste ++ rest)) was second new
+    (keypad_changes was.application_keypad new.application_keypad was)
+    (one_then keys (paste ++ rest) second third new
+    (cursor_keys_change was.application_cursor new.application_cursor second)
+    (one_then paste rest third (with_mouse_and_style was new) new
+    (paste_changes was.bracketed_paste new.bracketed_paste third)
     (mouse_and_style_set was new new)))
 
 -- every terminal with a fresh screen's mouse and look takes all modes
@@ -141,17 +161,23 @@ pub modes_set : (new : Modes) (text : List ℕ) → text ≡ input_text new → 
 modes_set new text told reader had =
     let m = reader.modes in
     let same : with_mouse_and_style no_modes m ≡ m =
-    ap (λ (x : MouseProtocolMode). record m { mouse_mode = x; mouse_encoding = no_modes.mouse_encoding; cursor_style = no_modes.cursor_style }) (sym had.mouse_mode)
-    ∙ (ap (λ (x : MouseProtocolEncoding). record m { mouse_encoding = x; cursor_style = no_modes.cursor_style }) (sym had.mouse_encoding)
+    ap (λ (x : MouseProtocolMode). record m
+    { mouse_mode = x; mouse_encoding = no_modes.mouse_encoding; cursor_style = no_modes.cursor_style })
+    (sym had.mouse_mode)
+    ∙ (ap (λ (x : MouseProtocolEncoding). record m { mouse_encoding = x; cursor_style = no_modes.cursor_style })
+    (sym had.mouse_encoding)
     ∙ ap (λ (x : CursorStyle). record m { cursor_style = x }) (sym had.cursor_style)) in
     subst (λ (t : List ℕ). ReadsTo t reader (record reader { modes = new })) (sym told)
-    (subst (λ (x : Modes). ReadsTo (input_text new) (record reader { modes = x }) (record reader { modes = new })) same (input_sets m new reader))
+    (subst (λ (x : Modes). ReadsTo (input_text new) (record reader { modes = x }) (record reader { modes = new }))
+    same (input_sets m new reader))
 
 -- every terminal with the modes before takes those that differ
-pub modes_changed : (was new : Modes) (text : List ℕ) → text ≡ input_change was new → SetsModes (λ had. had ≡ was) new text
+pub modes_changed : (was new : Modes) (text : List ℕ) →
+    text ≡ input_change was new → SetsModes (λ had. had ≡ was) new text
 modes_changed was new text told reader had =
     subst (λ (t : List ℕ). ReadsTo t reader (record reader { modes = new })) (sym told)
-    (subst (λ (x : Modes). ReadsTo (input_change was new) (record reader { modes = x }) (record reader { modes = new })) (sym had) (input_changes was new reader))
+    (subst (λ (x : Modes). ReadsTo (input_change was new) (record reader { modes = x }) (record reader { modes = new }))
+    (sym had) (input_changes was new reader))
 
 -- ---- nothing is written only where all modes are the same
 
@@ -162,7 +188,9 @@ pub change_tells : (was new : Modes) → input_change was new ≡ [] → new ≡
 change_tells was new none =
     let reader : ScreenValue = record (fresh_screen 1 1 0) { modes = was } in
     let left : Terminal = terminal start (record reader { modes = new }) in
-    let same : left ≡ terminal start reader = same_some left (terminal start reader) (sym (input_changes was new reader) ∙ ap (read (terminal start reader)) none) in
+    let same : left ≡ terminal start reader =
+    same_some left (terminal start reader)
+    (sym (input_changes was new reader) ∙ ap (read (terminal start reader)) none) in
     ap (λ (t : Terminal). t.screen.modes) same
 
 -- and there nothing is written

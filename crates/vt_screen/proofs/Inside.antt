@@ -1,5 +1,6 @@
 -- Steps leave the size of a screen, and its cursors on the page.
-use Rattle.std.proofs.Common.{◌≡◌, ℕ, zero, suc, ◌+◌, ◌-◌, ◌<◌, ◌==◌, ◌&&◌, nat_lt, min, max, not, Bool, true, false, List, length, refl, ◌∙◌, arith, drop, replicate}
+use Rattle.std.proofs.Common.{◌≡◌, ℕ, zero, suc, ◌+◌, ◌-◌, ◌<◌, ◌==◌, ◌&&◌, nat_lt, min, max, not}
+use Rattle.std.proofs.Common.{Bool, true, false, List, length, refl, ◌∙◌, arith, drop, replicate}
 use Rattle.std.specs.Prelude.{◌||◌, if◌then◌else◌, Option, Some, None}
 use Rattle.std.specs.Char.{encode_utf8}
 use Rattle.std.proofs.lemmas.Bool.Decides.{nat_tests}
@@ -10,12 +11,23 @@ use Rattle.vt_cells.specs.Glyph.{columns_of, is_selector, is_wide_text}
 use Rattle.vt_rows.specs.Cells.{at, ends_blank, erased, widened_at}
 use Rattle.vt_rows.specs.Row.{blank_row}
 use Rattle.vt_grid.specs.Page.{Page, SameSize, cursor_row, scrolled_up}
-use Rattle.vt_grid.specs.Moves.{carriage_return, moved_left, moved_right, moved_to, target_row, at_bottom, line_feed, cursor_saved, cursor_restored}
-use Rattle.vt_grid.specs.Regions.{in_region, last_row, moved_up, moved_down, next_line, previous_line, moved_to_column, moved_to_row, tabbed, region_set, origin_set}
-use Rattle.vt_grid.specs.Shifts.{rows_down, scrolled_down, reverse_index, lines_inserted, lines_deleted, chars_inserted, chars_deleted}
-use Rattle.vt_grid.specs.Erasing.{erased_columns, erased_chars, erased_rest, erased_below, erased_start, erased_row, blanked_above, erased_above, erased_page}
-use Rattle.vt_grid.specs.Printing.{carries, lifted_page, with_cursor_cells, left_row, goes_down, flagged_left, wrapped_page, lacks_room, room_made, glyph_put, mark_column, takes_mark, mark_put, carried, made_wide, made_narrow, width_followed, mark_printed, printed, printed_by}
-use Rattle.vt_screen.proofs.Sizes.{same_cursor_cells, same_mark_put, same_through, same_carriage_return, same_moved_left, same_moved_right, same_moved_to, same_moved_up, same_moved_down, same_moved_to_column, same_moved_to_row, same_tabbed, same_scrolled_up, same_scrolled_down, same_lines_inserted, same_lines_deleted, same_chars_inserted, same_chars_deleted, same_erased_chars, same_erased_rest, same_erased_below, same_erased_start, same_erased_row, same_erased_page, same_printed}
+use Rattle.vt_grid.specs.Moves.{carriage_return, moved_left, moved_right, moved_to, target_row}
+use Rattle.vt_grid.specs.Moves.{at_bottom, line_feed, cursor_saved, cursor_restored}
+use Rattle.vt_grid.specs.Regions.{in_region, last_row, moved_up, moved_down, next_line, previous_line}
+use Rattle.vt_grid.specs.Regions.{moved_to_column, moved_to_row, tabbed, region_set, origin_set}
+use Rattle.vt_grid.specs.Shifts.{rows_down, scrolled_down, reverse_index, lines_inserted}
+use Rattle.vt_grid.specs.Shifts.{lines_deleted, chars_inserted, chars_deleted}
+use Rattle.vt_grid.specs.Erasing.{erased_columns, erased_chars, erased_rest, erased_below, erased_start}
+use Rattle.vt_grid.specs.Erasing.{erased_row, blanked_above, erased_above, erased_page}
+use Rattle.vt_grid.specs.Printing.{carries, lifted_page, with_cursor_cells, left_row, goes_down, flagged_left}
+use Rattle.vt_grid.specs.Printing.{wrapped_page, lacks_room, room_made, glyph_put, mark_column, takes_mark, mark_put}
+use Rattle.vt_grid.specs.Printing.{carried, made_wide, made_narrow, width_followed, mark_printed, printed, printed_by}
+use Rattle.vt_screen.proofs.Sizes.{same_cursor_cells, same_mark_put, same_through, same_carriage_return}
+use Rattle.vt_screen.proofs.Sizes.{same_moved_left, same_moved_right, same_moved_to, same_moved_up, same_moved_down}
+use Rattle.vt_screen.proofs.Sizes.{same_moved_to_column, same_moved_to_row, same_tabbed, same_scrolled_up}
+use Rattle.vt_screen.proofs.Sizes.{same_scrolled_down, same_lines_inserted, same_lines_deleted, same_chars_inserted}
+use Rattle.vt_screen.proofs.Sizes.{same_chars_deleted, same_erased_chars, same_erased_rest, same_erased_below}
+use Rattle.vt_screen.proofs.Sizes.{same_erased_start, same_erased_row, same_erased_page, same_printed}
 
 -- both cursors and the region's end are on the page
 pub record IsInside (page : Page) : Type 0 where
@@ -33,7 +45,8 @@ same_rows : (page : Page) → SameRows page page
 same_rows page = record { row = refl; saved_row = refl; bottom = refl }
 
 then_rows : (a b c : Page) → SameRows a b → SameRows b c → SameRows a c
-then_rows a b c s t = record { row = s.row ∙ t.row; saved_row = s.saved_row ∙ t.saved_row; bottom = s.bottom ∙ t.bottom }
+then_rows a b c s t =
+    record { row = s.row ∙ t.row; saved_row = s.saved_row ∙ t.saved_row; bottom = s.bottom ∙ t.bottom }
 
 rows_if : (b : Bool) (x y page : Page) → SameRows x page → SameRows y page → SameRows (if b then x else y) page
 rows_if true x y page s t = s
@@ -46,7 +59,8 @@ inside_rows new page s r i = record {
   bottom = omega (arith, s.height, r.bottom, i.bottom);
 }
 
-inside_at : (new page : Page) → SameSize new page → new.saved_row ≡ page.saved_row → new.bottom ≡ page.bottom → new.row < length page.rows → IsInside page → IsInside new
+inside_at : (new page : Page) → SameSize new page → new.saved_row ≡ page.saved_row →
+    new.bottom ≡ page.bottom → new.row < length page.rows → IsInside page → IsInside new
 inside_at new page s saved bottom row i = record {
   row = omega (arith, s.height, row);
   saved_row = omega (arith, s.height, saved, i.saved_row);
@@ -60,36 +74,46 @@ inside_if false x y i j = j
 -- ---- moves
 
 pub inside_carriage_return : (page : Page) → IsInside page → IsInside (carriage_return page)
-inside_carriage_return page i = inside_rows (carriage_return page) page (same_carriage_return page) (record { row = refl; saved_row = refl; bottom = refl }) i
+inside_carriage_return page i =
+    inside_rows (carriage_return page) page (same_carriage_return page)
+    (record { row = refl; saved_row = refl; bottom = refl }) i
 
 pub inside_moved_left : (n : ℕ) (page : Page) → IsInside page → IsInside (moved_left n page)
-inside_moved_left n page i = inside_rows (moved_left n page) page (same_moved_left n page) (record { row = refl; saved_row = refl; bottom = refl }) i
+inside_moved_left n page i =
+    inside_rows (moved_left n page) page (same_moved_left n page)
+    (record { row = refl; saved_row = refl; bottom = refl }) i
 
 pub inside_moved_right : (n : ℕ) (page : Page) → IsInside page → IsInside (moved_right n page)
-inside_moved_right n page i = inside_rows (moved_right n page) page (same_moved_right n page) (record { row = refl; saved_row = refl; bottom = refl }) i
+inside_moved_right n page i =
+    inside_rows (moved_right n page) page (same_moved_right n page)
+    (record { row = refl; saved_row = refl; bottom = refl }) i
 
 target_inside : (r : ℕ) (page : Page) → IsInside page → target_row r page < length page.rows
 target_inside r page i = by_origin page.origin where
-  by_origin : (b : Bool) → (if b then min (page.top + r) page.bottom else min r (length page.rows - 1)) < length page.rows
+  by_origin : (b : Bool) →
+      (if b then min (page.top + r) page.bottom else min r (length page.rows - 1)) < length page.rows
   by_origin true = omega (arith, i.bottom)
   by_origin false = omega (arith, i.row)
 
 pub inside_moved_to : (r c : ℕ) (page : Page) → IsInside page → IsInside (moved_to r c page)
-inside_moved_to r c page i = inside_at (moved_to r c page) page (same_moved_to r c page) refl refl (target_inside r page i) i
+inside_moved_to r c page i =
+    inside_at (moved_to r c page) page (same_moved_to r c page) refl refl (target_inside r page i) i
 
 pub inside_moved_up : (n : ℕ) (page : Page) → IsInside page → IsInside (moved_up n page)
 unfolding moved_up
-inside_moved_up n page i = inside_at (moved_up n page) page (same_moved_up n page) refl refl (by_region (in_region page) refl) i where
-  by_region : (b : Bool) → in_region page ≡ b → max (page.row - n) (if b then page.top else 0) < length page.rows
-  by_region true e = grind (arith, nat_tests, i.row, i.bottom)
-  by_region false e = omega (arith, i.row)
+inside_moved_up n page i =
+    inside_at (moved_up n page) page (same_moved_up n page) refl refl (by_region (in_region page) refl) i where
+      by_region : (b : Bool) → in_region page ≡ b → max (page.row - n) (if b then page.top else 0) < length page.rows
+      by_region true e = grind (arith, nat_tests, i.row, i.bottom)
+      by_region false e = omega (arith, i.row)
 
 pub inside_moved_down : (n : ℕ) (page : Page) → IsInside page → IsInside (moved_down n page)
 unfolding moved_down
-inside_moved_down n page i = inside_at (moved_down n page) page (same_moved_down n page) refl refl (by_region (in_region page)) i where
-  by_region : (b : Bool) → min (page.row + n) (if b then page.bottom else last_row page) < length page.rows
-  by_region true = omega (arith, i.bottom)
-  by_region false = omega (arith, i.row)
+inside_moved_down n page i =
+    inside_at (moved_down n page) page (same_moved_down n page) refl refl (by_region (in_region page)) i where
+      by_region : (b : Bool) → min (page.row + n) (if b then page.bottom else last_row page) < length page.rows
+      by_region true = omega (arith, i.bottom)
+      by_region false = omega (arith, i.row)
 
 pub inside_next_line : (n : ℕ) (page : Page) → IsInside page → IsInside (next_line n page)
 inside_next_line n page i = inside_carriage_return (moved_down n page) (inside_moved_down n page i)
@@ -98,13 +122,17 @@ pub inside_previous_line : (n : ℕ) (page : Page) → IsInside page → IsInsid
 inside_previous_line n page i = inside_carriage_return (moved_up n page) (inside_moved_up n page i)
 
 pub inside_moved_to_column : (c : ℕ) (page : Page) → IsInside page → IsInside (moved_to_column c page)
-inside_moved_to_column c page i = inside_rows (moved_to_column c page) page (same_moved_to_column c page) (record { row = refl; saved_row = refl; bottom = refl }) i
+inside_moved_to_column c page i =
+    inside_rows (moved_to_column c page) page (same_moved_to_column c page)
+    (record { row = refl; saved_row = refl; bottom = refl }) i
 
 pub inside_moved_to_row : (r : ℕ) (page : Page) → IsInside page → IsInside (moved_to_row r page)
-inside_moved_to_row r page i = inside_at (moved_to_row r page) page (same_moved_to_row r page) refl refl (omega (arith, i.row)) i
+inside_moved_to_row r page i =
+    inside_at (moved_to_row r page) page (same_moved_to_row r page) refl refl (omega (arith, i.row)) i
 
 pub inside_tabbed : (page : Page) → IsInside page → IsInside (tabbed page)
-inside_tabbed page i = inside_rows (tabbed page) page (same_tabbed page) (record { row = refl; saved_row = refl; bottom = refl }) i
+inside_tabbed page i =
+    inside_rows (tabbed page) page (same_tabbed page) (record { row = refl; saved_row = refl; bottom = refl }) i
 
 pub inside_region_set : (top bottom : ℕ) (page : Page) → IsInside page → IsInside (region_set top bottom page)
 unfolding region_set
@@ -112,12 +140,17 @@ inside_region_set top bottom page i = by_order (nat_lt top low) refl where
   low : ℕ
   low = min bottom (last_row page)
 
-  by_order : (b : Bool) → nat_lt top low ≡ b → IsInside (if b then record page { top = top; bottom = low; row = top; column = 0 } else record page { top = 0; bottom = last_row page; row = 0; column = 0 })
-  by_order true e = record { row = grind (arith, nat_tests, i.row); saved_row = i.saved_row; bottom = omega (arith, i.row) }
+  by_order : (b : Bool) → nat_lt top low ≡ b →
+      IsInside (if b then record page { top = top; bottom = low; row = top; column = 0 }
+      else record page { top = 0; bottom = last_row page; row = 0; column = 0 })
+  by_order true e =
+      record { row = grind (arith, nat_tests, i.row); saved_row = i.saved_row; bottom = omega (arith, i.row) }
   by_order false e = record { row = omega (arith, i.row); saved_row = i.saved_row; bottom = omega (arith, i.row) }
 
 pub inside_origin_set : (on : Bool) (page : Page) → IsInside page → IsInside (origin_set on page)
-inside_origin_set on page i = inside_moved_to 0 0 (record page { origin = on }) (record { row = i.row; saved_row = i.saved_row; bottom = i.bottom })
+inside_origin_set on page i =
+    inside_moved_to 0 0 (record page { origin = on })
+    (record { row = i.row; saved_row = i.saved_row; bottom = i.bottom })
 
 pub inside_cursor_saved : (page : Page) → IsInside page → IsInside (cursor_saved page)
 inside_cursor_saved page i = record { row = i.row; saved_row = i.row; bottom = i.bottom }
@@ -127,44 +160,61 @@ inside_cursor_restored page i = record { row = i.saved_row; saved_row = i.saved_
 
 pub inside_line_feed : (page : Page) → IsInside page → IsInside (line_feed page)
 unfolding line_feed
-inside_line_feed page i = inside_if (at_bottom page) (scrolled_up 1 page) (if nat_lt (page.row + 1) (length page.rows) then record page { row = page.row + 1 } else page)
-    (inside_rows (scrolled_up 1 page) page (same_scrolled_up 1 page) (record { row = refl; saved_row = refl; bottom = refl }) i)
+inside_line_feed page i =
+    inside_if (at_bottom page) (scrolled_up 1 page)
+    (if nat_lt (page.row + 1) (length page.rows) then record page { row = page.row + 1 } else page)
+    (inside_rows (scrolled_up 1 page) page (same_scrolled_up 1 page)
+    (record { row = refl; saved_row = refl; bottom = refl }) i)
     (by_room (nat_lt (page.row + 1) (length page.rows)) refl) where
-      by_room : (b : Bool) → nat_lt (page.row + 1) (length page.rows) ≡ b → IsInside (if b then record page { row = page.row + 1 } else page)
+      by_room : (b : Bool) → nat_lt (page.row + 1) (length page.rows) ≡ b →
+          IsInside (if b then record page { row = page.row + 1 } else page)
       by_room true e = record { row = grind (arith, nat_tests); saved_row = i.saved_row; bottom = i.bottom }
       by_room false e = i
 
 -- ---- rows and columns that move
 
 pub inside_scrolled_up : (n : ℕ) (page : Page) → IsInside page → IsInside (scrolled_up n page)
-inside_scrolled_up n page i = inside_rows (scrolled_up n page) page (same_scrolled_up n page) (record { row = refl; saved_row = refl; bottom = refl }) i
+inside_scrolled_up n page i =
+    inside_rows (scrolled_up n page) page (same_scrolled_up n page)
+    (record { row = refl; saved_row = refl; bottom = refl }) i
 
 pub inside_scrolled_down : (n : ℕ) (page : Page) → IsInside page → IsInside (scrolled_down n page)
-inside_scrolled_down n page i = inside_rows (scrolled_down n page) page (same_scrolled_down n page) (record { row = refl; saved_row = refl; bottom = refl }) i
+inside_scrolled_down n page i =
+    inside_rows (scrolled_down n page) page (same_scrolled_down n page)
+    (record { row = refl; saved_row = refl; bottom = refl }) i
 
 pub inside_reverse_index : (page : Page) → IsInside page → IsInside (reverse_index page)
 unfolding reverse_index
 inside_reverse_index page i =
-    inside_if ((page.row == page.top) || (page.row == 0)) (scrolled_down 1 page) (record page { row = page.row - 1 }) (inside_scrolled_down 1 page i)
+    inside_if ((page.row == page.top) || (page.row == 0)) (scrolled_down 1 page)
+    (record page { row = page.row - 1 }) (inside_scrolled_down 1 page i)
     (record { row = omega (arith, i.row); saved_row = i.saved_row; bottom = i.bottom })
 
 pub inside_lines_inserted : (n : ℕ) (page : Page) → IsInside page → IsInside (lines_inserted n page)
 unfolding lines_inserted
 inside_lines_inserted n page i =
     inside_rows (lines_inserted n page) page (same_lines_inserted n page)
-    (rows_if (in_region page) (record page { rows = rows_down page.width page.row page.bottom n page.rows }) page page (record { row = refl; saved_row = refl; bottom = refl }) (same_rows page)) i
+    (rows_if (in_region page) (record page { rows = rows_down page.width page.row page.bottom n page.rows })
+    page page (record { row = refl; saved_row = refl; bottom = refl }) (same_rows page))
+    i
 
 pub inside_lines_deleted : (n : ℕ) (page : Page) → IsInside page → IsInside (lines_deleted n page)
 unfolding lines_deleted
 inside_lines_deleted n page i =
     inside_rows (lines_deleted n page) page (same_lines_deleted n page)
-    (rows_if (in_region page) (record page { rows = _ }) page page (record { row = refl; saved_row = refl; bottom = refl }) (same_rows page)) i
+    (rows_if (in_region page) (record page { rows = _ }) page page
+    (record { row = refl; saved_row = refl; bottom = refl }) (same_rows page))
+    i
 
 pub inside_chars_inserted : (n : ℕ) (page : Page) → IsInside page → IsInside (chars_inserted n page)
-inside_chars_inserted n page i = inside_rows (chars_inserted n page) page (same_chars_inserted n page) (record { row = refl; saved_row = refl; bottom = refl }) i
+inside_chars_inserted n page i =
+    inside_rows (chars_inserted n page) page (same_chars_inserted n page)
+    (record { row = refl; saved_row = refl; bottom = refl }) i
 
 pub inside_chars_deleted : (n : ℕ) (page : Page) → IsInside page → IsInside (chars_deleted n page)
-inside_chars_deleted n page i = inside_rows (chars_deleted n page) page (same_chars_deleted n page) (record { row = refl; saved_row = refl; bottom = refl }) i
+inside_chars_deleted n page i =
+    inside_rows (chars_deleted n page) page (same_chars_deleted n page)
+    (record { row = refl; saved_row = refl; bottom = refl }) i
 
 -- ---- erasing
 
@@ -175,54 +225,75 @@ rows_erased_rest : (attrs : Attrs) (page : Page) → SameRows (erased_rest attrs
 unfolding erased_rest
 rows_erased_rest attrs page =
     let count = page.width - page.column in
-    rows_if (page.column == page.width) page (erased_columns page.column count attrs page) page (same_rows page) (rows_erased_columns page.column count attrs page)
+    rows_if (page.column == page.width) page (erased_columns page.column count attrs page)
+    page (same_rows page) (rows_erased_columns page.column count attrs page)
 
 pub inside_erased_chars : (n : ℕ) (attrs : Attrs) (page : Page) → IsInside page → IsInside (erased_chars n attrs page)
 unfolding erased_chars
 inside_erased_chars n attrs page i =
     let count = min n (page.width - page.column) in
     inside_rows (erased_chars n attrs page) page (same_erased_chars n attrs page)
-    (rows_if ((n == 0) || (page.column == page.width)) page (erased_columns page.column count attrs page) page (same_rows page) (rows_erased_columns page.column count attrs page)) i
+    (rows_if ((n == 0) || (page.column == page.width)) page (erased_columns page.column count attrs page)
+    page (same_rows page) (rows_erased_columns page.column count attrs page))
+    i
 
 pub inside_erased_rest : (attrs : Attrs) (page : Page) → IsInside page → IsInside (erased_rest attrs page)
-inside_erased_rest attrs page i = inside_rows (erased_rest attrs page) page (same_erased_rest attrs page) (rows_erased_rest attrs page) i
+inside_erased_rest attrs page i =
+    inside_rows (erased_rest attrs page) page (same_erased_rest attrs page) (rows_erased_rest attrs page) i
 
 pub inside_erased_below : (attrs : Attrs) (page : Page) → IsInside page → IsInside (erased_below attrs page)
 unfolding erased_below
 inside_erased_below attrs page i =
     let r = rows_erased_rest attrs page in
-    inside_rows (erased_below attrs page) page (same_erased_below attrs page) (record { row = r.row; saved_row = r.saved_row; bottom = r.bottom }) i
+    inside_rows (erased_below attrs page) page (same_erased_below attrs page)
+    (record { row = r.row; saved_row = r.saved_row; bottom = r.bottom }) i
 
 rows_erased_start : (attrs : Attrs) (page : Page) → SameRows (erased_start attrs page) page
 unfolding erased_start
 rows_erased_start attrs page = record { row = refl; saved_row = refl; bottom = refl }
 
 pub inside_erased_start : (attrs : Attrs) (page : Page) → IsInside page → IsInside (erased_start attrs page)
-inside_erased_start attrs page i = inside_rows (erased_start attrs page) page (same_erased_start attrs page) (rows_erased_start attrs page) i
+inside_erased_start attrs page i =
+    inside_rows (erased_start attrs page) page (same_erased_start attrs page) (rows_erased_start attrs page) i
 
 pub inside_erased_row : (attrs : Attrs) (page : Page) → IsInside page → IsInside (erased_row attrs page)
-inside_erased_row attrs page i = inside_rows (erased_row attrs page) page (same_erased_row attrs page) (record { row = refl; saved_row = refl; bottom = refl }) i
+inside_erased_row attrs page i =
+    inside_rows (erased_row attrs page) page (same_erased_row attrs page)
+    (record { row = refl; saved_row = refl; bottom = refl }) i
 
 same_blanked_above : (attrs : Attrs) (page : Page) → IsInside page → SameSize (blanked_above attrs page) page
 same_blanked_above attrs page i =
     let blank = blank_row attrs page.width in
-    record { width = refl; height = omega (arith, i.row, length-append (replicate page.row blank) (drop page.row page.rows), length-replicate page.row blank, length-drop page.row page.rows) }
+    record {
+      width = refl;
+      height = omega (
+        arith,
+        i.row,
+        length-append (replicate page.row blank) (drop page.row page.rows),
+        length-replicate page.row blank,
+        length-drop page.row page.rows,
+      );
+    }
 
 pub same_erased_above : (attrs : Attrs) (page : Page) → IsInside page → SameSize (erased_above attrs page) page
 unfolding erased_above
 same_erased_above attrs page i =
     let start = erased_start attrs page in
-    same_through (blanked_above attrs start) start page (same_blanked_above attrs start (inside_erased_start attrs page i)) (same_erased_start attrs page)
+    same_through (blanked_above attrs start) start page
+    (same_blanked_above attrs start (inside_erased_start attrs page i)) (same_erased_start attrs page)
 
 pub inside_erased_above : (attrs : Attrs) (page : Page) → IsInside page → IsInside (erased_above attrs page)
 unfolding erased_above
 inside_erased_above attrs page i =
     let start = erased_start attrs page in
     let j = inside_erased_start attrs page i in
-    inside_rows (blanked_above attrs start) start (same_blanked_above attrs start j) (record { row = refl; saved_row = refl; bottom = refl }) j
+    inside_rows (blanked_above attrs start) start (same_blanked_above attrs start j)
+    (record { row = refl; saved_row = refl; bottom = refl }) j
 
 pub inside_erased_page : (attrs : Attrs) (page : Page) → IsInside page → IsInside (erased_page attrs page)
-inside_erased_page attrs page i = inside_rows (erased_page attrs page) page (same_erased_page attrs page) (record { row = refl; saved_row = refl; bottom = refl }) i
+inside_erased_page attrs page i =
+    inside_rows (erased_page attrs page) page (same_erased_page attrs page)
+    (record { row = refl; saved_row = refl; bottom = refl }) i
 
 -- ---- printing
 
@@ -249,9 +320,12 @@ same_flagged None goes_on page = same_rows page
 stays_line_feed : (page : Page) → Stays (line_feed page) page
 unfolding line_feed
 stays_line_feed page =
-    stays_if (at_bottom page) (scrolled_up 1 page) (if nat_lt (page.row + 1) (length page.rows) then record page { row = page.row + 1 } else page) page
-    (stays_put (scrolled_up 1 page) page (record { row = refl; saved_row = refl; bottom = refl })) (by_room (nat_lt (page.row + 1) (length page.rows)) refl) where
-      by_room : (b : Bool) → nat_lt (page.row + 1) (length page.rows) ≡ b → Stays (if b then record page { row = page.row + 1 } else page) page
+    stays_if (at_bottom page) (scrolled_up 1 page)
+    (if nat_lt (page.row + 1) (length page.rows) then record page { row = page.row + 1 } else page) page
+    (stays_put (scrolled_up 1 page) page (record { row = refl; saved_row = refl; bottom = refl }))
+    (by_room (nat_lt (page.row + 1) (length page.rows)) refl) where
+      by_room : (b : Bool) → nat_lt (page.row + 1) (length page.rows) ≡ b →
+          Stays (if b then record page { row = page.row + 1 } else page) page
       by_room true e = record { saved_row = refl; bottom = refl; row = λ i. grind (arith, nat_tests) }
       by_room false e = stays page
 
@@ -261,18 +335,27 @@ stays_wrapped page =
     let fed = line_feed page in
     let r = same_flagged (left_row page) (goes_down page && not (ends_blank (cursor_row page).cells)) fed in
     let s = stays_line_feed page in
-    record { saved_row = r.saved_row ∙ s.saved_row; bottom = r.bottom ∙ s.bottom; row = λ i. omega (arith, r.row, s.row i) }
+    record {
+      saved_row = r.saved_row ∙ s.saved_row;
+      bottom = r.bottom ∙ s.bottom;
+      row = λ i. omega (arith, r.row, s.row i);
+    }
 
 stays_room_made : (n : ℕ) (page : Page) → Stays (room_made n page) page
 unfolding room_made
 stays_room_made n page = stays_if (lacks_room n page) (wrapped_page page) page page (stays_wrapped page) (stays page)
 
-rows_glyph_put : (text : List ℕ) (wide : Bool) (attrs : Attrs) (page : Page) → SameRows (glyph_put text wide attrs page) page
+rows_glyph_put : (text : List ℕ) (wide : Bool) (attrs : Attrs) (page : Page) →
+    SameRows (glyph_put text wide attrs page) page
 rows_glyph_put text false attrs page = record { row = refl; saved_row = refl; bottom = refl }
 rows_glyph_put text true attrs page = record { row = refl; saved_row = refl; bottom = refl }
 
 stays_behind : (new mid page : Page) → SameRows new mid → Stays mid page → Stays new page
-stays_behind new mid page r s = record { saved_row = r.saved_row ∙ s.saved_row; bottom = r.bottom ∙ s.bottom; row = λ i. omega (arith, r.row, s.row i) }
+stays_behind new mid page r s = record {
+  saved_row = r.saved_row ∙ s.saved_row;
+  bottom = r.bottom ∙ s.bottom;
+  row = λ i. omega (arith, r.row, s.row i);
+}
 
 -- what comes behind a page of the same rows
 stays_over : (new mid page : Page) → Stays new mid → SameSize mid page → SameRows mid page → Stays new page
@@ -289,7 +372,8 @@ stays_carried mark attrs page =
     let left = lifted_page (mark_column page) attrs page in
     let below = wrapped_page left in
     stays_over (glyph_put text true attrs below) left page
-    (stays_behind (glyph_put text true attrs below) below left (rows_glyph_put text true attrs below) (stays_wrapped left))
+    (stays_behind (glyph_put text true attrs below) below left
+    (rows_glyph_put text true attrs below) (stays_wrapped left))
     (same_cursor_cells (erased (mark_column page) 1 attrs (cursor_row page).cells) page)
     (record { row = refl; saved_row = refl; bottom = refl })
 
@@ -306,7 +390,8 @@ stays_width_followed k attrs page =
     let cell = at (cursor_row page).cells k in
     let wide = is_wide_text (text_of cell) && nat_lt 1 page.width in
     let narrow = stays_put (made_narrow k attrs page) page (record { row = refl; saved_row = refl; bottom = refl }) in
-    stays_if (is_wide cell) (if wide then page else made_narrow k attrs page) (if wide then made_wide k attrs page else page) page
+    stays_if (is_wide cell) (if wide then page else made_narrow k attrs page)
+    (if wide then made_wide k attrs page else page) page
     (stays_if wide page (made_narrow k attrs page) page (stays page) narrow)
     (stays_if wide (made_wide k attrs page) page page (stays_made_wide k attrs page) (stays page))
 
@@ -317,22 +402,29 @@ stays_mark_printed mark attrs page =
     let put = mark_put k mark page in
     let rows : SameRows put page = record { row = refl; saved_row = refl; bottom = refl } in
     let put_on : Page = if is_selector mark then width_followed k attrs put else put in
-    stays_if (carries mark page) (carried mark attrs page) (if takes_mark (at (cursor_row page).cells k) then put_on else page) page
+    stays_if (carries mark page) (carried mark attrs page)
+    (if takes_mark (at (cursor_row page).cells k) then put_on else page) page
     (stays_carried mark attrs page)
     (stays_if (takes_mark (at (cursor_row page).cells k)) put_on page page
     (stays_if (is_selector mark) (width_followed k attrs put) put page
-    (stays_over (width_followed k attrs put) put page (stays_width_followed k attrs put) (same_mark_put k mark page) rows)
+    (stays_over (width_followed k attrs put) put page
+    (stays_width_followed k attrs put) (same_mark_put k mark page) rows)
     (stays_put put page rows))
     (stays page))
 
-stays_printed_by : (columns : Option ℕ) (c : ℕ) (attrs : Attrs) (page : Page) → Stays (printed_by columns c attrs page) page
+stays_printed_by : (columns : Option ℕ) (c : ℕ) (attrs : Attrs) (page : Page) →
+    Stays (printed_by columns c attrs page) page
 stays_printed_by None c attrs page = stays page
-stays_printed_by (Some zero) c attrs page = stays_if (page.column == 0) page (mark_printed c attrs page) page (stays page) (stays_mark_printed c attrs page)
+stays_printed_by (Some zero) c attrs page =
+    stays_if (page.column == 0) page (mark_printed c attrs page) page (stays page) (stays_mark_printed c attrs page)
 stays_printed_by (Some (suc zero)) c attrs page =
-    stays_behind (glyph_put (encode_utf8 c) false attrs (room_made 1 page)) (room_made 1 page) page (rows_glyph_put (encode_utf8 c) false attrs (room_made 1 page)) (stays_room_made 1 page)
+    stays_behind (glyph_put (encode_utf8 c) false attrs (room_made 1 page)) (room_made 1 page)
+    page (rows_glyph_put (encode_utf8 c) false attrs (room_made 1 page)) (stays_room_made 1 page)
 stays_printed_by (Some (suc (suc n))) c attrs page =
     stays_if (nat_lt 1 page.width) (glyph_put (encode_utf8 c) true attrs (room_made 2 page)) page page
-    (stays_behind (glyph_put (encode_utf8 c) true attrs (room_made 2 page)) (room_made 2 page) page (rows_glyph_put (encode_utf8 c) true attrs (room_made 2 page)) (stays_room_made 2 page)) (stays page)
+    (stays_behind (glyph_put (encode_utf8 c) true attrs (room_made 2 page)) (room_made 2 page)
+    page (rows_glyph_put (encode_utf8 c) true attrs (room_made 2 page)) (stays_room_made 2 page))
+    (stays page)
 
 pub inside_printed : (c : ℕ) (attrs : Attrs) (page : Page) → IsInside page → IsInside (printed c attrs page)
 inside_printed c attrs page i =

@@ -8,19 +8,25 @@ use Rattle.vt_grid.specs.Page.{Page, blank_page}
 use Rattle.vt_grid.specs.Moves.{carriage_return, moved_right, moved_to, line_feed, cursor_saved, cursor_restored}
 use Rattle.vt_grid.specs.Erasing.{erased_below, erased_rest, erased_chars}
 use Rattle.vt_grid.specs.Printing.{printed}
-use Rattle.vt_grid.proofs.Pages.{page_blank, page_cursor_saved, page_cursor_restored, page_carriage_return, page_moved_right, page_moved_to, page_line_feed, page_erased_chars, page_erased_rest, page_erased_below}
+use Rattle.vt_grid.proofs.Pages.{page_blank, page_cursor_saved, page_cursor_restored}
+use Rattle.vt_grid.proofs.Pages.{page_carriage_return, page_moved_right, page_moved_to}
+use Rattle.vt_grid.proofs.Pages.{page_line_feed, page_erased_chars, page_erased_rest, page_erased_below}
 use Rattle.vt_grid.proofs.Printed.{page_printed}
 use Rattle.vt_grid.specs.Scrollback.{no_scrollback}
 use Rattle.vt_screen.specs.Keeping.{Aside, IsKept}
 use Rattle.vt_screen.specs.Screen.{IsPrintable}
 use Rattle.vt_screen.proofs.Asides.{above_none, kept_last, kept_page}
-use Rattle.vt_screen.proofs.Sizes.{same_carriage_return, same_cursor_saved, same_cursor_restored, same_moved_right, same_moved_to, same_line_feed, same_erased_chars, same_erased_rest, same_erased_below, same_printed}
-use Rattle.vt_screen.proofs.Stable.{stable_blank, stable_line_feed, stable_erased_chars, stable_erased_rest, stable_erased_below, stable_printed}
+use Rattle.vt_screen.proofs.Sizes.{same_carriage_return, same_cursor_saved, same_cursor_restored}
+use Rattle.vt_screen.proofs.Sizes.{same_moved_right, same_moved_to, same_line_feed, same_erased_chars}
+use Rattle.vt_screen.proofs.Sizes.{same_erased_rest, same_erased_below, same_printed}
+use Rattle.vt_screen.proofs.Stable.{stable_blank, stable_line_feed, stable_erased_chars}
+use Rattle.vt_screen.proofs.Stable.{stable_erased_rest, stable_erased_below, stable_printed}
 use Rattle.vt_screen.proofs.Coloring.{coloring}
 
 -- a fresh screen
 pub kept_blank : (height width capacity : ℕ) → 0 < height → height < 2 ^ 16 → 0 < width → width < 2 ^ 16
-    → IsKept (blank_page height width) None (record { other = None; is_alternate = false; active = no_scrollback capacity; idle = no_scrollback 0 })
+    → IsKept (blank_page height width) None
+    (record { other = None; is_alternate = false; active = no_scrollback capacity; idle = no_scrollback 0 })
 kept_blank height width capacity a b c d = record {
   sound = page_blank height width a b c d;
   colored = stable_blank coloring height width;
@@ -31,43 +37,62 @@ kept_blank height width capacity a b c d = record {
   above = above_none capacity;
 }
 
-pub kept_cr : (page : Page) (last : Option ℕ) (aside : Aside) → IsKept page last aside → IsKept (carriage_return page) last aside
-kept_cr page last aside k = kept_page page (carriage_return page) last aside (page_carriage_return page k.sound) k.colored (same_carriage_return page) k
+pub kept_cr : (page : Page) (last : Option ℕ) (aside : Aside) →
+    IsKept page last aside → IsKept (carriage_return page) last aside
+kept_cr page last aside k =
+    kept_page page (carriage_return page) last aside
+    (page_carriage_return page k.sound) k.colored (same_carriage_return page) k
 
-pub kept_right : (n : ℕ) (page : Page) (last : Option ℕ) (aside : Aside) → IsKept page last aside → IsKept (moved_right n page) last aside
-kept_right n page last aside k = kept_page page (moved_right n page) last aside (page_moved_right n page k.sound) k.colored (same_moved_right n page) k
+pub kept_right : (n : ℕ) (page : Page) (last : Option ℕ) (aside : Aside) →
+    IsKept page last aside → IsKept (moved_right n page) last aside
+kept_right n page last aside k =
+    kept_page page (moved_right n page) last aside
+    (page_moved_right n page k.sound) k.colored (same_moved_right n page) k
 
-pub kept_to : (r c : ℕ) (page : Page) (last : Option ℕ) (aside : Aside) → IsKept page last aside → IsKept (moved_to r c page) last aside
-kept_to r c page last aside k = kept_page page (moved_to r c page) last aside (page_moved_to r c page k.sound) k.colored (same_moved_to r c page) k
+pub kept_to : (r c : ℕ) (page : Page) (last : Option ℕ) (aside : Aside) →
+    IsKept page last aside → IsKept (moved_to r c page) last aside
+kept_to r c page last aside k =
+    kept_page page (moved_to r c page) last aside (page_moved_to r c page k.sound) k.colored (same_moved_to r c page) k
 
-pub kept_fed : (page : Page) (last : Option ℕ) (aside : Aside) → IsKept page last aside → IsKept (line_feed page) last aside
+pub kept_fed : (page : Page) (last : Option ℕ) (aside : Aside) →
+    IsKept page last aside → IsKept (line_feed page) last aside
 kept_fed page last aside k =
     kept_page page (line_feed page) last aside (page_line_feed page k.sound) (stable_line_feed coloring page k.colored)
     (same_line_feed page) k
 
-pub kept_erased_chars : (n : ℕ) (attrs : Attrs) (page : Page) (last : Option ℕ) (aside : Aside) → FitsAttrs attrs → IsKept page last aside → IsKept (erased_chars n attrs page) last aside
+pub kept_erased_chars : (n : ℕ) (attrs : Attrs) (page : Page) (last : Option ℕ) (aside : Aside) →
+    FitsAttrs attrs → IsKept page last aside → IsKept (erased_chars n attrs page) last aside
 kept_erased_chars n attrs page last aside h k =
     kept_page page (erased_chars n attrs page) last aside (page_erased_chars n attrs page k.sound)
     (stable_erased_chars coloring n attrs page h k.colored) (same_erased_chars n attrs page) k
 
-pub kept_erased_rest : (attrs : Attrs) (page : Page) (last : Option ℕ) (aside : Aside) → FitsAttrs attrs → IsKept page last aside → IsKept (erased_rest attrs page) last aside
+pub kept_erased_rest : (attrs : Attrs) (page : Page) (last : Option ℕ) (aside : Aside) →
+    FitsAttrs attrs → IsKept page last aside → IsKept (erased_rest attrs page) last aside
 kept_erased_rest attrs page last aside h k =
     kept_page page (erased_rest attrs page) last aside (page_erased_rest attrs page k.sound)
     (stable_erased_rest coloring attrs page h k.colored) (same_erased_rest attrs page) k
 
-pub kept_erased_below : (attrs : Attrs) (page : Page) (last : Option ℕ) (aside : Aside) → FitsAttrs attrs → IsKept page last aside → IsKept (erased_below attrs page) last aside
+pub kept_erased_below : (attrs : Attrs) (page : Page) (last : Option ℕ) (aside : Aside) →
+    FitsAttrs attrs → IsKept page last aside → IsKept (erased_below attrs page) last aside
 kept_erased_below attrs page last aside h k =
     kept_page page (erased_below attrs page) last aside (page_erased_below attrs page k.sound)
     (stable_erased_below coloring attrs page h k.colored) (same_erased_below attrs page) k
 
-pub kept_printed : (c : ℕ) (attrs : Attrs) (page : Page) (last new : Option ℕ) (aside : Aside) → IsScalar c → c ≢ 0xFFFD → IfSome new IsPrintable → FitsAttrs attrs → IsKept page last aside → IsKept (printed c attrs page) new aside
+pub kept_printed : (c : ℕ) (attrs : Attrs) (page : Page) (last new : Option ℕ) (aside : Aside) →
+    IsScalar c → c ≢ 0xFFFD → IfSome new IsPrintable → FitsAttrs attrs →
+    IsKept page last aside → IsKept (printed c attrs page) new aside
 kept_printed c attrs page last new aside scalar other printable h k =
     kept_last (printed c attrs page) last new aside printable
     (kept_page page (printed c attrs page) last aside (page_printed c attrs page scalar other k.sound)
     (stable_printed coloring c attrs page tt h k.colored) (same_printed c attrs page) k)
 
-pub kept_saved : (page : Page) (last : Option ℕ) (aside : Aside) → IsKept page last aside → IsKept (cursor_saved page) last aside
-kept_saved page last aside k = kept_page page (cursor_saved page) last aside (page_cursor_saved page k.sound) k.colored (same_cursor_saved page) k
+pub kept_saved : (page : Page) (last : Option ℕ) (aside : Aside) →
+    IsKept page last aside → IsKept (cursor_saved page) last aside
+kept_saved page last aside k =
+    kept_page page (cursor_saved page) last aside (page_cursor_saved page k.sound) k.colored (same_cursor_saved page) k
 
-pub kept_restored : (page : Page) (last : Option ℕ) (aside : Aside) → IsKept page last aside → IsKept (cursor_restored page) last aside
-kept_restored page last aside k = kept_page page (cursor_restored page) last aside (page_cursor_restored page k.sound) k.colored (same_cursor_restored page) k
+pub kept_restored : (page : Page) (last : Option ℕ) (aside : Aside) →
+    IsKept page last aside → IsKept (cursor_restored page) last aside
+kept_restored page last aside k =
+    kept_page page (cursor_restored page) last aside
+    (page_cursor_restored page k.sound) k.colored (same_cursor_restored page) k

@@ -1,5 +1,6 @@
 -- The bytes of a drawing operation, read by any screen, do what the operation draws.
-use Rattle.std.proofs.Common.{◌≡◌, ◌≢◌, ℕ, zero, suc, ◌+◌, ◌-◌, ◌<◌, ◌≤◌, ◌^◌, ◌⊎◌, inl, inr, ⊎_elim, Bool, true, false, ◌==◌, List, [], ◌∷◌, Option, Some, None, refl, sym, ap, subst, ◌∙◌, arith}
+use Rattle.std.proofs.Common.{◌≡◌, ◌≢◌, ℕ, zero, suc, ◌+◌, ◌-◌, ◌<◌, ◌≤◌, ◌^◌, ◌⊎◌, inl, inr, ⊎_elim, Bool, true}
+use Rattle.std.proofs.Common.{false, ◌==◌, List, [], ◌∷◌, Option, Some, None, refl, sym, ap, subst, ◌∙◌, arith}
 use Rattle.std.specs.Prelude.{decimal, if◌then◌else◌, chars, encode_utf8_all}
 use Rattle.std.specs.List.{AllByRecursion}
 use Rattle.std.specs.Char.{encode_utf8}
@@ -11,7 +12,9 @@ use Rattle.std.proofs.lemmas.Str.{chars-encodes}
 use Rattle.unicode_width.specs.Width.{char_width}
 use Rattle.vt_cells.specs.Attrs.{default_attrs, same_attrs, changed_attrs, Attrs}
 use Rattle.vt_cells.specs.Glyph.{columns_of}
-use Rattle.vt_cells.specs.Op.{Op, Hide, ClearAttrs, MoveTo, MoveRight, NextRow, LineFeed, Backspace, EraseBelow, EraseRest, EraseChars, SaveCursor, RestoreCursor, ChangeAttrs, Print, csi, counted, place, joined, change_numbers, change_text, FitsAttrs, bytes_of, bytes_of_all}
+use Rattle.vt_cells.specs.Op.{Op, Hide, ClearAttrs, MoveTo, MoveRight, NextRow, LineFeed, Backspace, EraseBelow}
+use Rattle.vt_cells.specs.Op.{EraseRest, EraseChars, SaveCursor, RestoreCursor, ChangeAttrs, Print, csi, counted}
+use Rattle.vt_cells.specs.Op.{place, joined, change_numbers, change_text, FitsAttrs, bytes_of, bytes_of_all}
 use Rattle.vt_grid.specs.Canvas.{Canvas, and_then, drawn, drawn_all, drawn_text, fed}
 use Rattle.vt_redraw.specs.Fits.{Fits, IsPrintable}
 use Rattle.vt_grid.specs.Moves.{carriage_return, line_feed, feeds_out}
@@ -21,9 +24,12 @@ use Rattle.vt_scan.specs.Parameters.{table_of, groups_of, numbers_of, number_of}
 use Rattle.vt_scan.specs.Table.{class_of}
 use Rattle.vt_scan.specs.Texts.{place_groups}
 use Rattle.vt_scan.proofs.Readback.{read_written}
-use Rattle.vt_scan.proofs.Written.{alone, empty_groups, decimal_groups, joined_groups, place_groups_are, decimal_is_parameter, joined_is_parameter, place_is_parameter}
+use Rattle.vt_scan.proofs.Written.{alone, empty_groups, decimal_groups, joined_groups, place_groups_are}
+use Rattle.vt_scan.proofs.Written.{decimal_is_parameter, joined_is_parameter, place_is_parameter}
 use Rattle.vt_screen.specs.Screen.{ScreenValue, canvas_of, with_canvas, with_page}
-use Rattle.vt_screen.specs.Controls.{plain_steps, counted_step, scrolling_steps, other_steps, page_erasing, row_erasing, character_steps, control_steps, escape_steps, marked_steps, private_steps, mode_step, number_or, seen_of}
+use Rattle.vt_screen.specs.Controls.{plain_steps, counted_step, scrolling_steps, other_steps, page_erasing}
+use Rattle.vt_screen.specs.Controls.{row_erasing, character_steps, control_steps, escape_steps, marked_steps}
+use Rattle.vt_screen.specs.Controls.{private_steps, mode_step, number_or, seen_of}
 use Rattle.vt_screen.specs.Steps.{stepped}
 use Rattle.vt_screen.specs.Steps as steps
 use Rattle.vt_screen.specs.Reading.{quiet_step, quiet_steps, terminal, read_byte, read}
@@ -33,17 +39,20 @@ use Rattle.vt_screen.proofs.ReadbackTexts.{IsFinal, reads_then, event_read, csi_
 -- the text, read by the screen, leaves the canvas; only the last character is open
 abbrev pub Reads : List ℕ → ScreenValue → Canvas → Type 0
 Reads text screen canvas =
-    (last : Option ℕ) × (read (terminal start screen) text ≡ Some (terminal start (record (with_canvas canvas screen) { last = last })))
+    (last : Option ℕ)
+    × (read (terminal start screen) text ≡ Some (terminal start (record (with_canvas canvas screen) { last = last })))
 
 -- ---- what is drawn is known
 
-known : (text : List ℕ) (screen : ScreenValue) (e d : Canvas) → Some e ≡ Some d → read (terminal start screen) text ≡ Some (terminal start (with_canvas e screen)) → Reads text screen d
+known : (text : List ℕ) (screen : ScreenValue) (e d : Canvas) → Some e ≡ Some d →
+    read (terminal start screen) text ≡ Some (terminal start (with_canvas e screen)) → Reads text screen d
 known text screen e d h r =
     let same : e ≡ d = cc in
     subst (λ (c : Canvas). Reads text screen c) same (screen.last, r)
 
 -- what takes place unless a row would leave the page
-unless : (b : Bool) (e d : Canvas) (after : ScreenValue) (f : Canvas → ScreenValue) → (if b then None else Some e) ≡ Some d → after ≡ f e → (if b then None else Some after) ≡ Some (f d)
+unless : (b : Bool) (e d : Canvas) (after : ScreenValue) (f : Canvas → ScreenValue) →
+    (if b then None else Some e) ≡ Some d → after ≡ f e → (if b then None else Some after) ≡ Some (f d)
 unless true e d after f h same = absurd cc
 unless false e d after f h same = let q : e ≡ d = cc in ap Some (same ∙ ap f q)
 
@@ -53,7 +62,8 @@ kept false x h = refl
 
 -- ---- the cursor hidden or shown
 
-hidden_read : (hidden : Bool) (screen : ScreenValue) → read (terminal start screen) (bytes_of (Hide hidden)) ≡ Some (terminal start (record screen { hidden = hidden }))
+hidden_read : (hidden : Bool) (screen : ScreenValue) →
+    read (terminal start screen) (bytes_of (Hide hidden)) ≡ Some (terminal start (record screen { hidden = hidden }))
 unfolding read_byte fresh_step class_of table_of groups_of numbers_of number_of private_steps marked_steps mode_step
 hidden_read true screen = refl
 hidden_read false screen = refl
@@ -61,19 +71,24 @@ hidden_read false screen = refl
 -- ---- control sequences
 
 -- without a number
-bare : (final : ℕ) (screen after : ScreenValue) → IsFinal final → quiet_steps (plain_steps ((0 ∷ []) ∷ []) final (seen_of screen)) screen ≡ Some after
+bare : (final : ℕ) (screen after : ScreenValue) → IsFinal final
+    → quiet_steps (plain_steps ((0 ∷ []) ∷ []) final (seen_of screen)) screen ≡ Some after
     → read (terminal start screen) (csi [] final) ≡ Some (terminal start after)
 bare final screen after is_final quiet = csi_read [] final ((0 ∷ []) ∷ []) screen after tt is_final empty_groups quiet
 
-pub cleared_read : (screen : ScreenValue) → read (terminal start screen) (csi [] 0x6D) ≡ Some (terminal start (record screen { attrs = default_attrs }))
+pub cleared_read : (screen : ScreenValue) →
+    read (terminal start screen) (csi [] 0x6D) ≡ Some (terminal start (record screen { attrs = default_attrs }))
 unfolding counted_step scrolling_steps other_steps
-cleared_read screen = bare 0x6D screen (record screen { attrs = default_attrs }) (omega arith, omega arith) (sgr_clear screen)
+cleared_read screen =
+    bare 0x6D screen (record screen { attrs = default_attrs }) (omega arith, omega arith) (sgr_clear screen)
 
-erased_below_read : (screen : ScreenValue) → read (terminal start screen) (csi [] 0x4A) ≡ Some (terminal start (stepped steps.EraseBelow screen))
+erased_below_read : (screen : ScreenValue) →
+    read (terminal start screen) (csi [] 0x4A) ≡ Some (terminal start (stepped steps.EraseBelow screen))
 unfolding counted_step scrolling_steps other_steps page_erasing
 erased_below_read screen = bare 0x4A screen (stepped steps.EraseBelow screen) (omega arith, omega arith) refl
 
-erased_rest_read : (screen : ScreenValue) → read (terminal start screen) (csi [] 0x4B) ≡ Some (terminal start (stepped steps.EraseRest screen))
+erased_rest_read : (screen : ScreenValue) →
+    read (terminal start screen) (csi [] 0x4B) ≡ Some (terminal start (stepped steps.EraseRest screen))
 unfolding counted_step scrolling_steps other_steps row_erasing
 erased_rest_read screen = bare 0x4B screen (stepped steps.EraseRest screen) (omega arith, omega arith) refl
 
@@ -83,20 +98,28 @@ count_read n rest h = let t : (n == 0) ≡ false = grind (arith, nat_tests) in r
 
 -- with a count: the step that the sequence is, with this count
 counted_read : (n final : ℕ) (step : ℕ → steps.Step) (screen : ScreenValue) → suc n < 2 ^ 16 → IsFinal final
-    → ((groups : List (List ℕ)) → quiet_steps (plain_steps groups final (seen_of screen)) screen ≡ Some (stepped (step (number_or 1 0 groups)) screen))
+    → ((groups : List (List ℕ))
+    → quiet_steps (plain_steps groups final (seen_of screen)) screen
+    ≡ Some (stepped (step (number_or 1 0 groups)) screen))
     → read (terminal start screen) (counted (suc n) final) ≡ Some (terminal start (stepped (step (suc n)) screen))
-counted_read zero final step screen h is_final means = bare final screen (stepped (step 1) screen) is_final (means ((0 ∷ []) ∷ []))
+counted_read zero final step screen h is_final means =
+    bare final screen (stepped (step 1) screen) is_final (means ((0 ∷ []) ∷ []))
 counted_read (suc n) final step screen h is_final means =
     let count : ℕ = suc (suc n) in
     let groups : List (List ℕ) = (count ∷ []) ∷ [] in
-    csi_read (decimal count) final groups screen (stepped (step count) screen) (decimal_is_parameter count (omega arith)) is_final (decimal_groups count (omega arith))
+    csi_read (decimal count) final groups screen (stepped (step count) screen)
+    (decimal_is_parameter count (omega arith)) is_final (decimal_groups count (omega arith))
     (means groups ∙ ap (λ (k : ℕ). Some (stepped (step k) screen)) (count_read count [] (omega arith)))
 
-moved_right_read : (n : ℕ) (screen : ScreenValue) → suc n < 2 ^ 16 → read (terminal start screen) (counted (suc n) 0x43) ≡ Some (terminal start (stepped (steps.MoveRight (suc n)) screen))
+moved_right_read : (n : ℕ) (screen : ScreenValue) → suc n < 2 ^ 16 →
+    read (terminal start screen) (counted (suc n) 0x43)
+    ≡ Some (terminal start (stepped (steps.MoveRight (suc n)) screen))
 unfolding counted_step
 moved_right_read n screen h = counted_read n 0x43 steps.MoveRight screen h (omega arith, omega arith) (λ groups. refl)
 
-erased_chars_read : (n : ℕ) (screen : ScreenValue) → suc n < 2 ^ 16 → read (terminal start screen) (counted (suc n) 0x58) ≡ Some (terminal start (stepped (steps.EraseChars (suc n)) screen))
+erased_chars_read : (n : ℕ) (screen : ScreenValue) → suc n < 2 ^ 16 →
+    read (terminal start screen) (counted (suc n) 0x58)
+    ≡ Some (terminal start (stepped (steps.EraseChars (suc n)) screen))
 unfolding counted_step
 erased_chars_read n screen h = counted_read n 0x58 steps.EraseChars screen h (omega arith, omega arith) (λ groups. refl)
 
@@ -104,23 +127,30 @@ erased_chars_read n screen h = counted_read n 0x58 steps.EraseChars screen h (om
 ordinal_read : (n : ℕ) → (if (n + 1) == 0 then 1 else n + 1) - 1 ≡ n
 ordinal_read n = let t : ((n + 1) == 0) ≡ false = grind (arith, nat_tests) in rw t (omega arith)
 
-placed : (row col : ℕ) (screen : ScreenValue) → quiet_steps (plain_steps (((row + 1) ∷ []) ∷ ((col + 1) ∷ []) ∷ []) 0x48 (seen_of screen)) screen ≡ Some (stepped (steps.MoveTo row col) screen)
+placed : (row col : ℕ) (screen : ScreenValue) →
+    quiet_steps (plain_steps (((row + 1) ∷ []) ∷ ((col + 1) ∷ []) ∷ []) 0x48 (seen_of screen)) screen
+    ≡ Some (stepped (steps.MoveTo row col) screen)
 unfolding counted_step scrolling_steps other_steps
 placed row col screen =
-    ap (λ (r : ℕ). Some (stepped (steps.MoveTo r ((if (col + 1) == 0 then 1 else col + 1) - 1)) screen)) (ordinal_read row)
+    ap (λ (r : ℕ). Some (stepped (steps.MoveTo r ((if (col + 1) == 0 then 1 else col + 1) - 1)) screen))
+    (ordinal_read row)
     ∙ ap (λ (c : ℕ). Some (stepped (steps.MoveTo row c) screen)) (ordinal_read col)
 
-place_read : (row col : ℕ) (screen : ScreenValue) → quiet_steps (plain_steps (place_groups row col) 0x48 (seen_of screen)) screen ≡ Some (stepped (steps.MoveTo row col) screen)
+place_read : (row col : ℕ) (screen : ScreenValue) →
+    quiet_steps (plain_steps (place_groups row col) 0x48 (seen_of screen)) screen
+    ≡ Some (stepped (steps.MoveTo row col) screen)
 unfolding counted_step scrolling_steps other_steps
 place_read zero zero screen = refl
 place_read zero (suc col) screen = placed zero (suc col) screen
 place_read (suc row) col screen = placed (suc row) col screen
 
 moved_to_read : (row col : ℕ) (screen : ScreenValue) → row < 65535 → col < 65535
-    → read (terminal start screen) (csi (place row col) 0x48) ≡ Some (terminal start (stepped (steps.MoveTo row col) screen))
+    → read (terminal start screen) (csi (place row col) 0x48)
+    ≡ Some (terminal start (stepped (steps.MoveTo row col) screen))
 moved_to_read row col screen low narrow =
     csi_read (place row col) 0x48 (place_groups row col) screen (stepped (steps.MoveTo row col) screen)
-    (place_is_parameter row col low narrow) (omega arith, omega arith) (place_groups_are row col low narrow) (place_read row col screen)
+    (place_is_parameter row col low narrow) (omega arith, omega arith)
+    (place_groups_are row col low narrow) (place_read row col screen)
 
 -- ---- attributes
 
@@ -128,11 +158,13 @@ pub text_same : (was new : Attrs) → same_attrs was new ≡ true → change_tex
 unfolding change_text
 text_same was new e = rw e refl
 
-pub text_plain : (was new : Attrs) → same_attrs was new ≡ false → same_attrs new default_attrs ≡ true → change_text was new ≡ csi [] 0x6D
+pub text_plain : (was new : Attrs) → same_attrs was new ≡ false →
+    same_attrs new default_attrs ≡ true → change_text was new ≡ csi [] 0x6D
 unfolding change_text
 text_plain was new e f = rw (e, f) refl
 
-pub text_parts : (was new : Attrs) → same_attrs was new ≡ false → same_attrs new default_attrs ≡ false → change_text was new ≡ csi (joined (change_numbers was new)) 0x6D
+pub text_parts : (was new : Attrs) → same_attrs was new ≡ false → same_attrs new default_attrs ≡ false →
+    change_text was new ≡ csi (joined (change_numbers was new)) 0x6D
 unfolding change_text
 text_parts was new e f = rw (e, f) refl
 
@@ -140,12 +172,15 @@ attrs_same : (was new attrs : Attrs) → same_attrs was new ≡ true → changed
 unfolding changed_attrs
 attrs_same was new attrs e = rw e refl
 
-attrs_plain : (was new attrs : Attrs) → same_attrs was new ≡ false → same_attrs new default_attrs ≡ true → changed_attrs was new attrs ≡ default_attrs
+attrs_plain : (was new attrs : Attrs) → same_attrs was new ≡ false →
+    same_attrs new default_attrs ≡ true → changed_attrs was new attrs ≡ default_attrs
 unfolding changed_attrs
 attrs_plain was new attrs e f = rw (e, f) refl
 
-parts_read : (was new : Attrs) (screen : ScreenValue) → FitsAttrs new → same_attrs was new ≡ false → same_attrs new default_attrs ≡ false
-    → read (terminal start screen) (csi (joined (change_numbers was new)) 0x6D) ≡ Some (terminal start (record screen { attrs = changed_attrs was new (screen.attrs) }))
+parts_read : (was new : Attrs) (screen : ScreenValue) → FitsAttrs new
+    → same_attrs was new ≡ false → same_attrs new default_attrs ≡ false
+    → read (terminal start screen) (csi (joined (change_numbers was new)) 0x6D)
+    ≡ Some (terminal start (record screen { attrs = changed_attrs was new (screen.attrs) }))
 unfolding counted_step scrolling_steps other_steps
 parts_read was new screen fits e f =
     let ns : List ℕ = change_numbers was new in
@@ -153,48 +188,62 @@ parts_read was new screen fits e f =
     let short = numbers.few in
     let small = All-from_recursion (λ n. n ≤ 65535) ns numbers.small in
     csi_read (joined ns) 0x6D (alone ns) screen (record screen { attrs = changed_attrs was new (screen.attrs) })
-    (joined_is_parameter ns small) (omega arith, omega arith) (joined_groups ns (some_changes was new e) (omega arith) small) (sgr_change was new fits e f screen)
+    (joined_is_parameter ns small) (omega arith, omega arith)
+    (joined_groups ns (some_changes was new e) (omega arith) small) (sgr_change was new fits e f screen)
 
-changed_when : (was new : Attrs) (screen : ScreenValue) (same plain : Bool) → FitsAttrs new → same_attrs was new ≡ same → same_attrs new default_attrs ≡ plain
-    → read (terminal start screen) (change_text was new) ≡ Some (terminal start (record screen { attrs = changed_attrs was new (screen.attrs) }))
+changed_when : (was new : Attrs) (screen : ScreenValue) (same plain : Bool)
+    → FitsAttrs new → same_attrs was new ≡ same → same_attrs new default_attrs ≡ plain
+    → read (terminal start screen) (change_text was new)
+    ≡ Some (terminal start (record screen { attrs = changed_attrs was new (screen.attrs) }))
 changed_when was new screen true plain fits e f =
     ap (read (terminal start screen)) (text_same was new e)
-    ∙ ap (λ (attrs : Attrs). Some (terminal start (record screen { attrs = attrs }))) (sym (attrs_same was new (screen.attrs) e))
+    ∙ ap (λ (attrs : Attrs). Some (terminal start (record screen { attrs = attrs })))
+    (sym (attrs_same was new (screen.attrs) e))
 changed_when was new screen false true fits e f =
     ap (read (terminal start screen)) (text_plain was new e f)
     ∙ (cleared_read screen
-    ∙ ap (λ (attrs : Attrs). Some (terminal start (record screen { attrs = attrs }))) (sym (attrs_plain was new (screen.attrs) e f)))
+    ∙ ap (λ (attrs : Attrs). Some (terminal start (record screen { attrs = attrs })))
+    (sym (attrs_plain was new (screen.attrs) e f)))
 changed_when was new screen false false fits e f =
     ap (read (terminal start screen)) (text_parts was new e f) ∙ parts_read was new screen fits e f
 
 pub changed_read : (was new : Attrs) (screen : ScreenValue) → FitsAttrs new
-    → read (terminal start screen) (change_text was new) ≡ Some (terminal start (record screen { attrs = changed_attrs was new (screen.attrs) }))
-changed_read was new screen fits = changed_when was new screen (same_attrs was new) (same_attrs new default_attrs) fits refl refl
+    → read (terminal start screen) (change_text was new)
+    ≡ Some (terminal start (record screen { attrs = changed_attrs was new (screen.attrs) }))
+changed_read was new screen fits =
+    changed_when was new screen (same_attrs was new) (same_attrs new default_attrs) fits refl refl
 
 -- ---- line feeds
 
-fed_read : (screen : ScreenValue) (d : Canvas) → fed (canvas_of screen) ≡ Some d → read (terminal start screen) (0x0A ∷ []) ≡ Some (terminal start (with_canvas d screen))
+fed_read : (screen : ScreenValue) (d : Canvas) → fed (canvas_of screen) ≡ Some d →
+    read (terminal start screen) (0x0A ∷ []) ≡ Some (terminal start (with_canvas d screen))
 unfolding fresh_step class_of control_steps
 fed_read screen d h =
     event_read (0x0A ∷ []) (Executed 0x0A) screen (with_canvas d screen) refl refl
     (ap (and_then (quiet_steps []))
-    (unless (feeds_out screen.page) (record (canvas_of screen) { page = line_feed screen.page }) d (stepped steps.LineFeed screen) (λ (c : Canvas). with_canvas c screen) h refl))
+    (unless (feeds_out screen.page) (record (canvas_of screen) { page = line_feed screen.page })
+    d (stepped steps.LineFeed screen) (λ (c : Canvas). with_canvas c screen) h refl))
 
-returned_read : (screen : ScreenValue) (rest : List ℕ) → read (terminal start screen) (0x0D ∷ rest) ≡ read (terminal start (with_page (carriage_return screen.page) screen)) rest
+returned_read : (screen : ScreenValue) (rest : List ℕ) →
+    read (terminal start screen) (0x0D ∷ rest)
+    ≡ read (terminal start (with_page (carriage_return screen.page) screen)) rest
 unfolding read_byte fresh_step class_of control_steps
 returned_read screen rest = refl
 
-left_read : (screen : ScreenValue) → read (terminal start screen) (0x08 ∷ []) ≡ Some (terminal start (stepped (steps.MoveLeft 1) screen))
+left_read : (screen : ScreenValue) →
+    read (terminal start screen) (0x08 ∷ []) ≡ Some (terminal start (stepped (steps.MoveLeft 1) screen))
 unfolding read_byte fresh_step class_of control_steps
 left_read screen = refl
 
 -- ---- the cursor saved and restored
 
-saved_read : (screen : ScreenValue) → read (terminal start screen) (bytes_of SaveCursor) ≡ Some (terminal start (stepped steps.SaveCursor screen))
+saved_read : (screen : ScreenValue) →
+    read (terminal start screen) (bytes_of SaveCursor) ≡ Some (terminal start (stepped steps.SaveCursor screen))
 unfolding read_byte fresh_step class_of escape_steps
 saved_read screen = refl
 
-restored_read : (screen : ScreenValue) → read (terminal start screen) (bytes_of RestoreCursor) ≡ Some (terminal start (stepped steps.RestoreCursor screen))
+restored_read : (screen : ScreenValue) →
+    read (terminal start screen) (bytes_of RestoreCursor) ≡ Some (terminal start (stepped steps.RestoreCursor screen))
 unfolding read_byte fresh_step class_of escape_steps
 restored_read screen = refl
 
@@ -212,7 +261,8 @@ pub shown_range : (c : ℕ) → columns_of c ≢ None → ((0x20 ≤ c) × (c < 
 shown_range c shown =
     ⊎_elim (λ (h : c < 0x20). absurd (shown (hidden_low c h)))
     (λ (low : 0x20 ≤ c). ⊎_elim (λ (h : c < 0x7F). inl (low, h))
-    (λ (middle : 0x7F ≤ c). ⊎_elim (λ (h : c < 0xA0). absurd (shown (hidden_high c middle h))) (λ (high : 0xA0 ≤ c). inr high) (cases_lt c 0xA0))
+    (λ (middle : 0x7F ≤ c). ⊎_elim (λ (h : c < 0xA0). absurd (shown (hidden_high c middle h)))
+    (λ (high : 0xA0 ≤ c). inr high) (cases_lt c 0xA0))
     (cases_lt c 0x7F))
     (cases_lt c 0x20)
 
@@ -221,7 +271,9 @@ unfolding character_steps
 prints c p = let range = shown_range c p.shown in let other = p.reported in grind (arith, nat_tests)
 
 -- a character's bytes print it
-pub character_read : (c : ℕ) (screen after : ScreenValue) → IsPrintable c → quiet_step (steps.Print c) screen ≡ Some after → read (terminal start screen) (encode_utf8 c) ≡ Some (terminal start after)
+pub character_read : (c : ℕ) (screen after : ScreenValue) →
+    IsPrintable c → quiet_step (steps.Print c) screen ≡ Some after →
+    read (terminal start screen) (encode_utf8 c) ≡ Some (terminal start after)
 character_read c screen after p e =
     let range = shown_range c p.shown in
     event_read (encode_utf8 c) (Character c) screen after (read_written c p.scalar (grind (arith, range))) refl
@@ -229,18 +281,25 @@ character_read c screen after p e =
 
 -- ---- texts
 
-pub unpushed : (b : Bool) (cs : List ℕ) (e d : Canvas) → and_then (drawn_text cs) (if b then None else Some e) ≡ Some d → (b ≡ false) × (drawn_text cs e ≡ Some d)
+pub unpushed : (b : Bool) (cs : List ℕ) (e d : Canvas) →
+    and_then (drawn_text cs) (if b then None else Some e) ≡ Some d → (b ≡ false) × (drawn_text cs e ≡ Some d)
 unpushed true cs e d h = absurd cc
 unpushed false cs e d h = (refl, h)
 
-reads_text : (cs : List ℕ) (screen : ScreenValue) (d : Canvas) → AllByRecursion IsPrintable cs → drawn_text cs (canvas_of screen) ≡ Some d → Reads (encode_utf8_all cs) screen d
+reads_text : (cs : List ℕ) (screen : ScreenValue) (d : Canvas) → AllByRecursion IsPrintable cs →
+    drawn_text cs (canvas_of screen) ≡ Some d → Reads (encode_utf8_all cs) screen d
 reads_text [] screen d p h = known [] screen (canvas_of screen) d h refl
 reads_text (c ∷ cs) screen d (p, ps) h =
     let next : ScreenValue = stepped (steps.Print c) screen in
-    let both : (pushes c screen.page ≡ false) × (drawn_text cs (canvas_of next) ≡ Some d) = unpushed (pushes c screen.page) cs (canvas_of next) d h in
+    let both : (pushes c screen.page ≡ false) × (drawn_text cs (canvas_of next) ≡ Some d) =
+    unpushed (pushes c screen.page) cs (canvas_of next) d h in
     let first = character_read c screen next p (kept (pushes c screen.page) next both.0) in
-    let more : Reads (encode_utf8_all cs) next d = reads_text cs next d ps both.1 in
-    (more.0, reads_then (terminal start screen) (terminal start next) (terminal start (record (with_canvas d screen) { last = more.0 })) (encode_utf8 c) (encode_utf8_all cs) first more.1)
+    let more : Reads (encode_utf8_all cs) next d = reads_text cs next d ps both.1 in (
+      more.0,
+      reads_then (terminal start screen) (terminal start next)
+          (terminal start (record (with_canvas d screen) { last = more.0 }))
+          (encode_utf8 c) (encode_utf8_all cs) first more.1,
+    )
 
 pub all_scalar : (cs : List ℕ) → AllByRecursion IsPrintable cs → all_scalars cs ≡ true
 all_scalar [] p = refl
@@ -248,42 +307,65 @@ all_scalar (c ∷ cs) (p, ps) = rw p.scalar (all_scalar cs ps)
 
 -- ---- each operation
 
-pub reads_op : (op : Op) (screen : ScreenValue) (d : Canvas) → Fits op → drawn op (canvas_of screen) ≡ Some d → Reads (bytes_of op) screen d
-reads_op (Hide hidden) screen d f h = known (bytes_of (Hide hidden)) screen (record (canvas_of screen) { hidden = hidden }) d h (hidden_read hidden screen)
-reads_op ClearAttrs screen d f h = known (bytes_of ClearAttrs) screen (record (canvas_of screen) { attrs = default_attrs }) d h (cleared_read screen)
-reads_op (MoveTo row col) screen d (low, narrow) h = known (bytes_of (MoveTo row col)) screen (canvas_of (stepped (steps.MoveTo row col) screen)) d h (moved_to_read row col screen low narrow)
+pub reads_op : (op : Op) (screen : ScreenValue) (d : Canvas) → Fits op →
+    drawn op (canvas_of screen) ≡ Some d → Reads (bytes_of op) screen d
+reads_op (Hide hidden) screen d f h =
+    known (bytes_of (Hide hidden)) screen
+    (record (canvas_of screen) { hidden = hidden }) d h (hidden_read hidden screen)
+reads_op ClearAttrs screen d f h =
+    known (bytes_of ClearAttrs) screen (record (canvas_of screen) { attrs = default_attrs }) d h (cleared_read screen)
+reads_op (MoveTo row col) screen d (low, narrow) h =
+    known (bytes_of (MoveTo row col)) screen (canvas_of (stepped (steps.MoveTo row col) screen))
+    d h (moved_to_read row col screen low narrow)
 reads_op (MoveRight zero) screen d f h = known [] screen (canvas_of screen) d h refl
-reads_op (MoveRight (suc n)) screen d f h = known (bytes_of (MoveRight (suc n))) screen (canvas_of (stepped (steps.MoveRight (suc n)) screen)) d h (moved_right_read n screen f)
+reads_op (MoveRight (suc n)) screen d f h =
+    known (bytes_of (MoveRight (suc n))) screen
+    (canvas_of (stepped (steps.MoveRight (suc n)) screen)) d h (moved_right_read n screen f)
 reads_op NextRow screen d f h =
     let next : ScreenValue = with_page (carriage_return screen.page) screen in
     (screen.last, returned_read screen (0x0A ∷ []) ∙ fed_read next d h)
 reads_op LineFeed screen d f h = (screen.last, fed_read screen d h)
-reads_op Backspace screen d f h = known (bytes_of Backspace) screen (canvas_of (stepped (steps.MoveLeft 1) screen)) d h (left_read screen)
-reads_op EraseBelow screen d f h = known (bytes_of EraseBelow) screen (canvas_of (stepped steps.EraseBelow screen)) d h (erased_below_read screen)
-reads_op EraseRest screen d f h = known (bytes_of EraseRest) screen (canvas_of (stepped steps.EraseRest screen)) d h (erased_rest_read screen)
+reads_op Backspace screen d f h =
+    known (bytes_of Backspace) screen (canvas_of (stepped (steps.MoveLeft 1) screen)) d h (left_read screen)
+reads_op EraseBelow screen d f h =
+    known (bytes_of EraseBelow) screen (canvas_of (stepped steps.EraseBelow screen)) d h (erased_below_read screen)
+reads_op EraseRest screen d f h =
+    known (bytes_of EraseRest) screen (canvas_of (stepped steps.EraseRest screen)) d h (erased_rest_read screen)
 reads_op (EraseChars zero) screen d f h = known [] screen (canvas_of screen) d h refl
-reads_op (EraseChars (suc n)) screen d f h = known (bytes_of (EraseChars (suc n))) screen (canvas_of (stepped (steps.EraseChars (suc n)) screen)) d h (erased_chars_read n screen f)
-reads_op SaveCursor screen d f h = known (bytes_of SaveCursor) screen (canvas_of (stepped steps.SaveCursor screen)) d h (saved_read screen)
-reads_op RestoreCursor screen d f h = known (bytes_of RestoreCursor) screen (canvas_of (stepped steps.RestoreCursor screen)) d h (restored_read screen)
+reads_op (EraseChars (suc n)) screen d f h =
+    known (bytes_of (EraseChars (suc n))) screen
+    (canvas_of (stepped (steps.EraseChars (suc n)) screen)) d h (erased_chars_read n screen f)
+reads_op SaveCursor screen d f h =
+    known (bytes_of SaveCursor) screen (canvas_of (stepped steps.SaveCursor screen)) d h (saved_read screen)
+reads_op RestoreCursor screen d f h =
+    known (bytes_of RestoreCursor) screen (canvas_of (stepped steps.RestoreCursor screen)) d h (restored_read screen)
 reads_op (ChangeAttrs was new) screen d f h =
-    known (change_text was new) screen (record (canvas_of screen) { attrs = changed_attrs was new (screen.attrs) }) d h (changed_read was new screen f.1)
+    known (change_text was new) screen (record (canvas_of screen) { attrs = changed_attrs was new (screen.attrs) })
+    d h (changed_read was new screen f.1)
 reads_op (Print text) screen d f h =
     let cs : List ℕ = f.characters in
     let e : chars text ≡ cs = ap chars (sym f.spelled) ∙ chars-encodes cs (all_scalar cs f.printable) in
-    let drawn : drawn_text cs (canvas_of screen) ≡ Some d = subst (λ (ds : List ℕ). drawn_text ds (canvas_of screen) ≡ Some d) e h in
+    let drawn : drawn_text cs (canvas_of screen) ≡ Some d =
+    subst (λ (ds : List ℕ). drawn_text ds (canvas_of screen) ≡ Some d) e h in
     subst (λ (bytes : List ℕ). Reads bytes screen d) f.spelled (reads_text cs screen d f.printable drawn)
 
 -- ---- lists of operations
 
-pub and_then-some : {A B : Type 0} (f : A → Option B) (x : Option A) (b : B) → and_then f x ≡ Some b → (a : A) × (x ≡ Some a) × (f a ≡ Some b)
+pub and_then-some : {A B : Type 0} (f : A → Option B) (x : Option A) (b : B) →
+    and_then f x ≡ Some b → (a : A) × (x ≡ Some a) × (f a ≡ Some b)
 and_then-some f None b h = absurd cc
 and_then-some f (Some a) b h = (a, refl, h)
 
-pub reads_all : (ops : List Op) (screen : ScreenValue) (d : Canvas) → AllByRecursion Fits ops → drawn_all ops (canvas_of screen) ≡ Some d → Reads (bytes_of_all ops) screen d
+pub reads_all : (ops : List Op) (screen : ScreenValue) (d : Canvas) → AllByRecursion Fits ops →
+    drawn_all ops (canvas_of screen) ≡ Some d → Reads (bytes_of_all ops) screen d
 reads_all [] screen d f h = known [] screen (canvas_of screen) d h refl
 reads_all (op ∷ ops) screen d (f, fs) h =
     let (e, first, more) = and_then-some (drawn_all ops) (drawn op (canvas_of screen)) d h in
     let here : Reads (bytes_of op) screen e = reads_op op screen e f first in
     let next : ScreenValue = record (with_canvas e screen) { last = here.0 } in
-    let behind : Reads (bytes_of_all ops) next d = reads_all ops next d fs more in
-    (behind.0, reads_then (terminal start screen) (terminal start next) (terminal start (record (with_canvas d screen) { last = behind.0 })) (bytes_of op) (bytes_of_all ops) here.1 behind.1)
+    let behind : Reads (bytes_of_all ops) next d = reads_all ops next d fs more in (
+      behind.0,
+      reads_then (terminal start screen) (terminal start next)
+          (terminal start (record (with_canvas d screen) { last = behind.0 }))
+          (bytes_of op) (bytes_of_all ops) here.1 behind.1,
+    )

@@ -1,11 +1,13 @@
 -- SGR read back: the numbers of a change of attributes, each in a group of its own, make that change.
-use Rattle.std.proofs.Common.{◌≡◌, ℕ, zero, suc, ◌+◌, ◌-◌, ◌<◌, ◌≤◌, Bool, true, false, nat_lt, if◌then◌else◌, List, [], ◌∷◌, ◌++◌, Some, refl, sym, ap, ◌∙◌, arith}
+use Rattle.std.proofs.Common.{◌≡◌, ℕ, zero, suc, ◌+◌, ◌-◌, ◌<◌, ◌≤◌, Bool, true, false, nat_lt}
+use Rattle.std.proofs.Common.{if◌then◌else◌, List, [], ◌∷◌, ◌++◌, Some, refl, sym, ap, ◌∙◌, arith}
 use Rattle.std.proofs.lemmas.Bool.{cond_both}
 use Rattle.std.proofs.lemmas.Bool.Decides.{nat_tests}
 use Rattle.std.proofs.lemmas.List.{map-append, append_assoc, append-nil, length-append}
 use Rattle.std.specs.List.{AllByRecursion}
 use Rattle.std.specs.Prelude.{◌&&◌, length}
-use Rattle.vt_cells.specs.Op.{FitsColor, FitsAttrs, foreground_numbers, background_numbers, intensity_number, part, change_numbers}
+use Rattle.vt_cells.specs.Op.{FitsColor, FitsAttrs, foreground_numbers, background_numbers}
+use Rattle.vt_cells.specs.Op.{intensity_number, part, change_numbers}
 use Rattle.vt_cells.specs.Attrs.{default_attrs, same_attrs, same_color, same_intensity, same_bool, changed_attrs, Attrs}
 use Rattle.vt_cells.specs.declared.attrs.Intensity.{Intensity}
 use Rattle.vt_cells.specs.declared.attrs.Intensity.TheVariants.{Normal, Bold, Dim}
@@ -13,12 +15,14 @@ use Rattle.vt_cells.specs.declared.color.Color.{Color}
 use Rattle.vt_cells.specs.declared.color.Color.TheVariants.{Default, Idx, Rgb}
 use Rattle.vt_scan.proofs.Written.{alone}
 use Rattle.vt_screen.specs.declared.sgr.Setting.{Setting}
-use Rattle.vt_screen.specs.declared.sgr.Setting.TheVariants.{Foreground, Background, Strength, Italic, Underline, Inverse}
+use Rattle.vt_screen.specs.declared.sgr.Setting.TheVariants.{Foreground, Background, Strength}
+use Rattle.vt_screen.specs.declared.sgr.Setting.TheVariants.{Italic, Underline, Inverse}
 use Rattle.vt_screen.specs.declared.sgr.Layer.{Layer}
 use Rattle.vt_screen.specs.declared.sgr.Layer.TheVariants.{Front, Back}
 use Rattle.vt_screen.specs.declared.sgr.Wanted.{Wanted}
 use Rattle.vt_screen.specs.declared.sgr.Wanted.TheVariants.{Any, Form, Index, Red, Green, Blue}
-use Rattle.vt_screen.specs.Sgr.{GroupRead, group_read, number_read, setting_read, form_read, part_read, silent, set, colored, rendered}
+use Rattle.vt_screen.specs.Sgr.{GroupRead, group_read, number_read, setting_read}
+use Rattle.vt_screen.specs.Sgr.{form_read, part_read, silent, set, colored, rendered}
 use Rattle.vt_screen.specs.Screen.{ScreenValue}
 use Rattle.vt_screen.specs.Controls.{sgr_from, sgr_steps, reading_steps}
 use Rattle.vt_screen.specs.Steps.{Step}
@@ -27,8 +31,10 @@ use Rattle.vt_screen.specs.Reading.{quiet_steps}
 -- ---- one group
 
 one_group : (groups : List (List ℕ)) (wanted : Wanted) (group : List ℕ) (rest : List (List ℕ)) (r : GroupRead)
-    → group_read wanted group ≡ r → sgr_from groups wanted (group ∷ rest) ≡ reading_steps groups r.reading ++ sgr_from groups r.wanted rest
-one_group groups wanted group rest r e = ap (λ (q : GroupRead). reading_steps groups q.reading ++ sgr_from groups q.wanted rest) e
+    → group_read wanted group ≡ r
+    → sgr_from groups wanted (group ∷ rest) ≡ reading_steps groups r.reading ++ sgr_from groups r.wanted rest
+one_group groups wanted group rest r e =
+    ap (λ (q : GroupRead). reading_steps groups q.reading ++ sgr_from groups q.wanted rest) e
 
 number_group : (n : ℕ) (r : GroupRead) → number_read n ≡ r → group_read Any (n ∷ []) ≡ r
 unfolding group_read setting_read
@@ -60,11 +66,13 @@ background_low = below_8 (λ i. number_read (40 + i) ≡ set (Background (Idx i)
 
 foreground_bright : (j : ℕ) → j < 8 → number_read (90 + j) ≡ set (Foreground (Idx (8 + j)))
 unfolding number_read
-foreground_bright = below_8 (λ j. number_read (90 + j) ≡ set (Foreground (Idx (8 + j)))) refl refl refl refl refl refl refl refl
+foreground_bright =
+    below_8 (λ j. number_read (90 + j) ≡ set (Foreground (Idx (8 + j)))) refl refl refl refl refl refl refl refl
 
 background_bright : (j : ℕ) → j < 8 → number_read (100 + j) ≡ set (Background (Idx (8 + j)))
 unfolding number_read
-background_bright = below_8 (λ j. number_read (100 + j) ≡ set (Background (Idx (8 + j)))) refl refl refl refl refl refl refl refl
+background_bright =
+    below_8 (λ j. number_read (100 + j) ≡ set (Background (Idx (8 + j)))) refl refl refl refl refl refl refl refl
 
 -- from 8 to 15
 foreground_high : (i : ℕ) → 8 ≤ i → i < 16 → number_read (82 + i) ≡ set (Foreground (Idx i))
@@ -84,14 +92,16 @@ background_high i low high =
 abbrev pub Renders : List ℕ → (Attrs → Attrs) → Type 0
 Renders ns f =
     (groups rest : List (List ℕ)) (screen : ScreenValue)
-    → quiet_steps (sgr_from groups Any (alone ns ++ rest)) screen ≡ quiet_steps (sgr_from groups Any rest) (record screen { attrs = f (screen.attrs) })
+    → quiet_steps (sgr_from groups Any (alone ns ++ rest)) screen
+    ≡ quiet_steps (sgr_from groups Any rest) (record screen { attrs = f (screen.attrs) })
 
 renders_nothing : Renders [] (λ a. a)
 renders_nothing groups rest screen = refl
 
 renders_one : (n : ℕ) (s : Setting) → number_read n ≡ set s → Renders (n ∷ []) (rendered s)
 renders_one n s e groups rest screen =
-    ap (λ (steps : List Step). quiet_steps steps screen) (one_group groups Any (n ∷ []) rest (set s) (number_group n (set s) e))
+    ap (λ (steps : List Step). quiet_steps steps screen)
+    (one_group groups Any (n ∷ []) rest (set s) (number_group n (set s) e))
 
 renders_then : (ms ns : List ℕ) (f g : Attrs → Attrs) → Renders ms f → Renders ns g → Renders (ms ++ ns) (λ a. g (f a))
 renders_then ms ns f g p q groups rest screen =
@@ -117,7 +127,8 @@ green_fits : (layer : Layer) (r g : ℕ) → g < 256 → group_read (Green layer
 unfolding group_read
 green_fits layer r g h = part_fits g (λ g. silent (Blue layer r g)) h
 
-blue_fits : (layer : Layer) (r g b : ℕ) → b < 256 → group_read (Blue layer r g) (b ∷ []) ≡ set (colored layer (Rgb r g b))
+blue_fits : (layer : Layer) (r g b : ℕ) → b < 256 →
+    group_read (Blue layer r g) (b ∷ []) ≡ set (colored layer (Rgb r g b))
 unfolding group_read
 blue_fits layer r g b h = part_fits b (λ b. set (colored layer (Rgb r g b))) h
 
@@ -125,10 +136,12 @@ index_fits : (layer : Layer) (i : ℕ) → i < 256 → group_read (Index layer) 
 unfolding group_read
 index_fits layer i h = part_fits i (λ i. set (colored layer (Idx i))) h
 
-renders_index : (n : ℕ) (layer : Layer) (i : ℕ) → number_read n ≡ silent (Form layer) → i < 256 → Renders (n ∷ 5 ∷ i ∷ []) (rendered (colored layer (Idx i)))
+renders_index : (n : ℕ) (layer : Layer) (i : ℕ) → number_read n ≡ silent (Form layer) →
+    i < 256 → Renders (n ∷ 5 ∷ i ∷ []) (rendered (colored layer (Idx i)))
 renders_index n layer i e h groups rest screen =
     ap (λ (steps : List Step). quiet_steps steps screen)
-    (one_group groups Any (n ∷ []) ((5 ∷ []) ∷ (i ∷ []) ∷ rest) (silent (Form layer)) (number_group n (silent (Form layer)) e)
+    (one_group groups Any (n ∷ []) ((5 ∷ []) ∷ (i ∷ []) ∷ rest)
+    (silent (Form layer)) (number_group n (silent (Form layer)) e)
     ∙ (one_group groups (Form layer) (5 ∷ []) ((i ∷ []) ∷ rest) (silent (Index layer)) (form_index layer)
     ∙ one_group groups (Index layer) (i ∷ []) rest (set (colored layer (Idx i))) (index_fits layer i h)))
 
@@ -136,37 +149,50 @@ renders_rgb : (n : ℕ) (layer : Layer) (r g b : ℕ) → number_read n ≡ sile
     → Renders (n ∷ 2 ∷ r ∷ g ∷ b ∷ []) (rendered (colored layer (Rgb r g b)))
 renders_rgb n layer r g b e red green blue groups rest screen =
     ap (λ (steps : List Step). quiet_steps steps screen)
-    (one_group groups Any (n ∷ []) ((2 ∷ []) ∷ (r ∷ []) ∷ (g ∷ []) ∷ (b ∷ []) ∷ rest) (silent (Form layer)) (number_group n (silent (Form layer)) e)
-    ∙ (one_group groups (Form layer) (2 ∷ []) ((r ∷ []) ∷ (g ∷ []) ∷ (b ∷ []) ∷ rest) (silent (Red layer)) (form_rgb layer)
-    ∙ (one_group groups (Red layer) (r ∷ []) ((g ∷ []) ∷ (b ∷ []) ∷ rest) (silent (Green layer r)) (red_fits layer r red)
-    ∙ (one_group groups (Green layer r) (g ∷ []) ((b ∷ []) ∷ rest) (silent (Blue layer r g)) (green_fits layer r g green)
+    (one_group groups Any (n ∷ []) ((2 ∷ []) ∷ (r ∷ []) ∷ (g ∷ []) ∷ (b ∷ []) ∷ rest)
+    (silent (Form layer)) (number_group n (silent (Form layer)) e)
+    ∙ (one_group groups (Form layer) (2 ∷ [])
+    ((r ∷ []) ∷ (g ∷ []) ∷ (b ∷ []) ∷ rest) (silent (Red layer)) (form_rgb layer)
+    ∙ (one_group groups (Red layer) (r ∷ []) ((g ∷ []) ∷ (b ∷ []) ∷ rest)
+    (silent (Green layer r)) (red_fits layer r red)
+    ∙ (one_group groups (Green layer r) (g ∷ []) ((b ∷ []) ∷ rest)
+    (silent (Blue layer r g)) (green_fits layer r g green)
     ∙ one_group groups (Blue layer r g) (b ∷ []) rest (set (colored layer (Rgb r g b))) (blue_fits layer r g b blue)))))
 
 -- ---- the six parts
 
-renders_foreground : (color : Color) → FitsColor color → Renders (foreground_numbers color) (λ a. record a { fgcolor = color })
+renders_foreground : (color : Color) → FitsColor color →
+    Renders (foreground_numbers color) (λ a. record a { fgcolor = color })
 unfolding foreground_numbers number_read
 renders_foreground Default h = renders_one 39 (Foreground Default) refl
 renders_foreground (Idx i) h =
-    cond_both (nat_lt i 8) ((30 + i) ∷ []) (if nat_lt i 16 then (82 + i) ∷ [] else 38 ∷ 5 ∷ i ∷ []) (λ ns. Renders ns (λ a. record a { fgcolor = Idx i }))
+    cond_both (nat_lt i 8) ((30 + i) ∷ []) (if nat_lt i 16 then (82 + i) ∷ [] else 38 ∷ 5 ∷ i ∷ [])
+    (λ ns. Renders ns (λ a. record a { fgcolor = Idx i }))
     (λ (t : nat_lt i 8 ≡ true). renders_one (30 + i) (Foreground (Idx i)) (foreground_low i (grind (arith, nat_tests))))
-    (λ (t : nat_lt i 8 ≡ false). cond_both (nat_lt i 16) ((82 + i) ∷ []) (38 ∷ 5 ∷ i ∷ []) (λ ns. Renders ns (λ a. record a { fgcolor = Idx i }))
-    (λ (u : nat_lt i 16 ≡ true). renders_one (82 + i) (Foreground (Idx i)) (foreground_high i (grind (arith, nat_tests)) (grind (arith, nat_tests))))
+    (λ (t : nat_lt i 8 ≡ false). cond_both (nat_lt i 16) ((82 + i) ∷ [])
+    (38 ∷ 5 ∷ i ∷ []) (λ ns. Renders ns (λ a. record a { fgcolor = Idx i }))
+    (λ (u : nat_lt i 16 ≡ true). renders_one (82 + i) (Foreground (Idx i))
+    (foreground_high i (grind (arith, nat_tests)) (grind (arith, nat_tests))))
     (λ _. renders_index 38 Front i refl h))
 renders_foreground (Rgb r g b) (red, (green, blue)) = renders_rgb 38 Front r g b refl red green blue
 
-renders_background : (color : Color) → FitsColor color → Renders (background_numbers color) (λ a. record a { bgcolor = color })
+renders_background : (color : Color) → FitsColor color →
+    Renders (background_numbers color) (λ a. record a { bgcolor = color })
 unfolding background_numbers number_read
 renders_background Default h = renders_one 49 (Background Default) refl
 renders_background (Idx i) h =
-    cond_both (nat_lt i 8) ((40 + i) ∷ []) (if nat_lt i 16 then (92 + i) ∷ [] else 48 ∷ 5 ∷ i ∷ []) (λ ns. Renders ns (λ a. record a { bgcolor = Idx i }))
+    cond_both (nat_lt i 8) ((40 + i) ∷ []) (if nat_lt i 16 then (92 + i) ∷ [] else 48 ∷ 5 ∷ i ∷ [])
+    (λ ns. Renders ns (λ a. record a { bgcolor = Idx i }))
     (λ (t : nat_lt i 8 ≡ true). renders_one (40 + i) (Background (Idx i)) (background_low i (grind (arith, nat_tests))))
-    (λ (t : nat_lt i 8 ≡ false). cond_both (nat_lt i 16) ((92 + i) ∷ []) (48 ∷ 5 ∷ i ∷ []) (λ ns. Renders ns (λ a. record a { bgcolor = Idx i }))
-    (λ (u : nat_lt i 16 ≡ true). renders_one (92 + i) (Background (Idx i)) (background_high i (grind (arith, nat_tests)) (grind (arith, nat_tests))))
+    (λ (t : nat_lt i 8 ≡ false). cond_both (nat_lt i 16) ((92 + i) ∷ [])
+    (48 ∷ 5 ∷ i ∷ []) (λ ns. Renders ns (λ a. record a { bgcolor = Idx i }))
+    (λ (u : nat_lt i 16 ≡ true). renders_one (92 + i) (Background (Idx i))
+    (background_high i (grind (arith, nat_tests)) (grind (arith, nat_tests))))
     (λ _. renders_index 48 Back i refl h))
 renders_background (Rgb r g b) (red, (green, blue)) = renders_rgb 48 Back r g b refl red green blue
 
-renders_intensity : (intensity : Intensity) → Renders (intensity_number intensity ∷ []) (λ a. record a { intensity = intensity })
+renders_intensity : (intensity : Intensity) →
+    Renders (intensity_number intensity ∷ []) (λ a. record a { intensity = intensity })
 unfolding number_read
 renders_intensity Normal = renders_one 22 (Strength Normal) refl
 renders_intensity Bold = renders_one 1 (Strength Bold) refl
@@ -200,19 +226,23 @@ part_background true color h = renders_nothing
 part_background false color h = renders_background color h
 
 part_intensity : (same : Bool) (intensity : Intensity)
-    → Renders (part same (intensity_number intensity ∷ [])) (λ a. record a { intensity = if same then a.intensity else intensity })
+    → Renders (part same (intensity_number intensity ∷ []))
+    (λ a. record a { intensity = if same then a.intensity else intensity })
 part_intensity true intensity = renders_nothing
 part_intensity false intensity = renders_intensity intensity
 
-part_italic : (same on : Bool) → Renders (part same ((if on then 3 else 23) ∷ [])) (λ a. record a { italic = if same then a.italic else on })
+part_italic : (same on : Bool) →
+    Renders (part same ((if on then 3 else 23) ∷ [])) (λ a. record a { italic = if same then a.italic else on })
 part_italic true on = renders_nothing
 part_italic false on = renders_italic on
 
-part_underline : (same on : Bool) → Renders (part same ((if on then 4 else 24) ∷ [])) (λ a. record a { underline = if same then a.underline else on })
+part_underline : (same on : Bool) →
+    Renders (part same ((if on then 4 else 24) ∷ [])) (λ a. record a { underline = if same then a.underline else on })
 part_underline true on = renders_nothing
 part_underline false on = renders_underline on
 
-part_inverse : (same on : Bool) → Renders (part same ((if on then 7 else 27) ∷ [])) (λ a. record a { inverse = if same then a.inverse else on })
+part_inverse : (same on : Bool) →
+    Renders (part same ((if on then 7 else 27) ∷ [])) (λ a. record a { inverse = if same then a.inverse else on })
 part_inverse true on = renders_nothing
 part_inverse false on = renders_inverse on
 
@@ -229,12 +259,18 @@ renders_changes : (was new : Attrs) → FitsAttrs new → Renders (change_number
 })
 unfolding change_numbers
 renders_changes was new fits =
-    let fore : Attrs → Attrs = λ a. record a { fgcolor = if same_color was.fgcolor new.fgcolor then a.fgcolor else new.fgcolor } in
-    let back : Attrs → Attrs = λ a. record a { bgcolor = if same_color was.bgcolor new.bgcolor then a.bgcolor else new.bgcolor } in
-    let strength : Attrs → Attrs = λ a. record a { intensity = if same_intensity was.intensity new.intensity then a.intensity else new.intensity } in
-    let slant : Attrs → Attrs = λ a. record a { italic = if same_bool was.italic new.italic then a.italic else new.italic } in
-    let line : Attrs → Attrs = λ a. record a { underline = if same_bool was.underline new.underline then a.underline else new.underline } in
-    let swap : Attrs → Attrs = λ a. record a { inverse = if same_bool was.inverse new.inverse then a.inverse else new.inverse } in
+    let fore : Attrs → Attrs =
+    λ a. record a { fgcolor = if same_color was.fgcolor new.fgcolor then a.fgcolor else new.fgcolor } in
+    let back : Attrs → Attrs =
+    λ a. record a { bgcolor = if same_color was.bgcolor new.bgcolor then a.bgcolor else new.bgcolor } in
+    let strength : Attrs → Attrs =
+    λ a. record a { intensity = if same_intensity was.intensity new.intensity then a.intensity else new.intensity } in
+    let slant : Attrs → Attrs =
+    λ a. record a { italic = if same_bool was.italic new.italic then a.italic else new.italic } in
+    let line : Attrs → Attrs =
+    λ a. record a { underline = if same_bool was.underline new.underline then a.underline else new.underline } in
+    let swap : Attrs → Attrs =
+    λ a. record a { inverse = if same_bool was.inverse new.inverse then a.inverse else new.inverse } in
     let six : List ℕ = part (same_bool was.inverse new.inverse) ((if new.inverse then 7 else 27) ∷ []) in
     let five : List ℕ = part (same_bool was.underline new.underline) ((if new.underline then 4 else 24) ∷ []) in
     let four : List ℕ = part (same_bool was.italic new.italic) ((if new.italic then 3 else 23) ∷ []) in
@@ -256,15 +292,18 @@ renders_changes was new fits =
 -- read alone, the numbers of a change make that change
 pub sgr_change : (was new : Attrs) → FitsAttrs new → same_attrs was new ≡ false → same_attrs new default_attrs ≡ false
     → (screen : ScreenValue)
-    → quiet_steps (sgr_steps (alone (change_numbers was new))) screen ≡ Some (record screen { attrs = changed_attrs was new (screen.attrs) })
+    → quiet_steps (sgr_steps (alone (change_numbers was new))) screen
+    ≡ Some (record screen { attrs = changed_attrs was new (screen.attrs) })
 unfolding changed_attrs
 sgr_change was new fits differs plain screen =
     rw (differs, plain)
-    (ap (λ (gs : List (List ℕ)). quiet_steps (sgr_from (alone (change_numbers was new)) Any gs) screen) (sym (append-nil (alone (change_numbers was new))))
+    (ap (λ (gs : List (List ℕ)). quiet_steps (sgr_from (alone (change_numbers was new)) Any gs) screen)
+    (sym (append-nil (alone (change_numbers was new))))
     ∙ renders_changes was new fits (alone (change_numbers was new)) [] screen)
 
 -- no number means default attributes
-pub sgr_clear : (screen : ScreenValue) → quiet_steps (sgr_steps ((0 ∷ []) ∷ [])) screen ≡ Some (record screen { attrs = default_attrs })
+pub sgr_clear : (screen : ScreenValue) →
+    quiet_steps (sgr_steps ((0 ∷ []) ∷ [])) screen ≡ Some (record screen { attrs = default_attrs })
 unfolding group_read setting_read number_read
 sgr_clear screen = refl
 
@@ -274,7 +313,8 @@ pub record FewNumbers (most : ℕ) (ns : List ℕ) : Type 0 where
   pub few : length ns ≤ most
   pub small : AllByRecursion (λ n. n ≤ 65535) ns
 
-small_then : (ms ns : List ℕ) → AllByRecursion (λ n. n ≤ 65535) ms → AllByRecursion (λ n. n ≤ 65535) ns → AllByRecursion (λ n. n ≤ 65535) (ms ++ ns)
+small_then : (ms ns : List ℕ) → AllByRecursion (λ n. n ≤ 65535) ms →
+    AllByRecursion (λ n. n ≤ 65535) ns → AllByRecursion (λ n. n ≤ 65535) (ms ++ ns)
 small_then [] ns p q = q
 small_then (m ∷ ms) ns (p, ps) q = (p, small_then ms ns ps q)
 
@@ -300,7 +340,8 @@ few_foreground (Idx i) h =
     (λ _. cond_both (nat_lt i 16) ((82 + i) ∷ []) (38 ∷ 5 ∷ i ∷ []) (FewNumbers 5)
     (λ (t : nat_lt i 16 ≡ true). record { few = omega arith; small = (grind (arith, nat_tests), tt) })
     (λ _. record { few = omega arith; small = (omega arith, (omega arith, (omega arith, tt))) }))
-few_foreground (Rgb r g b) (red, (green, blue)) = record { few = omega arith; small = (omega arith, (omega arith, (omega arith, (omega arith, (omega arith, tt))))) }
+few_foreground (Rgb r g b) (red, (green, blue)) =
+    record { few = omega arith; small = (omega arith, (omega arith, (omega arith, (omega arith, (omega arith, tt))))) }
 
 few_background : (color : Color) → FitsColor color → FewNumbers 5 (background_numbers color)
 unfolding background_numbers
@@ -311,7 +352,8 @@ few_background (Idx i) h =
     (λ _. cond_both (nat_lt i 16) ((92 + i) ∷ []) (48 ∷ 5 ∷ i ∷ []) (FewNumbers 5)
     (λ (t : nat_lt i 16 ≡ true). record { few = omega arith; small = (grind (arith, nat_tests), tt) })
     (λ _. record { few = omega arith; small = (omega arith, (omega arith, (omega arith, tt))) }))
-few_background (Rgb r g b) (red, (green, blue)) = record { few = omega arith; small = (omega arith, (omega arith, (omega arith, (omega arith, (omega arith, tt))))) }
+few_background (Rgb r g b) (red, (green, blue)) =
+    record { few = omega arith; small = (omega arith, (omega arith, (omega arith, (omega arith, (omega arith, tt))))) }
 
 few_intensity : (intensity : Intensity) → FewNumbers 1 (intensity_number intensity ∷ [])
 few_intensity Normal = few_one 22 (omega arith)
@@ -328,13 +370,16 @@ few_changes was new fits =
     few_then 5 9 _ _ (few_part 5 (same_color was.fgcolor new.fgcolor) _ (few_foreground new.fgcolor fits.0))
     (few_then 5 4 _ _ (few_part 5 (same_color was.bgcolor new.bgcolor) _ (few_background new.bgcolor fits.1))
     (few_then 1 3 _ _ (few_part 1 (same_intensity was.intensity new.intensity) _ (few_intensity new.intensity))
-    (few_then 1 2 _ _ (few_part 1 (same_bool was.italic new.italic) _ (few_either new.italic 3 23 (omega arith) (omega arith)))
-    (few_then 1 1 _ _ (few_part 1 (same_bool was.underline new.underline) _ (few_either new.underline 4 24 (omega arith) (omega arith)))
+    (few_then 1 2 _ _
+    (few_part 1 (same_bool was.italic new.italic) _ (few_either new.italic 3 23 (omega arith) (omega arith)))
+    (few_then 1 1 _ _
+    (few_part 1 (same_bool was.underline new.underline) _ (few_either new.underline 4 24 (omega arith) (omega arith)))
     (few_part 1 (same_bool was.inverse new.inverse) _ (few_either new.inverse 7 27 (omega arith) (omega arith)))))))
 
 -- ---- a change has a number
 
-some_part : (same others : Bool) (ns ms : List ℕ) → (same && others) ≡ false → 0 < length ns → (others ≡ false → 0 < length ms) → 0 < length (part same ns ++ ms)
+some_part : (same others : Bool) (ns ms : List ℕ) → (same && others) ≡ false →
+    0 < length ns → (others ≡ false → 0 < length ms) → 0 < length (part same ns ++ ms)
 some_part true others ns ms e p q = q e
 some_part false others ns ms e p q = let l = length-append ns ms in omega arith
 
@@ -342,16 +387,20 @@ some_foreground : (color : Color) → 0 < length (foreground_numbers color)
 unfolding foreground_numbers
 some_foreground Default = omega arith
 some_foreground (Idx i) =
-    cond_both (nat_lt i 8) ((30 + i) ∷ []) (if nat_lt i 16 then (82 + i) ∷ [] else 38 ∷ 5 ∷ i ∷ []) (λ (ns : List ℕ). 0 < length ns) (λ _. omega arith)
-    (λ _. cond_both (nat_lt i 16) ((82 + i) ∷ []) (38 ∷ 5 ∷ i ∷ []) (λ (ns : List ℕ). 0 < length ns) (λ _. omega arith) (λ _. omega arith))
+    cond_both (nat_lt i 8) ((30 + i) ∷ []) (if nat_lt i 16 then (82 + i) ∷ [] else 38 ∷ 5 ∷ i ∷ [])
+    (λ (ns : List ℕ). 0 < length ns) (λ _. omega arith)
+    (λ _. cond_both (nat_lt i 16) ((82 + i) ∷ []) (38 ∷ 5 ∷ i ∷ [])
+    (λ (ns : List ℕ). 0 < length ns) (λ _. omega arith) (λ _. omega arith))
 some_foreground (Rgb r g b) = omega arith
 
 some_background : (color : Color) → 0 < length (background_numbers color)
 unfolding background_numbers
 some_background Default = omega arith
 some_background (Idx i) =
-    cond_both (nat_lt i 8) ((40 + i) ∷ []) (if nat_lt i 16 then (92 + i) ∷ [] else 48 ∷ 5 ∷ i ∷ []) (λ (ns : List ℕ). 0 < length ns) (λ _. omega arith)
-    (λ _. cond_both (nat_lt i 16) ((92 + i) ∷ []) (48 ∷ 5 ∷ i ∷ []) (λ (ns : List ℕ). 0 < length ns) (λ _. omega arith) (λ _. omega arith))
+    cond_both (nat_lt i 8) ((40 + i) ∷ []) (if nat_lt i 16 then (92 + i) ∷ [] else 48 ∷ 5 ∷ i ∷ [])
+    (λ (ns : List ℕ). 0 < length ns) (λ _. omega arith)
+    (λ _. cond_both (nat_lt i 16) ((92 + i) ∷ []) (48 ∷ 5 ∷ i ∷ [])
+    (λ (ns : List ℕ). 0 < length ns) (λ _. omega arith) (λ _. omega arith))
 some_background (Rgb r g b) = omega arith
 
 some_last : (same : Bool) (n : ℕ) → same ≡ false → 0 < length (part same (n ∷ []))

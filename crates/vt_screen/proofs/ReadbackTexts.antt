@@ -1,5 +1,6 @@
 -- Texts read one after the other, and a text read by the events that it gives.
-use Rattle.std.proofs.Common.{◌≡◌, ◌≢◌, ℕ, ◌≤◌, Bool, true, false, List, [], ◌∷◌, ◌++◌, Option, Some, refl, sym, ap, subst, ◌∙◌}
+use Rattle.std.proofs.Common.{◌≡◌, ◌≢◌, ℕ, ◌≤◌, Bool, true, false, List, [], ◌∷◌}
+use Rattle.std.proofs.Common.{◌++◌, Option, Some, refl, sym, ap, subst, ◌∙◌}
 use Rattle.std.specs.List.{AllByRecursion}
 use Rattle.vt_cells.specs.Op.{csi}
 use Rattle.vt_grid.specs.Canvas.{and_then}
@@ -24,7 +25,8 @@ use Rattle.vt_screen.specs.Reading.{quiet_steps, quiet_events, grows, Terminal, 
 pub reads_append : (t : Terminal) (a b : List ℕ) → read t (a ++ b) ≡ and_then (λ u. read u b) (read t a)
 reads_append t [] b = refl
 reads_append t (x ∷ a) b =
-    and_then-same (λ (u : Terminal). read u (a ++ b)) (λ (u : Terminal). and_then (λ v. read v b) (read u a)) (λ (u : Terminal). reads_append u a b) (read_byte t x)
+    and_then-same (λ (u : Terminal). read u (a ++ b)) (λ (u : Terminal). and_then (λ v. read v b) (read u a))
+    (λ (u : Terminal). reads_append u a b) (read_byte t x)
     ∙ and_then-assoc (λ (u : Terminal). read u a) (λ (v : Terminal). read v b) (read_byte t x)
 
 -- one text and then another
@@ -33,11 +35,14 @@ reads_then t u v a b p q = reads_append t a b ∙ (ap (λ (r : Option Terminal).
 
 -- ---- a text and its events
 
-quiet_append : (a b : List Event) (screen : ScreenValue) → quiet_events (a ++ b) screen ≡ and_then (quiet_events b) (quiet_events a screen)
+quiet_append : (a b : List Event) (screen : ScreenValue) →
+    quiet_events (a ++ b) screen ≡ and_then (quiet_events b) (quiet_events a screen)
 quiet_append [] b screen = refl
 quiet_append (event ∷ a) b screen =
     let first = quiet_steps (steps_of event (seen_of screen)) screen in
-    and_then-same (quiet_events (a ++ b)) (λ (x : ScreenValue). and_then (quiet_events b) (quiet_events a x)) (quiet_append a b) first ∙ and_then-assoc (quiet_events a) (quiet_events b) first
+    and_then-same (quiet_events (a ++ b))
+    (λ (x : ScreenValue). and_then (quiet_events b) (quiet_events a x)) (quiet_append a b) first
+    ∙ and_then-assoc (quiet_events a) (quiet_events b) first
 
 -- an operating system command, the one sequence whose text takes memory
 abbrev pub is_command : Event → Bool
@@ -63,7 +68,8 @@ abbrev run_after : Step → List ℕ → Step
 run_after step bytes = behind step.events (run step.state bytes)
 
 -- a command that is begun is read, or goes on
-unended_by : (c : Class) (text : List ℕ) (b : ℕ) (bytes : List ℕ) → ((more : List ℕ) → IsCalm (run (in_command more) bytes) → ⊥)
+unended_by : (c : Class) (text : List ℕ) (b : ℕ) (bytes : List ℕ)
+    → ((more : List ℕ) → IsCalm (run (in_command more) bytes) → ⊥)
     → IsCalm (run_after (after OscString text b (turn_of OscString c)) bytes) → ⊥
 unended_by Bell text b bytes rest calm = let met : true ≡ false = calm.events.0 in cc
 unended_by Cancel text b bytes rest calm = let met : true ≡ false = calm.events.0 in cc
@@ -82,17 +88,20 @@ grows_not _ Control n = refl
 grows_not _ _ n = refl
 
 -- the first byte of a calm run takes no memory, and what is behind it is calm
-pub calm_grows : (s : State) (b : ℕ) (bytes : List ℕ) → IsCalm (run s (b ∷ bytes)) → (grows (turn_of s.kind (class_of b)) ≡ false) × IsCalm (run (step_in s.kind s.collected b).state bytes)
+pub calm_grows : (s : State) (b : ℕ) (bytes : List ℕ) → IsCalm (run s (b ∷ bytes)) →
+    (grows (turn_of s.kind (class_of b)) ≡ false) × IsCalm (run (step_in s.kind s.collected b).state bytes)
 calm_grows s b bytes calm =
     let step = step_in s.kind s.collected b in
     let rest = run step.state bytes in (
-      grows_not s.kind (class_of b) (λ (e : s.kind ≡ OscString). unended s.collected (b ∷ bytes) (subst (λ (k : Kind). IsCalm (run (record { kind = k; collected = s.collected }) (b ∷ bytes))) e calm)),
+      grows_not s.kind (class_of b) (λ (e : s.kind ≡ OscString). unended s.collected (b ∷ bytes)
+          (subst (λ (k : Kind). IsCalm (run (record { kind = k; collected = s.collected }) (b ∷ bytes))) e calm)),
       record { plain = calm.plain; events = later step.events rest.events calm.events },
     )
 
 -- a calm run is read: its events are performed, one after the other
 pub run_read : (s : State) (bytes : List ℕ) (screen : ScreenValue) → IsCalm (run s bytes)
-    → read (terminal s screen) bytes ≡ and_then (λ after. Some (terminal (run s bytes).state after)) (quiet_events (run s bytes).events screen)
+    → read (terminal s screen) bytes
+    ≡ and_then (λ after. Some (terminal (run s bytes).state after)) (quiet_events (run s bytes).events screen)
 unfolding read_byte
 run_read s [] screen calm = refl
 run_read s (b ∷ bytes) screen calm =
@@ -103,25 +112,36 @@ run_read s (b ∷ bytes) screen calm =
     let (still, ends) = calm_grows s b bytes calm in
     rw still
     (sym (and_then-assoc (λ (x : ScreenValue). Some (terminal step.state x)) (λ (u : Terminal). read u bytes) here)
-    ∙ and_then-same (λ (x : ScreenValue). read (terminal step.state x) bytes) (λ (x : ScreenValue). and_then finish (quiet_events rest.events x)) (λ x. run_read step.state bytes x ends) here
+    ∙ and_then-same (λ (x : ScreenValue). read (terminal step.state x) bytes)
+    (λ (x : ScreenValue). and_then finish (quiet_events rest.events x)) (λ x. run_read step.state bytes x ends) here
     ∙ and_then-assoc (quiet_events rest.events) finish here
     ∙ ap (and_then finish) (sym (quiet_append step.events rest.events screen)))
 
 -- a text that gives one event
-pub event_read : (text : List ℕ) (event : Event) (screen after : ScreenValue) → run start text ≡ back_with (event ∷ []) → is_command event ≡ false
-    → quiet_steps (steps_of event (seen_of screen)) screen ≡ Some after → read (terminal start screen) text ≡ Some (terminal start after)
+pub event_read : (text : List ℕ) (event : Event) (screen after : ScreenValue)
+    → run start text ≡ back_with (event ∷ []) → is_command event ≡ false
+    → quiet_steps (steps_of event (seen_of screen)) screen ≡ Some after
+    → read (terminal start screen) text ≡ Some (terminal start after)
 event_read text event screen after gives other quiet =
     run_read start text screen (rw gives (record { plain = refl; events = (other, tt) }))
-    ∙ ap (λ (step : Step). and_then (λ (x : ScreenValue). Some (terminal step.state x)) (quiet_events step.events screen)) gives
-    ∙ ap (λ (r : Option ScreenValue). and_then (λ (x : ScreenValue). Some (terminal start x)) (and_then (quiet_events []) r)) quiet
+    ∙ ap
+    (λ (step : Step). and_then (λ (x : ScreenValue). Some (terminal step.state x)) (quiet_events step.events screen))
+    gives
+    ∙ ap
+    (λ (r : Option ScreenValue). and_then (λ (x : ScreenValue). Some (terminal start x)) (and_then (quiet_events []) r))
+    quiet
 
 -- a final byte
 abbrev pub IsFinal : ℕ → Type 0
 IsFinal b = (0x40 ≤ b) × (b ≤ 0x7E)
 
 -- a control sequence of parameters alone
-pub csi_read : (text : List ℕ) (final : ℕ) (groups : List (List ℕ)) (screen after : ScreenValue) → IsParameterText text → IsFinal final → (table_of text).groups ≡ groups
-    → quiet_steps (plain_steps groups final (seen_of screen)) screen ≡ Some after → read (terminal start screen) (csi text final) ≡ Some (terminal start after)
+pub csi_read : (text : List ℕ) (final : ℕ) (groups : List (List ℕ)) (screen after : ScreenValue)
+    → IsParameterText text → IsFinal final → (table_of text).groups ≡ groups
+    → quiet_steps (plain_steps groups final (seen_of screen)) screen ≡ Some after
+    → read (terminal start screen) (csi text final) ≡ Some (terminal start after)
 csi_read text final groups screen after is is_final table quiet =
     event_read (csi text final) (CsiDispatch groups [] final) screen after
-    (read_csi text final is is_final.0 is_final.1 ∙ ap (λ (gs : List (List ℕ)). back_with (CsiDispatch gs [] final ∷ [])) table) refl quiet
+    (read_csi text final is is_final.0 is_final.1
+    ∙ ap (λ (gs : List (List ℕ)). back_with (CsiDispatch gs [] final ∷ [])) table)
+    refl quiet

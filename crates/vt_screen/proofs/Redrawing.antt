@@ -31,27 +31,35 @@ pub record Becomes (picture : Picture) (text : List ℕ) (reader : ScreenValue) 
 
 -- operations that draw a picture on the canvas of a terminal, read
 pub drawing_read : (ops : List Op) (picture : Picture) (reader : ScreenValue) → AllByRecursion Fits ops
-    → (saved : Saved) × (drawn_all ops (canvas_of reader) ≡ Some (with_saved saved (with_picture picture (canvas_of reader))))
+    → (saved : Saved)
+    × (drawn_all ops (canvas_of reader) ≡ Some (with_saved saved (with_picture picture (canvas_of reader))))
     → Becomes picture (bytes_of_all ops) reader
 drawing_read ops picture reader fits draws =
     let reads = reads_all ops reader (with_saved draws.0 (with_picture picture (canvas_of reader))) fits draws.1 in
     record { saved = draws.0; last = reads.0; reads = reads.1 }
 
-pub redraw_read : (self reader : ScreenValue) → IsScreen self → IsColored self → IsSteady (shown self) → IsReader (shown self) reader → Becomes (shown self) (bytes_of_all (redraw (shown self))) reader
+pub redraw_read : (self reader : ScreenValue) → IsScreen self → IsColored self → IsSteady (shown self) →
+    IsReader (shown self) reader → Becomes (shown self) (bytes_of_all (redraw (shown self))) reader
 redraw_read self reader is colored steady r =
     let picture = shown self in
     let page = plain_shown reader r.sound r.plain in
     let same = subst (SamePictureSize picture) page r.size in
-    drawing_read (redraw picture) picture reader (redraw_fits picture (shown_is self is) (shown_colored self is colored))
-    (redraw_draws picture (canvas_of reader) (shown_is self is) steady (page_picture (canvas_of reader) r.sound.page) r.plain.page same)
+    drawing_read (redraw picture) picture reader
+    (redraw_fits picture (shown_is self is) (shown_colored self is colored))
+    (redraw_draws picture (canvas_of reader) (shown_is self is) steady
+    (page_picture (canvas_of reader) r.sound.page) r.plain.page same)
 
-pub difference_read : (self prev reader : ScreenValue) → IsScreen self → IsColored self → IsSteady (shown self) → IsScreen prev → IsColored prev → SamePictureSize (shown self) (shown prev) → IsReaderOf (shown self) (shown prev) reader
+pub difference_read : (self prev reader : ScreenValue) → IsScreen self
+    → IsColored self → IsSteady (shown self) → IsScreen prev → IsColored prev
+    → SamePictureSize (shown self) (shown prev) → IsReaderOf (shown self) (shown prev) reader
     → Becomes (shown self) (bytes_of_all (difference (shown self) (shown prev))) reader
 difference_read self prev reader is colored steady other colored_other size r =
     let picture = shown self in
     let page = plain_shown reader r.is.sound r.is.plain in
-    drawing_read (difference picture (shown prev)) picture reader (difference_fits picture (shown prev) (shown_is self is) (shown_colored self is colored) colored_other.attrs)
-    (difference_draws picture (shown prev) (canvas_of reader) (shown_is self is) steady (shown_is prev other) size r.is.plain.page (sym page ∙ r.shows))
+    drawing_read (difference picture (shown prev)) picture reader
+    (difference_fits picture (shown prev) (shown_is self is) (shown_colored self is colored) colored_other.attrs)
+    (difference_draws picture (shown prev) (canvas_of reader) (shown_is self is)
+    steady (shown_is prev other) size r.is.plain.page (sym page ∙ r.shows))
 
 -- ---- what that says of each reader
 
@@ -61,9 +69,12 @@ same_some x y e = cc
 screen_of : Terminal → ScreenValue
 screen_of t = t.screen
 
-pub became : (picture : Picture) (text : List ℕ) (reader after : ScreenValue) → Becomes picture text reader → ReadsTo text reader after → Became picture reader after
+pub became : (picture : Picture) (text : List ℕ) (reader after : ScreenValue) →
+    Becomes picture text reader → ReadsTo text reader after → Became picture reader after
 became picture text reader after b reads = record {
   saved = b.saved;
   last = b.last;
-  is = ap (λ (t : Terminal). t.screen) (same_some (terminal start after) (terminal start (showing picture b.saved b.last reader)) (sym reads ∙ b.reads));
+  is =
+      ap (λ (t : Terminal). t.screen)
+      (same_some (terminal start after) (terminal start (showing picture b.saved b.last reader)) (sym reads ∙ b.reads));
 }

@@ -4,7 +4,8 @@ use Rattle.std.specs.List.{range_with_len}
 use Rattle.std.proofs.lemmas.List.FromFn.{length-map-range_with_len, get_or-map-range_with_len}
 use Rattle.vt_screen.specs.RowsShown.{text_at, texts_from}
 
-pub texts_more : (text : ℕ → List ℕ) (r height : ℕ) → r < height → texts_from text r height ≡ text r ∷ texts_from text (r + 1) height
+pub texts_more : (text : ℕ → List ℕ) (r height : ℕ) → r < height →
+    texts_from text r height ≡ text r ∷ texts_from text (r + 1) height
 texts_more text r height h =
     let n : height - r ≡ suc (height - (r + 1)) = omega arith in
     ap (λ (m : ℕ). map text (range_with_len r m)) n

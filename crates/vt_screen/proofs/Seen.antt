@@ -1,11 +1,13 @@
 -- What is shown, cell by cell: without U+FE0F it is steady; of two screens that show the same, getters answer the same.
-use Rattle.std.proofs.Common.{◌≡◌, ℕ, zero, suc, ◌+◌, ◌-◌, ◌<◌, ◌==◌, ◌&&◌, nat_lt, not, false, min, List, [], ◌∷◌, ◌++◌, length, inl, inr, refl, sym, ap, ◌∙◌, arith}
+use Rattle.std.proofs.Common.{◌≡◌, ℕ, zero, suc, ◌+◌, ◌-◌, ◌<◌, ◌==◌, ◌&&◌, nat_lt, not, false, min}
+use Rattle.std.proofs.Common.{List, [], ◌∷◌, ◌++◌, length, inl, inr, refl, sym, ap, ◌∙◌, arith}
 use Rattle.std.specs.Prelude.{if◌then◌else◌, All, chars}
 use Rattle.std.specs.List.{list_any, AllByRecursion, flat_map, range_with_len}
 use Rattle.std.proofs.lemmas.Bool.{cases_eq, cond_both}
 use Rattle.std.proofs.lemmas.Bool.Decides.{nat_tests}
 use Rattle.std.proofs.lemmas.List.Elements.{All-nil, All-cons, All-from_get_or, recursion_from_All}
-use Rattle.vt_cells.specs.Cell.{CellValue, blank, glyph, right_half, default_blank, attrs_of, is_right_half, is_wide, text_of}
+use Rattle.vt_cells.specs.Cell.{CellValue, blank, glyph, right_half, default_blank}
+use Rattle.vt_cells.specs.Cell.{attrs_of, is_right_half, is_wide, text_of}
 use Rattle.vt_cells.specs.Glyph.{is_selector}
 use Rattle.vt_rows.specs.Cells.{IsPaired, at, moved_at, resized}
 use Rattle.vt_rows.specs.Plain.{plain_text}

@@ -1,5 +1,6 @@
 -- Bytes that read no U+FE0F put it into no cell, and neither does another size or another offset.
-use Rattle.std.proofs.Common.{◌≡◌, ◌≢◌, ℕ, Bool, true, false, List, [], ◌∷◌, length, Option, Some, None, sym, ap, subst, ◌∙◌, inl, inr, arith}
+use Rattle.std.proofs.Common.{◌≡◌, ◌≢◌, ℕ, Bool, true, false, List, [], ◌∷◌, length, Option}
+use Rattle.std.proofs.Common.{Some, None, sym, ap, subst, ◌∙◌, inl, inr, arith}
 use Rattle.std.specs.Prelude.{if◌then◌else◌, All, IfSome, option_map, slice_index_or}
 use Rattle.std.specs.List.{list_any, AllByRecursion}
 use Rattle.std.proofs.lemmas.Bool.{cases_lt}
@@ -20,12 +21,14 @@ use Rattle.vt_scan.specs.Run.{run}
 use Rattle.vt_scan.proofs.Scalars.{AreCoded, coded_run}
 use Rattle.vt_screen.specs.Controls.{seen_of, steps_of}
 use Rattle.vt_screen.specs.Pages.{above_aside, has_size, main_page, page_aside, resized}
-use Rattle.vt_screen.specs.Screen.{IsPrintable, IsScreen, ScreenValue, above_page, fresh_screen, scrolled_back, visible_row}
+use Rattle.vt_screen.specs.Screen.{IsPrintable, IsScreen, ScreenValue, above_page}
+use Rattle.vt_screen.specs.Screen.{fresh_screen, scrolled_back, visible_row}
 use Rattle.vt_screen.specs.Selectors.{CellHasNoSelector, HasNoSelectors, ReadsNoSelector, RowsHaveNoSelector}
 use Rattle.vt_screen.specs.Shown.{ShowsNoSelector}
 use Rattle.vt_screen.specs.Telling.{screen_in, stepped_all, steps_in, steps_of_all}
 use Rattle.vt_screen.proofs.EventSteps.{AllAmong, Allows, all_then, none, stream_event}
-use Rattle.vt_screen.proofs.Selectors.{ArePlain, IsPlainCell, IsPlainCharacter, StaysPlain, plain_aside, selecting, steps_plain}
+use Rattle.vt_screen.proofs.Selectors.{ArePlain, IsPlainCell, IsPlainCharacter, StaysPlain}
+use Rattle.vt_screen.proofs.Selectors.{plain_aside, selecting, steps_plain}
 use Rattle.vt_screen.proofs.Shown.{above_by, length_visible, rows_visible}
 use Rattle.vt_screen.proofs.Stable.{EachCell, stable_blank}
 use Rattle.vt_screen.proofs.StableScrollback.{stable_page_resized, stable_scrollback_resized, stable_viewed}

@@ -1,5 +1,6 @@
 -- Where no character that is read is U+FE0F, no step puts it into a cell.
-use Rattle.std.proofs.Common.{◌≡◌, ◌≢◌, ℕ, Bool, true, false, List, [], ◌∷◌, ◌++◌, length, Option, Some, None, append-nil, IsUtf8, refl, sym, ap, subst, ◌∙◌, lit<, arith}
+use Rattle.std.proofs.Common.{◌≡◌, ◌≢◌, ℕ, Bool, true, false, List, [], ◌∷◌, ◌++◌, length, Option, Some}
+use Rattle.std.proofs.Common.{None, append-nil, IsUtf8, refl, sym, ap, subst, ◌∙◌, lit<, arith}
 use Rattle.std.specs.Prelude.{if◌then◌else◌, IfSome, chars, option_map}
 use Rattle.std.specs.Char.{IsScalar, encode_utf8}
 use Rattle.std.specs.List.{list_any, AllByRecursion}
@@ -14,16 +15,28 @@ use Rattle.vt_cells.specs.Glyph.{columns_of, has_room, is_selector, marked_text}
 use Rattle.vt_rows.specs.Row.{RowValue}
 use Rattle.vt_grid.specs.Page.{Page}
 use Rattle.vt_grid.specs.Moves.{carriage_return, moved_left, moved_right, moved_to}
-use Rattle.vt_grid.specs.Regions.{moved_down, moved_to_column, moved_to_row, moved_up, next_line, origin_set, previous_line, tabbed}
+use Rattle.vt_grid.specs.Regions.{moved_down, moved_to_column, moved_to_row, moved_up}
+use Rattle.vt_grid.specs.Regions.{next_line, origin_set, previous_line, tabbed}
 use Rattle.vt_grid.specs.Outgoing.{fed_out, printed_out, scrolled_out}
 use Rattle.vt_grid.specs.Resize.{out_of_view}
 use Rattle.vt_grid.specs.Scrollback.{Scrollback, cleared, pushed}
 use Rattle.vt_screen.specs.Pages.{entered, entered_fresh, fresh_page, left, page_aside, restored, saved}
 use Rattle.vt_screen.specs.Screen.{ScreenValue, with_page}
-use Rattle.vt_screen.specs.Steps.{Step, Print, CarriageReturn, LineFeed, ReverseIndex, MoveUp, MoveDown, MoveRight, MoveLeft, NextLine, PreviousLine, Tab, MoveTo, MoveToColumn, MoveToRow, SetRegion, UseOrigin, EraseBelow, EraseAbove, ErasePage, EraseScrollback, EraseRest, EraseStart, EraseRow, EraseChars, InsertChars, DeleteChars, InsertLines, DeleteLines, ScrollUp, ScrollDown, Render, HideCursor, UseApplicationKeypad, UseApplicationCursor, UseBracketedPaste, SetMouseMode, ClearMouseMode, SetMouseEncoding, ClearMouseEncoding, SetCursorStyle, SaveCursor, RestoreCursor, EnterAlternate, EnterFresh, LeaveAlternate, LeaveRestoring, Reset, Tell, becomes_last, scrolled, stepped}
+use Rattle.vt_screen.specs.Steps.{Step, Print, CarriageReturn, LineFeed, ReverseIndex, MoveUp, MoveDown, MoveRight}
+use Rattle.vt_screen.specs.Steps.{MoveLeft, NextLine, PreviousLine, Tab, MoveTo, MoveToColumn, MoveToRow, SetRegion}
+use Rattle.vt_screen.specs.Steps.{UseOrigin, EraseBelow, EraseAbove, ErasePage, EraseScrollback, EraseRest, EraseStart}
+use Rattle.vt_screen.specs.Steps.{EraseRow, EraseChars, InsertChars, DeleteChars, InsertLines, DeleteLines, ScrollUp}
+use Rattle.vt_screen.specs.Steps.{ScrollDown, Render, HideCursor, UseApplicationKeypad, UseApplicationCursor}
+use Rattle.vt_screen.specs.Steps.{UseBracketedPaste, SetMouseMode, ClearMouseMode, SetMouseEncoding, ClearMouseEncoding}
+use Rattle.vt_screen.specs.Steps.{SetCursorStyle, SaveCursor, RestoreCursor, EnterAlternate, EnterFresh, LeaveAlternate}
+use Rattle.vt_screen.specs.Steps.{LeaveRestoring, Reset, Tell, becomes_last, scrolled, stepped}
 use Rattle.vt_screen.specs.Telling.{stepped_all}
-use Rattle.vt_screen.proofs.Stable.{EachCell, EachRow, IsStable, stable_blank, stable_erased_below, stable_erased_chars, stable_erased_rest, stable_line_feed, stable_printed, stable_scrolled_up}
-use Rattle.vt_screen.proofs.StableMoves.{stable_chars_deleted, stable_chars_inserted, stable_erased_above, stable_erased_page, stable_erased_row, stable_erased_start, stable_lines_deleted, stable_lines_inserted, stable_region_set, stable_reverse_index, stable_scrolled_down}
+use Rattle.vt_screen.proofs.Stable.{EachCell, EachRow, IsStable, stable_blank, stable_erased_below, stable_erased_chars}
+use Rattle.vt_screen.proofs.Stable.{stable_erased_rest, stable_line_feed, stable_printed, stable_scrolled_up}
+use Rattle.vt_screen.proofs.StableMoves.{stable_chars_deleted, stable_chars_inserted, stable_erased_above}
+use Rattle.vt_screen.proofs.StableMoves.{stable_erased_page, stable_erased_row, stable_erased_start}
+use Rattle.vt_screen.proofs.StableMoves.{stable_lines_deleted, stable_lines_inserted, stable_region_set}
+use Rattle.vt_screen.proofs.StableMoves.{stable_reverse_index, stable_scrolled_down}
 use Rattle.vt_screen.proofs.StableScrollback.{stable_fed_out, stable_printed_out, stable_pushed, stable_scrolled_out}
 use Rattle.vt_screen.proofs.Streaming.{IsAmong}
 
@@ -161,7 +174,8 @@ plain_entered s k = by s.is_alternate where
   by : (b : Bool)
       → StaysPlain
       (if b then s
-      else record s { page = page_aside s; other = Some s.page; is_alternate = true; scrollback = out_of_view s.scrollback })
+      else record s
+      { page = page_aside s; other = Some s.page; is_alternate = true; scrollback = out_of_view s.scrollback })
   by true = k
   by false = record { rows = plain_aside s k; other = k.rows; above = k.above; last = k.last }
 

@@ -1,15 +1,18 @@
 -- What a screen shows is a picture, and a plain screen shows its own page.
-use Rattle.std.proofs.Common.{◌≡◌, ℕ, ◌-◌, ◌≤◌, Bool, true, false, List, [], ◌∷◌, ◌++◌, length, take, refl, sym, ap, ◌∙◌, subst, arith}
+use Rattle.std.proofs.Common.{◌≡◌, ℕ, ◌-◌, ◌≤◌, Bool, true, false, List, [], ◌∷◌, ◌++◌}
+use Rattle.std.proofs.Common.{length, take, refl, sym, ap, ◌∙◌, subst, arith}
 use Rattle.std.specs.Prelude.{if◌then◌else◌, All}
 use Rattle.std.proofs.lemmas.List.{length-append, length-take, drop_all, take_all}
-use Rattle.std.proofs.lemmas.List.Elements.{All-nil, All-cons, All-append, All-take, All-drop, All-weaker, recursion_from_All}
+use Rattle.std.proofs.lemmas.List.Elements.{All-nil, All-cons, All-append, All-take}
+use Rattle.std.proofs.lemmas.List.Elements.{All-drop, All-weaker, recursion_from_All}
 use Rattle.std.specs.List.{AllByRecursion}
 use Rattle.vt_rows.specs.Cells.{resized}
 use Rattle.vt_rows.specs.Row.{RowValue, IsRow, with_cells}
 use Rattle.vt_grid.specs.Scrollback.{Scrollback, no_scrollback, visible, last_of}
 use Rattle.vt_redraw.specs.Picture.{IsPicture, IsColoredPicture, cut_rows, picture_of, picture_over}
 use Rattle.vt_redraw.proofs.Cuts.{IsAnyRow, picture_over_is, picture_over_page}
-use Rattle.vt_screen.specs.Screen.{ScreenValue, IsScreen, IsColored, IsColoredRow, AreColored, above_page, canvas_of, visible_rows}
+use Rattle.vt_screen.specs.Screen.{ScreenValue, IsScreen, IsColored, IsColoredRow}
+use Rattle.vt_screen.specs.Screen.{AreColored, above_page, canvas_of, visible_rows}
 use Rattle.vt_screen.specs.Shown.{IsPlain, ShowsOwnPage, shown}
 use Rattle.vt_screen.proofs.StableMoves.{stable_moved}
 use Rattle.vt_screen.proofs.Coloring.{coloring}
@@ -26,12 +29,15 @@ length_visible above rows =
 pub rows_visible : (P : RowValue → Type 0) (above : Scrollback)
     (rows : List RowValue) → All P above.rows → All P rows → All P (visible above rows)
 rows_visible P above rows p q =
-    All-take P (length rows) (last_of above.offset above.rows ++ rows) (All-append P (last_of above.offset above.rows) rows (All-drop P (length above.rows - above.offset) above.rows p) q)
+    All-take P (length rows) (last_of above.offset above.rows ++ rows)
+    (All-append P (last_of above.offset above.rows) rows (All-drop P (length above.rows - above.offset) above.rows p) q)
 
 pub none_above : (above : Scrollback) (rows : List RowValue) → above.offset ≡ 0 → visible above rows ≡ rows
 none_above above rows none =
     let past : length above.rows ≤ length above.rows - above.offset = omega arith in
-    ap (λ (old : List RowValue). take (length rows) (old ++ rows)) (drop_all (length above.rows - above.offset) above.rows past) ∙ take_all (length rows) rows (omega arith)
+    ap (λ (old : List RowValue). take (length rows) (old ++ rows))
+    (drop_all (length above.rows - above.offset) above.rows past)
+    ∙ take_all (length rows) rows (omega arith)
 
 pub above_by : (P : RowValue → Type 0) (b : Bool) (above : Scrollback) → All P above.rows → All P
     (if b then no_scrollback 0 else above).rows
@@ -48,7 +54,9 @@ any_visible s is =
 
 -- what a screen shows is a picture
 pub shown_is : (s : ScreenValue) → IsScreen s → IsPicture (shown s)
-shown_is s is = picture_over_is (visible_rows s) (canvas_of s) is.page (length_visible (above_page s) s.page.rows) (any_visible s is)
+shown_is s is =
+    picture_over_is (visible_rows s) (canvas_of s) is.page
+    (length_visible (above_page s) s.page.rows) (any_visible s is)
 
 -- ---- colours
 
@@ -72,7 +80,8 @@ shown_height s = length_cut s.page.width (visible_rows s) ∙ length_visible (ab
 
 pub shown_colored : (s : ScreenValue) → IsScreen s → IsColored s → IsColoredPicture (shown s)
 shown_colored s is colored =
-    let rows = rows_visible IsColoredRow (above_page s) s.page.rows (above_by IsColoredRow s.is_alternate s.scrollback colored.above) colored.rows in
+    let rows = rows_visible IsColoredRow (above_page s) s.page.rows
+    (above_by IsColoredRow s.is_alternate s.scrollback colored.above) colored.rows in
     let tall = shown_height s in
     let height = is.page.height in
     record {

@@ -8,18 +8,45 @@ use Rattle.vt_grid.specs.Page.{Page, SameSize, IsPage, blank_page}
 use Rattle.vt_grid.specs.Resize.{out_of_view}
 use Rattle.vt_grid.specs.Scrollback.{pushed}
 use Rattle.vt_scan.specs.Automaton.{Event}
-use Rattle.vt_screen.specs.Pages.{fresh_page, page_aside, entered, entered_fresh, left, left_restored, saved, restored, reset}
+use Rattle.vt_screen.specs.Pages.{fresh_page, page_aside, entered, entered_fresh}
+use Rattle.vt_screen.specs.Pages.{left, left_restored, saved, restored, reset}
 use Rattle.vt_screen.specs.Screen.{ScreenValue, IsScreen}
 use Rattle.vt_screen.specs.Controls.{steps_of}
-use Rattle.vt_screen.specs.Steps.{Step, Print, CarriageReturn, LineFeed, ReverseIndex, MoveUp, MoveDown, MoveRight, MoveLeft, NextLine, PreviousLine, Tab, MoveTo, MoveToColumn, MoveToRow, SetRegion, UseOrigin, EraseBelow, EraseAbove, ErasePage, EraseScrollback, EraseRest, EraseStart, EraseRow, EraseChars, InsertChars, DeleteChars, InsertLines, DeleteLines, ScrollUp, ScrollDown, Render, HideCursor, UseApplicationCursor, UseBracketedPaste, SetMouseMode, ClearMouseMode, SetMouseEncoding, ClearMouseEncoding, SetCursorStyle, SaveCursor, RestoreCursor, EnterAlternate, EnterFresh, LeaveAlternate, LeaveRestoring, Reset, UseApplicationKeypad, Tell, outgoing, sent, scrolled, stepped}
+use Rattle.vt_screen.specs.Steps.{Step, Print, CarriageReturn, LineFeed, ReverseIndex, MoveUp, MoveDown, MoveRight}
+use Rattle.vt_screen.specs.Steps.{MoveLeft, NextLine, PreviousLine, Tab, MoveTo, MoveToColumn, MoveToRow, SetRegion}
+use Rattle.vt_screen.specs.Steps.{UseOrigin, EraseBelow, EraseAbove, ErasePage, EraseScrollback, EraseRest, EraseStart}
+use Rattle.vt_screen.specs.Steps.{EraseRow, EraseChars, InsertChars, DeleteChars, InsertLines, DeleteLines, ScrollUp}
+use Rattle.vt_screen.specs.Steps.{ScrollDown, Render, HideCursor, UseApplicationCursor, UseBracketedPaste, SetMouseMode}
+use Rattle.vt_screen.specs.Steps.{ClearMouseMode, SetMouseEncoding, ClearMouseEncoding, SetCursorStyle, SaveCursor}
+use Rattle.vt_screen.specs.Steps.{RestoreCursor, EnterAlternate, EnterFresh, LeaveAlternate, LeaveRestoring, Reset}
+use Rattle.vt_screen.specs.Steps.{UseApplicationKeypad, Tell, outgoing, sent, scrolled, stepped}
 use Rattle.vt_grid.specs.Page.{scrolled_up}
-use Rattle.vt_grid.specs.Moves.{carriage_return, moved_left, moved_right, moved_to, line_feed, cursor_saved, cursor_restored}
-use Rattle.vt_grid.specs.Regions.{moved_up, moved_down, next_line, previous_line, tabbed, moved_to_column, moved_to_row, region_set, origin_set}
-use Rattle.vt_grid.specs.Shifts.{reverse_index, scrolled_down, lines_inserted, lines_deleted, chars_inserted, chars_deleted}
-use Rattle.vt_grid.specs.Erasing.{erased_below, erased_above, erased_page, erased_rest, erased_start, erased_row, erased_chars}
+use Rattle.vt_grid.specs.Moves.{carriage_return, moved_left, moved_right, moved_to}
+use Rattle.vt_grid.specs.Moves.{line_feed, cursor_saved, cursor_restored}
+use Rattle.vt_grid.specs.Regions.{moved_up, moved_down, next_line, previous_line, tabbed}
+use Rattle.vt_grid.specs.Regions.{moved_to_column, moved_to_row, region_set, origin_set}
+use Rattle.vt_grid.specs.Shifts.{reverse_index, scrolled_down, lines_inserted}
+use Rattle.vt_grid.specs.Shifts.{lines_deleted, chars_inserted, chars_deleted}
+use Rattle.vt_grid.specs.Erasing.{erased_below, erased_above, erased_page, erased_rest}
+use Rattle.vt_grid.specs.Erasing.{erased_start, erased_row, erased_chars}
 use Rattle.vt_grid.specs.Printing.{printed}
-use Rattle.vt_screen.proofs.Inside.{IsInside, inside_carriage_return, inside_moved_left, inside_moved_right, inside_moved_to, inside_moved_up, inside_moved_down, inside_next_line, inside_previous_line, inside_moved_to_column, inside_moved_to_row, inside_tabbed, inside_region_set, inside_origin_set, inside_cursor_saved, inside_cursor_restored, inside_line_feed, inside_scrolled_up, inside_scrolled_down, inside_reverse_index, inside_lines_inserted, inside_lines_deleted, inside_chars_inserted, inside_chars_deleted, inside_erased_chars, inside_erased_rest, inside_erased_below, inside_erased_start, inside_erased_row, inside_erased_above, inside_erased_page, inside_printed, same_erased_above}
-use Rattle.vt_screen.proofs.Sizes.{same_itself, same_through, same_carriage_return, same_moved_left, same_moved_right, same_moved_to, same_moved_up, same_moved_down, same_next_line, same_previous_line, same_moved_to_column, same_moved_to_row, same_tabbed, same_region_set, same_origin_set, same_cursor_saved, same_cursor_restored, same_line_feed, same_scrolled_up, same_scrolled_down, same_reverse_index, same_lines_inserted, same_lines_deleted, same_chars_inserted, same_chars_deleted, same_erased_chars, same_erased_rest, same_erased_below, same_erased_start, same_erased_row, same_erased_page, same_printed}
+use Rattle.vt_screen.proofs.Inside.{IsInside, inside_carriage_return, inside_moved_left, inside_moved_right}
+use Rattle.vt_screen.proofs.Inside.{inside_moved_to, inside_moved_up, inside_moved_down, inside_next_line}
+use Rattle.vt_screen.proofs.Inside.{inside_previous_line, inside_moved_to_column, inside_moved_to_row, inside_tabbed}
+use Rattle.vt_screen.proofs.Inside.{inside_region_set, inside_origin_set, inside_cursor_saved, inside_cursor_restored}
+use Rattle.vt_screen.proofs.Inside.{inside_line_feed, inside_scrolled_up, inside_scrolled_down, inside_reverse_index}
+use Rattle.vt_screen.proofs.Inside.{inside_lines_inserted, inside_lines_deleted, inside_chars_inserted}
+use Rattle.vt_screen.proofs.Inside.{inside_chars_deleted, inside_erased_chars, inside_erased_rest, inside_erased_below}
+use Rattle.vt_screen.proofs.Inside.{inside_erased_start, inside_erased_row, inside_erased_above, inside_erased_page}
+use Rattle.vt_screen.proofs.Inside.{inside_printed, same_erased_above}
+use Rattle.vt_screen.proofs.Sizes.{same_itself, same_through, same_carriage_return, same_moved_left}
+use Rattle.vt_screen.proofs.Sizes.{same_moved_right, same_moved_to, same_moved_up, same_moved_down, same_next_line}
+use Rattle.vt_screen.proofs.Sizes.{same_previous_line, same_moved_to_column, same_moved_to_row, same_tabbed}
+use Rattle.vt_screen.proofs.Sizes.{same_region_set, same_origin_set, same_cursor_saved, same_cursor_restored}
+use Rattle.vt_screen.proofs.Sizes.{same_line_feed, same_scrolled_up, same_scrolled_down, same_reverse_index}
+use Rattle.vt_screen.proofs.Sizes.{same_lines_inserted, same_lines_deleted, same_chars_inserted, same_chars_deleted}
+use Rattle.vt_screen.proofs.Sizes.{same_erased_chars, same_erased_rest, same_erased_below, same_erased_start}
+use Rattle.vt_screen.proofs.Sizes.{same_erased_row, same_erased_page, same_printed}
 
 -- a page of this size, with its cursors on it
 pub record IsSizedPage (height width : ℕ) (page : Page) : Type 0 where
@@ -33,7 +60,8 @@ pub record IsSized (height width : ℕ) (screen : ScreenValue) : Type 0 where
   pub other : IfSome screen.other (IsSizedPage height width)
 
 -- a step on the active page
-paged : (height width : ℕ) (screen after : ScreenValue) → after.other ≡ screen.other → SameSize after.page screen.page → IsInside after.page → IsSized height width screen → IsSized height width after
+paged : (height width : ℕ) (screen after : ScreenValue) → after.other ≡ screen.other →
+    SameSize after.page screen.page → IsInside after.page → IsSized height width screen → IsSized height width after
 paged height width screen after o s i z = record {
   page = record { inside = i; width_is = s.width ∙ z.page.width_is; height_is = s.height ∙ z.page.height_is };
   other = subst (λ (p : Option Page). IfSome p (IsSizedPage height width)) (sym o) z.other;
@@ -42,93 +70,183 @@ paged height width screen after o s i z = record {
 blank_sized : (height width : ℕ) → 0 < height → IsSizedPage height width (blank_page height width)
 blank_sized height width h =
     let e = length-replicate height (blank_row default_attrs width) in
-    record { inside = record { row = omega (arith, e, h); saved_row = omega (arith, e, h); bottom = omega (arith, e, h) }; width_is = refl; height_is = e }
+    record {
+      inside = record { row = omega (arith, e, h); saved_row = omega (arith, e, h); bottom = omega (arith, e, h) };
+      width_is = refl;
+      height_is = e;
+    }
 
 tall : (height width : ℕ) (page : Page) → IsSizedPage height width page → 0 < height
 tall height width page z = omega (arith, z.height_is, z.inside.row)
 
-fresh_sized : (height width : ℕ) (screen : ScreenValue) → IsSized height width screen → IsSizedPage height width (fresh_page screen)
+fresh_sized : (height width : ℕ) (screen : ScreenValue) →
+    IsSized height width screen → IsSizedPage height width (fresh_page screen)
 fresh_sized height width screen z =
     subst (λ (h : ℕ). IsSizedPage height width (blank_page h screen.page.width)) (sym z.page.height_is)
-    (subst (λ (w : ℕ). IsSizedPage height width (blank_page height w)) (sym z.page.width_is) (blank_sized height width (tall height width screen.page z.page)))
+    (subst (λ (w : ℕ). IsSizedPage height width (blank_page height w))
+    (sym z.page.width_is) (blank_sized height width (tall height width screen.page z.page)))
 
-aside_sized : (height width : ℕ) (screen : ScreenValue) → IsSized height width screen → IsSizedPage height width (page_aside screen)
+aside_sized : (height width : ℕ) (screen : ScreenValue) →
+    IsSized height width screen → IsSizedPage height width (page_aside screen)
 aside_sized height width screen z = by_other screen.other z.other where
-  by_other : (o : Option Page) → IfSome o (IsSizedPage height width) → IsSizedPage height width (unwrap_or o (fresh_page screen))
+  by_other : (o : Option Page) → IfSome o (IsSizedPage height width) →
+      IsSizedPage height width (unwrap_or o (fresh_page screen))
   by_other (Some page) p = p
   by_other None p = fresh_sized height width screen z
 
-sized_if : (height width : ℕ) (b : Bool) (x y : ScreenValue) → IsSized height width x → IsSized height width y → IsSized height width (if b then x else y)
+sized_if : (height width : ℕ) (b : Bool) (x y : ScreenValue) → IsSized height width x →
+    IsSized height width y → IsSized height width (if b then x else y)
 sized_if height width true x y p q = p
 sized_if height width false x y p q = q
 
-sized_entered : (height width : ℕ) (screen : ScreenValue) → IsSized height width screen → IsSized height width (entered screen)
+sized_entered : (height width : ℕ) (screen : ScreenValue) →
+    IsSized height width screen → IsSized height width (entered screen)
 sized_entered height width screen z = by_page screen.is_alternate where
-  by_page : (b : Bool) → IsSized height width (if b then screen else record screen { page = page_aside screen; other = Some screen.page; is_alternate = true; scrollback = out_of_view screen.scrollback })
+  by_page : (b : Bool) →
+      IsSized height width (if b then screen
+      else record screen {
+        page = page_aside screen;
+        other = Some screen.page;
+        is_alternate = true;
+        scrollback = out_of_view screen.scrollback;
+      })
   by_page true = z
   by_page false = record { page = aside_sized height width screen z; other = z.page }
 
-sized_left : (height width : ℕ) (screen : ScreenValue) → IsSized height width screen → IsSized height width (left screen)
+sized_left : (height width : ℕ) (screen : ScreenValue) →
+    IsSized height width screen → IsSized height width (left screen)
 sized_left height width screen z = by_page screen.is_alternate where
-  by_page : (b : Bool) → IsSized height width (if b then record screen { page = page_aside screen; other = Some screen.page; is_alternate = false } else screen)
+  by_page : (b : Bool) →
+      IsSized height width
+      (if b then record screen { page = page_aside screen; other = Some screen.page; is_alternate = false } else screen)
   by_page true = record { page = aside_sized height width screen z; other = z.page }
   by_page false = z
 
-sized_saved : (height width : ℕ) (screen : ScreenValue) → IsSized height width screen → IsSized height width (saved screen)
-sized_saved height width screen z = paged height width screen (saved screen) refl (same_cursor_saved screen.page) (inside_cursor_saved screen.page z.page.inside) z
+sized_saved : (height width : ℕ) (screen : ScreenValue) →
+    IsSized height width screen → IsSized height width (saved screen)
+sized_saved height width screen z =
+    paged height width screen (saved screen) refl (same_cursor_saved screen.page)
+    (inside_cursor_saved screen.page z.page.inside) z
 
-sized_restored : (height width : ℕ) (screen : ScreenValue) → IsSized height width screen → IsSized height width (restored screen)
-sized_restored height width screen z = paged height width screen (restored screen) refl (same_cursor_restored screen.page) (inside_cursor_restored screen.page z.page.inside) z
+sized_restored : (height width : ℕ) (screen : ScreenValue) →
+    IsSized height width screen → IsSized height width (restored screen)
+sized_restored height width screen z =
+    paged height width screen (restored screen) refl (same_cursor_restored screen.page)
+    (inside_cursor_restored screen.page z.page.inside) z
 
-sized_entered_fresh : (height width : ℕ) (screen : ScreenValue) → IsSized height width screen → IsSized height width (entered_fresh screen)
+sized_entered_fresh : (height width : ℕ) (screen : ScreenValue) →
+    IsSized height width screen → IsSized height width (entered_fresh screen)
 sized_entered_fresh height width screen z =
     let in_it = sized_entered height width (saved screen) (sized_saved height width screen z) in
     record { page = fresh_sized height width screen z; other = in_it.other }
 
-sized_reset : (height width : ℕ) (screen : ScreenValue) → IsSized height width screen → IsSized height width (reset screen)
-sized_reset height width screen z = record { page = fresh_sized height width screen z; other = by_other screen.other } where
-  by_other : (o : Option Page) → IfSome (option_map (λ _. fresh_page screen) o) (IsSizedPage height width)
-  by_other (Some page) = fresh_sized height width screen z
-  by_other None = tt
+sized_reset : (height width : ℕ) (screen : ScreenValue) →
+    IsSized height width screen → IsSized height width (reset screen)
+sized_reset height width screen z =
+    record { page = fresh_sized height width screen z; other = by_other screen.other } where
+      by_other : (o : Option Page) → IfSome (option_map (λ _. fresh_page screen) o) (IsSizedPage height width)
+      by_other (Some page) = fresh_sized height width screen z
+      by_other None = tt
 
-pub sized_stepped : (height width : ℕ) (step : Step) (screen : ScreenValue) → IsSized height width screen → IsSized height width (stepped step screen)
-sized_stepped height width (Print c) screen z = paged height width screen (stepped (Print c) screen) refl (same_printed c screen.attrs screen.page) (inside_printed c screen.attrs screen.page z.page.inside) z
-sized_stepped height width CarriageReturn screen z = paged height width screen (stepped CarriageReturn screen) refl (same_carriage_return screen.page) (inside_carriage_return screen.page z.page.inside) z
-sized_stepped height width LineFeed screen z = paged height width screen (stepped LineFeed screen) refl (same_line_feed screen.page) (inside_line_feed screen.page z.page.inside) z
-sized_stepped height width ReverseIndex screen z = paged height width screen (stepped ReverseIndex screen) refl (same_reverse_index screen.page) (inside_reverse_index screen.page z.page.inside) z
-sized_stepped height width (MoveUp n) screen z = paged height width screen (stepped (MoveUp n) screen) refl (same_moved_up n screen.page) (inside_moved_up n screen.page z.page.inside) z
-sized_stepped height width (MoveDown n) screen z = paged height width screen (stepped (MoveDown n) screen) refl (same_moved_down n screen.page) (inside_moved_down n screen.page z.page.inside) z
-sized_stepped height width (MoveRight n) screen z = paged height width screen (stepped (MoveRight n) screen) refl (same_moved_right n screen.page) (inside_moved_right n screen.page z.page.inside) z
-sized_stepped height width (MoveLeft n) screen z = paged height width screen (stepped (MoveLeft n) screen) refl (same_moved_left n screen.page) (inside_moved_left n screen.page z.page.inside) z
-sized_stepped height width (NextLine n) screen z = paged height width screen (stepped (NextLine n) screen) refl (same_next_line n screen.page) (inside_next_line n screen.page z.page.inside) z
-sized_stepped height width (PreviousLine n) screen z = paged height width screen (stepped (PreviousLine n) screen) refl (same_previous_line n screen.page) (inside_previous_line n screen.page z.page.inside) z
-sized_stepped height width Tab screen z = paged height width screen (stepped Tab screen) refl (same_tabbed screen.page) (inside_tabbed screen.page z.page.inside) z
-sized_stepped height width (MoveTo r c) screen z = paged height width screen (stepped (MoveTo r c) screen) refl (same_moved_to r c screen.page) (inside_moved_to r c screen.page z.page.inside) z
-sized_stepped height width (MoveToColumn c) screen z = paged height width screen (stepped (MoveToColumn c) screen) refl (same_moved_to_column c screen.page) (inside_moved_to_column c screen.page z.page.inside) z
-sized_stepped height width (MoveToRow r) screen z = paged height width screen (stepped (MoveToRow r) screen) refl (same_moved_to_row r screen.page) (inside_moved_to_row r screen.page z.page.inside) z
-sized_stepped height width (SetRegion t b) screen z = paged height width screen (stepped (SetRegion t b) screen) refl (same_region_set t b screen.page) (inside_region_set t b screen.page z.page.inside) z
-sized_stepped height width (UseOrigin on) screen z = paged height width screen (stepped (UseOrigin on) screen) refl (same_origin_set on screen.page) (inside_origin_set on screen.page z.page.inside) z
+pub sized_stepped : (height width : ℕ) (step : Step) (screen : ScreenValue) →
+    IsSized height width screen → IsSized height width (stepped step screen)
+sized_stepped height width (Print c) screen z =
+    paged height width screen (stepped (Print c) screen) refl (same_printed c screen.attrs screen.page)
+    (inside_printed c screen.attrs screen.page z.page.inside) z
+sized_stepped height width CarriageReturn screen z =
+    paged height width screen (stepped CarriageReturn screen) refl
+    (same_carriage_return screen.page) (inside_carriage_return screen.page z.page.inside) z
+sized_stepped height width LineFeed screen z =
+    paged height width screen (stepped LineFeed screen) refl
+    (same_line_feed screen.page) (inside_line_feed screen.page z.page.inside) z
+sized_stepped height width ReverseIndex screen z =
+    paged height width screen (stepped ReverseIndex screen) refl
+    (same_reverse_index screen.page) (inside_reverse_index screen.page z.page.inside) z
+sized_stepped height width (MoveUp n) screen z =
+    paged height width screen (stepped (MoveUp n) screen) refl
+    (same_moved_up n screen.page) (inside_moved_up n screen.page z.page.inside) z
+sized_stepped height width (MoveDown n) screen z =
+    paged height width screen (stepped (MoveDown n) screen) refl
+    (same_moved_down n screen.page) (inside_moved_down n screen.page z.page.inside) z
+sized_stepped height width (MoveRight n) screen z =
+    paged height width screen (stepped (MoveRight n) screen) refl
+    (same_moved_right n screen.page) (inside_moved_right n screen.page z.page.inside) z
+sized_stepped height width (MoveLeft n) screen z =
+    paged height width screen (stepped (MoveLeft n) screen) refl
+    (same_moved_left n screen.page) (inside_moved_left n screen.page z.page.inside) z
+sized_stepped height width (NextLine n) screen z =
+    paged height width screen (stepped (NextLine n) screen) refl
+    (same_next_line n screen.page) (inside_next_line n screen.page z.page.inside) z
+sized_stepped height width (PreviousLine n) screen z =
+    paged height width screen (stepped (PreviousLine n) screen) refl
+    (same_previous_line n screen.page) (inside_previous_line n screen.page z.page.inside) z
+sized_stepped height width Tab screen z =
+    paged height width screen (stepped Tab screen) refl
+    (same_tabbed screen.page) (inside_tabbed screen.page z.page.inside) z
+sized_stepped height width (MoveTo r c) screen z =
+    paged height width screen (stepped (MoveTo r c) screen) refl
+    (same_moved_to r c screen.page) (inside_moved_to r c screen.page z.page.inside) z
+sized_stepped height width (MoveToColumn c) screen z =
+    paged height width screen (stepped (MoveToColumn c) screen) refl
+    (same_moved_to_column c screen.page) (inside_moved_to_column c screen.page z.page.inside) z
+sized_stepped height width (MoveToRow r) screen z =
+    paged height width screen (stepped (MoveToRow r) screen) refl
+    (same_moved_to_row r screen.page) (inside_moved_to_row r screen.page z.page.inside) z
+sized_stepped height width (SetRegion t b) screen z =
+    paged height width screen (stepped (SetRegion t b) screen) refl
+    (same_region_set t b screen.page) (inside_region_set t b screen.page z.page.inside) z
+sized_stepped height width (UseOrigin on) screen z =
+    paged height width screen (stepped (UseOrigin on) screen) refl
+    (same_origin_set on screen.page) (inside_origin_set on screen.page z.page.inside) z
 sized_stepped height width SaveCursor screen z = sized_saved height width screen z
 sized_stepped height width RestoreCursor screen z = sized_restored height width screen z
 sized_stepped height width EnterAlternate screen z = sized_entered height width screen z
 sized_stepped height width EnterFresh screen z = sized_entered_fresh height width screen z
 sized_stepped height width LeaveAlternate screen z = sized_left height width screen z
-sized_stepped height width LeaveRestoring screen z = sized_restored height width (left screen) (sized_left height width screen z)
+sized_stepped height width LeaveRestoring screen z =
+    sized_restored height width (left screen) (sized_left height width screen z)
 sized_stepped height width Reset screen z = sized_reset height width screen z
-sized_stepped height width EraseBelow screen z = paged height width screen (stepped EraseBelow screen) refl (same_erased_below screen.attrs screen.page) (inside_erased_below screen.attrs screen.page z.page.inside) z
-sized_stepped height width EraseAbove screen z = paged height width screen (stepped EraseAbove screen) refl (same_erased_above screen.attrs screen.page z.page.inside) (inside_erased_above screen.attrs screen.page z.page.inside) z
-sized_stepped height width ErasePage screen z = paged height width screen (stepped ErasePage screen) refl (same_erased_page screen.attrs screen.page) (inside_erased_page screen.attrs screen.page z.page.inside) z
+sized_stepped height width EraseBelow screen z =
+    paged height width screen (stepped EraseBelow screen) refl (same_erased_below screen.attrs screen.page)
+    (inside_erased_below screen.attrs screen.page z.page.inside) z
+sized_stepped height width EraseAbove screen z =
+    paged height width screen (stepped EraseAbove screen) refl
+    (same_erased_above screen.attrs screen.page z.page.inside)
+    (inside_erased_above screen.attrs screen.page z.page.inside) z
+sized_stepped height width ErasePage screen z =
+    paged height width screen (stepped ErasePage screen) refl (same_erased_page screen.attrs screen.page)
+    (inside_erased_page screen.attrs screen.page z.page.inside) z
 sized_stepped height width EraseScrollback screen z = z
-sized_stepped height width EraseRest screen z = paged height width screen (stepped EraseRest screen) refl (same_erased_rest screen.attrs screen.page) (inside_erased_rest screen.attrs screen.page z.page.inside) z
-sized_stepped height width EraseStart screen z = paged height width screen (stepped EraseStart screen) refl (same_erased_start screen.attrs screen.page) (inside_erased_start screen.attrs screen.page z.page.inside) z
-sized_stepped height width EraseRow screen z = paged height width screen (stepped EraseRow screen) refl (same_erased_row screen.attrs screen.page) (inside_erased_row screen.attrs screen.page z.page.inside) z
-sized_stepped height width (EraseChars n) screen z = paged height width screen (stepped (EraseChars n) screen) refl (same_erased_chars n screen.attrs screen.page) (inside_erased_chars n screen.attrs screen.page z.page.inside) z
-sized_stepped height width (InsertChars n) screen z = paged height width screen (stepped (InsertChars n) screen) refl (same_chars_inserted n screen.page) (inside_chars_inserted n screen.page z.page.inside) z
-sized_stepped height width (DeleteChars n) screen z = paged height width screen (stepped (DeleteChars n) screen) refl (same_chars_deleted n screen.page) (inside_chars_deleted n screen.page z.page.inside) z
-sized_stepped height width (InsertLines n) screen z = paged height width screen (stepped (InsertLines n) screen) refl (same_lines_inserted n screen.page) (inside_lines_inserted n screen.page z.page.inside) z
-sized_stepped height width (DeleteLines n) screen z = paged height width screen (stepped (DeleteLines n) screen) refl (same_lines_deleted n screen.page) (inside_lines_deleted n screen.page z.page.inside) z
-sized_stepped height width (ScrollUp n) screen z = paged height width screen (stepped (ScrollUp n) screen) refl (same_scrolled_up n screen.page) (inside_scrolled_up n screen.page z.page.inside) z
-sized_stepped height width (ScrollDown n) screen z = paged height width screen (stepped (ScrollDown n) screen) refl (same_scrolled_down n screen.page) (inside_scrolled_down n screen.page z.page.inside) z
+sized_stepped height width EraseRest screen z =
+    paged height width screen (stepped EraseRest screen) refl (same_erased_rest screen.attrs screen.page)
+    (inside_erased_rest screen.attrs screen.page z.page.inside) z
+sized_stepped height width EraseStart screen z =
+    paged height width screen (stepped EraseStart screen) refl (same_erased_start screen.attrs screen.page)
+    (inside_erased_start screen.attrs screen.page z.page.inside) z
+sized_stepped height width EraseRow screen z =
+    paged height width screen (stepped EraseRow screen) refl (same_erased_row screen.attrs screen.page)
+    (inside_erased_row screen.attrs screen.page z.page.inside) z
+sized_stepped height width (EraseChars n) screen z =
+    paged height width screen (stepped (EraseChars n) screen) refl (same_erased_chars n screen.attrs screen.page)
+    (inside_erased_chars n screen.attrs screen.page z.page.inside) z
+sized_stepped height width (InsertChars n) screen z =
+    paged height width screen (stepped (InsertChars n) screen) refl
+    (same_chars_inserted n screen.page) (inside_chars_inserted n screen.page z.page.inside) z
+sized_stepped height width (DeleteChars n) screen z =
+    paged height width screen (stepped (DeleteChars n) screen) refl
+    (same_chars_deleted n screen.page) (inside_chars_deleted n screen.page z.page.inside) z
+sized_stepped height width (InsertLines n) screen z =
+    paged height width screen (stepped (InsertLines n) screen) refl
+    (same_lines_inserted n screen.page) (inside_lines_inserted n screen.page z.page.inside) z
+sized_stepped height width (DeleteLines n) screen z =
+    paged height width screen (stepped (DeleteLines n) screen) refl
+    (same_lines_deleted n screen.page) (inside_lines_deleted n screen.page z.page.inside) z
+sized_stepped height width (ScrollUp n) screen z =
+    paged height width screen (stepped (ScrollUp n) screen) refl
+    (same_scrolled_up n screen.page) (inside_scrolled_up n screen.page z.page.inside) z
+sized_stepped height width (ScrollDown n) screen z =
+    paged height width screen (stepped (ScrollDown n) screen) refl
+    (same_scrolled_down n screen.page) (inside_scrolled_down n screen.page z.page.inside) z
 sized_stepped height width (Render setting) screen z = record { page = z.page; other = z.other }
 sized_stepped height width (HideCursor hidden) screen z = record { page = z.page; other = z.other }
 sized_stepped height width (UseApplicationKeypad on) screen z = record { page = z.page; other = z.other }
@@ -141,9 +259,13 @@ sized_stepped height width (ClearMouseEncoding form) screen z = record { page = 
 sized_stepped height width (SetCursorStyle look) screen z = record { page = z.page; other = z.other }
 sized_stepped height width (Tell call) screen z = z
 
-pub sized_sent : (height width : ℕ) (step : Step) (screen : ScreenValue) → IsSized height width screen → IsSized height width (sent step screen)
+pub sized_sent : (height width : ℕ) (step : Step) (screen : ScreenValue) →
+    IsSized height width screen → IsSized height width (sent step screen)
 sized_sent height width step screen z = by_page screen.is_alternate where
-  by_page : (b : Bool) → IsSized height width (if b then stepped step screen else record (stepped step screen) { scrollback = pushed (length screen.page.rows) screen.page.width (outgoing step screen) screen.scrollback })
+  by_page : (b : Bool) →
+      IsSized height width (if b then stepped step screen
+      else record (stepped step screen)
+      { scrollback = pushed (length screen.page.rows) screen.page.width (outgoing step screen) screen.scrollback })
   by_page true = sized_stepped height width step screen z
   by_page false = let s = sized_stepped height width step screen z in record { page = s.page; other = s.other }
 
@@ -153,9 +275,15 @@ sized_screen screen is = record {
   page = of_page screen.page (is.page) refl refl;
   other = by_other screen.other is.other;
 } where
-  of_page : (page : Page) → IsPage page → page.width ≡ screen.page.width → length page.rows ≡ length screen.page.rows → IsSizedPage (length screen.page.rows) screen.page.width page
-  of_page page p w h = record { inside = record { row = p.cursor_row; saved_row = p.saved_row; bottom = p.region_end }; width_is = w; height_is = h }
+  of_page : (page : Page) → IsPage page → page.width ≡ screen.page.width →
+      length page.rows ≡ length screen.page.rows → IsSizedPage (length screen.page.rows) screen.page.width page
+  of_page page p w h = record {
+    inside = record { row = p.cursor_row; saved_row = p.saved_row; bottom = p.region_end };
+    width_is = w;
+    height_is = h;
+  }
 
-  by_other : (o : Option Page) → IfSome o (λ page. IsPage page × SameSize page screen.page) → IfSome o (IsSizedPage (length screen.page.rows) screen.page.width)
+  by_other : (o : Option Page) → IfSome o (λ page. IsPage page × SameSize page screen.page) →
+      IfSome o (IsSizedPage (length screen.page.rows) screen.page.width)
   by_other (Some page) p = of_page page p.0 p.1.width p.1.height
   by_other None p = tt

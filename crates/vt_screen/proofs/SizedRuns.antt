@@ -7,19 +7,31 @@ use Rattle.vt_screen.specs.Calls.{CallValue}
 use Rattle.vt_screen.specs.Run as act
 use Rattle.vt_screen.specs.Run.{Scrolls, Takes, state}
 use Rattle.vt_screen.specs.Screen.{ScreenValue}
-use Rattle.vt_screen.specs.Steps.{Step, Print, CarriageReturn, LineFeed, ReverseIndex, MoveUp, MoveDown, MoveRight, MoveLeft, NextLine, PreviousLine, Tab, MoveTo, MoveToColumn, MoveToRow, SetRegion, UseOrigin, EraseBelow, EraseAbove, ErasePage, EraseScrollback, EraseRest, EraseStart, EraseRow, EraseChars, InsertChars, DeleteChars, InsertLines, DeleteLines, ScrollUp, ScrollDown, Render, HideCursor, UseApplicationCursor, UseBracketedPaste, SetMouseMode, ClearMouseMode, SetMouseEncoding, ClearMouseEncoding, SetCursorStyle, SaveCursor, RestoreCursor, EnterAlternate, EnterFresh, LeaveAlternate, LeaveRestoring, Reset, UseApplicationKeypad, Tell, scrolled, stepped}
+use Rattle.vt_screen.specs.Steps.{Step, Print, CarriageReturn, LineFeed, ReverseIndex, MoveUp, MoveDown, MoveRight}
+use Rattle.vt_screen.specs.Steps.{MoveLeft, NextLine, PreviousLine, Tab, MoveTo, MoveToColumn, MoveToRow, SetRegion}
+use Rattle.vt_screen.specs.Steps.{UseOrigin, EraseBelow, EraseAbove, ErasePage, EraseScrollback, EraseRest, EraseStart}
+use Rattle.vt_screen.specs.Steps.{EraseRow, EraseChars, InsertChars, DeleteChars, InsertLines, DeleteLines, ScrollUp}
+use Rattle.vt_screen.specs.Steps.{ScrollDown, Render, HideCursor, UseApplicationCursor, UseBracketedPaste, SetMouseMode}
+use Rattle.vt_screen.specs.Steps.{ClearMouseMode, SetMouseEncoding, ClearMouseEncoding, SetCursorStyle, SaveCursor}
+use Rattle.vt_screen.specs.Steps.{RestoreCursor, EnterAlternate, EnterFresh, LeaveAlternate, LeaveRestoring, Reset}
+use Rattle.vt_screen.specs.Steps.{UseApplicationKeypad, Tell, scrolled, stepped}
 use Rattle.vt_screen.specs.Telling.{LeavesScreen}
 use Rattle.vt_screen.proofs.Sized.{IsSized, sized_sent, sized_stepped}
 
-module _ {S : Type 0} (does : CallValue → S → ScreenValue → S → ScreenValue → Type 0) (leaves : LeavesScreen does) (height width : ℕ) where
-  scrolls : (step : Step) (a b : act.State S) → Scrolls does a step b → IsSized height width (scrolled step a.screen) → IsSized height width b.screen
+module _ {S : Type 0} (does : CallValue → S → ScreenValue → S → ScreenValue → Type 0)
+    (leaves : LeavesScreen does) (height width : ℕ) where
+  scrolls : (step : Step) (a b : act.State S) → Scrolls does a step b →
+      IsSized height width (scrolled step a.screen) → IsSized height width b.screen
   scrolls step a b t z = subst (IsSized height width) (sym t.screen) z
 
-  steps : (step : Step) (a b : act.State S) → b ≡ state a.callbacks (stepped step a.screen) → IsSized height width a.screen → IsSized height width b.screen
-  steps step a b e z = subst (λ (s : act.State S). IsSized height width s.screen) (sym e) (sized_stepped height width step a.screen z)
+  steps : (step : Step) (a b : act.State S) → b ≡ state a.callbacks (stepped step a.screen) →
+      IsSized height width a.screen → IsSized height width b.screen
+  steps step a b e z =
+      subst (λ (s : act.State S). IsSized height width s.screen) (sym e) (sized_stepped height width step a.screen z)
 
   -- whoever is called leaves the screen alone
-  pub sized_taken : (step : Step) (a b : act.State S) → IsSized height width a.screen → Takes does a step b → IsSized height width b.screen
+  pub sized_taken : (step : Step) (a b : act.State S) → IsSized height width a.screen →
+      Takes does a step b → IsSized height width b.screen
   sized_taken (Print c) a b z t = scrolls (Print c) a b t (sized_sent height width (Print c) a.screen z)
   sized_taken CarriageReturn a b z t = steps CarriageReturn a b t z
   sized_taken LineFeed a b z t = scrolls LineFeed a b t (sized_sent height width LineFeed a.screen z)
@@ -47,7 +59,8 @@ module _ {S : Type 0} (does : CallValue → S → ScreenValue → S → ScreenVa
   sized_taken EraseAbove a b z t = steps EraseAbove a b t z
   sized_taken ErasePage a b z t = steps ErasePage a b t z
   sized_taken EraseScrollback a b z t = scrolls EraseScrollback a b t
-      (cond_both a.screen.is_alternate a.screen (record (a.screen) { scrollback = cleared a.screen.scrollback }) (IsSized height width) (λ _. z) (λ _. record { page = z.page; other = z.other }))
+      (cond_both a.screen.is_alternate a.screen (record (a.screen) { scrollback = cleared a.screen.scrollback })
+      (IsSized height width) (λ _. z) (λ _. record { page = z.page; other = z.other }))
   sized_taken EraseRest a b z t = steps EraseRest a b t z
   sized_taken EraseStart a b z t = steps EraseStart a b t z
   sized_taken EraseRow a b z t = steps EraseRow a b t z
@@ -68,4 +81,5 @@ module _ {S : Type 0} (does : CallValue → S → ScreenValue → S → ScreenVa
   sized_taken (SetMouseEncoding form) a b z t = steps (SetMouseEncoding form) a b t z
   sized_taken (ClearMouseEncoding form) a b z t = steps (ClearMouseEncoding form) a b t z
   sized_taken (SetCursorStyle look) a b z t = steps (SetCursorStyle look) a b t z
-  sized_taken (Tell call) a b z t = subst (IsSized height width) (sym (leaves call a.callbacks b.callbacks a.screen b.screen t)) z
+  sized_taken (Tell call) a b z t =
+      subst (IsSized height width) (sym (leaves call a.callbacks b.callbacks a.screen b.screen t)) z

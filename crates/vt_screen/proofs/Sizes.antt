@@ -1,5 +1,6 @@
 -- What a step does to a page leaves its size.
-use Rattle.std.proofs.Common.{ℕ, zero, suc, ◌+◌, ◌-◌, ◌==◌, ◌&&◌, nat_lt, min, not, Bool, true, false, List, length, take, replicate, refl, sym, ◌∙◌, arith}
+use Rattle.std.proofs.Common.{ℕ, zero, suc, ◌+◌, ◌-◌, ◌==◌, ◌&&◌, nat_lt, min, not, Bool, true}
+use Rattle.std.proofs.Common.{false, List, length, take, replicate, refl, sym, ◌∙◌, arith}
 use Rattle.std.specs.Prelude.{◌||◌, if◌then◌else◌, Option, Some, None}
 use Rattle.std.specs.Char.{encode_utf8}
 use Rattle.std.proofs.lemmas.List.{length-append, length-take, length-replicate, length-set}
@@ -9,11 +10,17 @@ use Rattle.vt_cells.specs.Glyph.{columns_of, is_selector, is_wide_text}
 use Rattle.vt_rows.specs.Cells.{at, ends_blank, erased, put_narrow, put_wide, marked_at, widened_at, narrowed_at}
 use Rattle.vt_rows.specs.Row.{RowValue, blank_row, with_cells, inserted_row, deleted_row}
 use Rattle.vt_grid.specs.Page.{Page, IsPage, cursor_row, with_row, up_source, rows_up, scrolled_up}
-use Rattle.vt_grid.specs.Moves.{carriage_return, moved_left, moved_right, moved_to, line_feed, cursor_saved, cursor_restored}
-use Rattle.vt_grid.specs.Regions.{in_region, last_row, moved_up, moved_down, next_line, previous_line, moved_to_column, moved_to_row, tabbed, region_set, origin_set}
-use Rattle.vt_grid.specs.Shifts.{rows_down, scrolled_down, reverse_index, lines_inserted, lines_deleted, chars_inserted, chars_deleted}
-use Rattle.vt_grid.specs.Erasing.{erased_columns, erased_chars, erased_rest, blanked_below, erased_below, erased_start, erased_row, blanked_above, erased_above, erased_page}
-use Rattle.vt_grid.specs.Printing.{carries, lifted_page, with_cursor_cells, left_row, goes_down, wrapped_page, lacks_room, room_made, glyph_put, mark_column, takes_mark, mark_put, carried, made_wide, made_narrow, width_followed, mark_printed, printed, printed_by}
+use Rattle.vt_grid.specs.Moves.{carriage_return, moved_left, moved_right, moved_to}
+use Rattle.vt_grid.specs.Moves.{line_feed, cursor_saved, cursor_restored}
+use Rattle.vt_grid.specs.Regions.{in_region, last_row, moved_up, moved_down, next_line, previous_line}
+use Rattle.vt_grid.specs.Regions.{moved_to_column, moved_to_row, tabbed, region_set, origin_set}
+use Rattle.vt_grid.specs.Shifts.{rows_down, scrolled_down, reverse_index, lines_inserted}
+use Rattle.vt_grid.specs.Shifts.{lines_deleted, chars_inserted, chars_deleted}
+use Rattle.vt_grid.specs.Erasing.{erased_columns, erased_chars, erased_rest, blanked_below, erased_below}
+use Rattle.vt_grid.specs.Erasing.{erased_start, erased_row, blanked_above, erased_above, erased_page}
+use Rattle.vt_grid.specs.Printing.{carries, lifted_page, with_cursor_cells, left_row, goes_down, wrapped_page}
+use Rattle.vt_grid.specs.Printing.{lacks_room, room_made, glyph_put, mark_column, takes_mark, mark_put, carried}
+use Rattle.vt_grid.specs.Printing.{made_wide, made_narrow, width_followed, mark_printed, printed, printed_by}
 use Rattle.vt_grid.specs.Page.{SameSize}
 use Rattle.vt_grid.proofs.Pages.{length-moved_rows}
 use Rattle.vt_grid.proofs.Prints.{width_line_feed, height_line_feed, width_wrapped_page, height_flagged_left}
@@ -84,7 +91,8 @@ pub same_region_set : (top bottom : ℕ) (page : Page) → SameSize (region_set 
 unfolding region_set
 same_region_set top bottom page =
     let low = min bottom (last_row page) in
-    same_if (nat_lt top low) (record page { top = top; bottom = low; row = top; column = 0 }) (record page { top = 0; bottom = last_row page; row = 0; column = 0 }) page
+    same_if (nat_lt top low) (record page { top = top; bottom = low; row = top; column = 0 })
+    (record page { top = 0; bottom = last_row page; row = 0; column = 0 }) page
     (record { width = refl; height = refl }) (record { width = refl; height = refl })
 
 pub same_origin_set : (on : Bool) (page : Page) → SameSize (origin_set on page) page
@@ -102,15 +110,20 @@ same_line_feed page = record { width = width_line_feed page; height = height_lin
 -- ---- rows and columns that move
 
 pub same_scrolled_up : (n : ℕ) (page : Page) → SameSize (scrolled_up n page) page
-same_scrolled_up n page = record { width = refl; height = length-moved_rows page.width (up_source (length page.rows) page.top page.bottom n) page.rows }
+same_scrolled_up n page = record {
+  width = refl;
+  height = length-moved_rows page.width (up_source (length page.rows) page.top page.bottom n) page.rows;
+}
 
 pub same_scrolled_down : (n : ℕ) (page : Page) → SameSize (scrolled_down n page) page
-same_scrolled_down n page = record { width = refl; height = length-rows_down page.width page.top page.bottom n page.rows }
+same_scrolled_down n page =
+    record { width = refl; height = length-rows_down page.width page.top page.bottom n page.rows }
 
 pub same_reverse_index : (page : Page) → SameSize (reverse_index page) page
 unfolding reverse_index
 same_reverse_index page =
-    same_if ((page.row == page.top) || (page.row == 0)) (scrolled_down 1 page) (record page { row = page.row - 1 }) page (same_scrolled_down 1 page) (record { width = refl; height = refl })
+    same_if ((page.row == page.top) || (page.row == 0)) (scrolled_down 1 page)
+    (record page { row = page.row - 1 }) page (same_scrolled_down 1 page) (record { width = refl; height = refl })
 
 pub same_lines_inserted : (n : ℕ) (page : Page) → SameSize (lines_inserted n page) page
 unfolding lines_inserted
@@ -122,7 +135,11 @@ pub same_lines_deleted : (n : ℕ) (page : Page) → SameSize (lines_deleted n p
 unfolding lines_deleted
 same_lines_deleted n page =
     same_if (in_region page) (record page { rows = rows_up page.width page.row page.bottom n page.rows }) page page
-    (record { width = refl; height = length-moved_rows page.width (up_source (length page.rows) page.row page.bottom n) page.rows }) (same_itself page)
+    (record {
+      width = refl;
+      height = length-moved_rows page.width (up_source (length page.rows) page.row page.bottom n) page.rows;
+    })
+    (same_itself page)
 
 pub same_chars_inserted : (n : ℕ) (page : Page) → SameSize (chars_inserted n page) page
 same_chars_inserted n page = same_with_row page.row (inserted_row page.column n (cursor_row page)) page
@@ -139,13 +156,15 @@ pub same_erased_chars : (n : ℕ) (attrs : Attrs) (page : Page) → SameSize (er
 unfolding erased_chars
 same_erased_chars n attrs page =
     let count = min n (page.width - page.column) in
-    same_if ((n == 0) || (page.column == page.width)) page (erased_columns page.column count attrs page) page (same_itself page) (same_erased_columns page.column count attrs page)
+    same_if ((n == 0) || (page.column == page.width)) page (erased_columns page.column count attrs page)
+    page (same_itself page) (same_erased_columns page.column count attrs page)
 
 pub same_erased_rest : (attrs : Attrs) (page : Page) → SameSize (erased_rest attrs page) page
 unfolding erased_rest
 same_erased_rest attrs page =
     let count = page.width - page.column in
-    same_if (page.column == page.width) page (erased_columns page.column count attrs page) page (same_itself page) (same_erased_columns page.column count attrs page)
+    same_if (page.column == page.width) page (erased_columns page.column count attrs page)
+    page (same_itself page) (same_erased_columns page.column count attrs page)
 
 same_blanked_below : (attrs : Attrs) (page : Page) → SameSize (blanked_below attrs page) page
 same_blanked_below attrs page =
@@ -153,7 +172,12 @@ same_blanked_below attrs page =
     let blank = blank_row attrs page.width in
     record {
       width = refl;
-      height = omega (arith, length-append (take (page.row + 1) page.rows) (replicate n blank), length-take (page.row + 1) page.rows, length-replicate n blank);
+      height = omega (
+        arith,
+        length-append (take (page.row + 1) page.rows) (replicate n blank),
+        length-take (page.row + 1) page.rows,
+        length-replicate n blank,
+      );
     }
 
 pub same_erased_below : (attrs : Attrs) (page : Page) → SameSize (erased_below attrs page) page
@@ -174,10 +198,13 @@ pub same_erased_above : (attrs : Attrs) (page : Page) → IsPage page → SameSi
 unfolding erased_above
 same_erased_above attrs page p =
     let start = erased_start attrs page in
-    same_through (blanked_above attrs start) start page (record { width = refl; height = length-blanked_above attrs start (page_erased_start attrs page p) }) (same_erased_start attrs page)
+    same_through (blanked_above attrs start) start page
+    (record { width = refl; height = length-blanked_above attrs start (page_erased_start attrs page p) })
+    (same_erased_start attrs page)
 
 pub same_erased_page : (attrs : Attrs) (page : Page) → SameSize (erased_page attrs page) page
-same_erased_page attrs page = record { width = refl; height = length-replicate (length page.rows) (blank_row attrs page.width) }
+same_erased_page attrs page =
+    record { width = refl; height = length-replicate (length page.rows) (blank_row attrs page.width) }
 
 -- ---- printing
 
@@ -185,16 +212,30 @@ same_wrapped_page : (page : Page) → SameSize (wrapped_page page) page
 unfolding wrapped_page
 same_wrapped_page page = record {
   width = width_wrapped_page page;
-  height = height_flagged_left (left_row page) (goes_down page && not (ends_blank (cursor_row page).cells)) (line_feed page) ∙ height_line_feed page;
+  height =
+      height_flagged_left (left_row page) (goes_down page && not (ends_blank (cursor_row page).cells)) (line_feed page)
+      ∙ height_line_feed page;
 }
 
 same_room_made : (n : ℕ) (page : Page) → SameSize (room_made n page) page
 unfolding room_made
-same_room_made n page = same_if (lacks_room n page) (wrapped_page page) page page (same_wrapped_page page) (same_itself page)
+same_room_made n page =
+    same_if (lacks_room n page) (wrapped_page page) page page (same_wrapped_page page) (same_itself page)
 
-same_glyph_put : (text : List ℕ) (wide : Bool) (attrs : Attrs) (page : Page) → SameSize (glyph_put text wide attrs page) page
-same_glyph_put text false attrs page = record { width = refl; height = length-set page.rows page.row (with_cells (cursor_row page) (put_narrow page.column text attrs (cursor_row page).cells)) }
-same_glyph_put text true attrs page = record { width = refl; height = length-set page.rows page.row (with_cells (cursor_row page) (put_wide page.column text attrs (cursor_row page).cells)) }
+same_glyph_put : (text : List ℕ) (wide : Bool) (attrs : Attrs) (page : Page) →
+    SameSize (glyph_put text wide attrs page) page
+same_glyph_put text false attrs page = record {
+  width = refl;
+  height =
+      length-set page.rows page.row
+      (with_cells (cursor_row page) (put_narrow page.column text attrs (cursor_row page).cells));
+}
+same_glyph_put text true attrs page = record {
+  width = refl;
+  height =
+      length-set page.rows page.row
+      (with_cells (cursor_row page) (put_wide page.column text attrs (cursor_row page).cells));
+}
 
 pub same_mark_put : (k mark : ℕ) (page : Page) → SameSize (mark_put k mark page) page
 same_mark_put k mark page = same_cursor_cells (marked_at k mark (cursor_row page).cells) page
@@ -212,7 +253,10 @@ same_made_wide : (k : ℕ) (attrs : Attrs) (page : Page) → SameSize (made_wide
 unfolding made_wide
 same_made_wide k attrs page =
     let cells = (cursor_row page).cells in
-    record { width = refl; height = length-set page.rows page.row (with_cells (cursor_row page) (widened_at k attrs cells)) }
+    record {
+      width = refl;
+      height = length-set page.rows page.row (with_cells (cursor_row page) (widened_at k attrs cells));
+    }
 
 same_made_narrow : (k : ℕ) (attrs : Attrs) (page : Page) → SameSize (made_narrow k attrs page) page
 same_made_narrow k attrs page = same_cursor_cells (narrowed_at k attrs (cursor_row page).cells) page
@@ -222,7 +266,8 @@ unfolding width_followed
 same_width_followed k attrs page =
     let cell = at (cursor_row page).cells k in
     let wide = is_wide_text (text_of cell) && nat_lt 1 page.width in
-    same_if (is_wide cell) (if wide then page else made_narrow k attrs page) (if wide then made_wide k attrs page else page) page
+    same_if (is_wide cell) (if wide then page else made_narrow k attrs page)
+    (if wide then made_wide k attrs page else page) page
     (same_if wide page (made_narrow k attrs page) page (same_itself page) (same_made_narrow k attrs page))
     (same_if wide (made_wide k attrs page) page page (same_made_wide k attrs page) (same_itself page))
 
@@ -233,23 +278,30 @@ same_mark_printed mark attrs page =
     let put = mark_put k mark page in
     let done = same_mark_put k mark page in
     let put_on : Page = if is_selector mark then width_followed k attrs put else put in
-    same_if (carries mark page) (carried mark attrs page) (if takes_mark (at (cursor_row page).cells k) then put_on else page) page
+    same_if (carries mark page) (carried mark attrs page)
+    (if takes_mark (at (cursor_row page).cells k) then put_on else page) page
     (same_carried mark attrs page)
     (same_if (takes_mark (at (cursor_row page).cells k)) put_on page page
     (same_if (is_selector mark) (width_followed k attrs put) put page
-    (same_through (width_followed k attrs put) put page (same_width_followed k attrs put) done) done) (same_itself page))
+    (same_through (width_followed k attrs put) put page (same_width_followed k attrs put) done) done)
+    (same_itself page))
 
-same_put_behind : (n : ℕ) (text : List ℕ) (wide : Bool) (attrs : Attrs) (page : Page) → SameSize (glyph_put text wide attrs (room_made n page)) page
+same_put_behind : (n : ℕ) (text : List ℕ) (wide : Bool) (attrs : Attrs) (page : Page) →
+    SameSize (glyph_put text wide attrs (room_made n page)) page
 same_put_behind n text wide attrs page =
     let made = room_made n page in
-    same_through (glyph_put text wide attrs made) made page (same_glyph_put text wide attrs made) (same_room_made n page)
+    same_through (glyph_put text wide attrs made) made page
+    (same_glyph_put text wide attrs made) (same_room_made n page)
 
-same_printed_by : (columns : Option ℕ) (c : ℕ) (attrs : Attrs) (page : Page) → SameSize (printed_by columns c attrs page) page
+same_printed_by : (columns : Option ℕ) (c : ℕ) (attrs : Attrs) (page : Page) →
+    SameSize (printed_by columns c attrs page) page
 same_printed_by None c attrs page = same_itself page
-same_printed_by (Some zero) c attrs page = same_if (page.column == 0) page (mark_printed c attrs page) page (same_itself page) (same_mark_printed c attrs page)
+same_printed_by (Some zero) c attrs page =
+    same_if (page.column == 0) page (mark_printed c attrs page) page (same_itself page) (same_mark_printed c attrs page)
 same_printed_by (Some (suc zero)) c attrs page = same_put_behind 1 (encode_utf8 c) false attrs page
 same_printed_by (Some (suc (suc n))) c attrs page =
-    same_if (nat_lt 1 page.width) (glyph_put (encode_utf8 c) true attrs (room_made 2 page)) page page (same_put_behind 2 (encode_utf8 c) true attrs page) (same_itself page)
+    same_if (nat_lt 1 page.width) (glyph_put (encode_utf8 c) true attrs (room_made 2 page))
+    page page (same_put_behind 2 (encode_utf8 c) true attrs page) (same_itself page)
 
 pub same_printed : (c : ℕ) (attrs : Attrs) (page : Page) → SameSize (printed c attrs page) page
 same_printed c attrs page = same_printed_by (columns_of c) c attrs page

@@ -1,19 +1,26 @@
 -- What holds of each cell of a page, and of what is drawn, every step keeps.
-use Rattle.std.proofs.Common.{ℕ, zero, suc, ◌+◌, ◌-◌, ◌<◌, ◌==◌, ◌&&◌, nat_lt, min, not, Bool, true, false, List, [], ◌∷◌, length, take, drop, sym, subst, inl, inr, arith}
+use Rattle.std.proofs.Common.{ℕ, zero, suc, ◌+◌, ◌-◌, ◌<◌, ◌==◌, ◌&&◌, nat_lt, min, not, Bool, true}
+use Rattle.std.proofs.Common.{false, List, [], ◌∷◌, length, take, drop, sym, subst, inl, inr, arith}
 use Rattle.std.specs.Prelude.{◌||◌, if◌then◌else◌, All, Option, Some, None, replicate}
 use Rattle.std.specs.Char.{encode_utf8}
 use Rattle.std.proofs.lemmas.Bool.{cases_lt}
 use Rattle.std.proofs.lemmas.List.{get_or_past}
-use Rattle.std.proofs.lemmas.List.Elements.{All-nil, All-cons, All-head, All-tail, All-append, All-take, All-drop, All-replicate, All-set, All-get_or, All-from_get_or}
+use Rattle.std.proofs.lemmas.List.Elements.{All-nil, All-cons, All-head, All-tail, All-append, All-take}
+use Rattle.std.proofs.lemmas.List.Elements.{All-drop, All-replicate, All-set, All-get_or, All-from_get_or}
 use Rattle.vt_cells.specs.Attrs.{default_attrs, Attrs}
-use Rattle.vt_cells.specs.Cell.{CellValue, attrs_of, blank, glyph, right_half, default_blank, text_of, is_wide, marked, widened}
+use Rattle.vt_cells.specs.Cell.{CellValue, attrs_of, blank, glyph, right_half}
+use Rattle.vt_cells.specs.Cell.{default_blank, text_of, is_wide, marked, widened}
 use Rattle.vt_cells.specs.Glyph.{columns_of, is_selector, is_wide_text}
-use Rattle.vt_rows.specs.Cells.{at, mended, shut, opened, put_cells, blanks, put_narrow, put_wide, erased, marked_at, widened_at, narrowed_at, ends_blank}
+use Rattle.vt_rows.specs.Cells.{at, mended, shut, opened, put_cells, blanks, put_narrow, put_wide}
+use Rattle.vt_rows.specs.Cells.{erased, marked_at, widened_at, narrowed_at, ends_blank}
 use Rattle.vt_rows.specs.Row.{RowValue, blank_row, with_cells}
-use Rattle.vt_grid.specs.Page.{Page, row_or, row_at, cursor_row, with_row, moved_rows, up_source, scrolled_up, blank_page}
+use Rattle.vt_grid.specs.Page.{Page, row_or, row_at, cursor_row, with_row}
+use Rattle.vt_grid.specs.Page.{moved_rows, up_source, scrolled_up, blank_page}
 use Rattle.vt_grid.specs.Moves.{at_bottom, line_feed}
 use Rattle.vt_grid.specs.Erasing.{erased_columns, erased_chars, erased_rest, blanked_below, erased_below}
-use Rattle.vt_grid.specs.Printing.{carries, lifted_page, with_cursor_cells, left_row, goes_down, flagged_left, wrapped_page, lacks_room, room_made, glyph_put, mark_column, takes_mark, mark_put, carried, made_wide, made_narrow, width_followed, mark_printed, printed, printed_by}
+use Rattle.vt_grid.specs.Printing.{carries, lifted_page, with_cursor_cells, left_row, goes_down, flagged_left}
+use Rattle.vt_grid.specs.Printing.{wrapped_page, lacks_room, room_made, glyph_put, mark_column, takes_mark, mark_put}
+use Rattle.vt_grid.specs.Printing.{carried, made_wide, made_narrow, width_followed, mark_printed, printed, printed_by}
 use Rattle.vt_grid.proofs.Pages.{length-moved_rows, row_or-moved_rows}
 
 -- what holds of every cell and stays so: P of cells, F of attributes to draw with, Q of characters to print

@@ -1,5 +1,6 @@
 -- Rows and columns that move, and erasures, keep what holds of each cell.
-use Rattle.std.proofs.Common.{ℕ, ◌+◌, ◌-◌, ◌<◌, ◌==◌, ◌&&◌, ◌||◌, nat_lt, min, not, Bool, true, false, List, length, drop, sym, subst, arith}
+use Rattle.std.proofs.Common.{ℕ, ◌+◌, ◌-◌, ◌<◌, ◌==◌, ◌&&◌, ◌||◌, nat_lt, min, not, Bool}
+use Rattle.std.proofs.Common.{true, false, List, length, drop, sym, subst, arith}
 use Rattle.std.specs.Prelude.{if◌then◌else◌, All, replicate}
 use Rattle.std.proofs.lemmas.List.Elements.{All-append, All-drop, All-replicate, All-set, All-from_get_or}
 use Rattle.vt_cells.specs.Cell.{CellValue, blank, default_blank, is_wide, is_right_half, attrs_of}
@@ -9,10 +10,12 @@ use Rattle.vt_rows.specs.Row.{RowValue, blank_row, inserted_row, deleted_row}
 use Rattle.vt_rows.proofs.Moves.{length-moved, at-moved}
 use Rattle.vt_grid.specs.Page.{Page, row_or, cursor_row, moved_rows, up_source, rows_up}
 use Rattle.vt_grid.specs.Regions.{in_region, last_row, region_set}
-use Rattle.vt_grid.specs.Shifts.{down_source, rows_down, reverse_index, scrolled_down, lines_inserted, lines_deleted, chars_inserted, chars_deleted}
+use Rattle.vt_grid.specs.Shifts.{down_source, rows_down, reverse_index, scrolled_down}
+use Rattle.vt_grid.specs.Shifts.{lines_inserted, lines_deleted, chars_inserted, chars_deleted}
 use Rattle.vt_grid.specs.Erasing.{erased_start, erased_row, blanked_above, erased_above, erased_page}
 use Rattle.vt_grid.proofs.Pages.{length-moved_rows, row_or-moved_rows}
-use Rattle.vt_screen.proofs.Stable.{IsStable, EachCell, EachRow, bare, stable_if, stable_at, stable_blank_row, stable_row_or, stable_cursor_row, stable_with_row, stable_erased_columns}
+use Rattle.vt_screen.proofs.Stable.{IsStable, EachCell, EachRow, bare, stable_if, stable_at, stable_blank_row}
+use Rattle.vt_screen.proofs.Stable.{stable_row_or, stable_cursor_row, stable_with_row, stable_erased_columns}
 
 -- ---- rows
 

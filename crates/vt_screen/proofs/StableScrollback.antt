@@ -1,9 +1,11 @@
 -- What holds of each cell stays so of rows that leave a page.
-use Rattle.std.proofs.Common.{◌≡◌, ℕ, zero, suc, ◌+◌, ◌-◌, ◌==◌, nat_lt, min, Bool, true, false, List, [], ◌∷◌, ◌++◌, length, take, drop, map, refl, arith}
+use Rattle.std.proofs.Common.{◌≡◌, ℕ, zero, suc, ◌+◌, ◌-◌, ◌==◌, nat_lt, min, Bool, true, false}
+use Rattle.std.proofs.Common.{List, [], ◌∷◌, ◌++◌, length, take, drop, map, refl, arith}
 use Rattle.std.specs.Prelude.{if◌then◌else◌, All, Option, Some, None}
 use Rattle.std.specs.List.{list_all, range_with_len}
 use Rattle.std.proofs.lemmas.List.{length-append, length-take, length-drop, length-map, nil_from_length}
-use Rattle.std.proofs.lemmas.List.Elements.{All-nil, All-cons, All-head, All-tail, All-append, All-take, All-drop, All-set, All-map, All-weaker}
+use Rattle.std.proofs.lemmas.List.Elements.{All-nil, All-cons, All-head, All-tail, All-append}
+use Rattle.std.proofs.lemmas.List.Elements.{All-take, All-drop, All-set, All-map, All-weaker}
 use Rattle.vt_cells.specs.Attrs.{default_attrs, Attrs}
 use Rattle.vt_cells.specs.Cell.{CellValue, is_default_blank}
 use Rattle.vt_cells.specs.Glyph.{columns_of}
@@ -13,8 +15,10 @@ use Rattle.vt_grid.specs.Page.{Page, row_or}
 use Rattle.vt_grid.specs.Moves.{feeds_out}
 use Rattle.vt_grid.specs.Printing.{mark_column, pushes}
 use Rattle.vt_grid.specs.Outgoing.{scrolled_out, fed_out, left_by, printed_out}
-use Rattle.vt_grid.specs.Scrollback.{Scrollback, no_scrollback, stacked, kept_after, grown_row, grown_in_view, pushed, reported, viewed, visible}
-use Rattle.vt_grid.specs.Resize.{leaving, returning, window, rows_resized, page_resized, out_of_view, scrollback_resized}
+use Rattle.vt_grid.specs.Scrollback.{Scrollback, no_scrollback, stacked, kept_after, grown_row}
+use Rattle.vt_grid.specs.Scrollback.{grown_in_view, pushed, reported, viewed, visible}
+use Rattle.vt_grid.specs.Resize.{leaving, returning, window, rows_resized}
+use Rattle.vt_grid.specs.Resize.{page_resized, out_of_view, scrollback_resized}
 use Rattle.vt_screen.proofs.Stable.{IsStable, EachCell, EachRow, stable_blank_row, stable_row_or, stable_erased_columns}
 use Rattle.vt_screen.proofs.StableMoves.{stable_moved}
 

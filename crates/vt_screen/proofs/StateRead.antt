@@ -8,8 +8,10 @@ use Rattle.vt_scan.specs.Automaton.{start}
 use Rattle.vt_screen.specs.InputTexts.{input_change, input_text}
 use Rattle.vt_screen.specs.Reading.{Terminal, terminal}
 use Rattle.vt_screen.specs.Screen.{Modes, ScreenValue, IsScreen, IsColored}
-use Rattle.vt_screen.specs.Shown.{IsReader, IsReadBy, Makes, ReadsTo, ShowsPlainly, HasRows, HasCursor, KeepsRestButModes, shown, showing}
-use Rattle.vt_screen.specs.States.{HasDefaultMouseAndStyle, HasModes, IsStateReader, IsStateReaderOf, SetsModes, state_change, state_text}
+use Rattle.vt_screen.specs.Shown.{IsReader, IsReadBy, Makes, ReadsTo, ShowsPlainly, HasRows}
+use Rattle.vt_screen.specs.Shown.{HasCursor, KeepsRestButModes, shown, showing}
+use Rattle.vt_screen.specs.States.{HasDefaultMouseAndStyle, HasModes, IsStateReader}
+use Rattle.vt_screen.specs.States.{IsStateReaderOf, SetsModes, state_change, state_text}
 use Rattle.vt_screen.proofs.Became.{shows_plainly}
 use Rattle.vt_screen.proofs.InputRead.{change_none, change_tells, modes_changed, modes_set}
 use Rattle.vt_screen.proofs.ReadbackTexts.{reads_then}
@@ -27,38 +29,50 @@ record Restores (screen : ScreenValue) (text : List ℕ) (reader : ScreenValue) 
   reads : ReadsTo text reader (restored screen saved last reader)
 
 -- a text by which a reader shows the screen, and behind it one that sets its modes
-restores : (Had : Modes → Type 0) (screen reader : ScreenValue) (picture modes : List ℕ) → Becomes (shown screen) picture reader → SetsModes Had screen.modes modes → Had reader.modes → Restores screen (picture ++ modes) reader
+restores : (Had : Modes → Type 0) (screen reader : ScreenValue) (picture modes : List ℕ) →
+    Becomes (shown screen) picture reader → SetsModes Had screen.modes modes →
+    Had reader.modes → Restores screen (picture ++ modes) reader
 restores Had screen reader picture modes b sets had =
     let after : ScreenValue = showing (shown screen) b.saved b.last reader in record {
       saved = b.saved;
       last = b.last;
-      reads = reads_then (terminal start reader) (terminal start after) (terminal start (restored screen b.saved b.last reader)) picture modes b.reads (sets after had);
+      reads =
+          reads_then (terminal start reader) (terminal start after)
+          (terminal start (restored screen b.saved b.last reader)) picture modes b.reads (sets after had);
     }
 
-state_read : (screen reader : ScreenValue) → IsScreen screen → IsColored screen → IsSteady (shown screen) → IsStateReader screen reader → Restores screen (state_text screen) reader
+state_read : (screen reader : ScreenValue) → IsScreen screen → IsColored screen →
+    IsSteady (shown screen) → IsStateReader screen reader → Restores screen (state_text screen) reader
 state_read screen reader is colored steady r =
     restores HasDefaultMouseAndStyle screen reader (bytes_of_all (redraw (shown screen))) (input_text screen.modes)
     (redraw_read screen reader is colored steady r.is) (modes_set screen.modes (input_text screen.modes) refl) r.modes
 
-change_read : (screen prev reader : ScreenValue) → IsScreen screen → IsColored screen → IsSteady (shown screen) → IsScreen prev → IsColored prev → SamePictureSize (shown screen) (shown prev) → IsStateReaderOf screen prev reader
+change_read : (screen prev reader : ScreenValue) → IsScreen screen → IsColored screen → IsSteady (shown screen)
+    → IsScreen prev → IsColored prev → SamePictureSize (shown screen) (shown prev) → IsStateReaderOf screen prev reader
     → Restores screen (state_change prev screen) reader
 change_read screen prev reader is colored steady other colored_other size r =
-    restores (λ had. had ≡ prev.modes) screen reader (bytes_of_all (difference (shown screen) (shown prev))) (input_change prev.modes screen.modes)
-    (difference_read screen prev reader is colored steady other colored_other size r.is) (modes_changed prev.modes screen.modes (input_change prev.modes screen.modes) refl) r.modes
+    restores (λ had. had ≡ prev.modes) screen reader
+    (bytes_of_all (difference (shown screen) (shown prev))) (input_change prev.modes screen.modes)
+    (difference_read screen prev reader is colored steady other colored_other size r.is)
+    (modes_changed prev.modes screen.modes (input_change prev.modes screen.modes) refl) r.modes
 
 -- ---- what that says of each reader
 
 same_some : {A : Type 0} (x y : A) → Some x ≡ Some y → x ≡ y
 same_some x y e = cc
 
-after_is : (screen : ScreenValue) (text : List ℕ) (reader after : ScreenValue) (b : Restores screen text reader) → ReadsTo text reader after → restored screen b.saved b.last reader ≡ after
+after_is : (screen : ScreenValue) (text : List ℕ) (reader after : ScreenValue) (b : Restores screen text reader) →
+    ReadsTo text reader after → restored screen b.saved b.last reader ≡ after
 after_is screen text reader after b e =
-    ap (λ (t : Terminal). t.screen) (same_some (terminal start (restored screen b.saved b.last reader)) (terminal start after) (sym b.reads ∙ e))
+    ap (λ (t : Terminal). t.screen)
+    (same_some (terminal start (restored screen b.saved b.last reader)) (terminal start after) (sym b.reads ∙ e))
 
 -- modes don't tell in what is shown
-plain_again : (screen : ScreenValue) (saved : Saved) (last : Option ℕ) (reader : ScreenValue) → IsScreen screen → IsReader (shown screen) reader → ShowsPlainly (shown screen) reader (restored screen saved last reader)
+plain_again : (screen : ScreenValue) (saved : Saved) (last : Option ℕ) (reader : ScreenValue) → IsScreen screen →
+    IsReader (shown screen) reader → ShowsPlainly (shown screen) reader (restored screen saved last reader)
 plain_again screen saved last reader is r =
-    let (plain, shows) = shows_plainly (shown screen) reader (showing (shown screen) saved last reader) (shown_is screen is) r (record { saved = saved; last = last; is = refl }) in
+    let (plain, shows) = shows_plainly (shown screen) reader (showing (shown screen) saved last reader)
+    (shown_is screen is) r (record { saved = saved; last = last; is = refl }) in
     (record { page = plain.page; offset = plain.offset }, shows)
 
 -- all that such a text makes of its readers
@@ -70,30 +84,52 @@ pub record GivesState (Reader : ScreenValue → Type 0) (screen : ScreenValue) (
   pub modes : Makes Reader text (HasModes screen.modes)
   pub rest : Makes Reader text KeepsRestButModes
 
-gives : (Reader : ScreenValue → Type 0) (screen : ScreenValue) (text : List ℕ) → IsScreen screen → ((reader : ScreenValue) → Reader reader → IsReader (shown screen) reader) → ((reader : ScreenValue) → Reader reader → Restores screen text reader)
+gives : (Reader : ScreenValue → Type 0) (screen : ScreenValue) (text : List ℕ) → IsScreen screen
+    → ((reader : ScreenValue) → Reader reader → IsReader (shown screen) reader)
+    → ((reader : ScreenValue) → Reader reader → Restores screen text reader)
     → GivesState Reader screen text
 gives Reader screen text is readers reads = record {
   quiet = λ reader r. let b = reads reader r in (restored screen b.saved b.last reader, b.reads);
   shows = λ reader after r e.
       let b = reads reader r in
-      subst (ShowsPlainly (shown screen) reader) (after_is screen text reader after b e) (plain_again screen b.saved b.last reader is (readers reader r));
-  rows = λ reader after r e. subst (HasRows (shown screen) reader) (after_is screen text reader after (reads reader r) e) refl;
-  cursor = λ reader after r e. subst (HasCursor (shown screen) reader) (after_is screen text reader after (reads reader r) e) (record { row = refl; column = refl; attrs = refl; hidden = refl });
-  modes = λ reader after r e. subst (HasModes screen.modes reader) (after_is screen text reader after (reads reader r) e) refl;
+      subst (ShowsPlainly (shown screen) reader) (after_is screen text reader after b e)
+      (plain_again screen b.saved b.last reader is (readers reader r));
+  rows =
+      λ reader after r e. subst (HasRows (shown screen) reader)
+      (after_is screen text reader after (reads reader r) e) refl;
+  cursor =
+      λ reader after r e. subst (HasCursor (shown screen) reader) (after_is screen text reader after (reads reader r) e)
+      (record { row = refl; column = refl; attrs = refl; hidden = refl });
+  modes =
+      λ reader after r e. subst (HasModes screen.modes reader)
+      (after_is screen text reader after (reads reader r) e) refl;
   rest = λ reader after r e. subst (KeepsRestButModes reader) (after_is screen text reader after (reads reader r) e)
-      (record { other = refl; is_alternate = refl; scrollback = refl; width = refl; top = refl; bottom = refl; origin = refl });
+      (record {
+        other = refl;
+        is_alternate = refl;
+        scrollback = refl;
+        width = refl;
+        top = refl;
+        bottom = refl;
+        origin = refl;
+      });
 }
 
-pub state_gives : (screen : ScreenValue) (text : List ℕ) → text ≡ state_text screen → IsScreen screen → IsColored screen → IsSteady (shown screen) → GivesState (IsStateReader screen) screen text
+pub state_gives : (screen : ScreenValue) (text : List ℕ) → text ≡ state_text screen → IsScreen screen →
+    IsColored screen → IsSteady (shown screen) → GivesState (IsStateReader screen) screen text
 state_gives screen text told is colored steady =
     gives (IsStateReader screen) screen text is (λ reader r. r.is)
-    (λ reader r. subst (λ (t : List ℕ). Restores screen t reader) (sym told) (state_read screen reader is colored steady r))
+    (λ reader r. subst (λ (t : List ℕ). Restores screen t reader)
+    (sym told) (state_read screen reader is colored steady r))
 
-pub change_gives : (screen prev : ScreenValue) (text : List ℕ) → text ≡ state_change prev screen → IsScreen screen → IsColored screen → IsSteady (shown screen) → IsScreen prev → IsColored prev → SamePictureSize (shown screen) (shown prev)
+pub change_gives : (screen prev : ScreenValue) (text : List ℕ) → text ≡ state_change prev screen
+    → IsScreen screen → IsColored screen → IsSteady (shown screen)
+    → IsScreen prev → IsColored prev → SamePictureSize (shown screen) (shown prev)
     → GivesState (IsStateReaderOf screen prev) screen text
 change_gives screen prev text told is colored steady other colored_other size =
     gives (IsStateReaderOf screen prev) screen text is (λ reader r. r.is.is)
-    (λ reader r. subst (λ (t : List ℕ). Restores screen t reader) (sym told) (change_read screen prev reader is colored steady other colored_other size r))
+    (λ reader r. subst (λ (t : List ℕ). Restores screen t reader) (sym told)
+    (change_read screen prev reader is colored steady other colored_other size r))
 
 -- ---- where nothing is written
 
@@ -102,13 +138,20 @@ both_empty [] b e = (refl, e)
 both_empty (x ∷ a) b e = absurd cc
 
 -- only where both screens show the same and have the same modes
-pub state_tells : (screen prev : ScreenValue) → IsScreen screen → IsColored screen → IsSteady (shown screen) → IsScreen prev → IsColored prev → SamePictureSize (shown screen) (shown prev) → state_change prev screen ≡ []
+pub state_tells : (screen prev : ScreenValue) → IsScreen screen → IsColored screen → IsSteady (shown screen)
+    → IsScreen prev → IsColored prev → SamePictureSize (shown screen) (shown prev) → state_change prev screen ≡ []
     → (shown screen ≡ shown prev) × (screen.modes ≡ prev.modes)
 state_tells screen prev is colored steady other colored_other size empty =
-    let (picture, modes) = both_empty (bytes_of_all (difference (shown screen) (shown prev))) (input_change prev.modes screen.modes) empty in
-    (difference_tells screen prev is colored steady other colored_other size picture, change_tells prev.modes screen.modes modes)
+    let (picture, modes) =
+    both_empty (bytes_of_all (difference (shown screen) (shown prev))) (input_change prev.modes screen.modes) empty in (
+      difference_tells screen prev is colored steady other colored_other size picture,
+      change_tells prev.modes screen.modes modes,
+    )
 
 -- and always there
-pub state_none : (screen prev : ScreenValue) → shown screen ≡ shown prev → screen.modes ≡ prev.modes → state_change prev screen ≡ []
+pub state_none : (screen prev : ScreenValue) → shown screen ≡ shown prev →
+    screen.modes ≡ prev.modes → state_change prev screen ≡ []
 state_none screen prev picture modes =
-    ap (λ (text : List ℕ). text ++ input_change prev.modes screen.modes) (difference_none (shown screen) (shown prev) picture) ∙ change_none prev.modes screen.modes modes
+    ap (λ (text : List ℕ). text ++ input_change prev.modes screen.modes)
+    (difference_none (shown screen) (shown prev) picture)
+    ∙ change_none prev.modes screen.modes modes

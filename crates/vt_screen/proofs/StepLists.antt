@@ -14,13 +14,16 @@ stepped_then : (xs ys : List Step) (s : ScreenValue) → stepped_all (xs ++ ys) 
 stepped_then [] ys s = refl
 stepped_then (x ∷ xs) ys s = stepped_then xs ys (scrolled x s)
 
-sent_all_then : (xs ys : List Step) (s : ScreenValue) → sent_off_all (xs ++ ys) s ≡ sent_off_all xs s ++ sent_off_all ys (stepped_all xs s)
+sent_all_then : (xs ys : List Step) (s : ScreenValue) →
+    sent_off_all (xs ++ ys) s ≡ sent_off_all xs s ++ sent_off_all ys (stepped_all xs s)
 sent_all_then [] ys s = refl
 sent_all_then (x ∷ xs) ys s =
     ap (λ (rows : List RowValue). sent_off x s ++ rows) (sent_all_then xs ys (scrolled x s))
-    ∙ sym (append_assoc (sent_off x s) (sent_off_all xs (scrolled x s)) (sent_off_all ys (stepped_all xs (scrolled x s))))
+    ∙ sym
+    (append_assoc (sent_off x s) (sent_off_all xs (scrolled x s)) (sent_off_all ys (stepped_all xs (scrolled x s))))
 
-steps_then : (events more : List Event) (s : ScreenValue) → steps_of_all (events ++ more) s ≡ steps_of_all events s ++ steps_of_all more (stepped_all (steps_of_all events s) s)
+steps_then : (events more : List Event) (s : ScreenValue) →
+    steps_of_all (events ++ more) s ≡ steps_of_all events s ++ steps_of_all more (stepped_all (steps_of_all events s) s)
 steps_then [] more s = refl
 steps_then (event ∷ events) more s =
     let steps = steps_of event (seen_of s) in
@@ -30,13 +33,20 @@ steps_then (event ∷ events) more s =
     ∙ (sym (append_assoc steps rest (steps_of_all more (stepped_all rest there)))
     ∙ ap (λ (t : ScreenValue). (steps ++ rest) ++ steps_of_all more t) (sym (stepped_then steps rest s)))
 
-steps_in_then : (scan : State) (s : ScreenValue) (a b : List ℕ) → steps_in scan s (a ++ b) ≡ steps_in scan s a ++ steps_in (run scan a).state (screen_in scan s a) b
-steps_in_then scan s a b = ap (λ (o : Outcome). steps_of_all o.events s) (run-append scan a b) ∙ steps_then (run scan a).events (run (run scan a).state b).events s
+steps_in_then : (scan : State) (s : ScreenValue) (a b : List ℕ) →
+    steps_in scan s (a ++ b) ≡ steps_in scan s a ++ steps_in (run scan a).state (screen_in scan s a) b
+steps_in_then scan s a b =
+    ap (λ (o : Outcome). steps_of_all o.events s) (run-append scan a b)
+    ∙ steps_then (run scan a).events (run (run scan a).state b).events s
 
-pub screen_in_then : (scan : State) (s : ScreenValue) (a b : List ℕ) → screen_in scan s (a ++ b) ≡ screen_in (run scan a).state (screen_in scan s a) b
+pub screen_in_then : (scan : State) (s : ScreenValue) (a b : List ℕ) →
+    screen_in scan s (a ++ b) ≡ screen_in (run scan a).state (screen_in scan s a) b
 screen_in_then scan s a b =
-    ap (λ (steps : List Step). stepped_all steps s) (steps_in_then scan s a b) ∙ stepped_then (steps_in scan s a) (steps_in (run scan a).state (screen_in scan s a) b) s
+    ap (λ (steps : List Step). stepped_all steps s) (steps_in_then scan s a b)
+    ∙ stepped_then (steps_in scan s a) (steps_in (run scan a).state (screen_in scan s a) b) s
 
-pub sent_in_then : (scan : State) (s : ScreenValue) (a b : List ℕ) → sent_off_in scan s (a ++ b) ≡ sent_off_in scan s a ++ sent_off_in (run scan a).state (screen_in scan s a) b
+pub sent_in_then : (scan : State) (s : ScreenValue) (a b : List ℕ) →
+    sent_off_in scan s (a ++ b) ≡ sent_off_in scan s a ++ sent_off_in (run scan a).state (screen_in scan s a) b
 sent_in_then scan s a b =
-    ap (λ (steps : List Step). sent_off_all steps s) (steps_in_then scan s a b) ∙ sent_all_then (steps_in scan s a) (steps_in (run scan a).state (screen_in scan s a) b) s
+    ap (λ (steps : List Step). sent_off_all steps s) (steps_in_then scan s a b)
+    ∙ sent_all_then (steps_in scan s a) (steps_in (run scan a).state (screen_in scan s a) b) s

@@ -27,20 +27,25 @@ texts_trimmed : (w : Written) (rows : List RowValue) → basic_texts w (map trim
 texts_trimmed w [] = refl
 texts_trimmed w (row ∷ rows) =
     ap₂ (λ (xs ys : List ℕ). xs ++ ys) (text_trimmed w row)
-    (ap (λ (v : Written). basic_texts v (map trimmed_row rows)) (after_trimmed w row) ∙ texts_trimmed (written_after w row) rows)
+    (ap (λ (v : Written). basic_texts v (map trimmed_row rows)) (after_trimmed w row)
+    ∙ texts_trimmed (written_after w row) rows)
 
-pub same_texts : (w : Written) (rows others : List RowValue) → AreAlike rows others → basic_texts w rows ≡ basic_texts w others
+pub same_texts : (w : Written) (rows others : List RowValue) →
+    AreAlike rows others → basic_texts w rows ≡ basic_texts w others
 same_texts w rows others e = sym (texts_trimmed w rows) ∙ (ap (basic_texts w) e ∙ texts_trimmed w others)
 
 -- ---- one list behind the other
 
-pub texts_then : (w : Written) (xs ys : List RowValue) → basic_texts w (xs ++ ys) ≡ basic_texts w xs ++ basic_texts (written_after_all w xs) ys
+pub texts_then : (w : Written) (xs ys : List RowValue) →
+    basic_texts w (xs ++ ys) ≡ basic_texts w xs ++ basic_texts (written_after_all w xs) ys
 texts_then w [] ys = refl
 texts_then w (x ∷ xs) ys =
     ap (λ (text : List ℕ). basic_text w x ++ text) (texts_then (written_after w x) xs ys)
-    ∙ sym (append_assoc (basic_text w x) (basic_texts (written_after w x) xs) (basic_texts (written_after_all (written_after w x) xs) ys))
+    ∙ sym (append_assoc (basic_text w x) (basic_texts (written_after w x) xs)
+    (basic_texts (written_after_all (written_after w x) xs) ys))
 
-pub after_then : (w : Written) (xs ys : List RowValue) → written_after_all w (xs ++ ys) ≡ written_after_all (written_after_all w xs) ys
+pub after_then : (w : Written) (xs ys : List RowValue) →
+    written_after_all w (xs ++ ys) ≡ written_after_all (written_after_all w xs) ys
 after_then w [] ys = refl
 after_then w (x ∷ xs) ys = after_then (written_after w x) xs ys
 
@@ -48,13 +53,16 @@ above_main : (b : Bool) (z : Scrollback) → b ≡ false → (if b then no_scrol
 above_main b z e = rw e refl
 
 -- from a screen without scrollback to one on the main page
-pub streamed_is : (calls : List CallValue) (gone : List RowValue) (s t : ScreenValue) → Streamed calls gone s t → s.scrollback.rows ≡ [] → t.is_alternate ≡ false
+pub streamed_is : (calls : List CallValue) (gone : List RowValue) (s t : ScreenValue)
+    → Streamed calls gone s t → s.scrollback.rows ≡ [] → t.is_alternate ≡ false
     → streamed_text calls t ≡ basic_texts unwritten (gone ++ t.page.rows)
 streamed_is calls gone s t k none main =
     let told = rows_told calls in
     let rows : told ++ all_rows t ≡ (told ++ t.scrollback.rows) ++ t.page.rows
-    = ap (λ (z : Scrollback). told ++ (z.rows ++ t.page.rows)) (above_main t.is_alternate t.scrollback main) ∙ sym (append_assoc told t.scrollback.rows t.page.rows) in
-    let alike : AreAlike (told ++ t.scrollback.rows) gone = k.alike ∙ ap (λ (xs : List RowValue). map trimmed_row (xs ++ gone)) none in
+    = ap (λ (z : Scrollback). told ++ (z.rows ++ t.page.rows)) (above_main t.is_alternate t.scrollback main)
+    ∙ sym (append_assoc told t.scrollback.rows t.page.rows) in
+    let alike : AreAlike (told ++ t.scrollback.rows) gone =
+    k.alike ∙ ap (λ (xs : List RowValue). map trimmed_row (xs ++ gone)) none in
     sym (texts_then unwritten told (all_rows t))
     ∙ (ap (basic_texts unwritten) rows
     ∙ same_texts unwritten ((told ++ t.scrollback.rows) ++ t.page.rows) (gone ++ t.page.rows)

@@ -1,5 +1,7 @@
--- Each step of a run but RIS: what it tells and keeps of the main page's rows is alike to what was kept before and what it sends off.
-use Rattle.std.proofs.Common.{◌≡◌, ℕ, Bool, true, false, List, [], ◌∷◌, ◌++◌, length, map, Option, Some, None, refl, sym, ap, subst, ◌∙◌, append_assoc, arith}
+-- Each step of a run but RIS: what it tells and keeps of the main page's rows is alike to what was kept before and what
+-- it sends off.
+use Rattle.std.proofs.Common.{◌≡◌, ℕ, Bool, true, false, List, [], ◌∷◌, ◌++◌, length, map, Option}
+use Rattle.std.proofs.Common.{Some, None, refl, sym, ap, subst, ◌∙◌, append_assoc, arith}
 use Rattle.std.specs.Prelude.{All, IfSome, if◌then◌else◌}
 use Rattle.std.specs.List.{AllByRecursion}
 use Rattle.std.proofs.lemmas.List.{append-nil, length-replicate}
@@ -7,29 +9,53 @@ use Rattle.vt_cells.specs.Attrs.{default_attrs}
 use Rattle.vt_cells.specs.Glyph.{columns_of}
 use Rattle.vt_rows.specs.Row.{RowValue, IsRow, blank_row, trimmed_row}
 use Rattle.vt_grid.specs.Page.{Page, IsPage, SameSize, blank_page, scrolled_up}
-use Rattle.vt_grid.specs.Moves.{carriage_return, moved_left, moved_right, moved_to, line_feed, cursor_saved, cursor_restored}
-use Rattle.vt_grid.specs.Regions.{moved_up, moved_down, next_line, previous_line, tabbed, moved_to_column, moved_to_row, region_set, origin_set}
-use Rattle.vt_grid.specs.Shifts.{reverse_index, scrolled_down, lines_inserted, lines_deleted, chars_inserted, chars_deleted}
-use Rattle.vt_grid.specs.Erasing.{erased_below, erased_above, erased_page, erased_rest, erased_start, erased_row, erased_chars}
+use Rattle.vt_grid.specs.Moves.{carriage_return, moved_left, moved_right, moved_to}
+use Rattle.vt_grid.specs.Moves.{line_feed, cursor_saved, cursor_restored}
+use Rattle.vt_grid.specs.Regions.{moved_up, moved_down, next_line, previous_line, tabbed}
+use Rattle.vt_grid.specs.Regions.{moved_to_column, moved_to_row, region_set, origin_set}
+use Rattle.vt_grid.specs.Shifts.{reverse_index, scrolled_down, lines_inserted}
+use Rattle.vt_grid.specs.Shifts.{lines_deleted, chars_inserted, chars_deleted}
+use Rattle.vt_grid.specs.Erasing.{erased_below, erased_above, erased_page, erased_rest}
+use Rattle.vt_grid.specs.Erasing.{erased_start, erased_row, erased_chars}
 use Rattle.vt_grid.specs.Printing.{printed}
 use Rattle.vt_grid.specs.Outgoing.{printed_out, fed_out, scrolled_out}
 use Rattle.vt_grid.specs.Resize.{out_of_view}
 use Rattle.vt_grid.specs.Scrollback.{Scrollback, cleared, no_scrollback, pushed, reported, viewed}
 use Rattle.vt_grid.proofs.Blanking.{page_erased_start, page_erased_row, page_erased_above, page_erased_page}
 use Rattle.vt_grid.proofs.Printed.{page_printed}
-use Rattle.vt_grid.proofs.Pages.{page_blank, page_cursor_saved, page_cursor_restored, page_carriage_return, page_moved_left, page_moved_right, page_moved_to, page_line_feed, page_erased_chars, page_erased_rest, page_erased_below, page_scrolled_up}
-use Rattle.vt_grid.proofs.Regions.{page_moved_up, page_moved_down, page_next_line, page_previous_line, page_moved_to_column, page_moved_to_row, page_tabbed, page_region_set, page_origin_set}
-use Rattle.vt_grid.proofs.Shifting.{page_scrolled_down, page_reverse_index, page_lines_inserted, page_lines_deleted, page_chars_inserted, page_chars_deleted}
+use Rattle.vt_grid.proofs.Pages.{page_blank, page_cursor_saved, page_cursor_restored, page_carriage_return}
+use Rattle.vt_grid.proofs.Pages.{page_moved_left, page_moved_right, page_moved_to, page_line_feed}
+use Rattle.vt_grid.proofs.Pages.{page_erased_chars, page_erased_rest, page_erased_below, page_scrolled_up}
+use Rattle.vt_grid.proofs.Regions.{page_moved_up, page_moved_down, page_next_line}
+use Rattle.vt_grid.proofs.Regions.{page_previous_line, page_moved_to_column, page_moved_to_row}
+use Rattle.vt_grid.proofs.Regions.{page_tabbed, page_region_set, page_origin_set}
+use Rattle.vt_grid.proofs.Shifting.{page_scrolled_down, page_reverse_index, page_lines_inserted}
+use Rattle.vt_grid.proofs.Shifting.{page_lines_deleted, page_chars_inserted, page_chars_deleted}
 use Rattle.vt_screen.specs.Calls.{CallValue, OnScroll}
 use Rattle.vt_screen.specs.Pages.{fresh_page, page_aside, entered, entered_fresh, left, left_restored, saved, restored}
 use Rattle.vt_screen.specs.Screen.{IsPrintable, IsScreen, ScreenValue, fresh_screen, scrolled_back, with_page}
-use Rattle.vt_screen.specs.Steps.{Step, Print, CarriageReturn, LineFeed, ReverseIndex, MoveUp, MoveDown, MoveRight, MoveLeft, NextLine, PreviousLine, Tab, MoveTo, MoveToColumn, MoveToRow, SetRegion, UseOrigin, EraseBelow, EraseAbove, ErasePage, EraseScrollback, EraseRest, EraseStart, EraseRow, EraseChars, InsertChars, DeleteChars, InsertLines, DeleteLines, ScrollUp, ScrollDown, Render, HideCursor, UseApplicationCursor, UseBracketedPaste, SetMouseMode, ClearMouseMode, SetMouseEncoding, ClearMouseEncoding, SetCursorStyle, SaveCursor, RestoreCursor, EnterAlternate, EnterFresh, LeaveAlternate, LeaveRestoring, Reset, UseApplicationKeypad, Tell, becomes_last, scrolled, stepped}
+use Rattle.vt_screen.specs.Steps.{Step, Print, CarriageReturn, LineFeed, ReverseIndex, MoveUp, MoveDown, MoveRight}
+use Rattle.vt_screen.specs.Steps.{MoveLeft, NextLine, PreviousLine, Tab, MoveTo, MoveToColumn, MoveToRow, SetRegion}
+use Rattle.vt_screen.specs.Steps.{UseOrigin, EraseBelow, EraseAbove, ErasePage, EraseScrollback, EraseRest, EraseStart}
+use Rattle.vt_screen.specs.Steps.{EraseRow, EraseChars, InsertChars, DeleteChars, InsertLines, DeleteLines, ScrollUp}
+use Rattle.vt_screen.specs.Steps.{ScrollDown, Render, HideCursor, UseApplicationCursor, UseBracketedPaste, SetMouseMode}
+use Rattle.vt_screen.specs.Steps.{ClearMouseMode, SetMouseEncoding, ClearMouseEncoding, SetCursorStyle, SaveCursor}
+use Rattle.vt_screen.specs.Steps.{RestoreCursor, EnterAlternate, EnterFresh, LeaveAlternate, LeaveRestoring, Reset}
+use Rattle.vt_screen.specs.Steps.{UseApplicationKeypad, Tell, becomes_last, scrolled, stepped}
 use Rattle.vt_screen.specs.Streamed.{AreAlike, HasWideFlags, row_told, rows_told, sent_off, sent_off_all}
 use Rattle.vt_screen.specs.Telling.{calls_of, calls_of_all, stepped_all}
 use Rattle.vt_screen.proofs.Alike.{IsWide}
-use Rattle.vt_screen.proofs.AlikeScrollback.{AreSound, alike_pushed, alike_then, alike_viewed, sound_pushed, sound_viewed, wide_pushed, wide_viewed}
+use Rattle.vt_screen.proofs.AlikeScrollback.{AreSound, alike_pushed, alike_then, alike_viewed}
+use Rattle.vt_screen.proofs.AlikeScrollback.{sound_pushed, sound_viewed, wide_pushed, wide_viewed}
 use Rattle.vt_screen.proofs.Asides.{rows_fed_out, rows_printed_out, rows_scrolled_out}
-use Rattle.vt_screen.proofs.Sizes.{same_back, same_itself, same_through, same_carriage_return, same_cursor_saved, same_cursor_restored, same_moved_right, same_moved_to, same_line_feed, same_erased_chars, same_erased_rest, same_erased_below, same_printed, same_chars_deleted, same_chars_inserted, same_erased_above, same_erased_page, same_erased_row, same_erased_start, same_lines_deleted, same_lines_inserted, same_moved_down, same_moved_left, same_moved_to_column, same_moved_to_row, same_moved_up, same_next_line, same_origin_set, same_previous_line, same_region_set, same_reverse_index, same_scrolled_down, same_scrolled_up, same_tabbed}
+use Rattle.vt_screen.proofs.Sizes.{same_back, same_itself, same_through, same_carriage_return, same_cursor_saved}
+use Rattle.vt_screen.proofs.Sizes.{same_cursor_restored, same_moved_right, same_moved_to, same_line_feed}
+use Rattle.vt_screen.proofs.Sizes.{same_erased_chars, same_erased_rest, same_erased_below, same_printed}
+use Rattle.vt_screen.proofs.Sizes.{same_chars_deleted, same_chars_inserted, same_erased_above, same_erased_page}
+use Rattle.vt_screen.proofs.Sizes.{same_erased_row, same_erased_start, same_lines_deleted, same_lines_inserted}
+use Rattle.vt_screen.proofs.Sizes.{same_moved_down, same_moved_left, same_moved_to_column, same_moved_to_row}
+use Rattle.vt_screen.proofs.Sizes.{same_moved_up, same_next_line, same_origin_set, same_previous_line, same_region_set}
+use Rattle.vt_screen.proofs.Sizes.{same_reverse_index, same_scrolled_down, same_scrolled_up, same_tabbed}
 
 -- what the steps of events are, by what they print and whether they may start the screen anew
 abbrev pub IsAmong : (ℕ → Type 0) → Type 0 → Step → Type 0
@@ -64,18 +90,22 @@ pub record Streamed (calls : List CallValue) (gone : List RowValue) (s t : Scree
   pub alike : AreAlike (rows_told calls ++ t.scrollback.rows) (s.scrollback.rows ++ gone)
 
 -- nothing was told, and nothing left
-quietly : (s t : ScreenValue) → Held t → t.scrollback.rows ≡ s.scrollback.rows → Streamed [] (if s.is_alternate then [] else []) s t
+quietly : (s t : ScreenValue) → Held t → t.scrollback.rows ≡ s.scrollback.rows →
+    Streamed [] (if s.is_alternate then [] else []) s t
 quietly s t k e = record { held = k; alike = ap (map trimmed_row) (e ∙ by s.is_alternate) } where
   by : (b : Bool) → s.scrollback.rows ≡ s.scrollback.rows ++ (if b then [] else [])
   by true = sym (append-nil s.scrollback.rows)
   by false = sym (append-nil s.scrollback.rows)
 
-other_like : (page new : Page) (other : Option Page) → SameSize new page → IfSome other (IsLike page) → IfSome other (IsLike new)
-other_like page new (Some p) s k = record { sound = k.sound; same = same_through p page new k.same (same_back new page s) }
+other_like : (page new : Page) (other : Option Page) → SameSize new page →
+    IfSome other (IsLike page) → IfSome other (IsLike new)
+other_like page new (Some p) s k =
+    record { sound = k.sound; same = same_through p page new k.same (same_back new page s) }
 other_like page new None s k = k
 
 -- the active page changes
-held_page : (page new : Page) (other : Option Page) (above : Scrollback) (last : Option ℕ) → IsPage new → SameSize new page → IsHeld page other above last → IsHeld new other above last
+held_page : (page new : Page) (other : Option Page) (above : Scrollback) (last : Option ℕ) →
+    IsPage new → SameSize new page → IsHeld page other above last → IsHeld new other above last
 held_page page new other above last sound same k = record {
   sound = sound;
   other = other_like page new other same k.other;
@@ -84,8 +114,10 @@ held_page page new other above last sound same k = record {
   last = k.last;
 }
 
-on_page : (page : Page) (s : ScreenValue) → IsPage page → SameSize page s.page → Held s → Streamed [] (if s.is_alternate then [] else []) s (with_page page s)
-on_page page s sound same k = quietly s (with_page page s) (held_page s.page page s.other s.scrollback s.last sound same k) refl
+on_page : (page : Page) (s : ScreenValue) → IsPage page → SameSize page s.page →
+    Held s → Streamed [] (if s.is_alternate then [] else []) s (with_page page s)
+on_page page s sound same k =
+    quietly s (with_page page s) (held_page s.page page s.other s.scrollback s.last sound same k) refl
 
 -- ---- rows that leave
 
@@ -95,19 +127,27 @@ told_none (row ∷ rows) = told_none rows
 
 pub told_append : (xs ys : List CallValue) → rows_told (xs ++ ys) ≡ rows_told xs ++ rows_told ys
 told_append [] ys = refl
-told_append (x ∷ xs) ys = ap (λ (rows : List RowValue). row_told x ++ rows) (told_append xs ys) ∙ sym (append_assoc (row_told x) (rows_told xs) (rows_told ys))
+told_append (x ∷ xs) ys =
+    ap (λ (rows : List RowValue). row_told x ++ rows) (told_append xs ys)
+    ∙ sym (append_assoc (row_told x) (rows_told xs) (rows_told ys))
 
 told_all : (rows : List RowValue) → rows_told (map (λ row. OnScroll row false) rows) ≡ rows
 told_all [] = refl
 told_all (row ∷ rows) = ap (λ (xs : List RowValue). row ∷ xs) (told_all rows)
 
-sends : (b : Bool) (s after : ScreenValue) (gone : List RowValue) → All (IsRow s.page.width) gone → Held s → IsHeld after.page after.other s.scrollback after.last → after.scrollback ≡ s.scrollback → after.page.width ≡ s.page.width
-    → Streamed (map (λ row. OnScroll row b) (reported gone (if b then no_scrollback 0 else s.scrollback))) (if b then [] else gone) s
+sends : (b : Bool) (s after : ScreenValue) (gone : List RowValue) → All (IsRow s.page.width) gone
+    → Held s → IsHeld after.page after.other s.scrollback after.last
+    → after.scrollback ≡ s.scrollback → after.page.width ≡ s.page.width
+    → Streamed (map (λ row. OnScroll row b) (reported gone (if b then no_scrollback 0 else s.scrollback)))
+    (if b then [] else gone) s
     (if b then after else record after { scrollback = pushed (length s.page.rows) s.page.width gone s.scrollback })
 sends true s after gone rows k held same width = record {
   held = subst (λ (z : Scrollback). IsHeld after.page after.other z after.last) (sym same) held;
-  alike = ap (λ (xs : List RowValue). map trimmed_row (xs ++ after.scrollback.rows)) (told_none (reported gone (no_scrollback 0)))
-      ∙ ap (λ (z : Scrollback). map trimmed_row z.rows) same ∙ ap (map trimmed_row) (sym (append-nil s.scrollback.rows));
+  alike =
+      ap (λ (xs : List RowValue). map trimmed_row (xs ++ after.scrollback.rows))
+      (told_none (reported gone (no_scrollback 0)))
+      ∙ ap (λ (z : Scrollback). map trimmed_row z.rows) same
+      ∙ ap (map trimmed_row) (sym (append-nil s.scrollback.rows));
 }
 sends false s after gone rows k held same width =
     let now = pushed (length s.page.rows) s.page.width gone s.scrollback in
@@ -116,7 +156,9 @@ sends false s after gone rows k held same width =
         sound = held.sound;
         other = held.other;
         rows = sound_pushed (length s.page.rows) s.page.width gone s.scrollback rows k.rows;
-        wide = subst (λ (w : ℕ). All (IsWide w) now.rows) (sym width) (wide_pushed (length s.page.rows) s.page.width gone s.scrollback rows k.rows k.wide);
+        wide =
+            subst (λ (w : ℕ). All (IsWide w) now.rows) (sym width)
+            (wide_pushed (length s.page.rows) s.page.width gone s.scrollback rows k.rows k.wide);
         last = held.last;
       };
       alike = ap (λ (xs : List RowValue). map trimmed_row (xs ++ now.rows)) (told_all (reported gone s.scrollback))
@@ -124,15 +166,23 @@ sends false s after gone rows k held same width =
     }
 
 gives_up : (b : Bool) (s : ScreenValue) → Held s
-    → Streamed (map (λ row. OnScroll row b) (if b then no_scrollback 0 else s.scrollback).rows) (if b then [] else []) s (if b then s else record s { scrollback = cleared s.scrollback })
+    → Streamed (map (λ row. OnScroll row b) (if b then no_scrollback 0 else s.scrollback).rows)
+    (if b then [] else []) s (if b then s else record s { scrollback = cleared s.scrollback })
 gives_up true s k = record { held = k; alike = ap (map trimmed_row) (sym (append-nil s.scrollback.rows)) }
 gives_up false s k = record {
-  held = record { sound = k.sound; other = k.other; rows = λ i d h. absurd (omega (arith, h)); wide = λ i d h. absurd (omega (arith, h)); last = k.last };
+  held = record {
+    sound = k.sound;
+    other = k.other;
+    rows = λ i d h. absurd (omega (arith, h));
+    wide = λ i d h. absurd (omega (arith, h));
+    last = k.last;
+  };
   alike = ap (λ (xs : List RowValue). map trimmed_row (xs ++ [])) (told_all s.scrollback.rows);
 }
 
 -- the last character that was printed
-printed_last : (b : Bool) (c : ℕ) (last : Option ℕ) → IsPrintable c → IfSome last IsPrintable → IfSome (if b then Some c else last) IsPrintable
+printed_last : (b : Bool) (c : ℕ) (last : Option ℕ) → IsPrintable c →
+    IfSome last IsPrintable → IfSome (if b then Some c else last) IsPrintable
 printed_last true c last i k = i
 printed_last false c last i k = k
 
@@ -157,7 +207,8 @@ like_aside s k = by s.other k.other where
   by None l = like_fresh s.page k.sound
 
 -- the other page is the active one now, below the same rows
-exchanged : (page new : Page) (above now : Scrollback) (other : Option Page) (last : Option ℕ) → IsLike page new → now.rows ≡ above.rows → IsHeld page other above last → IsHeld new (Some page) now last
+exchanged : (page new : Page) (above now : Scrollback) (other : Option Page) (last : Option ℕ) →
+    IsLike page new → now.rows ≡ above.rows → IsHeld page other above last → IsHeld new (Some page) now last
 exchanged page new above now other last l e k = record {
   sound = l.sound;
   other = record { sound = k.sound; same = same_back new page l.same };
@@ -168,39 +219,65 @@ exchanged page new above now other last l e k = record {
 
 turned_entered : (s : ScreenValue) → Held s → Turned s (entered s)
 turned_entered s k = by s.is_alternate where
-  by : (b : Bool) → Turned s (if b then s else record s { page = page_aside s; other = Some s.page; is_alternate = true; scrollback = out_of_view s.scrollback })
+  by : (b : Bool) →
+      Turned s (if b then s
+      else record s
+      { page = page_aside s; other = Some s.page; is_alternate = true; scrollback = out_of_view s.scrollback })
   by true = record { held = k; same = same_itself s.page; rows = refl }
   by false =
       let l = like_aside s k in
-      record { held = exchanged s.page (page_aside s) s.scrollback (out_of_view s.scrollback) s.other s.last l refl k; same = l.same; rows = refl }
+      record {
+        held = exchanged s.page (page_aside s) s.scrollback (out_of_view s.scrollback) s.other s.last l refl k;
+        same = l.same;
+        rows = refl;
+      }
 
 turned_left : (s : ScreenValue) → Held s → Turned s (left s)
 turned_left s k = by s.is_alternate where
-  by : (b : Bool) → Turned s (if b then record s { page = page_aside s; other = Some s.page; is_alternate = false } else s)
+  by : (b : Bool) →
+      Turned s (if b then record s { page = page_aside s; other = Some s.page; is_alternate = false } else s)
   by false = record { held = k; same = same_itself s.page; rows = refl }
   by true =
       let l = like_aside s k in
-      record { held = exchanged s.page (page_aside s) s.scrollback s.scrollback s.other s.last l refl k; same = l.same; rows = refl }
+      record {
+        held = exchanged s.page (page_aside s) s.scrollback s.scrollback s.other s.last l refl k;
+        same = l.same;
+        rows = refl;
+      }
 
 turned_saved : (s : ScreenValue) → Held s → Turned s (saved s)
 turned_saved s k =
     let same = same_cursor_saved s.page in
-    record { held = held_page s.page (cursor_saved s.page) s.other s.scrollback s.last (page_cursor_saved s.page k.sound) same k; same = same; rows = refl }
+    record {
+      held =
+          held_page s.page (cursor_saved s.page) s.other s.scrollback s.last (page_cursor_saved s.page k.sound) same k;
+      same = same;
+      rows = refl;
+    }
 
 turned_restored : (s : ScreenValue) → Held s → Turned s (restored s)
 turned_restored s k =
     let same = same_cursor_restored s.page in
-    record { held = held_page s.page (cursor_restored s.page) s.other s.scrollback s.last (page_cursor_restored s.page k.sound) same k; same = same; rows = refl }
+    record {
+      held =
+          held_page s.page (cursor_restored s.page) s.other s.scrollback
+          s.last (page_cursor_restored s.page k.sound) same k;
+      same = same;
+      rows = refl;
+    }
 
 turned_then : (s t u : ScreenValue) → Turned s t → Turned t u → Turned s u
-turned_then s t u a b = record { held = b.held; same = same_through u.page t.page s.page b.same a.same; rows = b.rows ∙ a.rows }
+turned_then s t u a b =
+    record { held = b.held; same = same_through u.page t.page s.page b.same a.same; rows = b.rows ∙ a.rows }
 
 -- a fresh page in the place of the active one
 turned_fresh : (s t : ScreenValue) → Held s → Turned s t → Turned s (record t { page = fresh_page s })
 turned_fresh s t k m =
     let l = like_fresh s.page k.sound in
     record {
-      held = held_page t.page (fresh_page s) t.other t.scrollback t.last l.sound (same_through (fresh_page s) s.page t.page l.same (same_back t.page s.page m.same)) m.held;
+      held =
+          held_page t.page (fresh_page s) t.other t.scrollback t.last l.sound
+          (same_through (fresh_page s) s.page t.page l.same (same_back t.page s.page m.same)) m.held;
       same = l.same;
       rows = m.rows;
     }
@@ -210,56 +287,108 @@ turned_fresh s t k m =
 by_turn : (s t : ScreenValue) → Turned s t → Streamed [] (if s.is_alternate then [] else []) s t
 by_turn s t m = quietly s t m.held m.rows
 
-pub step_streams : (x : Step) (s : ScreenValue) → IsStreamed x → Held s → Streamed (calls_of x s) (sent_off x s) s (scrolled x s)
+pub step_streams : (x : Step) (s : ScreenValue) → IsStreamed x →
+    Held s → Streamed (calls_of x s) (sent_off x s) s (scrolled x s)
 step_streams (Print c) s i k =
-    sends s.is_alternate s (stepped (Print c) s) (printed_out c s.attrs s.page) (rows_printed_out c s.attrs s.page k.sound) k
+    sends s.is_alternate s (stepped (Print c) s) (printed_out c s.attrs s.page)
+    (rows_printed_out c s.attrs s.page k.sound) k
     (let same = same_printed c s.attrs s.page in
-    let held = held_page s.page (printed c s.attrs s.page) s.other s.scrollback s.last (page_printed c s.attrs s.page i.0 i.1 k.sound) same k in
-    record { sound = held.sound; other = held.other; rows = held.rows; wide = held.wide; last = printed_last (becomes_last s (columns_of c)) c s.last i k.last })
+    let held = held_page s.page (printed c s.attrs s.page) s.other s.scrollback
+    s.last (page_printed c s.attrs s.page i.0 i.1 k.sound) same k in
+    record {
+      sound = held.sound;
+      other = held.other;
+      rows = held.rows;
+      wide = held.wide;
+      last = printed_last (becomes_last s (columns_of c)) c s.last i k.last;
+    })
     refl (same_printed c s.attrs s.page).width
 step_streams LineFeed s i k =
     sends s.is_alternate s (stepped LineFeed s) (fed_out s.page) (rows_fed_out s.page k.sound) k
-    (held_page s.page (line_feed s.page) s.other s.scrollback s.last (page_line_feed s.page k.sound) (same_line_feed s.page) k) refl (same_line_feed s.page).width
+    (held_page s.page (line_feed s.page) s.other s.scrollback s.last
+    (page_line_feed s.page k.sound) (same_line_feed s.page) k)
+    refl (same_line_feed s.page).width
 step_streams (ScrollUp count) s i k =
-    sends s.is_alternate s (stepped (ScrollUp count) s) (scrolled_out count s.page) (rows_scrolled_out count s.page k.sound) k
-    (held_page s.page (scrolled_up count s.page) s.other s.scrollback s.last (page_scrolled_up count s.page k.sound) (same_scrolled_up count s.page) k) refl (same_scrolled_up count s.page).width
+    sends s.is_alternate s (stepped (ScrollUp count) s)
+    (scrolled_out count s.page) (rows_scrolled_out count s.page k.sound) k
+    (held_page s.page (scrolled_up count s.page) s.other s.scrollback s.last
+    (page_scrolled_up count s.page k.sound) (same_scrolled_up count s.page) k)
+    refl (same_scrolled_up count s.page).width
 step_streams EraseScrollback s i k = gives_up s.is_alternate s k
 step_streams (Tell call) s i k =
     let q = quietly s s k refl in
-    record { held = k; alike = ap (λ (xs : List RowValue). map trimmed_row ((xs ++ []) ++ s.scrollback.rows)) i ∙ q.alike }
+    record {
+      held = k;
+      alike = ap (λ (xs : List RowValue). map trimmed_row ((xs ++ []) ++ s.scrollback.rows)) i ∙ q.alike;
+    }
 step_streams Reset s i k = absurd i
 step_streams EnterAlternate s i k = by_turn s (entered s) (turned_entered s k)
 step_streams EnterFresh s i k =
     let saves = turned_saved s k in
-    by_turn s (entered_fresh s) (turned_fresh s (entered (saved s)) k (turned_then s (saved s) (entered (saved s)) saves (turned_entered (saved s) saves.held)))
+    by_turn s (entered_fresh s) (turned_fresh s (entered (saved s)) k
+    (turned_then s (saved s) (entered (saved s)) saves (turned_entered (saved s) saves.held)))
 step_streams LeaveAlternate s i k = by_turn s (left s) (turned_left s k)
-step_streams LeaveRestoring s i k = let leaves = turned_left s k in by_turn s (left_restored s) (turned_then s (left s) (left_restored s) leaves (turned_restored (left s) leaves.held))
-step_streams CarriageReturn s i k = on_page (carriage_return s.page) s (page_carriage_return s.page k.sound) (same_carriage_return s.page) k
-step_streams ReverseIndex s i k = on_page (reverse_index s.page) s (page_reverse_index s.page k.sound) (same_reverse_index s.page) k
-step_streams (MoveUp count) s i k = on_page (moved_up count s.page) s (page_moved_up count s.page k.sound) (same_moved_up count s.page) k
-step_streams (MoveDown count) s i k = on_page (moved_down count s.page) s (page_moved_down count s.page k.sound) (same_moved_down count s.page) k
-step_streams (MoveRight count) s i k = on_page (moved_right count s.page) s (page_moved_right count s.page k.sound) (same_moved_right count s.page) k
-step_streams (MoveLeft count) s i k = on_page (moved_left count s.page) s (page_moved_left count s.page k.sound) (same_moved_left count s.page) k
-step_streams (NextLine count) s i k = on_page (next_line count s.page) s (page_next_line count s.page k.sound) (same_next_line count s.page) k
-step_streams (PreviousLine count) s i k = on_page (previous_line count s.page) s (page_previous_line count s.page k.sound) (same_previous_line count s.page) k
+step_streams LeaveRestoring s i k =
+    let leaves = turned_left s k in
+    by_turn s (left_restored s) (turned_then s (left s) (left_restored s) leaves (turned_restored (left s) leaves.held))
+step_streams CarriageReturn s i k =
+    on_page (carriage_return s.page) s (page_carriage_return s.page k.sound) (same_carriage_return s.page) k
+step_streams ReverseIndex s i k =
+    on_page (reverse_index s.page) s (page_reverse_index s.page k.sound) (same_reverse_index s.page) k
+step_streams (MoveUp count) s i k =
+    on_page (moved_up count s.page) s (page_moved_up count s.page k.sound) (same_moved_up count s.page) k
+step_streams (MoveDown count) s i k =
+    on_page (moved_down count s.page) s (page_moved_down count s.page k.sound) (same_moved_down count s.page) k
+step_streams (MoveRight count) s i k =
+    on_page (moved_right count s.page) s (page_moved_right count s.page k.sound) (same_moved_right count s.page) k
+step_streams (MoveLeft count) s i k =
+    on_page (moved_left count s.page) s (page_moved_left count s.page k.sound) (same_moved_left count s.page) k
+step_streams (NextLine count) s i k =
+    on_page (next_line count s.page) s (page_next_line count s.page k.sound) (same_next_line count s.page) k
+step_streams (PreviousLine count) s i k =
+    on_page (previous_line count s.page) s (page_previous_line count s.page k.sound) (same_previous_line count s.page) k
 step_streams Tab s i k = on_page (tabbed s.page) s (page_tabbed s.page k.sound) (same_tabbed s.page) k
-step_streams (MoveTo row col) s i k = on_page (moved_to row col s.page) s (page_moved_to row col s.page k.sound) (same_moved_to row col s.page) k
-step_streams (MoveToColumn col) s i k = on_page (moved_to_column col s.page) s (page_moved_to_column col s.page k.sound) (same_moved_to_column col s.page) k
-step_streams (MoveToRow row) s i k = on_page (moved_to_row row s.page) s (page_moved_to_row row s.page k.sound) (same_moved_to_row row s.page) k
-step_streams (SetRegion top bottom) s i k = on_page (region_set top bottom s.page) s (page_region_set top bottom s.page k.sound) (same_region_set top bottom s.page) k
-step_streams (UseOrigin on) s i k = on_page (origin_set on s.page) s (page_origin_set on s.page k.sound) (same_origin_set on s.page) k
-step_streams EraseBelow s i k = on_page (erased_below s.attrs s.page) s (page_erased_below s.attrs s.page k.sound) (same_erased_below s.attrs s.page) k
-step_streams EraseAbove s i k = on_page (erased_above s.attrs s.page) s (page_erased_above s.attrs s.page k.sound) (same_erased_above s.attrs s.page k.sound) k
-step_streams ErasePage s i k = on_page (erased_page s.attrs s.page) s (page_erased_page s.attrs s.page k.sound) (same_erased_page s.attrs s.page) k
-step_streams EraseRest s i k = on_page (erased_rest s.attrs s.page) s (page_erased_rest s.attrs s.page k.sound) (same_erased_rest s.attrs s.page) k
-step_streams EraseStart s i k = on_page (erased_start s.attrs s.page) s (page_erased_start s.attrs s.page k.sound) (same_erased_start s.attrs s.page) k
-step_streams EraseRow s i k = on_page (erased_row s.attrs s.page) s (page_erased_row s.attrs s.page k.sound) (same_erased_row s.attrs s.page) k
-step_streams (EraseChars count) s i k = on_page (erased_chars count s.attrs s.page) s (page_erased_chars count s.attrs s.page k.sound) (same_erased_chars count s.attrs s.page) k
-step_streams (InsertChars count) s i k = on_page (chars_inserted count s.page) s (page_chars_inserted count s.page k.sound) (same_chars_inserted count s.page) k
-step_streams (DeleteChars count) s i k = on_page (chars_deleted count s.page) s (page_chars_deleted count s.page k.sound) (same_chars_deleted count s.page) k
-step_streams (InsertLines count) s i k = on_page (lines_inserted count s.page) s (page_lines_inserted count s.page k.sound) (same_lines_inserted count s.page) k
-step_streams (DeleteLines count) s i k = on_page (lines_deleted count s.page) s (page_lines_deleted count s.page k.sound) (same_lines_deleted count s.page) k
-step_streams (ScrollDown count) s i k = on_page (scrolled_down count s.page) s (page_scrolled_down count s.page k.sound) (same_scrolled_down count s.page) k
+step_streams (MoveTo row col) s i k =
+    on_page (moved_to row col s.page) s (page_moved_to row col s.page k.sound) (same_moved_to row col s.page) k
+step_streams (MoveToColumn col) s i k =
+    on_page (moved_to_column col s.page) s (page_moved_to_column col s.page k.sound) (same_moved_to_column col s.page) k
+step_streams (MoveToRow row) s i k =
+    on_page (moved_to_row row s.page) s (page_moved_to_row row s.page k.sound) (same_moved_to_row row s.page) k
+step_streams (SetRegion top bottom) s i k =
+    on_page (region_set top bottom s.page) s
+    (page_region_set top bottom s.page k.sound) (same_region_set top bottom s.page) k
+step_streams (UseOrigin on) s i k =
+    on_page (origin_set on s.page) s (page_origin_set on s.page k.sound) (same_origin_set on s.page) k
+step_streams EraseBelow s i k =
+    on_page (erased_below s.attrs s.page) s
+    (page_erased_below s.attrs s.page k.sound) (same_erased_below s.attrs s.page) k
+step_streams EraseAbove s i k =
+    on_page (erased_above s.attrs s.page) s (page_erased_above s.attrs s.page k.sound)
+    (same_erased_above s.attrs s.page k.sound) k
+step_streams ErasePage s i k =
+    on_page (erased_page s.attrs s.page) s (page_erased_page s.attrs s.page k.sound) (same_erased_page s.attrs s.page) k
+step_streams EraseRest s i k =
+    on_page (erased_rest s.attrs s.page) s (page_erased_rest s.attrs s.page k.sound) (same_erased_rest s.attrs s.page) k
+step_streams EraseStart s i k =
+    on_page (erased_start s.attrs s.page) s
+    (page_erased_start s.attrs s.page k.sound) (same_erased_start s.attrs s.page) k
+step_streams EraseRow s i k =
+    on_page (erased_row s.attrs s.page) s (page_erased_row s.attrs s.page k.sound) (same_erased_row s.attrs s.page) k
+step_streams (EraseChars count) s i k =
+    on_page (erased_chars count s.attrs s.page) s
+    (page_erased_chars count s.attrs s.page k.sound) (same_erased_chars count s.attrs s.page) k
+step_streams (InsertChars count) s i k =
+    on_page (chars_inserted count s.page) s
+    (page_chars_inserted count s.page k.sound) (same_chars_inserted count s.page) k
+step_streams (DeleteChars count) s i k =
+    on_page (chars_deleted count s.page) s (page_chars_deleted count s.page k.sound) (same_chars_deleted count s.page) k
+step_streams (InsertLines count) s i k =
+    on_page (lines_inserted count s.page) s
+    (page_lines_inserted count s.page k.sound) (same_lines_inserted count s.page) k
+step_streams (DeleteLines count) s i k =
+    on_page (lines_deleted count s.page) s (page_lines_deleted count s.page k.sound) (same_lines_deleted count s.page) k
+step_streams (ScrollDown count) s i k =
+    on_page (scrolled_down count s.page) s (page_scrolled_down count s.page k.sound) (same_scrolled_down count s.page) k
 step_streams SaveCursor s i k = by_turn s (saved s) (turned_saved s k)
 step_streams RestoreCursor s i k = by_turn s (restored s) (turned_restored s k)
 step_streams (Render setting) s i k = quietly s (stepped (Render setting) s) k refl
@@ -275,21 +404,27 @@ step_streams (SetCursorStyle look) s i k = quietly s (stepped (SetCursorStyle lo
 
 -- ---- steps, one after the other
 
-pub streamed_then : (calls more : List CallValue) (gone later : List RowValue) (s t u : ScreenValue) → Streamed calls gone s t → Streamed more later t u → Streamed (calls ++ more) (gone ++ later) s u
+pub streamed_then : (calls more : List CallValue) (gone later : List RowValue) (s t u : ScreenValue) →
+    Streamed calls gone s t → Streamed more later t u → Streamed (calls ++ more) (gone ++ later) s u
 streamed_then calls more gone later s t u a b = record {
   held = b.held;
-  alike = ap (map trimmed_row) (ap (λ (xs : List RowValue). xs ++ u.scrollback.rows) (told_append calls more) ∙ append_assoc (rows_told calls) (rows_told more) u.scrollback.rows)
-      ∙ alike_then (rows_told calls) (rows_told calls) (rows_told more ++ u.scrollback.rows) (t.scrollback.rows ++ later) refl b.alike
+  alike =
+      ap (map trimmed_row) (ap (λ (xs : List RowValue). xs ++ u.scrollback.rows) (told_append calls more)
+      ∙ append_assoc (rows_told calls) (rows_told more) u.scrollback.rows)
+      ∙ alike_then (rows_told calls) (rows_told calls)
+      (rows_told more ++ u.scrollback.rows) (t.scrollback.rows ++ later) refl b.alike
       ∙ ap (map trimmed_row) (sym (append_assoc (rows_told calls) t.scrollback.rows later))
       ∙ alike_then (rows_told calls ++ t.scrollback.rows) (s.scrollback.rows ++ gone) later later a.alike refl
       ∙ ap (map trimmed_row) (append_assoc s.scrollback.rows gone later);
 }
 
-pub steps_stream : (steps : List Step) (s : ScreenValue) → AllByRecursion IsStreamed steps → Held s → Streamed (calls_of_all steps s) (sent_off_all steps s) s (stepped_all steps s)
+pub steps_stream : (steps : List Step) (s : ScreenValue) → AllByRecursion IsStreamed steps →
+    Held s → Streamed (calls_of_all steps s) (sent_off_all steps s) s (stepped_all steps s)
 steps_stream [] s i k = record { held = k; alike = ap (map trimmed_row) (sym (append-nil s.scrollback.rows)) }
 steps_stream (x ∷ steps) s i k =
     let one = step_streams x s i.0 k in
-    streamed_then (calls_of x s) (calls_of_all steps (scrolled x s)) (sent_off x s) (sent_off_all steps (scrolled x s)) s (scrolled x s) (stepped_all steps (scrolled x s)) one
+    streamed_then (calls_of x s) (calls_of_all steps (scrolled x s)) (sent_off x s)
+    (sent_off_all steps (scrolled x s)) s (scrolled x s) (stepped_all steps (scrolled x s)) one
     (steps_stream steps (scrolled x s) i.1 one.held)
 
 -- ---- other rows come into view
@@ -309,17 +444,31 @@ view_streams n s k = by s.is_alternate where
       wide = wide_viewed (length s.page.rows) s.page.width n s.scrollback k.wide;
       last = k.last;
     };
-    alike = alike_viewed (length s.page.rows) s.page.width n s.scrollback k.rows k.wide ∙ ap (map trimmed_row) (sym (append-nil s.scrollback.rows));
+    alike =
+        alike_viewed (length s.page.rows) s.page.width n s.scrollback k.rows k.wide
+        ∙ ap (map trimmed_row) (sym (append-nil s.scrollback.rows));
   }
 
 -- ---- a fresh screen
 
 -- every screen, if no row of its scrollback that goes on below is short
 pub held_screen : (s : ScreenValue) → IsScreen s → HasWideFlags s → Held s
-held_screen s is wide = record { sound = is.page; other = by s.other is.other; rows = is.scrollback.sound; wide = wide; last = is.last } where
+held_screen s is wide = record {
+  sound = is.page;
+  other = by s.other is.other;
+  rows = is.scrollback.sound;
+  wide = wide;
+  last = is.last;
+} where
   by : (o : Option Page) → IfSome o (λ page. IsPage page × SameSize page s.page) → IfSome o (IsLike s.page)
   by (Some page) both = record { sound = both.0; same = both.1 }
   by None both = tt
 
 pub held_fresh : (rows cols capacity : ℕ) → IsPage (blank_page rows cols) → Held (fresh_screen rows cols capacity)
-held_fresh rows cols capacity sound = record { sound = sound; other = tt; rows = λ i d h. absurd (omega (arith, h)); wide = λ i d h. absurd (omega (arith, h)); last = tt }
+held_fresh rows cols capacity sound = record {
+  sound = sound;
+  other = tt;
+  rows = λ i d h. absurd (omega (arith, h));
+  wide = λ i d h. absurd (omega (arith, h));
+  last = tt;
+}

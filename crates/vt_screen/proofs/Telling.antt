@@ -27,34 +27,49 @@ same_some : {A : Type 0} (x y : A) → Some x ≡ Some y → x ≡ y
 same_some x y e = cc
 
 -- one text read by one terminal shows one picture
-tells : (a b : Picture) (text more : List ℕ) (reader : ScreenValue) → Becomes a text reader → Becomes b more reader → text ≡ more → SamePictureSize a b → b.width ≡ reader.page.width → a ≡ b
+tells : (a b : Picture) (text more : List ℕ) (reader : ScreenValue) → Becomes a text reader →
+    Becomes b more reader → text ≡ more → SamePictureSize a b → b.width ≡ reader.page.width → a ≡ b
 unfolding shows
 tells a b text more reader one two e size width =
     let left = terminal start (showing a one.saved one.last reader) in
     let right = terminal start (showing b two.saved two.last reader) in
-    let same : left ≡ right = same_some left right (sym one.reads ∙ (ap (read (terminal start reader)) e ∙ two.reads)) in
-    ap (λ (w : ℕ). record a { width = w }) (size.width ∙ width) ∙ (ap shows same ∙ ap (λ (w : ℕ). record b { width = w }) (sym width))
+    let same : left ≡ right =
+    same_some left right (sym one.reads ∙ (ap (read (terminal start reader)) e ∙ two.reads)) in
+    ap (λ (w : ℕ). record a { width = w }) (size.width ∙ width)
+    ∙ (ap shows same ∙ ap (λ (w : ℕ). record b { width = w }) (sym width))
 
 -- texts that redraw two screens are equal only if both show the same
-pub redraws_tell : (a b : ScreenValue) → IsScreen a → IsColored a → IsSteady (shown a) → IsScreen b → IsColored b → IsSteady (shown b) → SamePictureSize (shown a) (shown b) → bytes_of_all (redraw (shown a)) ≡ bytes_of_all (redraw (shown b)) → shown a ≡ shown b
+pub redraws_tell : (a b : ScreenValue) → IsScreen a → IsColored a → IsSteady (shown a) →
+    IsScreen b → IsColored b → IsSteady (shown b) → SamePictureSize (shown a) (shown b) →
+    bytes_of_all (redraw (shown a)) ≡ bytes_of_all (redraw (shown b)) → shown a ≡ shown b
 redraws_tell a b is colored steady other colored_other steady_other size e =
     let x = shown a in
     let y = shown b in
     let reader = blank_reader y in
     let plain = showing_plain y (shown_is b other) in
-    let one = drawing_read (redraw x) x reader (redraw_fits x (shown_is a is) (shown_colored a is colored)) (redraw_draws x (canvas.showing y) (shown_is a is) steady (shown_is b other) plain size) in
-    let two = drawing_read (redraw y) y reader (redraw_fits y (shown_is b other) (shown_colored b other colored_other)) (redraw_draws y (canvas.showing y) (shown_is b other) steady_other (shown_is b other) plain (record { width = refl; height = refl })) in
+    let one = drawing_read (redraw x) x reader (redraw_fits x (shown_is a is) (shown_colored a is colored))
+    (redraw_draws x (canvas.showing y) (shown_is a is) steady (shown_is b other) plain size) in
+    let two = drawing_read (redraw y) y reader (redraw_fits y (shown_is b other) (shown_colored b other colored_other))
+    (redraw_draws y (canvas.showing y) (shown_is b other) steady_other
+    (shown_is b other) plain (record { width = refl; height = refl })) in
     tells x y (bytes_of_all (redraw x)) (bytes_of_all (redraw y)) reader one two e size refl
 
 -- a difference is empty only where both screens show the same
-pub difference_tells : (a b : ScreenValue) → IsScreen a → IsColored a → IsSteady (shown a) → IsScreen b → IsColored b → SamePictureSize (shown a) (shown b) → bytes_of_all (difference (shown a) (shown b)) ≡ [] → shown a ≡ shown b
+pub difference_tells : (a b : ScreenValue) → IsScreen a → IsColored a → IsSteady (shown a) → IsScreen b → IsColored b →
+    SamePictureSize (shown a) (shown b) → bytes_of_all (difference (shown a) (shown b)) ≡ [] → shown a ≡ shown b
 difference_tells a b is colored steady other colored_other size e =
     let x = shown a in
     let y = shown b in
     let reader = blank_reader y in
     let plain = showing_plain y (shown_is b other) in
-    let one = drawing_read (difference x y) x reader (difference_fits x y (shown_is a is) (shown_colored a is colored) colored_other.attrs) (difference_draws x y (canvas.showing y) (shown_is a is) steady (shown_is b other) size plain refl) in
-    let two : Becomes y [] reader = record { saved = record { row = 0; column = 0; origin = reader.page.origin; attrs = reader.saved_attrs }; last = reader.last; reads = refl } in
+    let one = drawing_read (difference x y) x reader
+    (difference_fits x y (shown_is a is) (shown_colored a is colored) colored_other.attrs)
+    (difference_draws x y (canvas.showing y) (shown_is a is) steady (shown_is b other) size plain refl) in
+    let two : Becomes y [] reader = record {
+      saved = record { row = 0; column = 0; origin = reader.page.origin; attrs = reader.saved_attrs };
+      last = reader.last;
+      reads = refl;
+    } in
     tells x y (bytes_of_all (difference x y)) [] reader one two e size refl
 
 -- and between equal pictures nothing is written

@@ -1,5 +1,6 @@
 -- A text of printable ASCII that its row has room for: the steps of its characters, one after the other.
-use Rattle.std.proofs.Common.{◌≡◌, ℕ, suc, ◌-◌, ◌<◌, ◌≤◌, Bool, true, false, List, [], ◌∷◌, length, get_or, refl, sym, ap, subst, ◌∙◌, Option, arith}
+use Rattle.std.proofs.Common.{◌≡◌, ℕ, suc, ◌-◌, ◌<◌, ◌≤◌, Bool, true, false, List, [], ◌∷◌}
+use Rattle.std.proofs.Common.{length, get_or, refl, sym, ap, subst, ◌∙◌, Option, arith}
 use Rattle.std.specs.Prelude.{Some, if◌then◌else◌}
 use Rattle.std.specs.List.{FoldsTo}
 use Rattle.std.proofs.Math.Utf8.{low_scalar}
@@ -32,52 +33,72 @@ IsPrintable-ascii c h = (low_scalar c (omega arith), λ e. absurd (omega (arith,
 
 -- ---- the screen after them
 
-last_printed : (c : ℕ) (screen : ScreenValue) → 0x20 ≤ c → c < 0x7F → 0 < screen.page.width → last_after c screen ≡ Some c
+last_printed : (c : ℕ) (screen : ScreenValue) → 0x20 ≤ c →
+    c < 0x7F → 0 < screen.page.width → last_after c screen ≡ Some c
 last_printed c screen low high some = rw (columns_of-ascii c low high) (grind (arith, nat_tests))
 
 -- the screen on which this text was printed
 abbrev with_text : List ℕ → ScreenValue → ScreenValue
-with_text text screen = record screen { page = printed_text text screen.attrs screen.page; last = Some (get_or text (length text - 1) 0) }
+with_text text screen =
+    record screen { page = printed_text text screen.attrs screen.page; last = Some (get_or text (length text - 1) 0) }
 
-pub text_stepped_is : (text : List ℕ) (screen : ScreenValue) → 0 < length text → IsPrintableText text → 0 < screen.page.width → text_stepped text screen ≡ with_text text screen
+pub text_stepped_is : (text : List ℕ) (screen : ScreenValue) → 0 < length text →
+    IsPrintableText text → 0 < screen.page.width → text_stepped text screen ≡ with_text text screen
 text_stepped_is [] screen some h width = absurd (omega (arith, some))
 text_stepped_is (c ∷ []) screen some h width =
     let first = All-head (λ b. (0x20 ≤ b) × (b < 0x7F)) c [] h in
-    ap (λ (last : Option ℕ). record screen { page = printed c screen.attrs screen.page; last = last }) (last_printed c screen first.0 first.1 width)
+    ap (λ (last : Option ℕ). record screen { page = printed c screen.attrs screen.page; last = last })
+    (last_printed c screen first.0 first.1 width)
 text_stepped_is (c ∷ d ∷ text) screen some h width =
     let next = stepped (Print c) screen in
     let same = same_printed c screen.attrs screen.page in
     let wide : 0 < next.page.width = omega (arith, same.width, width) in
     let i : length (c ∷ d ∷ text) - 1 ≡ suc (length (d ∷ text) - 1) = omega arith in
-    let last : get_or (d ∷ text) (length (d ∷ text) - 1) 0 ≡ get_or (c ∷ d ∷ text) (length (c ∷ d ∷ text) - 1) 0 = sym (ap (λ (k : ℕ). get_or (c ∷ d ∷ text) k 0) i) in
+    let last : get_or (d ∷ text) (length (d ∷ text) - 1) 0 ≡ get_or (c ∷ d ∷ text) (length (c ∷ d ∷ text) - 1) 0 =
+    sym (ap (λ (k : ℕ). get_or (c ∷ d ∷ text) k 0) i) in
     text_stepped_is (d ∷ text) next (omega arith) (All-tail (λ b. (0x20 ≤ b) × (b < 0x7F)) c (d ∷ text) h) wide
     ∙ ap (λ (l : ℕ). record screen { page = printed_text (c ∷ d ∷ text) screen.attrs screen.page; last = Some l }) last
 
-kept_each : (text : List ℕ) (attrs : Attrs) (page : Page) (last : Option ℕ) (aside : Aside) → IsPrintableText text → FitsAttrs attrs → IsKept page last aside → IsKept (printed_text text attrs page) last aside
+kept_each : (text : List ℕ) (attrs : Attrs) (page : Page) (last : Option ℕ) (aside : Aside) → IsPrintableText text →
+    FitsAttrs attrs → IsKept page last aside → IsKept (printed_text text attrs page) last aside
 kept_each [] attrs page last aside h fits k = k
 kept_each (c ∷ text) attrs page last aside h fits k =
     let first = All-head (λ b. (0x20 ≤ b) × (b < 0x7F)) c text h in
     let shown = IsPrintable-ascii c first.1 in
-    kept_each text attrs (printed c attrs page) last aside (All-tail (λ b. (0x20 ≤ b) × (b < 0x7F)) c text h) fits (kept_printed c attrs page last last aside shown.0 shown.1 k.printable fits k)
+    kept_each text attrs (printed c attrs page) last aside (All-tail (λ b. (0x20 ≤ b) × (b < 0x7F)) c text h)
+    fits (kept_printed c attrs page last last aside shown.0 shown.1 k.printable fits k)
 
-pub kept_text : (text : List ℕ) (attrs : Attrs) (page : Page) (last : Option ℕ) (c : ℕ) (aside : Aside) → IsPrintableText text → c < 0x7F → FitsAttrs attrs → IsKept page last aside → IsKept (printed_text text attrs page) (Some c) aside
-kept_text text attrs page last c aside h low fits k = kept_last (printed_text text attrs page) last (Some c) aside (IsPrintable-ascii c low) (kept_each text attrs page last aside h fits k)
+pub kept_text : (text : List ℕ) (attrs : Attrs) (page : Page) (last : Option ℕ) (c : ℕ) (aside : Aside) →
+    IsPrintableText text → c < 0x7F → FitsAttrs attrs → IsKept page last aside →
+    IsKept (printed_text text attrs page) (Some c) aside
+kept_text text attrs page last c aside h low fits k =
+    kept_last (printed_text text attrs page) last (Some c) aside
+    (IsPrintable-ascii c low) (kept_each text attrs page last aside h fits k)
 
 -- ---- what is reported: nothing
 
-nothing_out : (c : ℕ) (attrs : Attrs) (page : Page) → 0x20 ≤ c → c < 0x7F → page.column < page.width → printed_out c attrs page ≡ []
+nothing_out : (c : ℕ) (attrs : Attrs) (page : Page) → 0x20 ≤ c →
+    c < 0x7F → page.column < page.width → printed_out c attrs page ≡ []
 nothing_out c attrs page low high h = out_narrow c attrs page (columns_of-ascii c low high) ∙ rw (has_room page h) refl
 
 sent_nothing : (b : Bool) (c : ℕ) (screen : ScreenValue) (gone : List RowValue) → gone ≡ [] →
-    stepped (Print c) screen ≡ (if b then stepped (Print c) screen else record (stepped (Print c) screen) { scrollback = pushed (length screen.page.rows) screen.page.width gone screen.scrollback })
+    stepped (Print c) screen
+    ≡ (if b then stepped (Print c) screen
+    else record (stepped (Print c) screen)
+    { scrollback = pushed (length screen.page.rows) screen.page.width gone screen.scrollback })
 sent_nothing true c screen gone e = refl
 sent_nothing false c screen gone e = rw e refl
 
-pub print_scrolls : {S : Type 0} (does : CallValue → S → ScreenValue → S → ScreenValue → Type 0) (c : ℕ) (s : S) (screen : ScreenValue) → 0x20 ≤ c → c < 0x7F → screen.page.column < screen.page.width →
+pub print_scrolls : {S : Type 0} (does : CallValue → S → ScreenValue → S → ScreenValue → Type 0)
+    (c : ℕ) (s : S) (screen : ScreenValue) →
+    0x20 ≤ c → c < 0x7F → screen.page.column < screen.page.width →
     Scrolls does (state s screen) (Print c) (state s (stepped (Print c) screen))
 print_scrolls does c s screen low high room =
     let none = nothing_out c screen.attrs screen.page low high room in
     record {
       screen = sent_nothing screen.is_alternate c screen (printed_out c screen.attrs screen.page) none;
-      heard = subst (λ (gone : List RowValue). FoldsTo (Hears does screen.is_alternate) s (reported gone (above_page screen)) s) (sym none) refl;
+      heard =
+          subst
+          (λ (gone : List RowValue). FoldsTo (Hears does screen.is_alternate) s (reported gone (above_page screen)) s)
+          (sym none) refl;
     }

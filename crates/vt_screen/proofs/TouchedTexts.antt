@@ -14,21 +14,28 @@ use Rattle.vt_screen.specs.Touched.{ReadTouches, TouchesOnly}
 use Rattle.vt_screen.proofs.Shown.{plain_shown, shown_colored, shown_is}
 use Rattle.vt_screen.proofs.TouchedReads.{all_touches}
 
-pub difference_touches : (self prev : ScreenValue) (text : List ℕ) → text ≡ bytes_of_all (difference (shown self) (shown prev)) → IsScreen self → IsColored self → IsSteady (shown self) → IsScreen prev → IsColored prev →
-    SamePictureSize (shown self) (shown prev) → TouchesOnly (IsReaderOf (shown self) (shown prev)) text (IsLocal (shown self) (shown prev))
+pub difference_touches : (self prev : ScreenValue) (text : List ℕ) →
+    text ≡ bytes_of_all (difference (shown self) (shown prev)) → IsScreen self →
+    IsColored self → IsSteady (shown self) → IsScreen prev → IsColored prev →
+    SamePictureSize (shown self) (shown prev) →
+    TouchesOnly (IsReaderOf (shown self) (shown prev)) text (IsLocal (shown self) (shown prev))
 difference_touches self prev text told is colored steady other colored_other size reader r =
     let picture = shown self in
     let before = shown prev in
     let May = IsLocal picture before in
     let page = plain_shown reader r.is.sound r.is.plain in
     let plain = r.is.plain.page in
-    let draws = difference_draws picture before (canvas_of reader) (shown_is self is) steady (shown_is prev other) size plain (sym page ∙ r.shows) in
-    let local = difference_local picture before (canvas_of reader) (shown_is self is) steady (shown_is prev other) size plain (sym page ∙ r.shows) in
+    let draws = difference_draws picture before (canvas_of reader) (shown_is self is)
+    steady (shown_is prev other) size plain (sym page ∙ r.shows) in
+    let local = difference_local picture before (canvas_of reader) (shown_is self is)
+    steady (shown_is prev other) size plain (sym page ∙ r.shows) in
     subst (ReadTouches May _) (sym told)
-    (all_touches May (difference picture before) reader (with_saved draws.0 (with_picture picture (canvas_of reader))) (difference_fits picture before (shown_is self is) (shown_colored self is colored) colored_other.attrs)
+    (all_touches May (difference picture before) reader (with_saved draws.0 (with_picture picture (canvas_of reader)))
+    (difference_fits picture before (shown_is self is) (shown_colored self is colored) colored_other.attrs)
     plain.whole.0 draws.1 local)
 
-pub cursor_touches : (self : ScreenValue) (text : List ℕ) → text ≡ bytes_of_all (cursor_state (shown self)) → IsScreen self → IsColored self → IsSteady (shown self) →
+pub cursor_touches : (self : ScreenValue) (text : List ℕ) → text ≡ bytes_of_all (cursor_state (shown self)) →
+    IsScreen self → IsColored self → IsSteady (shown self) →
     TouchesOnly (IsReaderOfRows (shown self)) text (MayPlace (shown self))
 cursor_touches self text told is colored steady reader r =
     let picture = shown self in
@@ -40,5 +47,6 @@ cursor_touches self text told is colored steady reader r =
     let draws = cursor_state_draws picture (canvas_of reader) (shown_is self is) steady plain rows width r.attrs in
     let local = cursor_state_local picture (canvas_of reader) (shown_is self is) steady plain rows width r.attrs in
     subst (ReadTouches May _) (sym told)
-    (all_touches May (cursor_state picture) reader (with_saved draws.0 (with_cursor_of picture (canvas_of reader))) (cursor_state_fits picture (shown_is self is) (shown_colored self is colored))
+    (all_touches May (cursor_state picture) reader (with_saved draws.0 (with_cursor_of picture (canvas_of reader)))
+    (cursor_state_fits picture (shown_is self is) (shown_colored self is colored))
     plain.whole.0 draws.1 local)

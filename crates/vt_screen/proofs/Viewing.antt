@@ -16,17 +16,29 @@ nothing_is : (above : Scrollback) → IsNothing above → IsScrollback above
 nothing_is above n =
     let none : length above.rows ≡ 0 = ap length n.rows in
     let back = n.offset in
-    record { kept = omega arith; in_view = omega arith; sound = subst (All (λ (row : RowValue). IsRow (length row.cells) row)) (sym n.rows) (All-nil (λ (row : RowValue). IsRow (length row.cells) row)) }
+    record {
+      kept = omega arith;
+      in_view = omega arith;
+      sound =
+          subst (All (λ (row : RowValue). IsRow (length row.cells) row))
+          (sym n.rows) (All-nil (λ (row : RowValue). IsRow (length row.cells) row));
+    }
 
 -- scrollback above the active page
-pub active_is : (b : Bool) (active idle : Scrollback) → IsNothing (alternate_scrollback b active idle) → IsAbove (main_scrollback b active idle) → IsScrollback active
+pub active_is : (b : Bool) (active idle : Scrollback) → IsNothing (alternate_scrollback b active idle) →
+    IsAbove (main_scrollback b active idle) → IsScrollback active
 active_is true active idle n a = nothing_is active n
 active_is false active idle n a = a.sound
 
 -- the picture over scrollback above the active page
-pub viewed_is : (s : ScreenValue) (active idle : Scrollback) → s.scrollback ≡ main_scrollback s.is_alternate active idle → IsNothing (alternate_scrollback s.is_alternate active idle)
-    → picture_over (visible active s.page.rows) (record { page = s.page; attrs = s.attrs; saved_attrs = s.attrs; hidden = s.hidden }) ≡ shown s
-viewed_is s active idle w n = ap (λ (rows : List RowValue). picture_over rows (canvas_of s)) (visible_if s.is_alternate s.page.rows active idle s.scrollback w n)
+pub viewed_is : (s : ScreenValue) (active idle : Scrollback) → s.scrollback ≡ main_scrollback s.is_alternate active idle
+    → IsNothing (alternate_scrollback s.is_alternate active idle)
+    → picture_over (visible active s.page.rows)
+    (record { page = s.page; attrs = s.attrs; saved_attrs = s.attrs; hidden = s.hidden })
+    ≡ shown s
+viewed_is s active idle w n =
+    ap (λ (rows : List RowValue). picture_over rows (canvas_of s))
+    (visible_if s.is_alternate s.page.rows active idle s.scrollback w n)
 
 -- screens whose pages are of one size show pictures of one size
 pub same_shown : (a b : ScreenValue) → SameSize a.page b.page → SamePictureSize (shown a) (shown b)

@@ -20,8 +20,8 @@ pub record IsReaderInAnyRegion (picture : Picture) (reader : ScreenValue) : Type
   pub offset : (above_page reader).offset ≡ 0
   pub size : SamePictureSize picture (shown reader)
 
--- all else is as before, save for the region and origin mode, the saved cursor, the saved origin mode, the saved attributes and the
--- last character: scrollback and its offset, the other page, the modes
+-- all else is as before, save for the region and origin mode, the saved cursor, the saved origin mode, the saved
+-- attributes and the last character: scrollback and its offset, the other page, the modes
 pub record KeepsRestButRegion (reader after : ScreenValue) : Type 0 where
   pub other : after.other ≡ reader.other
   pub is_alternate : after.is_alternate ≡ reader.is_alternate

@@ -1,5 +1,6 @@
 -- The text of a screen without attributes, over the rows that are shown.
-use Rattle.std.specs.Prelude.{ℕ, ◌+◌, ◌-◌, ◌==◌, ◌&&◌, not, min, Bool, false, List, [], ◌∷◌, ◌++◌, length, map, drop, if◌then◌else◌}
+use Rattle.std.specs.Prelude.{ℕ, ◌+◌, ◌-◌, ◌==◌, ◌&&◌, not, min, Bool, false, List}
+use Rattle.std.specs.Prelude.{[], ◌∷◌, ◌++◌, length, map, drop, if◌then◌else◌}
 use Rattle.std.specs.List.{flat_map, range_with_len}
 use Rattle.vt_rows.specs.Plain.{has_glyph, plain_text}
 use Rattle.vt_rows.specs.Row.{RowValue}
@@ -14,10 +15,12 @@ line_end row = if row.wrapped then [] else 0x0A ∷ []
 abbrev pub gap_line : ℕ → Bool → RowValue → List ℕ
 gap_line width goes_on row = if goes_on && not (has_glyph 0 width row.cells) then 0x0A ∷ [] else []
 
--- rows one below the other, each over this many columns; `goes_on` says whether the row above goes on in the first of them
+-- rows one below the other, each over this many columns; `goes_on` says whether the row above goes on in the first of
+-- them
 abbrev pub lines_of : ℕ → Bool → List RowValue → List ℕ
 lines_of width goes_on [] = []
-lines_of width goes_on (row ∷ rows) = gap_line width goes_on row ++ (plain_text 0 width row.cells ++ (line_end row ++ lines_of width row.wrapped rows))
+lines_of width goes_on (row ∷ rows) =
+    gap_line width goes_on row ++ (plain_text 0 width row.cells ++ (line_end row ++ lines_of width row.wrapped rows))
 
 -- a byte before a text; a line end before nothing is dropped
 abbrev pub before : ℕ → List ℕ → List ℕ
@@ -38,7 +41,8 @@ contents_of screen = without_line_ends (lines_of screen.page.width false (visibl
 -- a row of the range: the first one from its column on, the last one up to its column, any other from end to end
 abbrev pub part_of : (start_row start_col end_row end_col : ℕ) → ScreenValue → ℕ → List ℕ
 part_of start_row start_col end_row end_col screen r =
-    plain_text (if r == start_row then start_col else 0) (if r == end_row then end_col else screen.page.width) (visible_row screen r).cells
+    plain_text (if r == start_row then start_col else 0)
+    (if r == end_row then end_col else screen.page.width) (visible_row screen r).cells
     ++ (if r == end_row then [] else line_end (visible_row screen r))
 
 -- the rows from the first to the last one, as far as they are shown

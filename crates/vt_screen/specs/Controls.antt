@@ -1,5 +1,7 @@
 -- The steps of each event: which bytes are which control.
-use Rattle.std.specs.Prelude.{ℕ, ◌-◌, ◌==◌, ◌&&◌, ◌||◌, not, nat_lt, nat_le, Bool, true, false, List, [], ◌∷◌, ◌++◌, length, replicate, slice_index_or, slice_get, Option, Some, None, bytes_eq, codes, if◌then◌else◌}
+use Rattle.std.specs.Prelude.{ℕ, ◌-◌, ◌==◌, ◌&&◌, ◌||◌, not, nat_lt, nat_le, Bool, true, false}
+use Rattle.std.specs.Prelude.{List, [], ◌∷◌, ◌++◌, length, replicate, slice_index_or, slice_get}
+use Rattle.std.specs.Prelude.{Option, Some, None, bytes_eq, codes, if◌then◌else◌}
 use Rattle.std.specs.List.{list_all, list_any}
 use Rattle.vt_cells.specs.declared.modes.MouseProtocolMode.{MouseProtocolMode}
 use Rattle.vt_cells.specs.declared.modes.MouseProtocolMode.TheVariants as mouse
@@ -8,14 +10,23 @@ use Rattle.vt_cells.specs.declared.modes.MouseProtocolEncoding.TheVariants as en
 use Rattle.vt_cells.specs.declared.modes.CursorStyle.{CursorStyle}
 use Rattle.vt_cells.specs.declared.modes.CursorStyle.TheVariants as style
 use Rattle.vt_scan.specs.Automaton.{Event, Character, Executed, EscDispatch, CsiDispatch, OscDispatch}
-use Rattle.vt_screen.specs.Calls.{CallValue, AudibleBell, VisualBell, Resize, SetWindowIconName, SetWindowTitle, CopyToClipboard, PasteFromClipboard, UnhandledChar, UnhandledControl, UnhandledEscape, UnhandledCsi, UnhandledOsc}
+use Rattle.vt_screen.specs.Calls.{CallValue, AudibleBell, VisualBell, Resize, SetWindowIconName}
+use Rattle.vt_screen.specs.Calls.{SetWindowTitle, CopyToClipboard, PasteFromClipboard, UnhandledChar}
+use Rattle.vt_screen.specs.Calls.{UnhandledControl, UnhandledEscape, UnhandledCsi, UnhandledOsc}
 use Rattle.vt_screen.specs.Sgr.{group_read}
 use Rattle.vt_screen.specs.Screen.{ScreenValue}
 use Rattle.vt_screen.specs.declared.sgr.Wanted.{Wanted}
 use Rattle.vt_screen.specs.declared.sgr.Wanted.TheVariants.{Any}
 use Rattle.vt_screen.specs.declared.sgr.Reading.{Reading}
 use Rattle.vt_screen.specs.declared.sgr.Reading.TheVariants.{Silent, Set, Unhandled}
-use Rattle.vt_screen.specs.Steps.{Print, CarriageReturn, LineFeed, ReverseIndex, MoveUp, MoveDown, MoveRight, MoveLeft, NextLine, PreviousLine, Tab, MoveTo, MoveToColumn, MoveToRow, SetRegion, UseOrigin, SaveCursor, RestoreCursor, EnterAlternate, EnterFresh, LeaveAlternate, LeaveRestoring, Reset, EraseBelow, EraseAbove, ErasePage, EraseScrollback, EraseRest, EraseStart, EraseRow, EraseChars, InsertChars, DeleteChars, InsertLines, DeleteLines, ScrollUp, ScrollDown, Render, HideCursor, UseApplicationKeypad, UseApplicationCursor, UseBracketedPaste, SetMouseMode, ClearMouseMode, SetMouseEncoding, ClearMouseEncoding, SetCursorStyle, Tell, Step}
+use Rattle.vt_screen.specs.Steps.{Print, CarriageReturn, LineFeed, ReverseIndex, MoveUp, MoveDown, MoveRight}
+use Rattle.vt_screen.specs.Steps.{MoveLeft, NextLine, PreviousLine, Tab, MoveTo, MoveToColumn, MoveToRow, SetRegion}
+use Rattle.vt_screen.specs.Steps.{UseOrigin, SaveCursor, RestoreCursor, EnterAlternate, EnterFresh, LeaveAlternate}
+use Rattle.vt_screen.specs.Steps.{LeaveRestoring, Reset, EraseBelow, EraseAbove, ErasePage, EraseScrollback}
+use Rattle.vt_screen.specs.Steps.{EraseRest, EraseStart, EraseRow, EraseChars, InsertChars, DeleteChars, InsertLines}
+use Rattle.vt_screen.specs.Steps.{DeleteLines, ScrollUp, ScrollDown, Render, HideCursor, UseApplicationKeypad}
+use Rattle.vt_screen.specs.Steps.{UseApplicationCursor, UseBracketedPaste, SetMouseMode, ClearMouseMode}
+use Rattle.vt_screen.specs.Steps.{SetMouseEncoding, ClearMouseEncoding, SetCursorStyle, Tell, Step}
 
 -- what an event sees of a screen: its size, and the last character that was printed in columns of its own
 pub record Seen : Type 0 where

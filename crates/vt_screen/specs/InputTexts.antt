@@ -1,7 +1,8 @@
 -- The texts that set the input modes of a terminal as a screen has them.
 use Rattle.std.specs.Prelude.{ℕ, Bool, List, [], ◌++◌, if◌then◌else◌}
 use Rattle.vt_cells.specs.Attrs.{same_bool}
-use Rattle.vt_cells.specs.InputModes.{keypad_text, application_cursor_text, bracketed_paste_text, mouse_mode_change, mouse_encoding_change, cursor_style_change}
+use Rattle.vt_cells.specs.InputModes.{keypad_text, application_cursor_text, bracketed_paste_text}
+use Rattle.vt_cells.specs.InputModes.{mouse_mode_change, mouse_encoding_change, cursor_style_change}
 use Rattle.vt_screen.specs.Screen.{Modes, no_modes}
 
 -- mouse mode, mouse encoding and look of the cursor, from one to another

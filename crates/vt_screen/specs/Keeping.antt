@@ -1,5 +1,6 @@
 -- What the fields of a screen are together; for its model only.
-use Rattle.std.specs.Prelude.{◌≡◌, ℕ, ◌≤◌, Bool, true, [], Option, Some, None, IfSome, IsSome, option_map, not, if◌then◌else◌}
+use Rattle.std.specs.Prelude.{◌≡◌, ℕ, ◌≤◌, Bool, true, [], Option, Some, None}
+use Rattle.std.specs.Prelude.{IfSome, IsSome, option_map, not, if◌then◌else◌}
 use Rattle.vt_grid.specs.Page.{Page, IsPage}
 use Rattle.vt_grid.specs.Scrollback.{Scrollback, IsScrollback, no_scrollback}
 use Rattle.vt_grid.specs.Resize.{page_resized, scrollback_resized}
@@ -8,8 +9,8 @@ use Rattle.vt_screen.specs.Pages.{fresh_page, page_aside}
 use Rattle.vt_screen.specs.Screen.{ScreenValue, IsPrintable}
 pub use Rattle.vt_screen.specs.Screen.{IsColoredCell, IsColoredRow, AreColored}
 
--- what a screen has beside its active page: the other page, which of them is active, scrollback above the active one, and above the
--- other one
+-- what a screen has beside its active page: the other page, which of them is active, scrollback above the active one,
+-- and above the other one
 pub record Aside : Type 0 where
   pub other : Option Page
   pub is_alternate : Bool
@@ -56,7 +57,8 @@ with_other screen = record screen { other = Some (page_aside screen) }
 
 -- the two pages exchanged, if there are two
 abbrev pub exchanged_with : Option Page → ScreenValue → ScreenValue
-exchanged_with (Some page) screen = record screen { page = page; other = Some screen.page; is_alternate = not screen.is_alternate }
+exchanged_with (Some page) screen =
+    record screen { page = page; other = Some screen.page; is_alternate = not screen.is_alternate }
 exchanged_with None screen = screen
 
 abbrev pub exchanged : ScreenValue → ScreenValue

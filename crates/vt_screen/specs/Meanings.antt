@@ -17,5 +17,6 @@ call_of (call.PasteFromClipboard kind) = value.PasteFromClipboard kind.now
 call_of (call.UnhandledChar code) = value.UnhandledChar code
 call_of (call.UnhandledControl byte) = value.UnhandledControl byte
 call_of (call.UnhandledEscape first second byte) = value.UnhandledEscape first second byte
-call_of (call.UnhandledCsi first second groups byte) = value.UnhandledCsi first second (map (λ group. group.now) groups.now) byte
+call_of (call.UnhandledCsi first second groups byte) =
+    value.UnhandledCsi first second (map (λ group. group.now) groups.now) byte
 call_of (call.UnhandledOsc parts) = value.UnhandledOsc (map (λ part. part.now) parts.now)

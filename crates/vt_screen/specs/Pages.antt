@@ -1,5 +1,6 @@
 -- The two pages of a screen (xterm's private modes 47 and 1049; DECSC, DECRC and RIS in the VT510 manual).
-use Rattle.std.specs.Prelude.{ℕ, ◌==◌, ◌&&◌, Bool, true, false, List, [], ◌++◌, length, map, Option, Some, None, option_map, unwrap_or, if◌then◌else◌}
+use Rattle.std.specs.Prelude.{ℕ, ◌==◌, ◌&&◌, Bool, true, false, List, [], ◌++◌, length, map}
+use Rattle.std.specs.Prelude.{Option, Some, None, option_map, unwrap_or, if◌then◌else◌}
 use Rattle.vt_grid.specs.Page.{Page, blank_page}
 use Rattle.vt_grid.specs.Moves.{cursor_saved, cursor_restored}
 use Rattle.vt_grid.specs.Resize.{out_of_view, page_resized, scrollback_resized, resize_reports}
@@ -26,15 +27,23 @@ restored screen = record screen { page = cursor_restored screen.page; attrs = sc
 abbrev pub entered : ScreenValue → ScreenValue
 entered screen =
     if screen.is_alternate then screen
-    else record screen { page = page_aside screen; other = Some screen.page; is_alternate = true; scrollback = out_of_view screen.scrollback }
+    else record screen {
+      page = page_aside screen;
+      other = Some screen.page;
+      is_alternate = true;
+      scrollback = out_of_view screen.scrollback;
+    }
 
--- all is saved on the active page, and a fresh alternate page is entered; where that was the active one, what was saved on it goes too
+-- all is saved on the active page, and a fresh alternate page is entered;
+-- where that was the active one, what was saved on it goes too
 abbrev pub entered_fresh : ScreenValue → ScreenValue
 entered_fresh screen = record (entered (saved screen)) { page = fresh_page screen }
 
 -- the main page becomes the active one
 abbrev pub left : ScreenValue → ScreenValue
-left screen = if screen.is_alternate then record screen { page = page_aside screen; other = Some screen.page; is_alternate = false } else screen
+left screen =
+    if screen.is_alternate
+    then record screen { page = page_aside screen; other = Some screen.page; is_alternate = false } else screen
 
 -- the main page becomes the active one, and its saved cursor and origin mode and the saved attributes are restored
 abbrev pub left_restored : ScreenValue → ScreenValue
@@ -76,8 +85,10 @@ abbrev pub reports_of : (alternate : Bool) (rows : ℕ) → Option Page → Scro
 reports_of alternate rows (Some page) above = map (λ row. OnScroll row alternate) (resize_reports rows page above)
 reports_of alternate rows None above = []
 
--- the calls on the way: for the rows that leave the main page and aren't kept, and then for those that leave the alternate one
+-- the calls on the way: for the rows that leave the main page and aren't kept,
+-- and then for those that leave the alternate one
 abbrev pub calls_resized : (rows cols : ℕ) → ScreenValue → List CallValue
 calls_resized rows cols screen =
     if has_size rows cols screen then []
-    else reports_of false rows (Some (main_page screen)) screen.scrollback ++ reports_of true rows (alternate_page screen) (no_scrollback 0)
+    else reports_of false rows (Some (main_page screen)) screen.scrollback
+    ++ reports_of true rows (alternate_page screen) (no_scrollback 0)

@@ -5,7 +5,8 @@ use Rattle.vt_grid.specs.Moves.{feeds_out}
 use Rattle.vt_grid.specs.Printing.{pushes}
 use Rattle.vt_screen.specs.Screen.{ScreenValue}
 use Rattle.vt_screen.specs.Controls.{seen_of, steps_of}
-use Rattle.vt_screen.specs.Steps.{Step, Print, LineFeed, ScrollUp, EraseScrollback, EnterAlternate, EnterFresh, Tell, stepped}
+use Rattle.vt_screen.specs.Steps.{Step, Print, LineFeed, ScrollUp, EraseScrollback}
+use Rattle.vt_screen.specs.Steps.{EnterAlternate, EnterFresh, Tell, stepped}
 use Rattle.vt_scan.specs.Automaton.{State, Event, step_in}
 use Rattle.vt_scan.specs.Table.{class_of, turn_of}
 use Rattle.vt_scan.specs.declared.table.Kind.TheVariants.{OscString}
@@ -29,7 +30,8 @@ quiet_steps (step ∷ steps) screen = and_then (quiet_steps steps) (quiet_step s
 
 abbrev pub quiet_events : List Event → ScreenValue → Option ScreenValue
 quiet_events [] screen = Some screen
-quiet_events (event ∷ events) screen = and_then (quiet_events events) (quiet_steps (steps_of event (seen_of screen)) screen)
+quiet_events (event ∷ events) screen =
+    and_then (quiet_events events) (quiet_steps (steps_of event (seen_of screen)) screen)
 
 -- a byte collected into the text of an operating system command takes memory
 abbrev pub grows : Turn → Bool

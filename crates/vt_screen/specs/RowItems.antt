@@ -8,4 +8,5 @@ module _ {S A : Type 0} (left : S → List (List ℕ)) where
   abbrev pub GivesText : S → Option (Result (String A) Error) → S → Type 0
   GivesText old None new = (left old ≡ []) × (left new ≡ [])
   GivesText old (Some item) new =
-      (text : List ℕ) × (left old ≡ text ∷ left new) × IfOk item (λ string. string_bytes string ≡ text) × IfErr item (λ error. error ≡ OutOfMemory)
+      (text : List ℕ) × (left old ≡ text ∷ left new)
+      × IfOk item (λ string. string_bytes string ≡ text) × IfErr item (λ error. error ≡ OutOfMemory)

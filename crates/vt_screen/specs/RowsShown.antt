@@ -1,4 +1,5 @@
--- The rows of a screen, each as a text that shows it on another terminal, and what such a text makes of the terminals that read it.
+-- The rows of a screen, each as a text that shows it on another terminal,
+-- and what such a text makes of the terminals that read it.
 use Rattle.std.specs.Prelude.{◌≡◌, ◌≢◌, ℕ, ◌+◌, ◌-◌, ◌<◌, ◌≤◌, min, false, true, List, [], length, map, slice_index_or}
 use Rattle.std.specs.List.{range_with_len}
 use Rattle.vt_cells.specs.Attrs.{default_attrs}
@@ -20,11 +21,13 @@ range_end start width columns = min (start + width) columns
 
 -- row r of a picture in a range of columns, for a terminal whose row is blank
 abbrev pub formatted_text : (start stop : ℕ) → Picture → ℕ → List ℕ
-formatted_text start stop picture r = bytes_of_all (item_of_redraw r start stop (is_linked picture.width picture.rows r) (row_of_picture picture r)).ops
+formatted_text start stop picture r =
+    bytes_of_all (item_of_redraw r start stop (is_linked picture.width picture.rows r) (row_of_picture picture r)).ops
 
 -- the same, for a terminal whose row is that of another picture
 abbrev pub changed_text : (start stop : ℕ) → (picture prev : Picture) → ℕ → List ℕ
-changed_text start stop picture prev r = bytes_of_all (item_of_difference r start stop (row_of_picture picture r) (row_of_picture prev r)).ops
+changed_text start stop picture prev r =
+    bytes_of_all (item_of_difference r start stop (row_of_picture picture r) (row_of_picture prev r)).ops
 
 -- the texts of the rows from row r on
 abbrev pub texts_from : (ℕ → List ℕ) → (r height : ℕ) → List (List ℕ)
@@ -36,7 +39,8 @@ text_at texts r = slice_index_or texts r []
 
 -- ---- the terminals that read a row's text
 
--- a plain terminal of a picture's size that has this row as its row r, and the cursor in a column of it, with default attributes
+-- a plain terminal of a picture's size that has this row as its row r,
+-- and the cursor in a column of it, with default attributes
 pub record IsRowReader (picture : Picture) (r c : ℕ) (stood : RowValue) (reader : ScreenValue) : Type 0 where
   pub is : IsReader picture reader
   pub row : reader.page.row ≡ r
@@ -76,9 +80,10 @@ pub record HasLinked (r : ℕ) (shows : RowValue) (reader after : ScreenValue) :
   pub others : (k : ℕ) → k ≢ r → k ≢ r + 1 → row_at after.page k ≡ row_at reader.page k
   pub height : length after.page.rows ≡ length reader.page.rows
 
--- every such terminal reads the text to its end, calling nobody and taking no memory, and then is so; it is plain again, and as before in
--- all that is no part of its page
-pub record Turns (Reader : ScreenValue → Type 0) (text : List ℕ) (Made : (reader after : ScreenValue) → Type 0) : Type 0 where
+-- every such terminal reads the text to its end, calling nobody and taking no memory, and then is so; it is plain
+-- again, and as before in all that is no part of its page
+pub record Turns (Reader : ScreenValue → Type 0) (text : List ℕ)
+    (Made : (reader after : ScreenValue) → Type 0) : Type 0 where
   pub quiet : IsReadBy Reader text
   pub made : Makes Reader text Made
   pub plain : Makes Reader text StaysPlain
@@ -92,7 +97,8 @@ IsWholeRow start width columns = (start ≡ 0) × (columns ≤ width)
 
 -- of each row of a picture of which the range cuts no wide glyph in two
 abbrev pub EachUncut : (start stop : ℕ) → Picture → (ℕ → Type 0) → Type 0
-EachUncut start stop picture P = (r : ℕ) → r < length picture.rows → CutsNone start stop (row_of_picture picture r).cells → P r
+EachUncut start stop picture P =
+    (r : ℕ) → r < length picture.rows → CutsNone start stop (row_of_picture picture r).cells → P r
 
 -- of each row below one that goes on
 abbrev pub EachLinked : Picture → (ℕ → Type 0) → Type 0

@@ -6,7 +6,8 @@ use Rattle.vt_scan.specs.Automaton.{Event}
 use Rattle.vt_screen.specs.Calls.{CallValue, OnScroll}
 use Rattle.vt_screen.specs.Screen.{ScreenValue}
 use Rattle.vt_screen.specs.Controls.{seen_of, steps_of}
-use Rattle.vt_screen.specs.Steps.{Step, Print, LineFeed, ScrollUp, EraseScrollback, Tell, Grows, reports, scrolled, stepped}
+use Rattle.vt_screen.specs.Steps.{Step, Print, LineFeed, ScrollUp, EraseScrollback}
+use Rattle.vt_screen.specs.Steps.{Tell, Grows, reports, scrolled, stepped}
 
 -- what steps act on: callbacks of any kind, and the screen
 pub record State (S : Type 0) : Type 0 where
@@ -21,16 +22,20 @@ abbrev pub Told : {S : Type 0} → (CallValue → S → ScreenValue → S → Sc
 Told does old call new = (screen : ScreenValue) → does call old screen new screen
 
 -- a row is reported
-abbrev pub Hears : {S : Type 0} → (CallValue → S → ScreenValue → S → ScreenValue → Type 0) → (alternate : Bool) → S → RowValue → S → Type 0
+abbrev pub Hears : {S : Type 0} → (CallValue → S → ScreenValue → S → ScreenValue → Type 0) →
+    (alternate : Bool) → S → RowValue → S → Type 0
 Hears does alternate old row new = Told does old (OnScroll row alternate) new
 
 -- a step that may send rows off the page: first its rows are reported, one by one
-pub record Scrolls {S : Type 0} (does : CallValue → S → ScreenValue → S → ScreenValue → Type 0) (a : State S) (step : Step) (b : State S) : Type 0 where
+pub record Scrolls {S : Type 0} (does : CallValue → S → ScreenValue → S → ScreenValue → Type 0)
+    (a : State S) (step : Step) (b : State S) : Type 0 where
   pub screen : b.screen ≡ scrolled step a.screen
   pub heard : FoldsTo (Hears does a.screen.is_alternate) a.callbacks (reports step a.screen) b.callbacks
 
--- a step: a callback does what its relation says, a scroll reports what it doesn't keep, any other step changes the screen alone
-abbrev pub Takes : {S : Type 0} → (CallValue → S → ScreenValue → S → ScreenValue → Type 0) → State S → Step → State S → Type 0
+-- a step: a callback does what its relation says, a scroll reports what it doesn't keep,
+-- any other step changes the screen alone
+abbrev pub Takes : {S : Type 0} → (CallValue → S → ScreenValue → S → ScreenValue → Type 0) →
+    State S → Step → State S → Type 0
 Takes does a (Tell call) b = does call a.callbacks a.screen b.callbacks b.screen
 Takes does a (Print c) b = Scrolls does a (Print c) b
 Takes does a LineFeed b = Scrolls does a LineFeed b
@@ -39,7 +44,8 @@ Takes does a EraseScrollback b = Scrolls does a EraseScrollback b
 Takes does a step b = b ≡ state a.callbacks (stepped step a.screen)
 
 -- an event: its steps one after the other, as the event meets the screen
-abbrev pub Performs : {S : Type 0} → (CallValue → S → ScreenValue → S → ScreenValue → Type 0) → State S → Event → State S → Type 0
+abbrev pub Performs : {S : Type 0} → (CallValue → S → ScreenValue → S → ScreenValue → Type 0) →
+    State S → Event → State S → Type 0
 Performs does a event b = FoldsTo (Takes does) a (steps_of event (seen_of a.screen)) b
 
 -- ---- want of memory
@@ -51,8 +57,10 @@ Refuses a step b = Grows step a.screen × (b ≡ a)
 -- some of a list take place, and the next one is refused
 abbrev pub StopsIn : {P A : Type 0} → (P → A → P → Type 0) → (P → A → P → Type 0) → P → List A → P → Type 0
 StopsIn takes refuses p [] q = ⊥
-StopsIn {P} takes refuses p (x ∷ xs) q = refuses p x q ⊎ ((middle : P) × takes p x middle × StopsIn takes refuses middle xs q)
+StopsIn {P} takes refuses p (x ∷ xs) q =
+    refuses p x q ⊎ ((middle : P) × takes p x middle × StopsIn takes refuses middle xs q)
 
 -- an event whose steps stop at one that is refused
-abbrev pub Breaks : {S : Type 0} → (CallValue → S → ScreenValue → S → ScreenValue → Type 0) → State S → Event → State S → Type 0
+abbrev pub Breaks : {S : Type 0} → (CallValue → S → ScreenValue → S → ScreenValue → Type 0) →
+    State S → Event → State S → Type 0
 Breaks does a event b = StopsIn (Takes does) Refuses a (steps_of event (seen_of a.screen)) b

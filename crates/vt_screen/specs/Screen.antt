@@ -1,5 +1,6 @@
 -- A screen: the active page and the other one, scrollback, attributes and modes.
-use Rattle.std.specs.Prelude.{◌≡◌, ◌≢◌, ℕ, Bool, true, false, List, length, All, Option, None, IfSome, IsSome, if◌then◌else◌}
+use Rattle.std.specs.Prelude.{◌≡◌, ◌≢◌, ℕ, Bool, true, false, List, length, All}
+use Rattle.std.specs.Prelude.{Option, None, IfSome, IsSome, if◌then◌else◌}
 use Rattle.std.specs.Char.{IsScalar}
 use Rattle.vt_cells.specs.Attrs.{default_attrs, Attrs}
 use Rattle.vt_cells.specs.Cell.{CellValue, attrs_of}
@@ -56,10 +57,12 @@ with_page page screen = record screen { page = page }
 
 -- what a redraw works on
 abbrev pub canvas_of : ScreenValue → Canvas
-canvas_of screen = record { page = screen.page; attrs = screen.attrs; saved_attrs = screen.saved_attrs; hidden = screen.hidden }
+canvas_of screen =
+    record { page = screen.page; attrs = screen.attrs; saved_attrs = screen.saved_attrs; hidden = screen.hidden }
 
 abbrev pub with_canvas : Canvas → ScreenValue → ScreenValue
-with_canvas canvas screen = record screen { page = canvas.page; attrs = canvas.attrs; saved_attrs = canvas.saved_attrs; hidden = canvas.hidden }
+with_canvas canvas screen =
+    record screen { page = canvas.page; attrs = canvas.attrs; saved_attrs = canvas.saved_attrs; hidden = canvas.hidden }
 
 -- scrollback above the active page; the alternate page has none
 abbrev pub above_page : ScreenValue → Scrollback

@@ -1,4 +1,5 @@
--- SGR, group by group (ECMA-48 and xterm's control sequences): a group sets an attribute, begins or goes on a long colour, or is not known.
+-- SGR, group by group (ECMA-48 and xterm's control sequences): a group sets an attribute,
+-- begins or goes on a long colour, or is not known.
 use Rattle.std.specs.Prelude.{ℕ, ◌-◌, ◌==◌, ◌&&◌, nat_lt, Bool, true, false, List, [], ◌∷◌, if◌then◌else◌}
 use Rattle.vt_cells.specs.Attrs.{default_attrs, Attrs}
 use Rattle.vt_cells.specs.declared.attrs.Intensity.TheVariants.{Normal, Bold, Dim}
@@ -6,7 +7,8 @@ use Rattle.vt_cells.specs.declared.color.Color.{Color}
 use Rattle.vt_cells.specs.declared.color.Color.TheVariants.{Default, Idx, Rgb}
 use Rattle.vt_scan.specs.Characters.{is_within}
 use Rattle.vt_screen.specs.declared.sgr.Setting.{Setting}
-use Rattle.vt_screen.specs.declared.sgr.Setting.TheVariants.{Reset, Foreground, Background, Strength, Italic, Underline, Inverse}
+use Rattle.vt_screen.specs.declared.sgr.Setting.TheVariants.{Reset, Foreground, Background, Strength}
+use Rattle.vt_screen.specs.declared.sgr.Setting.TheVariants.{Italic, Underline, Inverse}
 use Rattle.vt_screen.specs.declared.sgr.Layer.{Layer}
 use Rattle.vt_screen.specs.declared.sgr.Layer.TheVariants.{Front, Back}
 use Rattle.vt_screen.specs.declared.sgr.Wanted.{Wanted}
@@ -59,7 +61,8 @@ number_read n =
 
 -- a colour in one group: 2 and three parts, or 5 and an index
 unfoldable pub rgb_read : Layer → ℕ → ℕ → ℕ → GroupRead
-rgb_read layer r g b = if nat_lt r 256 && (nat_lt g 256 && nat_lt b 256) then set (colored layer (Rgb r g b)) else silent Stopped
+rgb_read layer r g b =
+    if nat_lt r 256 && (nat_lt g 256 && nat_lt b 256) then set (colored layer (Rgb r g b)) else silent Stopped
 
 unfoldable pub index_read : Layer → ℕ → GroupRead
 index_read layer i = if nat_lt i 256 then set (colored layer (Idx i)) else silent Stopped
@@ -76,8 +79,10 @@ five_read layer form r g b = if form == 2 then rgb_read layer r g b else unknown
 -- a group where a setting is wanted
 unfoldable pub setting_read : List ℕ → GroupRead
 setting_read (n ∷ []) = number_read n
-setting_read (n ∷ form ∷ i ∷ []) = if n == 38 then three_read Front form i else if n == 48 then three_read Back form i else unknown
-setting_read (n ∷ form ∷ r ∷ g ∷ b ∷ []) = if n == 38 then five_read Front form r g b else if n == 48 then five_read Back form r g b else unknown
+setting_read (n ∷ form ∷ i ∷ []) =
+    if n == 38 then three_read Front form i else if n == 48 then three_read Back form i else unknown
+setting_read (n ∷ form ∷ r ∷ g ∷ b ∷ []) =
+    if n == 38 then five_read Front form r g b else if n == 48 then five_read Back form r g b else unknown
 setting_read _ = unknown
 
 -- the form of a long colour: 2 or 5 alone; any other group is reported and ends the reading

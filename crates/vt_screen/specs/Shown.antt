@@ -32,7 +32,8 @@ pub record IsPlain (screen : ScreenValue) : Type 0 where
 
 -- a screen that shows a picture; but for what was saved and the last character, the rest as it was
 abbrev pub showing : Picture → Saved → Option ℕ → ScreenValue → ScreenValue
-showing picture saved last reader = record (with_canvas (with_saved saved (with_picture picture (canvas_of reader))) reader) { last = last }
+showing picture saved last reader =
+    record (with_canvas (with_saved saved (with_picture picture (canvas_of reader))) reader) { last = last }
 
 -- two screens show the same, and no scrollback is in view of either
 pub record ShowSamePage (screen other : ScreenValue) : Type 0 where
@@ -63,8 +64,8 @@ pub record IsReaderOfRows (picture : Picture) (reader : ScreenValue) : Type 0 wh
 
 -- ---- what a text makes of them
 
--- a terminal in the midst of nothing reads the text to its end: it calls nobody, takes no memory, pushes no row off its page, and is in
--- the midst of nothing again
+-- a terminal in the midst of nothing reads the text to its end: it calls nobody, takes no memory, pushes no row off its
+-- page, and is in the midst of nothing again
 abbrev pub ReadsTo : List ℕ → (reader after : ScreenValue) → Type 0
 ReadsTo text reader after = read (terminal start reader) text ≡ Some (terminal start after)
 
@@ -91,8 +92,8 @@ pub record HasCursor (picture : Picture) (reader after : ScreenValue) : Type 0 w
   pub attrs : after.attrs ≡ picture.attrs
   pub hidden : after.hidden ≡ picture.hidden
 
--- all else but the modes is as before, save for the saved cursor, the saved origin mode, the saved attributes and the last character:
--- scrollback and its offset, the other page, the region
+-- all else but the modes is as before, save for the saved cursor, the saved origin mode, the saved attributes and the
+-- last character: scrollback and its offset, the other page, the region
 pub record KeepsRestButModes (reader after : ScreenValue) : Type 0 where
   pub other : after.other ≡ reader.other
   pub is_alternate : after.is_alternate ≡ reader.is_alternate

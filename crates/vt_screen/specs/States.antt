@@ -1,4 +1,5 @@
--- What texts of input modes make of the terminals that read them; and texts of whole states, what is shown and the input modes.
+-- What texts of input modes make of the terminals that read them; and texts of whole states,
+-- what is shown and the input modes.
 use Rattle.std.specs.Prelude.{◌≡◌, ℕ, List, ◌++◌}
 use Rattle.vt_cells.specs.Op.{bytes_of_all}
 use Rattle.vt_redraw.specs.Redraw.{difference, redraw}
@@ -14,9 +15,11 @@ pub record HasDefaultMouseAndStyle (modes : Modes) : Type 0 where
   pub mouse_encoding : modes.mouse_encoding ≡ no_modes.mouse_encoding
   pub cursor_style : modes.cursor_style ≡ no_modes.cursor_style
 
--- a text that gives these modes to every terminal in the midst of nothing that has had such ones, and changes nothing else
+-- a text that gives these modes to every terminal in the midst of nothing that has had such ones, and changes nothing
+-- else
 abbrev pub SetsModes : (Modes → Type 0) → Modes → List ℕ → Type 0
-SetsModes Had modes text = (reader : ScreenValue) → Had reader.modes → ReadsTo text reader (record reader { modes = modes })
+SetsModes Had modes text =
+    (reader : ScreenValue) → Had reader.modes → ReadsTo text reader (record reader { modes = modes })
 
 -- ---- states
 

@@ -1,5 +1,6 @@
 -- The elementary steps of an event, and what each makes of the screen.
-use Rattle.std.specs.Prelude.{◌≡◌, ℕ, ◌&&◌, nat_lt, nat_le, Bool, true, false, List, [], length, Option, Some, None, if◌then◌else◌}
+use Rattle.std.specs.Prelude.{◌≡◌, ℕ, ◌&&◌, nat_lt, nat_le, Bool, true, false, List}
+use Rattle.std.specs.Prelude.{[], length, Option, Some, None, if◌then◌else◌}
 use Rattle.vt_cells.specs.Glyph.{columns_of}
 use Rattle.vt_cells.specs.declared.modes.MouseProtocolMode.{MouseProtocolMode}
 use Rattle.vt_cells.specs.declared.modes.MouseProtocolMode.TheVariants as mouse
@@ -8,9 +9,12 @@ use Rattle.vt_cells.specs.declared.modes.MouseProtocolEncoding.TheVariants as en
 use Rattle.vt_cells.specs.declared.modes.CursorStyle.{CursorStyle}
 use Rattle.vt_grid.specs.Page.{scrolled_up}
 use Rattle.vt_grid.specs.Moves.{carriage_return, moved_left, moved_right, moved_to, line_feed}
-use Rattle.vt_grid.specs.Regions.{moved_up, moved_down, next_line, previous_line, tabbed, moved_to_column, moved_to_row, region_set, origin_set}
-use Rattle.vt_grid.specs.Shifts.{reverse_index, scrolled_down, lines_inserted, lines_deleted, chars_inserted, chars_deleted}
-use Rattle.vt_grid.specs.Erasing.{erased_below, erased_above, erased_page, erased_rest, erased_start, erased_row, erased_chars}
+use Rattle.vt_grid.specs.Regions.{moved_up, moved_down, next_line, previous_line, tabbed}
+use Rattle.vt_grid.specs.Regions.{moved_to_column, moved_to_row, region_set, origin_set}
+use Rattle.vt_grid.specs.Shifts.{reverse_index, scrolled_down, lines_inserted}
+use Rattle.vt_grid.specs.Shifts.{lines_deleted, chars_inserted, chars_deleted}
+use Rattle.vt_grid.specs.Erasing.{erased_below, erased_above, erased_page, erased_rest}
+use Rattle.vt_grid.specs.Erasing.{erased_start, erased_row, erased_chars}
 use Rattle.vt_grid.specs.Printing.{printed}
 use Rattle.vt_grid.specs.Outgoing.{printed_out, fed_out, scrolled_out}
 use Rattle.vt_grid.specs.Scrollback.{TakesMemory, pushed, reported, cleared}
@@ -156,9 +160,11 @@ stepped (UseApplicationKeypad on) screen = with_modes (λ modes. record modes { 
 stepped (UseApplicationCursor on) screen = with_modes (λ modes. record modes { application_cursor = on }) screen
 stepped (UseBracketedPaste on) screen = with_modes (λ modes. record modes { bracketed_paste = on }) screen
 stepped (SetMouseMode mode) screen = with_modes (λ modes. record modes { mouse_mode = mode }) screen
-stepped (ClearMouseMode mode) screen = with_modes (λ modes. record modes { mouse_mode = mouse_mode_without modes.mouse_mode mode }) screen
+stepped (ClearMouseMode mode) screen =
+    with_modes (λ modes. record modes { mouse_mode = mouse_mode_without modes.mouse_mode mode }) screen
 stepped (SetMouseEncoding form) screen = with_modes (λ modes. record modes { mouse_encoding = form }) screen
-stepped (ClearMouseEncoding form) screen = with_modes (λ modes. record modes { mouse_encoding = mouse_encoding_without modes.mouse_encoding form }) screen
+stepped (ClearMouseEncoding form) screen =
+    with_modes (λ modes. record modes { mouse_encoding = mouse_encoding_without modes.mouse_encoding form }) screen
 stepped (SetCursorStyle look) screen = with_modes (λ modes. record modes { cursor_style = look }) screen
 stepped (Tell call) screen = screen
 
@@ -175,14 +181,16 @@ outgoing _ screen = []
 abbrev pub sent : Step → ScreenValue → ScreenValue
 sent step screen =
     if screen.is_alternate then stepped step screen
-    else record (stepped step screen) { scrollback = pushed (length screen.page.rows) screen.page.width (outgoing step screen) screen.scrollback }
+    else record (stepped step screen)
+    { scrollback = pushed (length screen.page.rows) screen.page.width (outgoing step screen) screen.scrollback }
 
 -- the screen after a step
 abbrev pub scrolled : Step → ScreenValue → ScreenValue
 scrolled (Print c) screen = sent (Print c) screen
 scrolled LineFeed screen = sent LineFeed screen
 scrolled (ScrollUp count) screen = sent (ScrollUp count) screen
-scrolled EraseScrollback screen = if screen.is_alternate then screen else record screen { scrollback = cleared screen.scrollback }
+scrolled EraseScrollback screen =
+    if screen.is_alternate then screen else record screen { scrollback = cleared screen.scrollback }
 scrolled step screen = stepped step screen
 
 -- the rows that are reported, older first: those that aren't kept

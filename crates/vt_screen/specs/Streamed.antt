@@ -66,4 +66,5 @@ bare screen = record screen { scrollback = no_scrollback 0 }
 -- the rows that were told one by one, and with the same state behind them a full capture of the screen
 abbrev pub streamed_text : List CallValue → ScreenValue → List ℕ
 streamed_text calls screen =
-    let told = rows_told calls in basic_texts unwritten told ++ basic_texts (written_after_all unwritten told) (all_rows screen)
+    let told = rows_told calls in
+    basic_texts unwritten told ++ basic_texts (written_after_all unwritten told) (all_rows screen)

@@ -1,4 +1,5 @@
--- What a run tells callbacks that leave the screen alone: a function of where the scanner stands, the screen and the bytes.
+-- What a run tells callbacks that leave the screen alone: a function of where the scanner stands, the screen and the
+-- bytes.
 use Rattle.std.specs.Prelude.{◌≡◌, ℕ, List, [], ◌∷◌, ◌++◌, map}
 use Rattle.vt_scan.specs.Automaton.{State, Event}
 use Rattle.vt_scan.specs.Run.{run}
@@ -9,7 +10,8 @@ use Rattle.vt_screen.specs.Steps.{Step, Tell, reports, scrolled}
 
 -- callbacks that leave the screen alone
 abbrev pub LeavesScreen : {S : Type 0} → (CallValue → S → ScreenValue → S → ScreenValue → Type 0) → Type 0
-LeavesScreen {S} does = (call : CallValue) → (old new : S) → (before after : ScreenValue) → does call old before new after → after ≡ before
+LeavesScreen {S} does =
+    (call : CallValue) → (old new : S) → (before after : ScreenValue) → does call old before new after → after ≡ before
 
 -- such callbacks hear of a call, while there is some screen
 abbrev pub Heard : {S : Type 0} → (CallValue → S → ScreenValue → S → ScreenValue → Type 0) → S → CallValue → S → Type 0

@@ -10,7 +10,10 @@ use Rattle.vt_scan.specs.Automaton.{Event, start, step_in}
 use Rattle.vt_screen.specs.Reading.{Terminal, terminal, quiet_step, quiet_steps, read_byte}
 use Rattle.vt_screen.specs.Screen.{ScreenValue}
 use Rattle.vt_screen.specs.Controls.{seen_of, steps_of}
-use Rattle.vt_screen.specs.Steps.{Step, Print, LineFeed, ReverseIndex, EnterAlternate, EnterFresh, LeaveAlternate, LeaveRestoring, Reset, EraseBelow, EraseAbove, ErasePage, EraseRest, EraseStart, EraseRow, EraseChars, InsertChars, DeleteChars, InsertLines, DeleteLines, ScrollUp, ScrollDown}
+use Rattle.vt_screen.specs.Steps.{Step, Print, LineFeed, ReverseIndex, EnterAlternate, EnterFresh}
+use Rattle.vt_screen.specs.Steps.{LeaveAlternate, LeaveRestoring, Reset, EraseBelow, EraseAbove}
+use Rattle.vt_screen.specs.Steps.{ErasePage, EraseRest, EraseStart, EraseRow, EraseChars, InsertChars}
+use Rattle.vt_screen.specs.Steps.{DeleteChars, InsertLines, DeleteLines, ScrollUp, ScrollDown}
 
 -- every position of the page is among these
 abbrev pub TouchesAll : (ℕ → ℕ → Type 0) → Page → Type 0
@@ -37,11 +40,13 @@ RestTouches May page = (page.column == page.width) ≡ false → Changes May pag
 abbrev pub StartTouches : (ℕ → ℕ → Type 0) → Page → Type 0
 StartTouches May page = Changes May 0 (min (page.column + 1) page.width) page
 
--- what moves cells or whole rows, or exchanges pages, touches every position; moves of the cursor and settings touch none
+-- what moves cells or whole rows, or exchanges pages, touches every position;
+-- moves of the cursor and settings touch none
 abbrev pub StepTouches : (ℕ → ℕ → Type 0) → Step → ScreenValue → Type 0
 StepTouches May (Print c) screen = PrintTouches May c screen.attrs screen.page
 StepTouches May LineFeed screen = FeedTouches May screen.page
-StepTouches May EraseBelow screen = RestTouches May screen.page × TouchesRows May (screen.page.row + 1) (length screen.page.rows) screen.page
+StepTouches May EraseBelow screen =
+    RestTouches May screen.page × TouchesRows May (screen.page.row + 1) (length screen.page.rows) screen.page
 StepTouches May EraseAbove screen = StartTouches May screen.page × TouchesRows May 0 screen.page.row screen.page
 StepTouches May ErasePage screen = TouchesAll May screen.page
 StepTouches May EraseRest screen = RestTouches May screen.page
@@ -67,19 +72,23 @@ StepTouches May step screen = Unit {0}
 -- steps one after the other, each on the screen where it is made
 abbrev pub StepsTouch : (ℕ → ℕ → Type 0) → List Step → ScreenValue → Type 0
 StepsTouch May [] screen = Unit {0}
-StepsTouch May (step ∷ steps) screen = StepTouches May step screen × ((next : ScreenValue) → quiet_step step screen ≡ Some next → StepsTouch May steps next)
+StepsTouch May (step ∷ steps) screen =
+    StepTouches May step screen
+    × ((next : ScreenValue) → quiet_step step screen ≡ Some next → StepsTouch May steps next)
 
 abbrev pub EventsTouch : (ℕ → ℕ → Type 0) → List Event → ScreenValue → Type 0
 EventsTouch May [] screen = Unit {0}
 EventsTouch May (event ∷ events) screen =
     StepsTouch May (steps_of event (seen_of screen)) screen
-    × ((next : ScreenValue) → quiet_steps (steps_of event (seen_of screen)) screen ≡ Some next → EventsTouch May events next)
+    × ((next : ScreenValue) → quiet_steps (steps_of event (seen_of screen)) screen ≡ Some next →
+    EventsTouch May events next)
 
 -- all that reading the bytes quietly touches is among these positions
 abbrev pub ReadTouches : (ℕ → ℕ → Type 0) → Terminal → List ℕ → Type 0
 ReadTouches May t [] = Unit {0}
 ReadTouches May t (b ∷ bytes) =
-    EventsTouch May (step_in t.scan.kind t.scan.collected b).events t.screen × ((u : Terminal) → read_byte t b ≡ Some u → ReadTouches May u bytes)
+    EventsTouch May (step_in t.scan.kind t.scan.collected b).events t.screen
+    × ((u : Terminal) → read_byte t b ≡ Some u → ReadTouches May u bytes)
 
 -- every such terminal, in the midst of nothing, touches by reading the text only positions of which `May` holds
 abbrev pub TouchesOnly : (ScreenValue → Type 0) → List ℕ → (ℕ → ℕ → Type 0) → Type 0

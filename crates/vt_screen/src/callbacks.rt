@@ -210,7 +210,8 @@ pub trait Callbacks {
         groups: &[&[u16]],
         byte: char,
     )
-        ensures { does (calls.UnhandledCsi first second (map (λ group. group.now) groups.now) byte) self.old screen.old self.new screen.new }
+        ensures { does (calls.UnhandledCsi first second (map (λ group. group.now) groups.now) byte)
+            self.old screen.old self.new screen.new }
     {
         self.otherwise(screen, Call::UnhandledCsi(first, second, groups, byte));
     }

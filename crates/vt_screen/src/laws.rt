@@ -84,7 +84,8 @@ pub fn no_selectors()
 
 /// A fresh screen is captured as line ends alone, one less than its rows.
 pub fn fresh_capture()
-    ensures { (rows cols capacity : ℕ) → basic_texts unwritten (visible_rows (fresh_screen (suc rows) cols capacity)) ≡ replicate rows 0x0A }
+    ensures { (rows cols capacity : ℕ) →
+        basic_texts unwritten (visible_rows (fresh_screen (suc rows) cols capacity)) ≡ replicate rows 0x0A }
 {}
 
 /// Rows that stream out of the main page, in a run whose callbacks leave the
@@ -97,7 +98,12 @@ pub fn fresh_capture()
 /// The rows that leave (`sent`), and all of the screen but its scrollback
 /// (`rest`), depend neither on its capacity nor on what it holds.
 pub fn streams()
-    ensures kept { (scan : State) (screen : ScreenValue) (bytes : List ℕ) → IsScreen screen → HasWideFlags screen → HasNoRis scan bytes → AreAlike (rows_told (calls_in scan screen bytes) ++ (screen_in scan screen bytes).scrollback.rows) (screen.scrollback.rows ++ sent_off_in scan screen bytes) }
-    ensures sent { (scan : State) (screen other : ScreenValue) (bytes : List ℕ) → bare screen ≡ bare other → sent_off_in scan screen bytes ≡ sent_off_in scan other bytes }
-    ensures rest { (scan : State) (screen other : ScreenValue) (bytes : List ℕ) → bare screen ≡ bare other → bare (screen_in scan screen bytes) ≡ bare (screen_in scan other bytes) }
+    ensures kept { (scan : State) (screen : ScreenValue) (bytes : List ℕ) → IsScreen screen → HasWideFlags screen →
+        HasNoRis scan bytes →
+        AreAlike (rows_told (calls_in scan screen bytes) ++ (screen_in scan screen bytes).scrollback.rows)
+        (screen.scrollback.rows ++ sent_off_in scan screen bytes) }
+    ensures sent { (scan : State) (screen other : ScreenValue) (bytes : List ℕ) →
+        bare screen ≡ bare other → sent_off_in scan screen bytes ≡ sent_off_in scan other bytes }
+    ensures rest { (scan : State) (screen other : ScreenValue) (bytes : List ℕ) →
+        bare screen ≡ bare other → bare (screen_in scan screen bytes) ≡ bare (screen_in scan other bytes) }
 {}

@@ -64,7 +64,8 @@ impl Model for Screen {
       last = s.last;
     } };
 
-    ghost invariant = { λ s. IsKept s.grid s.last (record { other = s.other; is_alternate = s.is_alternate; active = s.scrollback; idle = s.other_scrollback }) };
+    ghost invariant = { λ s. IsKept s.grid s.last
+        (record { other = s.other; is_alternate = s.is_alternate; active = s.scrollback; idle = s.other_scrollback }) };
 }
 
 impl Screen {
@@ -150,7 +151,8 @@ impl Screen {
     /// of scrollback may have more columns than the screen.
     #[inline]
     pub fn cell(&self, row: u16, col: u16) -> Option<&Cell>
-        ensures inside { IsSome result ↔ ((row < length self.now.page.rows) × (col < length (visible_row self.now row).cells)) }
+        ensures inside { IsSome result
+            ↔ ((row < length self.now.page.rows) × (col < length (visible_row self.now row).cells)) }
         ensures value { IfSome result (λ cell. cell.now ≡ at (visible_row self.now row).cells col) }
     {
         cell_of(&self.visible_row(row)?, usize::from(col))

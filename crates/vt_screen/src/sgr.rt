@@ -1,7 +1,8 @@
 //! Select Graphic Rendition: what the groups of numbers of an SGR sequence set.
 
 ghost use Rattle.std.specs.Prelude.{◌≡◌, ℕ, MatchOption};
-ghost use Rattle.vt_screen.specs.Sgr.{rendered, colored, silent, set, unknown, number_read, three_read, five_read, rgb_read, index_read, setting_read, form_read, part_read, group_read};
+ghost use Rattle.vt_screen.specs.Sgr.{rendered, colored, silent, set, unknown, number_read, three_read, five_read};
+ghost use Rattle.vt_screen.specs.Sgr.{rgb_read, index_read, setting_read, form_read, part_read, group_read};
 ghost use Rattle.vt_screen.specs.declared.sgr.GroupRead.{GroupRead};
 
 use vt_cells::attrs::{Attrs, Intensity};
@@ -277,7 +278,8 @@ fn read_form(layer: Layer, group: &[u16]) -> GroupRead
 /// A part of a colour, or a colour's index: one number, up to 255.
 #[tactic(auto, using(std::proofs::lemmas::Bool::Decides::nat_tests))]
 fn part_of(group: &[u16]) -> Option<u8>
-    ensures { MatchOption result ((next : ℕ → GroupRead) → part_read group.now next ≡ silent Wanted.Stopped) (λ part. (next : ℕ → GroupRead) → part_read group.now next ≡ next part) }
+    ensures { MatchOption result ((next : ℕ → GroupRead) → part_read group.now next ≡ silent Wanted.Stopped)
+        (λ part. (next : ℕ → GroupRead) → part_read group.now next ≡ next part) }
 {
     match group {
         [part] if *part < 256 => Some(*part as u8),

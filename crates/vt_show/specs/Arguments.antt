@@ -15,5 +15,6 @@ name_of Basic = codes "basic"
 
 -- exactly three words, that ask for these rows, these columns and this mode
 abbrev pub AsksToShow : List (List ℕ) → ℕ → ℕ → Mode → Type 0
-AsksToShow (first ∷ second ∷ third ∷ []) rows cols mode = IsSize first rows × IsSize second cols × (third ≡ name_of mode)
+AsksToShow (first ∷ second ∷ third ∷ []) rows cols mode =
+    IsSize first rows × IsSize second cols × (third ≡ name_of mode)
 AsksToShow _ rows cols mode = ⊥

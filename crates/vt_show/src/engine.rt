@@ -35,7 +35,8 @@ pub fn run<R: Read, W: Write>(
 ) -> Result<(), Fault>
     ensures end { OnOk result (IsAtEnd (R.remaining reader.new)) }
     ensures text { OnOk result (IfSome (R.remaining reader.old) (λ input.
-        Writes mode (non_zero_u16_get rows) (non_zero_u16_get cols) input (W.contents writer.old) (W.contents writer.new))) }
+        Writes mode (non_zero_u16_get rows) (non_zero_u16_get cols)
+        input (W.contents writer.old) (W.contents writer.new))) }
     ensures nothing { IsErr result → result ≢ Err Fault.Write → Keeps (W.contents writer.old) (W.contents writer.new) }
     ensures read_first { result ≡ Err Fault.Write → IsAtEnd (R.remaining reader.new) }
 {

@@ -13,7 +13,8 @@ pub record Stays {S : Type 0} (old : S) (before : ScreenValue) (new : S) (after 
 abbrev pub Becomes : (wanted : ScreenValue) → Bool → ScreenValue → Bool → ScreenValue → Type 0
 Becomes wanted old before new after = ((new ≡ old) × (after ≡ wanted)) ⊎ ((new ≡ true) × (after ≡ before))
 
--- a program gets the size that it asks for, if that has a row and a column; the callbacks are whether memory was ever refused for it
+-- a program gets the size that it asks for, if that has a row and a column;
+-- the callbacks are whether memory was ever refused for it
 pub record Obeys (rows cols : ℕ) (old : Bool) (before : ScreenValue) (new : Bool) (after : ScreenValue) : Type 0 where
   pub sized : 0 < rows → 0 < cols → Becomes (resized rows cols before) old before new after
   pub no_rows : rows ≡ 0 → Stays old before new after

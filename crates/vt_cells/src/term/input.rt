@@ -1,6 +1,7 @@
 //! Sequences that set modes of a terminal's input, and the look of its cursor.
 
-ghost use Rattle.vt_cells.specs.InputModes.{keypad_text, application_cursor_text, bracketed_paste_text, mouse_mode_change, mouse_encoding_change, cursor_style_change};
+ghost use Rattle.vt_cells.specs.InputModes.{keypad_text, application_cursor_text, bracketed_paste_text};
+ghost use Rattle.vt_cells.specs.InputModes.{mouse_mode_change, mouse_encoding_change, cursor_style_change};
 
 use crate::modes;
 use crate::sink::Sink;

@@ -1,9 +1,11 @@
 //! The text of SGR, the sequence that changes attributes.
 
-ghost use Rattle.std.specs.Prelude.{◌≡◌, ◌+◌, ◌≤◌, ◌<◌, ℕ, List, [], ◌∷◌, ◌++◌, decimal, flat_map, length, if◌then◌else◌};
+ghost use Rattle.std.specs.Prelude.{◌≡◌, ◌+◌, ◌≤◌, ◌<◌, ℕ, List, [], ◌∷◌, ◌++◌};
+ghost use Rattle.std.specs.Prelude.{decimal, flat_map, length, if◌then◌else◌};
 ghost use Rattle.vt_cells.specs.Attrs.{same_bool, same_color, same_intensity};
 ghost use Rattle.vt_cells.specs.ChangeKeeping.{separated, separated_all, style_part, without_separator};
-ghost use Rattle.vt_cells.specs.Op.{background_numbers, change_numbers, csi, foreground_numbers, intensity_number, joined, part};
+ghost use Rattle.vt_cells.specs.Op.{background_numbers, change_numbers, csi};
+ghost use Rattle.vt_cells.specs.Op.{foreground_numbers, intensity_number, joined, part};
 
 use crate::attrs::{Attrs, Intensity};
 use crate::color::Color;
@@ -96,7 +98,9 @@ impl ChangeText {
     #[tactic(auto, using(crate::proofs::ChangeTexts::numbers_put), unfolding(crate::specs::Op::foreground_numbers))]
     fn put_foreground(&mut self, was: &Attrs, new: &Attrs)
         requires { length self.old + 20 ≤ 64 }
-        ensures value { self.new ≡ separated_all (part (same_color was.now.fgcolor new.now.fgcolor) (foreground_numbers new.now.fgcolor)) ++ self.old }
+        ensures value { self.new
+            ≡ separated_all (part (same_color was.now.fgcolor new.now.fgcolor) (foreground_numbers new.now.fgcolor))
+            ++ self.old }
         ensures room { length self.new ≤ length self.old + 20 }
     {
         if was.has_fgcolor_of(new) {
@@ -115,7 +119,9 @@ impl ChangeText {
     #[tactic(auto, using(crate::proofs::ChangeTexts::numbers_put), unfolding(crate::specs::Op::background_numbers))]
     fn put_background(&mut self, was: &Attrs, new: &Attrs)
         requires { length self.old + 20 ≤ 64 }
-        ensures value { self.new ≡ separated_all (part (same_color was.now.bgcolor new.now.bgcolor) (background_numbers new.now.bgcolor)) ++ self.old }
+        ensures value { self.new
+            ≡ separated_all (part (same_color was.now.bgcolor new.now.bgcolor) (background_numbers new.now.bgcolor))
+            ++ self.old }
         ensures room { length self.new ≤ length self.old + 20 }
     {
         if was.has_bgcolor_of(new) {
@@ -158,7 +164,8 @@ impl ChangeText {
     #[inline]
     fn put_intensity(&mut self, was: Intensity, new: Intensity)
         requires { length self.old + 4 ≤ 64 }
-        ensures value { self.new ≡ separated_all (part (same_intensity was new) (intensity_number new ∷ [])) ++ self.old }
+        ensures value { self.new
+            ≡ separated_all (part (same_intensity was new) (intensity_number new ∷ [])) ++ self.old }
         ensures room { length self.new ≤ length self.old + 4 }
     {
         if was == new {
@@ -174,7 +181,8 @@ impl ChangeText {
     #[inline]
     fn put_switch(&mut self, was: bool, new: bool, on: u8, off: u8)
         requires { length self.old + 4 ≤ 64 }
-        ensures value { self.new ≡ separated_all (part (same_bool was new) ((if new then on else off) ∷ [])) ++ self.old }
+        ensures value { self.new
+            ≡ separated_all (part (same_bool was new) ((if new then on else off) ∷ [])) ++ self.old }
         ensures room { length self.new ≤ length self.old + 4 }
     {
         if was != new {

@@ -1,7 +1,8 @@
 //! Erasing: positions become blank in given attributes.
 
 ghost use Rattle.std.specs.Prelude.{◌≡◌};
-ghost use Rattle.vt_grid.specs.Erasing.{erased_above, erased_below, erased_chars, erased_page, erased_rest, erased_row, erased_start};
+ghost use Rattle.vt_grid.specs.Erasing.{erased_above, erased_below, erased_chars, erased_page};
+ghost use Rattle.vt_grid.specs.Erasing.{erased_rest, erased_row, erased_start};
 
 use super::Grid;
 use vt_cells::Attrs;

@@ -1,8 +1,10 @@
 //! Moves of the cursor, the scroll region and origin mode.
 
 ghost use Rattle.std.specs.Prelude.{◌≡◌, ◌+◌, ◌<◌, ◌⊎◌, if◌then◌else◌, length};
-ghost use Rattle.vt_grid.specs.Moves.{carriage_return, cursor_restored, cursor_saved, moved_left, moved_right, moved_to, target_row};
-ghost use Rattle.vt_grid.specs.Regions.{in_region, last_row, moved_down, moved_to_column, moved_to_row, moved_up, next_line, origin_set, previous_line, region_set, tabbed};
+ghost use Rattle.vt_grid.specs.Moves.{carriage_return, cursor_restored, cursor_saved};
+ghost use Rattle.vt_grid.specs.Moves.{moved_left, moved_right, moved_to, target_row};
+ghost use Rattle.vt_grid.specs.Regions.{in_region, last_row, moved_down, moved_to_column, moved_to_row};
+ghost use Rattle.vt_grid.specs.Regions.{moved_up, next_line, origin_set, previous_line, region_set, tabbed};
 
 use super::Grid;
 use vt_cells::Pos;

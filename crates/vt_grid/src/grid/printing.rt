@@ -1,6 +1,7 @@
 //! Printing: glyphs, marks, and glyphs whose width follows U+FE0F.
 
-ghost use Rattle.std.specs.Prelude.{◌≡◌, ◌≢◌, ◌+◌, ◌-◌, ◌&&◌, ◌==◌, ◌<◌, ◌≤◌, [], IsErr, OnErr, OnOk, Some, encode_utf8, false, if◌then◌else◌, length, nat_lt, not, slice_set, true};
+ghost use Rattle.std.specs.Prelude.{◌≡◌, ◌≢◌, ◌+◌, ◌-◌, ◌&&◌, ◌==◌, ◌<◌, ◌≤◌, [], IsErr, OnErr, OnOk, Some};
+ghost use Rattle.std.specs.Prelude.{encode_utf8, false, if◌then◌else◌, length, nat_lt, not, slice_set, true};
 ghost use Rattle.vt_cells.specs.Cell.{IsCell, attrs_of, glyph, is_right_half, is_wide, marked, text_of};
 ghost use Rattle.vt_cells.specs.Glyph.{IsGlyphText, columns_of, is_selector, is_wide_text};
 ghost use Rattle.vt_cells.specs.Refusals.{OnlyOutOfMemory};
@@ -9,7 +10,8 @@ ghost use Rattle.vt_rows.specs.Texts.{IsPrintableText};
 ghost use Rattle.vt_grid.specs.Keeping.{IsSelected, mark_out, room_out};
 ghost use Rattle.vt_grid.specs.Outgoing.{printed_out};
 ghost use Rattle.vt_grid.specs.Page.{IsPage, cursor_row, with_row};
-ghost use Rattle.vt_grid.specs.Printing.{carries, glyph_put, lifted_page, made_narrow, mark_column, mark_printed, mark_put, printed, room_made, takes_mark, width_followed, with_cursor_cells};
+ghost use Rattle.vt_grid.specs.Printing.{carries, glyph_put, lifted_page, made_narrow, mark_column, mark_printed};
+ghost use Rattle.vt_grid.specs.Printing.{mark_put, printed, room_made, takes_mark, width_followed, with_cursor_cells};
 ghost use Rattle.vt_grid.specs.Scrollback.{Sends, TakesMemory};
 ghost use Rattle.vt_grid.specs.Texts.{printed_text, text_put};
 
@@ -45,7 +47,8 @@ impl Grid {
         requires reported { c ≢ 0xFFFD }
         requires columns { width ≡ columns_of c }
         ensures page { OnOk result (self.new ≡ printed c attrs self.old) }
-        ensures sent { OnOk result (Sends L.leaves (length self.old.rows) self.old.width (printed_out c attrs self.old) above.old leaving.old above.new leaving.new) }
+        ensures sent { OnOk result (Sends L.leaves (length self.old.rows) self.old.width
+            (printed_out c attrs self.old) above.old leaving.old above.new leaving.new) }
         ensures err { OnErr result ((self.new ≡ self.old) × ((above.new ≡ above.old) × (leaving.new ≡ leaving.old))) }
         ensures grows { IsErr result → TakesMemory (printed_out c attrs self.old) above.old }
         ensures memory { OnlyOutOfMemory result }
@@ -110,7 +113,8 @@ impl Grid {
         requires reported { c ≢ 0xFFFD }
         requires columns { columns_of c ≡ Some 1 }
         ensures page { OnOk result (self.new ≡ glyph_put (encode_utf8 c) false attrs (room_made 1 self.old)) }
-        ensures sent { OnOk result (Sends L.leaves (length self.old.rows) self.old.width (room_out 1 self.old) above.old leaving.old above.new leaving.new) }
+        ensures sent { OnOk result (Sends L.leaves (length self.old.rows) self.old.width
+            (room_out 1 self.old) above.old leaving.old above.new leaving.new) }
         ensures err { OnErr result ((self.new ≡ self.old) × ((above.new ≡ above.old) × (leaving.new ≡ leaving.old))) }
         ensures grows { IsErr result → TakesMemory (room_out 1 self.old) above.old }
         ensures memory { OnlyOutOfMemory result }
@@ -130,7 +134,8 @@ impl Grid {
         leaving: &mut L,
     ) -> Result<(), Error>
         ensures page { OnOk result (self.new ≡ room_made columns self.old) }
-        ensures sent { OnOk result (Sends L.leaves (length self.old.rows) self.old.width (room_out columns self.old) above.old leaving.old above.new leaving.new) }
+        ensures sent { OnOk result (Sends L.leaves (length self.old.rows) self.old.width
+            (room_out columns self.old) above.old leaving.old above.new leaving.new) }
         ensures err { OnErr result ((self.new ≡ self.old) × ((above.new ≡ above.old) × (leaving.new ≡ leaving.old))) }
         ensures grows { IsErr result → TakesMemory (room_out columns self.old) above.old }
         ensures memory { OnlyOutOfMemory result }
@@ -154,10 +159,14 @@ impl Grid {
         leaving: &mut L,
     ) -> Result<(), Error>
         requires { columns_of mark ≡ Some 0 }
-        ensures page { OnOk result (self.new ≡ (if self.old.column == 0 then self.old else mark_printed mark attrs self.old)) }
-        ensures sent { OnOk result (Sends L.leaves (length self.old.rows) self.old.width (if self.old.column == 0 then [] else mark_out mark attrs self.old) above.old leaving.old above.new leaving.new) }
+        ensures page { OnOk result
+            (self.new ≡ (if self.old.column == 0 then self.old else mark_printed mark attrs self.old)) }
+        ensures sent { OnOk result (Sends L.leaves (length self.old.rows) self.old.width
+            (if self.old.column == 0 then [] else mark_out mark attrs self.old)
+            above.old leaving.old above.new leaving.new) }
         ensures err { OnErr result ((self.new ≡ self.old) × ((above.new ≡ above.old) × (leaving.new ≡ leaving.old))) }
-        ensures grows { IsErr result → TakesMemory (if self.old.column == 0 then [] else mark_out mark attrs self.old) above.old }
+        ensures grows { IsErr result →
+            TakesMemory (if self.old.column == 0 then [] else mark_out mark attrs self.old) above.old }
         ensures memory { OnlyOutOfMemory result }
     {
         if self.pos.col == 0 {
@@ -189,7 +198,10 @@ impl Grid {
     fn grows_wide(&self, mark: char) -> bool
         requires mark { columns_of mark ≡ Some 0 }
         requires some { 0 < self.now.column }
-        ensures { result ≡ ((takes_mark (at (cursor_row self.now).cells (mark_column self.now)) && not (is_wide (at (cursor_row self.now).cells (mark_column self.now)))) && is_wide_text (text_of (marked mark (at (cursor_row self.now).cells (mark_column self.now))))) }
+        ensures { result
+            ≡ ((takes_mark (at (cursor_row self.now).cells (mark_column self.now))
+            && not (is_wide (at (cursor_row self.now).cells (mark_column self.now))))
+            && is_wide_text (text_of (marked mark (at (cursor_row self.now).cells (mark_column self.now))))) }
     {
         let col = self.mark_col();
         self.takes_mark(col) && !self.is_wide(col) && self.is_wide_with(col, mark)
@@ -282,7 +294,9 @@ impl Grid {
     #[tactic(auto, unfolding(crate::specs::Printing::width_followed, crate::specs::Printing::made_wide))]
     fn follow_width(&mut self, col: u16, attrs: Attrs)
         requires selected { IsSelected self.old col }
-        requires room { is_wide (at (cursor_row self.old).cells col) ≡ false → (is_wide_text (text_of (at (cursor_row self.old).cells col)) && nat_lt 1 self.old.width) ≡ true → self.old.column < self.old.width }
+        requires room { is_wide (at (cursor_row self.old).cells col) ≡ false →
+            (is_wide_text (text_of (at (cursor_row self.old).cells col)) && nat_lt 1 self.old.width) ≡ true →
+            self.old.column < self.old.width }
         ensures { self.new ≡ width_followed col attrs self.old }
     {
         let wide = self.wants_wide(col);
@@ -310,7 +324,8 @@ impl Grid {
         requires mark { columns_of mark ≡ Some 0 }
         requires carried { carries mark self.old ≡ true }
         ensures page { OnOk result (self.new ≡ mark_printed mark attrs self.old) }
-        ensures sent { OnOk result (Sends L.leaves (length self.old.rows) self.old.width (mark_out mark attrs self.old) above.old leaving.old above.new leaving.new) }
+        ensures sent { OnOk result (Sends L.leaves (length self.old.rows) self.old.width
+            (mark_out mark attrs self.old) above.old leaving.old above.new leaving.new) }
         ensures err { OnErr result ((self.new ≡ self.old) × ((above.new ≡ above.old) × (leaving.new ≡ leaving.old))) }
         ensures grows { IsErr result → TakesMemory (mark_out mark attrs self.old) above.old }
         ensures memory { OnlyOutOfMemory result }
@@ -339,8 +354,11 @@ impl Grid {
     /// and the row's flag.
     fn put_back(&mut self, col: u16, cell: Cell, goes_on: bool)
         requires inside { col < length (cursor_row self.old).cells }
-        requires page { IsPage (with_row self.old.row (record { cells = slice_set (cursor_row self.old).cells col cell; wrapped = goes_on }) self.old) }
-        ensures { self.new ≡ with_row self.old.row (record { cells = slice_set (cursor_row self.old).cells col cell; wrapped = goes_on }) self.old }
+        requires page { IsPage (with_row self.old.row
+            (record { cells = slice_set (cursor_row self.old).cells col cell; wrapped = goes_on }) self.old) }
+        ensures { self.new
+            ≡ with_row self.old.row
+            (record { cells = slice_set (cursor_row self.old).cells col cell; wrapped = goes_on }) self.old }
     {
         self.sheet.put_back(self.pos.row, col, cell, goes_on);
     }
@@ -369,7 +387,9 @@ impl Grid {
         requires selected { IsSelected self.old col }
         requires before { col + 1 ≡ self.old.column }
         requires room { self.old.column < self.old.width }
-        ensures { self.new ≡ record (with_cursor_cells (widened_at col attrs (cursor_row self.old).cells) self.old) { column = self.old.column + 1 } }
+        ensures { self.new
+            ≡ record (with_cursor_cells (widened_at col attrs (cursor_row self.old).cells) self.old)
+            { column = self.old.column + 1 } }
     {
         self.sheet.widen(self.pos.row, col, attrs);
         self.pos.col += 1;
@@ -398,10 +418,14 @@ impl Grid {
     ) -> Result<(), Error>
         requires reported { c ≢ 0xFFFD }
         requires columns { columns_of c ≡ Some 2 }
-        ensures page { OnOk result (self.new ≡ (if nat_lt 1 self.old.width then glyph_put (encode_utf8 c) true attrs (room_made 2 self.old) else self.old)) }
-        ensures sent { OnOk result (Sends L.leaves (length self.old.rows) self.old.width (if nat_lt 1 self.old.width then room_out 2 self.old else []) above.old leaving.old above.new leaving.new) }
+        ensures page { OnOk result (self.new
+            ≡ (if nat_lt 1 self.old.width
+            then glyph_put (encode_utf8 c) true attrs (room_made 2 self.old) else self.old)) }
+        ensures sent { OnOk result (Sends L.leaves (length self.old.rows) self.old.width
+            (if nat_lt 1 self.old.width then room_out 2 self.old else []) above.old leaving.old above.new leaving.new) }
         ensures err { OnErr result ((self.new ≡ self.old) × ((above.new ≡ above.old) × (leaving.new ≡ leaving.old))) }
-        ensures grows { IsErr result → TakesMemory (if nat_lt 1 self.old.width then room_out 2 self.old else []) above.old }
+        ensures grows { IsErr result →
+            TakesMemory (if nat_lt 1 self.old.width then room_out 2 self.old else []) above.old }
         ensures memory { OnlyOutOfMemory result }
     {
         if self.size.cols == 1 {

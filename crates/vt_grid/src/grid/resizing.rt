@@ -42,9 +42,11 @@ impl Grid {
         requires { fresh ≡ blank_page (length fresh.rows) fresh.width }
         ensures page { OnOk result (self.new ≡ page_resized (length fresh.rows) fresh.width above.old self.old) }
         ensures above { OnOk result (above.new ≡ scrollback_resized (length fresh.rows) self.old above.old) }
-        ensures reported { OnOk result (FoldsTo L.leaves leaving.old (resize_reports (length fresh.rows) self.old above.old) leaving.new) }
+        ensures reported { OnOk result
+            (FoldsTo L.leaves leaving.old (resize_reports (length fresh.rows) self.old above.old) leaving.new) }
         ensures err { OnErr result ((self.new ≡ self.old) × ((above.new ≡ above.old) × (leaving.new ≡ leaving.old))) }
-        ensures grows { IsErr result → TakesMemory (take (resize.leaving (length fresh.rows) self.old) self.old.rows) above.old }
+        ensures grows { IsErr result →
+            TakesMemory (take (resize.leaving (length fresh.rows) self.old) self.old.rows) above.old }
         ensures memory { OnlyOutOfMemory result }
     {
         self.fill(fresh.sheet, above, leaving)?;
@@ -65,9 +67,11 @@ impl Grid {
         requires cols { 0 < fresh.width }
         ensures page { OnOk result (self.new ≡ page_resized (length fresh.rows) fresh.width above.old self.old) }
         ensures above { OnOk result (above.new ≡ scrollback_resized (length fresh.rows) self.old above.old) }
-        ensures reported { OnOk result (FoldsTo L.leaves leaving.old (resize_reports (length fresh.rows) self.old above.old) leaving.new) }
+        ensures reported { OnOk result
+            (FoldsTo L.leaves leaving.old (resize_reports (length fresh.rows) self.old above.old) leaving.new) }
         ensures err { OnErr result ((self.new ≡ self.old) × ((above.new ≡ above.old) × (leaving.new ≡ leaving.old))) }
-        ensures grows { IsErr result → TakesMemory (take (resize.leaving (length fresh.rows) self.old) self.old.rows) above.old }
+        ensures grows { IsErr result →
+            TakesMemory (take (resize.leaving (length fresh.rows) self.old) self.old.rows) above.old }
         ensures memory { OnlyOutOfMemory result }
     {
         let size = fresh.size();

@@ -1,7 +1,8 @@
 //! Scrolling up, line feeds and wraps: the rows that leave the page at its top
 //! go to scrollback.
 
-ghost use Rattle.std.specs.Prelude.{◌≡◌, ◌+◌, ◌-◌, ◌&&◌, ◌==◌, ◌<◌, ◌≤◌, IfSome, IsErr, None, OnErr, OnOk, Some, if◌then◌else◌, length, nat_lt, not};
+ghost use Rattle.std.specs.Prelude.{◌≡◌, ◌+◌, ◌-◌, ◌&&◌, ◌==◌, ◌<◌, ◌≤◌, IfSome, IsErr, None};
+ghost use Rattle.std.specs.Prelude.{OnErr, OnOk, Some, if◌then◌else◌, length, nat_lt, not};
 ghost use Rattle.vt_cells.specs.Refusals.{OnlyOutOfMemory};
 ghost use Rattle.vt_rows.specs.Cells.{ends_blank};
 ghost use Rattle.vt_grid.specs.Moves.{line_feed};
@@ -32,7 +33,8 @@ impl Grid {
         leaving: &mut L,
     ) -> Result<(), Error>
         ensures page { OnOk result (self.new ≡ scrolled_up count self.old) }
-        ensures sent { OnOk result (Sends L.leaves (length self.old.rows) self.old.width (scrolled_out count self.old) above.old leaving.old above.new leaving.new) }
+        ensures sent { OnOk result (Sends L.leaves (length self.old.rows) self.old.width
+            (scrolled_out count self.old) above.old leaving.old above.new leaving.new) }
         ensures err { OnErr result ((self.new ≡ self.old) × ((above.new ≡ above.old) × (leaving.new ≡ leaving.old))) }
         ensures grows { IsErr result → TakesMemory (scrolled_out count self.old) above.old }
         ensures memory { OnlyOutOfMemory result }
@@ -62,7 +64,8 @@ impl Grid {
         leaving: &mut L,
     ) -> Result<(), Error>
         ensures page { OnOk result (self.new ≡ line_feed self.old) }
-        ensures sent { OnOk result (Sends L.leaves (length self.old.rows) self.old.width (fed_out self.old) above.old leaving.old above.new leaving.new) }
+        ensures sent { OnOk result (Sends L.leaves (length self.old.rows) self.old.width
+            (fed_out self.old) above.old leaving.old above.new leaving.new) }
         ensures err { OnErr result ((self.new ≡ self.old) × ((above.new ≡ above.old) × (leaving.new ≡ leaving.old))) }
         ensures grows { IsErr result → TakesMemory (fed_out self.old) above.old }
         ensures memory { OnlyOutOfMemory result }
@@ -77,7 +80,9 @@ impl Grid {
 
     /// Moves the cursor to the next row, if there is one.
     fn step_down(&mut self)
-        ensures { self.new ≡ (if nat_lt (self.old.row + 1) (length self.old.rows) then record self.old { row = self.old.row + 1 } else self.old) }
+        ensures { self.new
+            ≡ (if nat_lt (self.old.row + 1) (length self.old.rows)
+            then record self.old { row = self.old.row + 1 } else self.old) }
     {
         if self.pos.row + 1 < self.size.rows {
             self.pos.row += 1;
@@ -95,7 +100,8 @@ impl Grid {
         leaving: &mut L,
     ) -> Result<(), Error>
         ensures page { OnOk result (self.new ≡ wrapped_page self.old) }
-        ensures sent { OnOk result (Sends L.leaves (length self.old.rows) self.old.width (fed_out self.old) above.old leaving.old above.new leaving.new) }
+        ensures sent { OnOk result (Sends L.leaves (length self.old.rows) self.old.width
+            (fed_out self.old) above.old leaving.old above.new leaving.new) }
         ensures err { OnErr result ((self.new ≡ self.old) × ((above.new ≡ above.old) × (leaving.new ≡ leaving.old))) }
         ensures grows { IsErr result → TakesMemory (fed_out self.old) above.old }
         ensures memory { OnlyOutOfMemory result }

@@ -1,7 +1,8 @@
 //! Rows that move among each other, and columns that move within a row.
 
 ghost use Rattle.std.specs.Prelude.{◌≡◌};
-ghost use Rattle.vt_grid.specs.Shifts.{chars_deleted, chars_inserted, lines_deleted, lines_inserted, reverse_index, scrolled_down};
+ghost use Rattle.vt_grid.specs.Shifts.{chars_deleted, chars_inserted, lines_deleted};
+ghost use Rattle.vt_grid.specs.Shifts.{lines_inserted, reverse_index, scrolled_down};
 
 use super::Grid;
 

@@ -1,6 +1,7 @@
 //! Another size of a sheet: fresh rows take over the old ones.
 
-ghost use Rattle.std.specs.Prelude.{◌≡◌, ◌+◌, ◌-◌, ◌<◌, ◌≤◌, ◌&&◌, ℕ, All, if◌then◌else◌, length, nat_le, nat_lt, slice_index_or};
+ghost use Rattle.std.specs.Prelude.{◌≡◌, ◌+◌, ◌-◌, ◌<◌, ◌≤◌, ◌&&◌, ℕ, All, if◌then◌else◌};
+ghost use Rattle.std.specs.Prelude.{length, nat_le, nat_lt, slice_index_or};
 ghost use Rattle.vt_cells.specs.Attrs.{default_attrs};
 ghost use Rattle.vt_rows.specs.Row.{RowValue, IsRow, blank_row, resized_row};
 ghost use Rattle.vt_grid.specs.Keeping.{refilled};
@@ -25,7 +26,9 @@ impl Sheet {
         requires inside { up < length fresh.rows }
         requires hidden { above.old.offset ≡ 0 }
         requires sound { All (IsRow self.old.width) self.old.rows }
-        ensures rows { self.new.rows ≡ rows_resized fresh.width (window self.old.width (length fresh.rows) down up above.old.rows self.old.rows) }
+        ensures rows { self.new.rows
+            ≡ rows_resized fresh.width
+            (window self.old.width (length fresh.rows) down up above.old.rows self.old.rows) }
         ensures width { self.new.width ≡ fresh.width }
         ensures above { above.new ≡ taken_back up above.old }
     {
@@ -41,7 +44,10 @@ impl Sheet {
         requires inside { row < length self.old.rows }
         requires blank { sheet_row self.old row ≡ blank_row default_attrs (length (sheet_row self.old row).cells) }
         requires paired { IsPaired from.now }
-        ensures { self.new ≡ with_sheet_row row (resized_row (length (sheet_row self.old row).cells) (record { cells = from.now; wrapped = wrapped })) self.old }
+        ensures { self.new
+            ≡ with_sheet_row row
+            (resized_row (length (sheet_row self.old row).cells) (record { cells = from.now; wrapped = wrapped }))
+            self.old }
     {
         let (start, end) = self.flat.part(row);
         let cells = &mut self.flat.cells[start..end];
@@ -53,12 +59,19 @@ impl Sheet {
     /// Copies the rows of another sheet from `down` on into blank rows from
     /// `up` on, as far as there is room.
     fn take_rows(&mut self, rows: &Sheet, down: usize, up: usize)
-        requires blank { (k : ℕ) (d : RowValue) → up ≤ k → k < length self.old.rows → slice_index_or self.old.rows k d ≡ blank_row default_attrs (length (slice_index_or self.old.rows k d).cells) }
+        requires blank { (k : ℕ) (d : RowValue) → up ≤ k → k < length self.old.rows →
+            slice_index_or self.old.rows k d
+            ≡ blank_row default_attrs (length (slice_index_or self.old.rows k d).cells) }
         requires inside { up ≤ length self.old.rows }
         requires sound { All (IsRow rows.now.width) rows.now.rows }
         ensures len { length self.new.rows ≡ length self.old.rows }
         ensures width { self.new.width ≡ self.old.width }
-        ensures by_index { (k : ℕ) (d : RowValue) → k < length self.old.rows → slice_index_or self.new.rows k d ≡ (if nat_le up k && nat_lt (down + (k - up)) (length rows.now.rows) then resized_row (length (slice_index_or self.old.rows k d).cells) (slice_index_or rows.now.rows (down + (k - up)) d) else slice_index_or self.old.rows k d) }
+        ensures by_index { (k : ℕ) (d : RowValue) → k < length self.old.rows →
+            slice_index_or self.new.rows k d
+            ≡ (if nat_le up k && nat_lt (down + (k - up)) (length rows.now.rows)
+            then resized_row (length (slice_index_or self.old.rows k d).cells)
+            (slice_index_or rows.now.rows (down + (k - up)) d)
+            else slice_index_or self.old.rows k d) }
     {
         let mut k = (self.len() - up).min(rows.len().saturating_sub(down));
         while k > 0 {
@@ -79,7 +92,9 @@ fn fill(fresh: &mut Sheet, rows: &Sheet, down: usize, up: usize, above: &mut Scr
     ensures len { length fresh.new.rows ≡ length fresh.old.rows }
     ensures width { fresh.new.width ≡ fresh.old.width }
     ensures above { above.new ≡ taken_back up above.old }
-    ensures by_index { (k : ℕ) (d : RowValue) → k < length fresh.old.rows → slice_index_or fresh.new.rows k d ≡ refilled down up above.old.rows rows.now.rows (slice_index_or fresh.old.rows k d) k d }
+    ensures by_index { (k : ℕ) (d : RowValue) → k < length fresh.old.rows →
+        slice_index_or fresh.new.rows k d
+        ≡ refilled down up above.old.rows rows.now.rows (slice_index_or fresh.old.rows k d) k d }
 {
     above.give_back(fresh, up);
     fresh.take_rows(rows, down, up);

@@ -82,7 +82,9 @@ impl<'a> FusedIterator for BasicFormattedToPlainIndexed<'a> {}
 
 /// The text before the first SGR, and the text behind that.
 fn split_at_sgr(text: &str) -> (&str, &str)
-    ensures pieces { (at : ℕ) → pieces_from at text.now ≡ piece_at at result.0.now ++ pieces_from (at + (length text.now - length result.1.now)) result.1.now }
+    ensures pieces { (at : ℕ) →
+        pieces_from at text.now
+        ≡ piece_at at result.0.now ++ pieces_from (at + (length text.now - length result.1.now)) result.1.now }
     ensures shorter { 0 < length text.now → length result.1.now < length text.now }
 {
     match text.split_once('\x1b') {
@@ -93,7 +95,8 @@ fn split_at_sgr(text: &str) -> (&str, &str)
 
 /// The text behind the end of the SGR in which it begins.
 fn behind_sgr(text: &str) -> &str
-    ensures pieces { (at : ℕ) → pieces_within at text.now ≡ pieces_from (at + (length text.now - length result.now)) result.now }
+    ensures pieces { (at : ℕ) →
+        pieces_within at text.now ≡ pieces_from (at + (length text.now - length result.now)) result.now }
     ensures len { length result.now ≤ length text.now }
 {
     match text.split_once('m') {

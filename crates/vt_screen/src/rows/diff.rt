@@ -34,7 +34,8 @@ impl<'a> Model for RowsDiff<'a> {
 
     ghost Value = { List (List ℕ) };
 
-    ghost view = { λ r. texts_from (changed_text r.start r.stop (shown r.screen.now) (shown r.prev.now)) r.row (length r.screen.now.page.rows) };
+    ghost view = { λ r. texts_from (changed_text r.start r.stop (shown r.screen.now) (shown r.prev.now))
+        r.row (length r.screen.now.page.rows) };
 
     ghost invariant = { λ r. IsColumns r.start r.stop r.screen.now × SameSize r.screen.now.page r.prev.now.page };
 }
@@ -45,7 +46,8 @@ impl<'a> RowsDiff<'a> {
         requires order { start ≤ stop }
         requires stop { stop ≤ screen.now.page.width }
         requires size { SameSize screen.now.page prev.now.page }
-        ensures { result ≡ texts_from (changed_text start stop (shown screen.now) (shown prev.now)) 0 (length screen.now.page.rows) }
+        ensures { result
+            ≡ texts_from (changed_text start stop (shown screen.now) (shown prev.now)) 0 (length screen.now.page.rows) }
     {
         RowsDiff {
             screen,

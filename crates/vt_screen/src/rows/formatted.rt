@@ -30,7 +30,8 @@ impl<'a> Model for RowsFormatted<'a> {
 
     ghost Value = { List (List ℕ) };
 
-    ghost view = { λ r. texts_from (formatted_text r.start r.stop (shown r.screen.now)) r.row (length r.screen.now.page.rows) };
+    ghost view = { λ r. texts_from (formatted_text r.start r.stop (shown r.screen.now))
+        r.row (length r.screen.now.page.rows) };
 
     ghost invariant = { λ r. IsColumns r.start r.stop r.screen.now };
 }

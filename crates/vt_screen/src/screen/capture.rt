@@ -1,11 +1,13 @@
 //! Captures: texts of rows with SGR alone.
 
-ghost use Rattle.std.specs.Prelude.{◌≡◌, ◌+◌, ◌<◌, ◌≤◌, ◌↔◌, ◌++◌, IfOk, IfSome, IsSome, OnErr, OnOk, length, slice_index_or, string_bytes};
+ghost use Rattle.std.specs.Prelude.{◌≡◌, ◌+◌, ◌<◌, ◌≤◌, ◌↔◌, ◌++◌, IfOk, IfSome, IsSome};
+ghost use Rattle.std.specs.Prelude.{OnErr, OnOk, length, slice_index_or, string_bytes};
 ghost use Rattle.std.specs.List.{slice_range};
 ghost use Rattle.vt_cells.specs.Refusals.{OnlyOutOfMemory};
 ghost use Rattle.vt_rows.specs.Basic.{unwritten};
 ghost use Rattle.vt_rows.specs.Row.{RowValue, IsRow};
-ghost use Rattle.vt_screen.specs.Capture.{IfGiven, IsBehindSome, all_rows, basic_texts, captured_rows, given_state, written_after_all};
+ghost use Rattle.vt_screen.specs.Capture.{IfGiven, IsBehindSome, all_rows, basic_texts};
+ghost use Rattle.vt_screen.specs.Capture.{captured_rows, given_state, written_after_all};
 ghost use Rattle.vt_screen.specs.CaptureText.{IsCaptureText};
 ghost use Rattle.vt_screen.specs.Screen.{visible_rows};
 
@@ -42,9 +44,12 @@ impl Screen {
         sink: &mut S,
         range: BasicFormattedCaptureRange<'_>,
     ) -> Result<(), S::Error>
-        ensures text { OnOk result (S.text sink.new ≡ S.text sink.old ++ basic_texts (given_state range.entry) (captured_rows range.entry self.now)) }
-        ensures state { OnOk result (IfGiven range.exit (λ state. state ≡ written_after_all (given_state range.entry) (captured_rows range.entry self.now))) }
-        ensures err { OnErr result (IfGiven range.exit (IsBehindSome (given_state range.entry) (captured_rows range.entry self.now))) }
+        ensures text { OnOk result (S.text sink.new
+            ≡ S.text sink.old ++ basic_texts (given_state range.entry) (captured_rows range.entry self.now)) }
+        ensures state { OnOk result (IfGiven range.exit
+            (λ state. state ≡ written_after_all (given_state range.entry) (captured_rows range.entry self.now))) }
+        ensures err { OnErr result
+            (IfGiven range.exit (IsBehindSome (given_state range.entry) (captured_rows range.entry self.now))) }
     {
         match range {
             BasicFormattedCaptureRange::Full(state) => self.write_all_rows(sink, state),
@@ -75,7 +80,8 @@ impl Screen {
         sink: &mut S,
         state: &mut BasicFormattedCaptureState,
     ) -> Result<(), S::Error>
-        ensures text { OnOk result (S.text sink.new ≡ S.text sink.old ++ basic_texts state.old (visible_rows self.now)) }
+        ensures text { OnOk result
+            (S.text sink.new ≡ S.text sink.old ++ basic_texts state.old (visible_rows self.now)) }
         ensures state { OnOk result (state.new ≡ written_after_all state.old (visible_rows self.now)) }
         ensures err { OnErr result (IsBehindSome state.old (visible_rows self.now) state.new) }
     {
@@ -94,8 +100,10 @@ impl Screen {
     ) -> Result<(), S::Error>
         requires forward { start ≤ end }
         requires inside { end ≤ length (all_rows self.now) }
-        ensures text { OnOk result (S.text sink.new ≡ S.text sink.old ++ basic_texts state.old (slice_range (all_rows self.now) start end)) }
-        ensures state { OnOk result (state.new ≡ written_after_all state.old (slice_range (all_rows self.now) start end)) }
+        ensures text { OnOk result
+            (S.text sink.new ≡ S.text sink.old ++ basic_texts state.old (slice_range (all_rows self.now) start end)) }
+        ensures state { OnOk result
+            (state.new ≡ written_after_all state.old (slice_range (all_rows self.now) start end)) }
         ensures err { OnErr result (IsBehindSome state.old (slice_range (all_rows self.now) start end) state.new) }
     {
         for index in start..end {

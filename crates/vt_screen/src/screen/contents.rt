@@ -1,10 +1,13 @@
 //! The text of a screen without attributes.
 
-ghost use Rattle.std.specs.Prelude.{◌≡◌, ◌≤◌, ◌<◌, ◌+◌, ◌-◌, ◌++◌, ◌↔◌, IfErr, IfOk, IfSome, IsSome, OnOk, false, length, min, string_bytes, if◌then◌else◌, [], IsTrue, IsFalse, slice_index, string_len};
+ghost use Rattle.std.specs.Prelude.{◌≡◌, ◌≤◌, ◌<◌, ◌+◌, ◌-◌, ◌++◌, ◌↔◌, IfErr, IfOk, IfSome};
+ghost use Rattle.std.specs.Prelude.{IsSome, OnOk, false, length, min, string_bytes, if◌then◌else◌};
+ghost use Rattle.std.specs.Prelude.{[], IsTrue, IsFalse, slice_index, string_len};
 ghost use Rattle.std.specs.List.{flat_map, range_with_len};
 ghost use Rattle.vt_cells.specs.Refusals.{OnlyOutOfMemory};
 ghost use Rattle.vt_rows.specs.Plain.{plain_text};
-ghost use Rattle.vt_screen.specs.Contents.{between_of, contents_of, gap_line, line_end, lines_of, part_of, row_texts, rows_left, without_line_ends};
+ghost use Rattle.vt_screen.specs.Contents.{between_of, contents_of, gap_line, line_end, lines_of};
+ghost use Rattle.vt_screen.specs.Contents.{part_of, row_texts, rows_left, without_line_ends};
 ghost use Rattle.vt_screen.specs.Screen.{visible_row, visible_rows};
 
 use crate::rows::Rows;
@@ -54,7 +57,8 @@ impl Screen {
         end_col: u16,
     ) -> Result<String, Error>
         requires { start_row < end_row → start_col ≤ self.now.page.width }
-        ensures text { IfOk result (λ text. string_bytes text ≡ between_of start_row start_col end_row end_col self.now) }
+        ensures text { IfOk result
+            (λ text. string_bytes text ≡ between_of start_row start_col end_row end_col self.now) }
         ensures memory { OnlyOutOfMemory result }
     {
         let mut text = String::new(self.alloc);
@@ -100,7 +104,8 @@ impl Screen {
         stop: usize,
     ) -> Option<Result<String, Error>>
         ensures inside { IsSome result ↔ (row < length self.now.page.rows) }
-        ensures text { IfSome result (λ item. IfOk item (λ text. string_bytes text ≡ plain_text start stop (visible_row self.now row).cells)) }
+        ensures text { IfSome result
+            (λ item. IfOk item (λ text. string_bytes text ≡ plain_text start stop (visible_row self.now row).cells)) }
         ensures memory { IfSome result (λ item. IfErr item (λ error. error ≡ Error.OutOfMemory)) }
     {
         let found = self.visible_row(row)?;
@@ -110,7 +115,8 @@ impl Screen {
     /// Writes all rows, each with its line end.
     #[tactic(auto, using(crate::proofs::ContentTexts::lines_more, crate::proofs::ContentTexts::lines_done))]
     fn write_lines<S: Sink>(&self, sink: &mut S) -> Result<(), S::Error>
-        ensures { OnOk result (S.text sink.new ≡ S.text sink.old ++ lines_of self.now.page.width false (visible_rows self.now)) }
+        ensures { OnOk result
+            (S.text sink.new ≡ S.text sink.old ++ lines_of self.now.page.width false (visible_rows self.now)) }
     {
         let size = self.grid.size();
         let mut goes_on = false;
@@ -128,7 +134,8 @@ impl Screen {
     /// shown.
     #[tactic(auto, using(crate::proofs::ContentTexts::parts_more, crate::proofs::ContentTexts::parts_done))]
     fn write_between<S: Sink>(&self, sink: &mut S, start: Pos, end: Pos) -> Result<(), S::Error>
-        ensures { OnOk result (S.text sink.new ≡ S.text sink.old ++ between_of start.row start.col end.row end.col self.now) }
+        ensures { OnOk result
+            (S.text sink.new ≡ S.text sink.old ++ between_of start.row start.col end.row end.col self.now) }
     {
         let size = self.grid.size();
         let past = past_row(end.row, size.rows);
@@ -148,7 +155,8 @@ impl Screen {
         end: Pos,
     ) -> Result<(), S::Error>
         requires { row < length self.now.page.rows }
-        ensures { OnOk result (S.text sink.new ≡ S.text sink.old ++ part_of start.row start.col end.row end.col self.now row) }
+        ensures { OnOk result
+            (S.text sink.new ≡ S.text sink.old ++ part_of start.row start.col end.row end.col self.now row) }
     {
         let cols = self.grid.size().cols;
         let Some(found) = self.visible_row(row) else {
@@ -194,7 +202,8 @@ fn write_line<S: Sink>(
     cols: usize,
     goes_on: bool,
 ) -> Result<(), S::Error>
-    ensures { OnOk result (S.text sink.new ≡ S.text sink.old ++ (gap_line cols goes_on row.now ++ (plain_text 0 cols row.now.cells ++ line_end row.now))) }
+    ensures { OnOk result (S.text sink.new
+        ≡ S.text sink.old ++ (gap_line cols goes_on row.now ++ (plain_text 0 cols row.now.cells ++ line_end row.now))) }
 {
     write_gap_line(sink, row, cols, goes_on)?;
     plain::write_contents(sink, row.cells(), 0, cols)?;
@@ -257,7 +266,9 @@ fn drop_line_ends(text: &mut String)
 /// Whether the text's last byte is a line end.
 #[tactic(auto, using(crate::proofs::ContentTexts::trim_none, crate::proofs::ContentTexts::trim_other))]
 fn ends_line(text: &String) -> bool
-    ensures yes { IsTrue result → (0 < length (string_bytes text.now)) × (slice_index (string_bytes text.now) (length (string_bytes text.now) - 1) ≡ 0x0A) }
+    ensures yes { IsTrue result →
+        (0 < length (string_bytes text.now))
+        × (slice_index (string_bytes text.now) (length (string_bytes text.now) - 1) ≡ 0x0A) }
     ensures no { IsFalse result → without_line_ends (string_bytes text.now) ≡ string_bytes text.now }
     ensures len { length (string_bytes text.now) ≡ string_len text.now }
 {

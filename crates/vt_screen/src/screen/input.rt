@@ -53,7 +53,8 @@ impl Screen {
     /// where memory for the text is refused.
     pub fn input_mode_diff(&self, prev: &Screen) -> Result<String, Error>
         ensures text { IfOk result (λ text. string_bytes text ≡ input_change prev.now.modes self.now.modes) }
-        ensures sets { IfOk result (λ text. SetsModes (λ had. had ≡ prev.now.modes) self.now.modes (string_bytes text)) }
+        ensures sets { IfOk result
+            (λ text. SetsModes (λ had. had ≡ prev.now.modes) self.now.modes (string_bytes text)) }
         ensures empty { IfOk result (λ text. string_bytes text ≡ [] → self.now.modes ≡ prev.now.modes) }
         ensures none { IfOk result (λ text. self.now.modes ≡ prev.now.modes → string_bytes text ≡ []) }
         ensures memory { OnlyOutOfMemory result }

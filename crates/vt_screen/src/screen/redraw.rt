@@ -22,7 +22,9 @@ ghost use Rattle.vt_redraw.specs.Steady.{IsSteady};
 ghost use Rattle.vt_screen.specs.AnyRegion.{IsReaderInAnyRegion, KeepsRestButRegion, reset_text};
 ghost use Rattle.vt_screen.specs.Screen.{IsColored, IsScreen, ScreenValue};
 ghost use Rattle.vt_screen.specs.Touched.{TouchesOnly};
-ghost use Rattle.vt_screen.specs.Shown.{HasCursor, HasRows, IsReadBy, IsReader, IsReaderOf, IsReaderOfRows, KeepsRest, Makes, SetsAttrs, ShowsPlainly, StaysPlain, TakesCursor, attributes_text, shown};
+ghost use Rattle.vt_screen.specs.Shown.{HasCursor, HasRows, IsReadBy, IsReader, IsReaderOf};
+ghost use Rattle.vt_screen.specs.Shown.{IsReaderOfRows, KeepsRest, Makes, SetsAttrs, ShowsPlainly};
+ghost use Rattle.vt_screen.specs.Shown.{StaysPlain, TakesCursor, attributes_text, shown};
 
 use crate::screen::Screen;
 use vt_cells::term::{BufWrite, ChangeAttrs, ClearAttrs};
@@ -50,12 +52,19 @@ impl Screen {
     pub fn contents_formatted(&self) -> Result<String, Error>
         ensures colored { IsColored self.now }
         ensures text { IfOk result (λ text. string_bytes text ≡ bytes_of_all (redraw (shown self.now))) }
-        ensures quiet { IfOk result (λ text. IsSteady (shown self.now) → IsReadBy (IsReader (shown self.now)) (string_bytes text)) }
-        ensures shows { IfOk result (λ text. IsSteady (shown self.now) → Makes (IsReader (shown self.now)) (string_bytes text) (ShowsPlainly (shown self.now))) }
-        ensures rows { IfOk result (λ text. IsSteady (shown self.now) → Makes (IsReader (shown self.now)) (string_bytes text) (HasRows (shown self.now))) }
-        ensures cursor { IfOk result (λ text. IsSteady (shown self.now) → Makes (IsReader (shown self.now)) (string_bytes text) (HasCursor (shown self.now))) }
-        ensures rest { IfOk result (λ text. IsSteady (shown self.now) → Makes (IsReader (shown self.now)) (string_bytes text) KeepsRest) }
-        ensures same { IfOk result (λ text. (other : ScreenValue) → IsScreen other → IsColored other → SamePictureSize (shown self.now) (shown other) → IsSteady (shown self.now) → IsSteady (shown other) → string_bytes text ≡ bytes_of_all (redraw (shown other)) → shown self.now ≡ shown other) }
+        ensures quiet { IfOk result
+            (λ text. IsSteady (shown self.now) → IsReadBy (IsReader (shown self.now)) (string_bytes text)) }
+        ensures shows { IfOk result (λ text. IsSteady (shown self.now) →
+            Makes (IsReader (shown self.now)) (string_bytes text) (ShowsPlainly (shown self.now))) }
+        ensures rows { IfOk result (λ text. IsSteady (shown self.now) →
+            Makes (IsReader (shown self.now)) (string_bytes text) (HasRows (shown self.now))) }
+        ensures cursor { IfOk result (λ text. IsSteady (shown self.now) →
+            Makes (IsReader (shown self.now)) (string_bytes text) (HasCursor (shown self.now))) }
+        ensures rest { IfOk result
+            (λ text. IsSteady (shown self.now) → Makes (IsReader (shown self.now)) (string_bytes text) KeepsRest) }
+        ensures same { IfOk result (λ text. (other : ScreenValue) → IsScreen other → IsColored other →
+            SamePictureSize (shown self.now) (shown other) → IsSteady (shown self.now) → IsSteady (shown other) →
+            string_bytes text ≡ bytes_of_all (redraw (shown other)) → shown self.now ≡ shown other) }
         ensures memory { OnlyOutOfMemory result }
     {
         let mut text = String::new(self.alloc);
@@ -92,12 +101,19 @@ impl Screen {
     pub fn contents_formatted_reset(&self) -> Result<String, Error>
         ensures colored { IsColored self.now }
         ensures text { IfOk result (λ text. string_bytes text ≡ reset_text (shown self.now)) }
-        ensures quiet { IfOk result (λ text. IsSteady (shown self.now) → IsReadBy (IsReaderInAnyRegion (shown self.now)) (string_bytes text)) }
-        ensures shows { IfOk result (λ text. IsSteady (shown self.now) → Makes (IsReaderInAnyRegion (shown self.now)) (string_bytes text) (ShowsPlainly (shown self.now))) }
-        ensures rows { IfOk result (λ text. IsSteady (shown self.now) → Makes (IsReaderInAnyRegion (shown self.now)) (string_bytes text) (HasRows (shown self.now))) }
-        ensures cursor { IfOk result (λ text. IsSteady (shown self.now) → Makes (IsReaderInAnyRegion (shown self.now)) (string_bytes text) (HasCursor (shown self.now))) }
-        ensures rest { IfOk result (λ text. IsSteady (shown self.now) → Makes (IsReaderInAnyRegion (shown self.now)) (string_bytes text) KeepsRestButRegion) }
-        ensures same { IfOk result (λ text. (other : ScreenValue) → IsScreen other → IsColored other → SamePictureSize (shown self.now) (shown other) → IsSteady (shown self.now) → IsSteady (shown other) → string_bytes text ≡ reset_text (shown other) → shown self.now ≡ shown other) }
+        ensures quiet { IfOk result
+            (λ text. IsSteady (shown self.now) → IsReadBy (IsReaderInAnyRegion (shown self.now)) (string_bytes text)) }
+        ensures shows { IfOk result (λ text. IsSteady (shown self.now) →
+            Makes (IsReaderInAnyRegion (shown self.now)) (string_bytes text) (ShowsPlainly (shown self.now))) }
+        ensures rows { IfOk result (λ text. IsSteady (shown self.now) →
+            Makes (IsReaderInAnyRegion (shown self.now)) (string_bytes text) (HasRows (shown self.now))) }
+        ensures cursor { IfOk result (λ text. IsSteady (shown self.now) →
+            Makes (IsReaderInAnyRegion (shown self.now)) (string_bytes text) (HasCursor (shown self.now))) }
+        ensures rest { IfOk result (λ text. IsSteady (shown self.now) →
+            Makes (IsReaderInAnyRegion (shown self.now)) (string_bytes text) KeepsRestButRegion) }
+        ensures same { IfOk result (λ text. (other : ScreenValue) → IsScreen other → IsColored other →
+            SamePictureSize (shown self.now) (shown other) → IsSteady (shown self.now) → IsSteady (shown other) →
+            string_bytes text ≡ reset_text (shown other) → shown self.now ≡ shown other) }
         ensures memory { OnlyOutOfMemory result }
     {
         let mut text = String::new(self.alloc);
@@ -123,15 +139,24 @@ impl Screen {
     /// ```
     pub fn contents_diff(&self, prev: &Screen) -> Result<String, Error>
         requires { SameSize self.now.page prev.now.page }
-        ensures text { IfOk result (λ text. string_bytes text ≡ bytes_of_all (difference (shown self.now) (shown prev.now))) }
-        ensures quiet { IfOk result (λ text. IsSteady (shown self.now) → IsReadBy (IsReaderOf (shown self.now) (shown prev.now)) (string_bytes text)) }
-        ensures shows { IfOk result (λ text. IsSteady (shown self.now) → Makes (IsReaderOf (shown self.now) (shown prev.now)) (string_bytes text) (ShowsPlainly (shown self.now))) }
-        ensures rows { IfOk result (λ text. IsSteady (shown self.now) → Makes (IsReaderOf (shown self.now) (shown prev.now)) (string_bytes text) (HasRows (shown self.now))) }
-        ensures cursor { IfOk result (λ text. IsSteady (shown self.now) → Makes (IsReaderOf (shown self.now) (shown prev.now)) (string_bytes text) (HasCursor (shown self.now))) }
-        ensures rest { IfOk result (λ text. IsSteady (shown self.now) → Makes (IsReaderOf (shown self.now) (shown prev.now)) (string_bytes text) KeepsRest) }
-        ensures empty { IfOk result (λ text. IsSteady (shown self.now) → string_bytes text ≡ [] → shown self.now ≡ shown prev.now) }
+        ensures text { IfOk result
+            (λ text. string_bytes text ≡ bytes_of_all (difference (shown self.now) (shown prev.now))) }
+        ensures quiet { IfOk result (λ text. IsSteady (shown self.now) →
+            IsReadBy (IsReaderOf (shown self.now) (shown prev.now)) (string_bytes text)) }
+        ensures shows { IfOk result (λ text. IsSteady (shown self.now) →
+            Makes (IsReaderOf (shown self.now) (shown prev.now)) (string_bytes text) (ShowsPlainly (shown self.now))) }
+        ensures rows { IfOk result (λ text. IsSteady (shown self.now) →
+            Makes (IsReaderOf (shown self.now) (shown prev.now)) (string_bytes text) (HasRows (shown self.now))) }
+        ensures cursor { IfOk result (λ text. IsSteady (shown self.now) →
+            Makes (IsReaderOf (shown self.now) (shown prev.now)) (string_bytes text) (HasCursor (shown self.now))) }
+        ensures rest { IfOk result (λ text. IsSteady (shown self.now) →
+            Makes (IsReaderOf (shown self.now) (shown prev.now)) (string_bytes text) KeepsRest) }
+        ensures empty { IfOk result
+            (λ text. IsSteady (shown self.now) → string_bytes text ≡ [] → shown self.now ≡ shown prev.now) }
         ensures none { IfOk result (λ text. shown self.now ≡ shown prev.now → string_bytes text ≡ []) }
-        ensures touches { IfOk result (λ text. IsSteady (shown self.now) → TouchesOnly (IsReaderOf (shown self.now) (shown prev.now)) (string_bytes text) (IsLocal (shown self.now) (shown prev.now))) }
+        ensures touches { IfOk result (λ text. IsSteady (shown self.now) →
+            TouchesOnly (IsReaderOf (shown self.now) (shown prev.now))
+            (string_bytes text) (IsLocal (shown self.now) (shown prev.now))) }
         ensures memory { OnlyOutOfMemory result }
     {
         let mut text = String::new(self.alloc);
@@ -151,11 +176,16 @@ impl Screen {
     /// and it is plain again. Fails where memory for the text is refused.
     pub fn cursor_state_formatted(&self) -> Result<String, Error>
         ensures text { IfOk result (λ text. string_bytes text ≡ bytes_of_all (cursor_state (shown self.now))) }
-        ensures quiet { IfOk result (λ text. IsSteady (shown self.now) → IsReadBy (IsReaderOfRows (shown self.now)) (string_bytes text)) }
-        ensures takes { IfOk result (λ text. IsSteady (shown self.now) → Makes (IsReaderOfRows (shown self.now)) (string_bytes text) (TakesCursor (shown self.now))) }
-        ensures plain { IfOk result (λ text. IsSteady (shown self.now) → Makes (IsReaderOfRows (shown self.now)) (string_bytes text) StaysPlain) }
-        ensures rest { IfOk result (λ text. IsSteady (shown self.now) → Makes (IsReaderOfRows (shown self.now)) (string_bytes text) KeepsRest) }
-        ensures touches { IfOk result (λ text. IsSteady (shown self.now) → TouchesOnly (IsReaderOfRows (shown self.now)) (string_bytes text) (MayPlace (shown self.now))) }
+        ensures quiet { IfOk result
+            (λ text. IsSteady (shown self.now) → IsReadBy (IsReaderOfRows (shown self.now)) (string_bytes text)) }
+        ensures takes { IfOk result (λ text. IsSteady (shown self.now) →
+            Makes (IsReaderOfRows (shown self.now)) (string_bytes text) (TakesCursor (shown self.now))) }
+        ensures plain { IfOk result (λ text. IsSteady (shown self.now) →
+            Makes (IsReaderOfRows (shown self.now)) (string_bytes text) StaysPlain) }
+        ensures rest { IfOk result (λ text. IsSteady (shown self.now) →
+            Makes (IsReaderOfRows (shown self.now)) (string_bytes text) KeepsRest) }
+        ensures touches { IfOk result (λ text. IsSteady (shown self.now) →
+            TouchesOnly (IsReaderOfRows (shown self.now)) (string_bytes text) (MayPlace (shown self.now))) }
         ensures memory { OnlyOutOfMemory result }
     {
         let mut text = String::new(self.alloc);
@@ -211,7 +241,8 @@ impl Screen {
         ensures colored { IsColored self.now }
         ensures other { IsScreen prev.now }
         ensures other_colored { IsColored prev.now }
-        ensures text { OnOk result (S.text sink.new ≡ S.text sink.old ++ bytes_of_all (difference (shown self.now) (shown prev.now))) }
+        ensures text { OnOk result
+            (S.text sink.new ≡ S.text sink.old ++ bytes_of_all (difference (shown self.now) (shown prev.now))) }
     {
         write_contents_diff(sink, &self.view(), &prev.view())
     }

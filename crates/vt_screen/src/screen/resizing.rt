@@ -50,7 +50,8 @@ impl Screen {
         callbacks: &mut CB,
     ) -> Result<(), Error>
         ensures ok { OnOk result (self.new ≡ resized rows.value cols.value self.old) }
-        ensures told { OnOk result (FoldsTo (Told CB.does) callbacks.old (calls_resized rows.value cols.value self.old) callbacks.new) }
+        ensures told { OnOk result
+            (FoldsTo (Told CB.does) callbacks.old (calls_resized rows.value cols.value self.old) callbacks.new) }
         ensures err { OnErr result ((self.new ≡ self.old) × (callbacks.new ≡ callbacks.old)) }
         ensures grows { IsErr result → has_size rows.value cols.value self.old ≡ false }
         ensures memory { OnlyOutOfMemory result }
@@ -82,7 +83,8 @@ impl Screen {
         requires other { has_size size.rows size.cols self.old ≡ false }
         requires whole { IsScreen self.old }
         ensures ok { OnOk result (self.new ≡ resized size.rows size.cols self.old) }
-        ensures told { OnOk result (FoldsTo (Told CB.does) callbacks.old (calls_resized size.rows size.cols self.old) callbacks.new) }
+        ensures told { OnOk result
+            (FoldsTo (Told CB.does) callbacks.old (calls_resized size.rows size.cols self.old) callbacks.new) }
         ensures err { OnErr result ((self.new ≡ self.old) × (callbacks.new ≡ callbacks.old)) }
         ensures memory { OnlyOutOfMemory result }
     {
@@ -101,7 +103,10 @@ impl Screen {
         requires cols { 0 < size.cols }
         requires main { self.old.is_alternate ≡ false }
         ensures ok { OnOk result (self.new ≡ pages_resized size.rows size.cols self.old) }
-        ensures told { OnOk result (FoldsTo (Told CB.does) callbacks.old (reports_of false size.rows (Some self.old.page) self.old.scrollback ++ reports_of true size.rows self.old.other (no_scrollback 0)) callbacks.new) }
+        ensures told { OnOk result (FoldsTo (Told CB.does) callbacks.old
+            (reports_of false size.rows (Some self.old.page) self.old.scrollback
+            ++ reports_of true size.rows self.old.other (no_scrollback 0))
+            callbacks.new) }
         ensures err { OnErr result ((self.new ≡ self.old) × (callbacks.new ≡ callbacks.old)) }
         ensures memory { OnlyOutOfMemory result }
     {
@@ -152,7 +157,8 @@ fn resize_alternate<CB: Callbacks>(
     requires fresh { fresh ≡ option_map (λ _. blank_page size.rows size.cols) page.old }
     requires nothing { nothing.old ≡ no_scrollback 0 }
     ensures page { page.new ≡ option_map (page_resized size.rows size.cols (no_scrollback 0)) page.old }
-    ensures told { FoldsTo (Told CB.does) callbacks.old (reports_of true size.rows page.old (no_scrollback 0)) callbacks.new }
+    ensures told { FoldsTo (Told CB.does) callbacks.old
+        (reports_of true size.rows page.old (no_scrollback 0)) callbacks.new }
     ensures nothing { IsNothing nothing.new }
 {
     let Some(fresh) = fresh else {

@@ -6,7 +6,9 @@ ghost use Rattle.vt_grid.specs.Page.{SameSize};
 ghost use Rattle.vt_redraw.specs.Items.{CutsNone};
 ghost use Rattle.vt_redraw.specs.Locality.{row_of_picture};
 ghost use Rattle.vt_redraw.specs.Steady.{IsSteady};
-ghost use Rattle.vt_screen.specs.RowsShown.{EachLinked, EachUncut, HasLinked, HasRange, IsBlankReader, IsOff, IsRowReader, IsWholeRow, IsWrapReader, Turns, changed_text, formatted_text, range_end, text_at, texts_from};
+ghost use Rattle.vt_screen.specs.RowsShown.{EachLinked, EachUncut, HasLinked, HasRange, IsBlankReader};
+ghost use Rattle.vt_screen.specs.RowsShown.{IsOff, IsRowReader, IsWholeRow, IsWrapReader, Turns, changed_text};
+ghost use Rattle.vt_screen.specs.RowsShown.{formatted_text, range_end, text_at, texts_from};
 ghost use Rattle.vt_screen.specs.Screen.{IsColored, IsScreen};
 ghost use Rattle.vt_screen.specs.Shown.{Makes, shown};
 
@@ -39,11 +41,20 @@ impl Screen {
     /// ```
     pub fn rows_formatted(&self, start: u16, width: u16) -> RowsFormatted<'_>
         requires { start < self.now.page.width }
-        ensures texts { result ≡ texts_from (formatted_text start (range_end start width self.now.page.width) (shown self.now)) 0 (length self.now.page.rows) }
+        ensures texts { result
+            ≡ texts_from (formatted_text start (range_end start width self.now.page.width) (shown self.now))
+            0 (length self.now.page.rows) }
         ensures count { length result ≡ length self.now.page.rows }
-        ensures draws { IsSteady (shown self.now) → EachUncut start (range_end start width self.now.page.width) (shown self.now) (λ r. Turns (IsBlankReader (shown self.now) r start) (text_at result r) (HasRange start (range_end start width self.now.page.width) r (row_of_picture (shown self.now) r))) }
-        ensures off { IsSteady (shown self.now) → EachUncut start (range_end start width self.now.page.width) (shown self.now) (λ r. Makes (IsBlankReader (shown self.now) r start) (text_at result r) (IsOff r)) }
-        ensures linked { IsWholeRow start width self.now.page.width → IsSteady (shown self.now) → EachLinked (shown self.now) (λ r. Turns (IsWrapReader (shown self.now) r) (text_at result (r + 1)) (HasLinked r (row_of_picture (shown self.now) (r + 1)))) }
+        ensures draws { IsSteady (shown self.now) →
+            EachUncut start (range_end start width self.now.page.width) (shown self.now) (λ r. Turns
+            (IsBlankReader (shown self.now) r start) (text_at result r)
+            (HasRange start (range_end start width self.now.page.width) r (row_of_picture (shown self.now) r))) }
+        ensures off { IsSteady (shown self.now) →
+            EachUncut start (range_end start width self.now.page.width) (shown self.now)
+            (λ r. Makes (IsBlankReader (shown self.now) r start) (text_at result r) (IsOff r)) }
+        ensures linked { IsWholeRow start width self.now.page.width → IsSteady (shown self.now) →
+            EachLinked (shown self.now) (λ r. Turns (IsWrapReader (shown self.now) r)
+            (text_at result (r + 1)) (HasLinked r (row_of_picture (shown self.now) (r + 1)))) }
     {
         self.sound();
         RowsFormatted::new(self, start, self.range_end(start, width))
@@ -75,11 +86,21 @@ impl Screen {
     pub fn rows_diff<'a>(&'a self, prev: &'a Screen, start: u16, width: u16) -> RowsDiff<'a>
         requires start { start < self.now.page.width }
         requires size { SameSize self.now.page prev.now.page }
-        ensures texts { result ≡ texts_from (changed_text start (range_end start width self.now.page.width) (shown self.now) (shown prev.now)) 0 (length self.now.page.rows) }
+        ensures texts { result
+            ≡ texts_from
+            (changed_text start (range_end start width self.now.page.width) (shown self.now) (shown prev.now))
+            0 (length self.now.page.rows) }
         ensures count { length result ≡ length self.now.page.rows }
-        ensures draws { IsSteady (shown self.now) → EachUncut start (range_end start width self.now.page.width) (shown self.now) (λ r. CutsNone start (range_end start width self.now.page.width) (row_of_picture (shown prev.now) r).cells → Turns (IsRowReader (shown self.now) r start (row_of_picture (shown prev.now) r)) (text_at result r) (HasRange start (range_end start width self.now.page.width) r (row_of_picture (shown self.now) r))) }
-        ensures off { IsWholeRow start width self.now.page.width → IsSteady (shown self.now) → (r : ℕ) → r < length self.now.page.rows → (row_of_picture (shown self.now) r).wrapped ≡ false → Makes (IsRowReader (shown self.now) r 0 (row_of_picture (shown prev.now) r)) (text_at result r) (IsOff r) }
-        ensures empty { IsWholeRow start width self.now.page.width → (r : ℕ) → r < length self.now.page.rows → (text_at result r ≡ []) ↔ (row_of_picture (shown self.now) r ≡ row_of_picture (shown prev.now) r) }
+        ensures draws { IsSteady (shown self.now) →
+            EachUncut start (range_end start width self.now.page.width) (shown self.now) (λ r. CutsNone
+            start (range_end start width self.now.page.width) (row_of_picture (shown prev.now) r).cells →
+            Turns (IsRowReader (shown self.now) r start (row_of_picture (shown prev.now) r)) (text_at result r)
+            (HasRange start (range_end start width self.now.page.width) r (row_of_picture (shown self.now) r))) }
+        ensures off { IsWholeRow start width self.now.page.width → IsSteady (shown self.now) → (r : ℕ) →
+            r < length self.now.page.rows → (row_of_picture (shown self.now) r).wrapped ≡ false →
+            Makes (IsRowReader (shown self.now) r 0 (row_of_picture (shown prev.now) r)) (text_at result r) (IsOff r) }
+        ensures empty { IsWholeRow start width self.now.page.width → (r : ℕ) → r < length self.now.page.rows →
+            (text_at result r ≡ []) ↔ (row_of_picture (shown self.now) r ≡ row_of_picture (shown prev.now) r) }
     {
         self.sound();
         prev.sound();
@@ -137,7 +158,8 @@ impl Screen {
         requires inside { row < length self.now.page.rows }
         requires order { start ≤ stop }
         requires stop { stop ≤ self.now.page.width }
-        ensures text { IfOk result (λ text. string_bytes text ≡ changed_text start stop (shown self.now) (shown prev.now) row) }
+        ensures text { IfOk result
+            (λ text. string_bytes text ≡ changed_text start stop (shown self.now) (shown prev.now) row) }
         ensures memory { OnlyOutOfMemory result }
     {
         let mut text = String::new(self.alloc);
@@ -174,7 +196,8 @@ impl Screen {
         requires inside { row < length self.now.page.rows }
         requires order { start ≤ stop }
         requires stop { stop ≤ self.now.page.width }
-        ensures { OnOk result (S.text sink.new ≡ S.text sink.old ++ changed_text start stop (shown self.now) (shown prev.now) row) }
+        ensures { OnOk result
+            (S.text sink.new ≡ S.text sink.old ++ changed_text start stop (shown self.now) (shown prev.now) row) }
     {
         write_row_diff(sink, &self.view(), &prev.view(), row, start, stop)
     }

@@ -27,8 +27,10 @@ impl Screen {
     #[inline(always)]
     pub fn text<CB: Callbacks>(&mut self, c: char, callbacks: &mut CB) -> Result<(), Error>
         requires { c ≢ 0xFFFD }
-        ensures done { OnOk result (Takes CB.does (state callbacks.old self.old) (step.Print c) (state callbacks.new self.new)) }
-        ensures refused { OnErr result (Refuses (state callbacks.old self.old) (step.Print c) (state callbacks.new self.new)) }
+        ensures done { OnOk result
+            (Takes CB.does (state callbacks.old self.old) (step.Print c) (state callbacks.new self.new)) }
+        ensures refused { OnErr result
+            (Refuses (state callbacks.old self.old) (step.Print c) (state callbacks.new self.new)) }
         ensures memory { OnlyOutOfMemory result }
     {
         let width = columns(c);
@@ -69,8 +71,10 @@ impl Screen {
     /// scrollback is refused; then nothing has changed, and nothing was told.
     #[inline]
     pub fn lf<CB: Callbacks>(&mut self, callbacks: &mut CB) -> Result<(), Error>
-        ensures done { OnOk result (Takes CB.does (state callbacks.old self.old) step.LineFeed (state callbacks.new self.new)) }
-        ensures refused { OnErr result (Refuses (state callbacks.old self.old) step.LineFeed (state callbacks.new self.new)) }
+        ensures done { OnOk result
+            (Takes CB.does (state callbacks.old self.old) step.LineFeed (state callbacks.new self.new)) }
+        ensures refused { OnErr result
+            (Refuses (state callbacks.old self.old) step.LineFeed (state callbacks.new self.new)) }
         ensures memory { OnlyOutOfMemory result }
     {
         let mut reporter = Reporter {
@@ -84,8 +88,10 @@ impl Screen {
     /// Scrolls the scroll region up (SU), with rows that leave the page as in
     /// [`Screen::lf`].
     pub fn su<CB: Callbacks>(&mut self, count: u16, callbacks: &mut CB) -> Result<(), Error>
-        ensures done { OnOk result (Takes CB.does (state callbacks.old self.old) (step.ScrollUp count) (state callbacks.new self.new)) }
-        ensures refused { OnErr result (Refuses (state callbacks.old self.old) (step.ScrollUp count) (state callbacks.new self.new)) }
+        ensures done { OnOk result
+            (Takes CB.does (state callbacks.old self.old) (step.ScrollUp count) (state callbacks.new self.new)) }
+        ensures refused { OnErr result
+            (Refuses (state callbacks.old self.old) (step.ScrollUp count) (state callbacks.new self.new)) }
         ensures memory { OnlyOutOfMemory result }
     {
         let mut reporter = Reporter {
@@ -122,7 +128,9 @@ impl Screen {
     pub fn set_scrollback(&mut self, rows: usize) -> Result<(), Error>
         ensures ok { OnOk result (self.new ≡ scrolled_back rows self.old) }
         ensures err { OnErr result (self.new ≡ self.old) }
-        ensures grows { IsErr result → (self.old.is_alternate ≡ false) × ViewTakesMemory (length self.old.page.rows) self.old.page.width rows self.old.scrollback }
+        ensures grows { IsErr result →
+            (self.old.is_alternate ≡ false)
+            × ViewTakesMemory (length self.old.page.rows) self.old.page.width rows self.old.scrollback }
         ensures memory { OnlyOutOfMemory result }
     {
         if self.is_alternate {

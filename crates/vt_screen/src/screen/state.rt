@@ -39,12 +39,18 @@ impl Screen {
     /// ```
     pub fn state_formatted(&self) -> Result<String, Error>
         ensures text { IfOk result (λ text. string_bytes text ≡ state_text self.now) }
-        ensures quiet { IfOk result (λ text. IsSteady (shown self.now) → IsReadBy (IsStateReader self.now) (string_bytes text)) }
-        ensures shows { IfOk result (λ text. IsSteady (shown self.now) → Makes (IsStateReader self.now) (string_bytes text) (ShowsPlainly (shown self.now))) }
-        ensures rows { IfOk result (λ text. IsSteady (shown self.now) → Makes (IsStateReader self.now) (string_bytes text) (HasRows (shown self.now))) }
-        ensures cursor { IfOk result (λ text. IsSteady (shown self.now) → Makes (IsStateReader self.now) (string_bytes text) (HasCursor (shown self.now))) }
-        ensures modes { IfOk result (λ text. IsSteady (shown self.now) → Makes (IsStateReader self.now) (string_bytes text) (HasModes self.now.modes)) }
-        ensures rest { IfOk result (λ text. IsSteady (shown self.now) → Makes (IsStateReader self.now) (string_bytes text) KeepsRestButModes) }
+        ensures quiet { IfOk result
+            (λ text. IsSteady (shown self.now) → IsReadBy (IsStateReader self.now) (string_bytes text)) }
+        ensures shows { IfOk result (λ text. IsSteady (shown self.now) →
+            Makes (IsStateReader self.now) (string_bytes text) (ShowsPlainly (shown self.now))) }
+        ensures rows { IfOk result (λ text. IsSteady (shown self.now) →
+            Makes (IsStateReader self.now) (string_bytes text) (HasRows (shown self.now))) }
+        ensures cursor { IfOk result (λ text. IsSteady (shown self.now) →
+            Makes (IsStateReader self.now) (string_bytes text) (HasCursor (shown self.now))) }
+        ensures modes { IfOk result (λ text. IsSteady (shown self.now) →
+            Makes (IsStateReader self.now) (string_bytes text) (HasModes self.now.modes)) }
+        ensures rest { IfOk result
+            (λ text. IsSteady (shown self.now) → Makes (IsStateReader self.now) (string_bytes text) KeepsRestButModes) }
         ensures memory { OnlyOutOfMemory result }
     {
         let mut text = String::new(self.alloc);
@@ -73,14 +79,22 @@ impl Screen {
     pub fn state_diff(&self, prev: &Screen) -> Result<String, Error>
         requires { SameSize self.now.page prev.now.page }
         ensures text { IfOk result (λ text. string_bytes text ≡ state_change prev.now self.now) }
-        ensures quiet { IfOk result (λ text. IsSteady (shown self.now) → IsReadBy (IsStateReaderOf self.now prev.now) (string_bytes text)) }
-        ensures shows { IfOk result (λ text. IsSteady (shown self.now) → Makes (IsStateReaderOf self.now prev.now) (string_bytes text) (ShowsPlainly (shown self.now))) }
-        ensures rows { IfOk result (λ text. IsSteady (shown self.now) → Makes (IsStateReaderOf self.now prev.now) (string_bytes text) (HasRows (shown self.now))) }
-        ensures cursor { IfOk result (λ text. IsSteady (shown self.now) → Makes (IsStateReaderOf self.now prev.now) (string_bytes text) (HasCursor (shown self.now))) }
-        ensures modes { IfOk result (λ text. IsSteady (shown self.now) → Makes (IsStateReaderOf self.now prev.now) (string_bytes text) (HasModes self.now.modes)) }
-        ensures rest { IfOk result (λ text. IsSteady (shown self.now) → Makes (IsStateReaderOf self.now prev.now) (string_bytes text) KeepsRestButModes) }
-        ensures empty { IfOk result (λ text. IsSteady (shown self.now) → string_bytes text ≡ [] → (shown self.now ≡ shown prev.now) × (self.now.modes ≡ prev.now.modes)) }
-        ensures none { IfOk result (λ text. shown self.now ≡ shown prev.now → self.now.modes ≡ prev.now.modes → string_bytes text ≡ []) }
+        ensures quiet { IfOk result
+            (λ text. IsSteady (shown self.now) → IsReadBy (IsStateReaderOf self.now prev.now) (string_bytes text)) }
+        ensures shows { IfOk result (λ text. IsSteady (shown self.now) →
+            Makes (IsStateReaderOf self.now prev.now) (string_bytes text) (ShowsPlainly (shown self.now))) }
+        ensures rows { IfOk result (λ text. IsSteady (shown self.now) →
+            Makes (IsStateReaderOf self.now prev.now) (string_bytes text) (HasRows (shown self.now))) }
+        ensures cursor { IfOk result (λ text. IsSteady (shown self.now) →
+            Makes (IsStateReaderOf self.now prev.now) (string_bytes text) (HasCursor (shown self.now))) }
+        ensures modes { IfOk result (λ text. IsSteady (shown self.now) →
+            Makes (IsStateReaderOf self.now prev.now) (string_bytes text) (HasModes self.now.modes)) }
+        ensures rest { IfOk result (λ text. IsSteady (shown self.now) →
+            Makes (IsStateReaderOf self.now prev.now) (string_bytes text) KeepsRestButModes) }
+        ensures empty { IfOk result (λ text. IsSteady (shown self.now) → string_bytes text ≡ [] →
+            (shown self.now ≡ shown prev.now) × (self.now.modes ≡ prev.now.modes)) }
+        ensures none { IfOk result
+            (λ text. shown self.now ≡ shown prev.now → self.now.modes ≡ prev.now.modes → string_bytes text ≡ []) }
         ensures memory { OnlyOutOfMemory result }
     {
         let mut text = String::new(self.alloc);

@@ -9,4 +9,8 @@ use Rattle.vt100.proofs.perform.print.Goals as goal
 pub returns-then-is_reported : goal.returns-then-is_reported
 returns-then-is_reported g c =
     rw (reported_steps c.args.character (sym c.is_reported.ensures ∙ c.if-is_reported.true))
-    (record { done = told g.CB.Callbacks.does (UnhandledChar c.args.character) _ _ _ _ c.unhandled_char.ensures; stopped = λ e. absurd (false≢true e); memory = tt })
+    (record {
+      done = told g.CB.Callbacks.does (UnhandledChar c.args.character) _ _ _ _ c.unhandled_char.ensures;
+      stopped = λ e. absurd (false≢true e);
+      memory = tt;
+    })

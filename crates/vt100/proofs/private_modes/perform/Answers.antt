@@ -8,10 +8,12 @@ pub loop-group-preserved : goal.loop-group-preserved
 loop-group-preserved g c =
     modes_left g.CB.Callbacks.does c.args.callbacks.now c.loop-group.callbacks c.perform_group.new.callbacks
     c.args.screen.now c.loop-group.screen c.perform_group.new.screen _ c.args.on (report_of c.args.sequence)
-    c.args.sequence.groups.now c.loop-group.group-index nothing c.loop-group-test.true c.loop-group.invariant c.in_ok-perform_group.ensures.done
+    c.args.sequence.groups.now c.loop-group.group-index nothing
+    c.loop-group-test.true c.loop-group.invariant c.in_ok-perform_group.ensures.done
 
 pub returns-in_err-perform_group-clause-stopped : goal.returns-in_err-perform_group-clause-stopped
 returns-in_err-perform_group-clause-stopped g c e =
     modes_stop g.CB.Callbacks.does c.args.callbacks.now c.loop-group.callbacks c.perform_group.new.callbacks
     c.args.screen.now c.loop-group.screen c.perform_group.new.screen _ c.args.on (report_of c.args.sequence)
-    c.args.sequence.groups.now c.loop-group.group-index nothing c.loop-group-test.true c.loop-group.invariant (c.in_err-perform_group.ensures.stopped refl)
+    c.args.sequence.groups.now c.loop-group.group-index nothing c.loop-group-test.true
+    c.loop-group.invariant (c.in_err-perform_group.ensures.stopped refl)

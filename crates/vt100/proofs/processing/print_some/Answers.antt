@@ -19,7 +19,8 @@ returns-in_err-print-clause-stopped g c e =
     let code = c.from-then-count-eq0.result in
     let itself = c.requires.plain in
     let feeds = plain_feeds held byte itself.0 itself.1 itself.2 (omega (arith, itself.3)) in
-    inr (stopped_within g.CB.Callbacks.does before before (parsing held c.print.new.screen c.print.new.callbacks) held c.args.bytes.now 0 (one_character code) c.requires.some (λ s stands. (stands, refl))
+    inr (stopped_within g.CB.Callbacks.does before before (parsing held c.print.new.screen c.print.new.callbacks)
+    held c.args.bytes.now 0 (one_character code) c.requires.some (λ s stands. (stands, refl))
     (plain_answer held byte code feeds c.from-then-count-eq0.ensures) (inl (c.in_err-print.ensures.stopped refl)))
 
 pub returns-then-count-eq0-clause-ran : goal.returns-then-count-eq0-clause-ran
@@ -31,20 +32,26 @@ returns-then-count-eq0-clause-ran g c =
     let code = c.from-then-count-eq0.result in
     let itself = c.requires.plain in
     let feeds = plain_feeds held byte itself.0 itself.1 itself.2 (omega (arith, itself.3)) in
-    subst (λ (bytes : List ℕ). Ran g.CB.Callbacks.does before bytes now) (sym (take_more c.args.bytes.now 0 0 c.requires.some))
-    (byte_ran g.CB.Callbacks.does before now byte (one_character code) (plain_answer held byte code feeds c.from-then-count-eq0.ensures) (stage now, c.in_ok-print.ensures.done, refl))
+    subst (λ (bytes : List ℕ). Ran g.CB.Callbacks.does before bytes now)
+    (sym (take_more c.args.bytes.now 0 0 c.requires.some))
+    (byte_ran g.CB.Callbacks.does before now byte (one_character code)
+    (plain_answer held byte code feeds c.from-then-count-eq0.ensures) (stage now, c.in_ok-print.ensures.done, refl))
 
 -- the bytes that are printed are plain
-plain_text : (g : given.Over) (c : After-plain_len-count g) → All (ReadsItself c.args.scanner.now) (take c.plain_len-count.result c.args.bytes.now)
+plain_text : (g : given.Over) (c : After-plain_len-count g) →
+    All (ReadsItself c.args.scanner.now) (take c.plain_len-count.result c.args.bytes.now)
 plain_text g c =
     let count = c.plain_len-count.result in
     let fitting = c.min-fitting.result in
-    let inside : count ≤ fitting = omega (arith, length-take fitting c.args.bytes.now, c.plain_len-count.ensures.inside) in
-    subst (λ (text : List ℕ). All (ReadsItself c.args.scanner.now) text) (take-take count fitting c.args.bytes.now inside) c.plain_len-count.ensures.plain
+    let inside : count ≤ fitting =
+    omega (arith, length-take fitting c.args.bytes.now, c.plain_len-count.ensures.inside) in
+    subst (λ (text : List ℕ). All (ReadsItself c.args.scanner.now) text)
+    (take-take count fitting c.args.bytes.now inside) c.plain_len-count.ensures.plain
 
 pub print_text-requires-clause-printable : goal.print_text-requires-clause-printable
 print_text-requires-clause-printable g c =
-    printable_of c.args.scanner.now (take c.plain_len-count.result c.args.bytes.now) (plain_text g (goal.at.print_text-requires-clause-printable g c).After-plain_len-count)
+    printable_of c.args.scanner.now (take c.plain_len-count.result c.args.bytes.now)
+    (plain_text g (goal.at.print_text-requires-clause-printable g c).After-plain_len-count)
 
 pub returns-clause-ran : goal.returns-clause-ran
 returns-clause-ran g c =
@@ -54,6 +61,9 @@ returns-clause-ran g c =
     let text = take c.plain_len-count.result c.args.bytes.now in
     let cut = length-take c.min-fitting.result c.args.bytes.now in
     let size = length-take c.plain_len-count.result c.args.bytes.now in
-    let room : screen.page.column + length text ≤ screen.page.width = omega (arith, cut, size, c.plain_len-count.ensures.inside, c.min-fitting.ensures, c.from.ensures, c.room.ensures) in
-    subst (λ (after : ScreenValue). Ran g.CB.Callbacks.does before text (parsing held after c.args.callbacks.now)) (sym c.print_text.ensures)
-    (text_ran g.CB.Callbacks.does text held c.args.callbacks.now screen (plain_text g (goal.at.returns-clause-ran g c).After-plain_len-count) room)
+    let room : screen.page.column + length text ≤ screen.page.width =
+    omega (arith, cut, size, c.plain_len-count.ensures.inside, c.min-fitting.ensures, c.from.ensures, c.room.ensures) in
+    subst (λ (after : ScreenValue). Ran g.CB.Callbacks.does before text (parsing held after c.args.callbacks.now))
+    (sym c.print_text.ensures)
+    (text_ran g.CB.Callbacks.does text held c.args.callbacks.now screen
+    (plain_text g (goal.at.returns-clause-ran g c).After-plain_len-count) room)

@@ -7,7 +7,9 @@ use Rattle.vt100.proofs.processing.process_one.Goals as goal
 pub returns-in_err-perform_each-clause-stopped : goal.returns-in_err-perform_each-clause-stopped
 returns-in_err-perform_each-clause-stopped g c e =
     let before = parsing c.args.scanner.now c.args.screen.now c.args.callbacks.now in
-    inr (stopped_within g.CB.Callbacks.does before before (parsing c.feed.new.self c.perform_each.new.screen c.perform_each.new.callbacks) c.feed.new.self c.args.bytes.now 0 c.in_ok-events.events c.requires
+    inr (stopped_within g.CB.Callbacks.does before before
+    (parsing c.feed.new.self c.perform_each.new.screen c.perform_each.new.callbacks)
+    c.feed.new.self c.args.bytes.now 0 c.in_ok-events.events c.requires
     (λ s stands. (stands, refl)) c.in_ok-events.ensures.fed (c.in_err-perform_each.ensures.stopped refl))
 
 -- a character that is all there
@@ -17,12 +19,14 @@ returns-in_err-print-clause-stopped g c e =
     let held = c.args.scanner.now in
     let before = parsing held c.args.screen.now c.args.callbacks.now in
     inr (known_stopped g.CB.Callbacks.does before (parsing held c.print.new.screen c.print.new.callbacks) held
-    c.args.bytes.now c.in-Some.count (Character c.in-Some.character ∷ []) c.in-Some.ensures.fed (inl (c.in_err-print.ensures.stopped refl)))
+    c.args.bytes.now c.in-Some.count (Character c.in-Some.character ∷ [])
+    c.in-Some.ensures.fed (inl (c.in_err-print.ensures.stopped refl)))
 
 pub returns-in-Some-clause-ran : goal.returns-in-Some-clause-ran
 returns-in-Some-clause-ran g c =
     let held = c.args.scanner.now in
     let before = parsing held c.args.screen.now c.args.callbacks.now in
     let now = parsing held c.print.new.screen c.print.new.callbacks in
-    known_ran g.CB.Callbacks.does before now (take c.in-Some.count c.args.bytes.now) (Character c.in-Some.character ∷ [])
+    known_ran g.CB.Callbacks.does before now
+    (take c.in-Some.count c.args.bytes.now) (Character c.in-Some.character ∷ [])
     c.in-Some.ensures.fed (stage now, c.in_ok-print.ensures.done, refl)

@@ -14,5 +14,6 @@ returns-clause-stopped g c e =
     let now = parsing c.process_one.new.scanner c.process_one.new.screen c.process_one.new.callbacks in
     let zero : leading ≡ 0 = omega (arith, c.if-leading-gt0.false) in
     let ran : Ran does before (take 0 bytes) led =
-    subst (λ (n : ℕ). Ran does before (take n bytes) led) zero (known_ran does before led (take leading bytes) [] c.lead_in-leading.ensures.fed refl) in
+    subst (λ (n : ℕ). Ran does before (take n bytes) led) zero
+    (known_ran does before led (take leading bytes) [] c.lead_in-leading.ensures.fed refl) in
     stopped_then does before led now bytes 0 ran (c.process_one.ensures.stopped e)

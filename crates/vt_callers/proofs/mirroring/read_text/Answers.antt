@@ -8,4 +8,5 @@ use Rattle.vt_callers.proofs.mirroring.read_text.Goals as goal
 pub returns : goal.returns
 returns g c =
     subst (λ (text : List ℕ). ReadsText text c.args.terminal.now c.process.new.self) c.as_bytes.ensures.value
-    (read_at_once c.as_bytes.result.now c.process.result c.args.terminal.now c.process.new.self (subst (λ (s : ScreenValue). IsScreen s) c.screen.ensures.value c.size.ensures.whole) c.process.ensures.quiet)
+    (read_at_once c.as_bytes.result.now c.process.result c.args.terminal.now c.process.new.self
+    (subst (λ (s : ScreenValue). IsScreen s) c.screen.ensures.value c.size.ensures.whole) c.process.ensures.quiet)

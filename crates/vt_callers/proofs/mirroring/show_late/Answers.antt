@@ -8,6 +8,11 @@ use Rattle.vt_callers.proofs.mirroring.show_late.Goals as goal
 
 pub returns : goal.returns
 returns g c = λ fresh plain steady.
-    late_shows c.viewers.ensures.shows c.args.mirror.now c.process.new.self c.join.new.self c.update.new.self c.args.output.now c.process.result c.in_ok-viewer.viewer c.in-Some.update
-    c.args.terminal.now c.take_update.new.terminal fresh (subst (λ (s : ScreenValue). IsScreen s) c.screen.ensures.value c.size.ensures.whole) plain c.process.ensures.call c.join.ensures.parser c.in_ok-viewer.ensures.call
-    (subst (λ (o : Option Update). Asks c.join.new.self c.in_ok-viewer.viewer (Ok o) c.update.new.self) c.in-Some.is c.in_ok-answer.ensures.call) c.in_ok-take_update.ensures steady
+    late_shows c.viewers.ensures.shows c.args.mirror.now c.process.new.self c.join.new.self
+    c.update.new.self c.args.output.now c.process.result c.in_ok-viewer.viewer c.in-Some.update
+    c.args.terminal.now c.take_update.new.terminal fresh
+    (subst (λ (s : ScreenValue). IsScreen s) c.screen.ensures.value c.size.ensures.whole)
+    plain c.process.ensures.call c.join.ensures.parser c.in_ok-viewer.ensures.call
+    (subst (λ (o : Option Update). Asks c.join.new.self c.in_ok-viewer.viewer (Ok o) c.update.new.self)
+    c.in-Some.is c.in_ok-answer.ensures.call)
+    c.in_ok-take_update.ensures steady

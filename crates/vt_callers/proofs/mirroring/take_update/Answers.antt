@@ -6,5 +6,7 @@ pub returns-in_ok-take_size-in-Full : goal.returns-in_ok-take_size-in-Full
 returns-in_ok-take_size-in-Full g c =
     rw c.in-Full.is
     (on_ok_weaker c.read_text-in-Full.result
-    (takes_full c.in-Full.rows c.in-Full.cols c.in-Full.text c.as_str-in-Full.result.now c.args.terminal.now c.take_size.new.terminal c.read_text-in-Full.new.terminal c.in_ok-take_size-in-Full.ensures c.as_str-in-Full.ensures.value)
+    (takes_full c.in-Full.rows c.in-Full.cols c.in-Full.text c.as_str-in-Full.result.now
+    c.args.terminal.now c.take_size.new.terminal c.read_text-in-Full.new.terminal
+    c.in_ok-take_size-in-Full.ensures c.as_str-in-Full.ensures.value)
     c.read_text-in-Full.ensures)

@@ -10,6 +10,9 @@ returns g c = λ steady was.
     let self = c.args.screen.now in
     let same = c.as_bytes.ensures.value in
     differing self c.args.prev.now c.as_bytes.result.now c.process.result c.args.remote.now c.process.new.self
-    (subst (λ (text : List ℕ). IsReadBy (IsReaderOf (shown self) (shown c.args.prev.now)) text) (sym same) (c.in_ok-text.ensures.quiet steady))
-    (subst (λ (text : List ℕ). Makes (IsReaderOf (shown self) (shown c.args.prev.now)) text (ShowsPlainly (shown self))) (sym same) (c.in_ok-text.ensures.shows steady))
-    c.requires (subst (λ (s : ScreenValue). IsScreen s) c.screen.ensures.value c.size.ensures.whole) was c.process.ensures.quiet
+    (subst (λ (text : List ℕ). IsReadBy (IsReaderOf (shown self) (shown c.args.prev.now)) text)
+    (sym same) (c.in_ok-text.ensures.quiet steady))
+    (subst (λ (text : List ℕ). Makes (IsReaderOf (shown self) (shown c.args.prev.now)) text (ShowsPlainly (shown self)))
+    (sym same) (c.in_ok-text.ensures.shows steady))
+    c.requires (subst (λ (s : ScreenValue). IsScreen s) c.screen.ensures.value c.size.ensures.whole)
+    was c.process.ensures.quiet

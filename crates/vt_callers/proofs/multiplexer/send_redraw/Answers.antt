@@ -11,5 +11,7 @@ returns g c = λ steady plain size.
     let same = c.as_bytes.ensures.value in
     redrawn self c.as_bytes.result.now c.process.result c.args.remote.now c.process.new.self
     (subst (λ (text : List ℕ). IsReadBy (IsReader (shown self)) text) (sym same) (c.in_ok-text.ensures.quiet steady))
-    (subst (λ (text : List ℕ). Makes (IsReader (shown self)) text (ShowsPlainly (shown self))) (sym same) (c.in_ok-text.ensures.shows steady))
-    (subst (λ (s : ScreenValue). IsScreen s) c.screen.ensures.value c.size.ensures.whole) plain size c.process.ensures.quiet
+    (subst (λ (text : List ℕ). Makes (IsReader (shown self)) text (ShowsPlainly (shown self)))
+    (sym same) (c.in_ok-text.ensures.shows steady))
+    (subst (λ (s : ScreenValue). IsScreen s) c.screen.ensures.value c.size.ensures.whole)
+    plain size c.process.ensures.quiet

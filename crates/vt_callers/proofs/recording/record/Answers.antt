@@ -21,12 +21,17 @@ returns c = λ none main.
     let calls : List ParserCall = Process output ∷ [] in
     let makes : FoldsTo (MakesCall Records) p calls q = (q, c.in_ok-process.ensures.ran, refl) in
     let begun = c.in_ok-parser.ensures.begun in
-    let shown : p.screen ≡ fresh_screen rows cols c.args.capacity = ap (λ (r : Parsing Recorded). r.screen) c.in_ok-parser.ensures.shown in
-    let sound : IsScreen p.screen = subst (λ (s : ScreenValue). IsScreen s) c.screen.ensures.value c.size.ensures.whole in
+    let shown : p.screen ≡ fresh_screen rows cols c.args.capacity =
+    ap (λ (r : Parsing Recorded). r.screen) c.in_ok-parser.ensures.shown in
+    let sound : IsScreen p.screen =
+    subst (λ (s : ScreenValue). IsScreen s) c.screen.ensures.value c.size.ensures.whole in
     let fresh = fresh_parser rows cols c.args.capacity p c.args.rows.ok c.args.cols.ok sound begun shown in
     let nothing = ap (λ (r : Parsing Recorded). r.callbacks) c.in_ok-parser.ensures.shown ∙ c.new-recorder.ensures in
     let heard = c.one_text.ensures.heard p q calls start c.recorded.ensures.recorder.leaves begun makes in
-    let there : q.screen.is_alternate ≡ false = ap (λ (s : ScreenValue). s.is_alternate) (heard.0 ∙ ap (λ (s : ScreenValue). screen_in start s output) shown) ∙ main in
+    let there : q.screen.is_alternate ≡ false =
+    ap (λ (s : ScreenValue). s.is_alternate) (heard.0 ∙ ap (λ (s : ScreenValue). screen_in start s output) shown)
+    ∙ main in
     c.in_ok-text.ensures.text
-    ∙ (c.recorded.ensures.text rows cols c.args.capacity p q calls fresh nothing (subst (HasNoRis start) (sym (append-nil output)) none) makes there c.in_ok-text.ensures.whole
+    ∙ (c.recorded.ensures.text rows cols c.args.capacity p q calls fresh nothing
+    (subst (HasNoRis start) (sym (append-nil output)) none) makes there c.in_ok-text.ensures.whole
     ∙ ap (whole_text rows cols) (append-nil output))

@@ -12,8 +12,12 @@ returns c =
     let p = c.in_ok-parser.parser in
     let q = c.process.new.self in
     let calls : List ParserCall = Process c.args.output.now ∷ [] in
-    let shown : p.screen ≡ fresh_screen c.args.rows.value c.args.cols.value 0 = ap (λ (r : Parsing (Unit {0})). r.screen) c.in_ok-parser.ensures.shown in
-    let heard = c.one_text.ensures.heard p q calls start (λ call old new before after t. t.1) c.in_ok-parser.ensures.begun (q, c.in_ok-process.ensures.ran, refl) in
-    let same : c.screen.result.now ≡ screen_in start (fresh_screen c.args.rows.value c.args.cols.value 0) c.args.output.now
+    let shown : p.screen ≡ fresh_screen c.args.rows.value c.args.cols.value 0 =
+    ap (λ (r : Parsing (Unit {0})). r.screen) c.in_ok-parser.ensures.shown in
+    let heard = c.one_text.ensures.heard p q calls start (λ call old new before after t. t.1)
+    c.in_ok-parser.ensures.begun (q, c.in_ok-process.ensures.ran, refl) in
+    let same : c.screen.result.now
+    ≡ screen_in start (fresh_screen c.args.rows.value c.args.cols.value 0) c.args.output.now
     = c.screen.ensures.value ∙ (heard.0 ∙ ap (λ (s : ScreenValue). screen_in start s c.args.output.now) shown) in
-    subst (λ (s : ScreenValue). (c.in_ok-holds.holds ≡ true) ↔ (contents_of s ≡ c.args.text.now)) same c.in_ok-holds.ensures
+    subst (λ (s : ScreenValue). (c.in_ok-holds.holds ≡ true) ↔ (contents_of s ≡ c.args.text.now))
+    same c.in_ok-holds.ensures

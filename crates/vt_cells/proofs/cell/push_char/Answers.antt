@@ -12,15 +12,21 @@ returns-then-code-lt2048-clause-len c = rw (two_bytes c.args.c (omega arith) (om
 
 pub returns-then-code-lt65536-clause-text : goal.returns-then-code-lt65536-clause-text
 returns-then-code-lt65536-clause-text c =
-    add_three _ _ _ _ _ _ _ c.push_byte-lead-then-code-lt65536.ensures.text c.push_byte-second.ensures.text c.push_byte-then-code-lt65536.ensures.text
-    ∙ rw (c.low_bits-then-code-lt65536.ensures, c.low_bits-then-code-lt65536-2.ensures, three_bytes c.args.c (omega arith) (omega arith)) refl
+    add_three _ _ _ _ _ _ _ c.push_byte-lead-then-code-lt65536.ensures.text
+    c.push_byte-second.ensures.text c.push_byte-then-code-lt65536.ensures.text
+    ∙ rw (
+      c.low_bits-then-code-lt65536.ensures,
+      c.low_bits-then-code-lt65536-2.ensures,
+      three_bytes c.args.c (omega arith) (omega arith),
+    ) refl
 
 pub returns-then-code-lt65536-clause-len : goal.returns-then-code-lt65536-clause-len
 returns-then-code-lt65536-clause-len c = rw (three_bytes c.args.c (omega arith) (omega arith)) (omega arith)
 
 pub returns-else-code-lt65536-clause-text : goal.returns-else-code-lt65536-clause-text
 returns-else-code-lt65536-clause-text c =
-    add_four _ _ _ _ _ _ _ _ _ c.push_byte-lead-else-code-lt65536.ensures.text c.push_byte-second-else-code-lt65536.ensures.text
+    add_four _ _ _ _ _ _ _ _ _ c.push_byte-lead-else-code-lt65536.ensures.text
+    c.push_byte-second-else-code-lt65536.ensures.text
     c.push_byte-third.ensures.text c.push_byte-else-code-lt65536.ensures.text
     ∙ rw (
       c.low_bits-else-code-lt65536.ensures,

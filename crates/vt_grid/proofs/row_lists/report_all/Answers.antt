@@ -8,6 +8,9 @@ loop-row-preserved g c =
     let was = c.loop-row.invariant in
     let row = c.in-Some.row in
     record {
-      told = λ z told. was.told z (rw c.in-Some.ensures.items (c.leave.new.self, rw c.contents.ensures at c.leave.ensures, told));
-      sound = All-tail (λ (row : RowValue). IsRow (length row.cells) row) row _ (rw c.in-Some.ensures.items at was.sound);
+      told =
+          λ z told. was.told z
+          (rw c.in-Some.ensures.items (c.leave.new.self, rw c.contents.ensures at c.leave.ensures, told));
+      sound =
+          All-tail (λ (row : RowValue). IsRow (length row.cells) row) row _ (rw c.in-Some.ensures.items at was.sound);
     }

@@ -7,7 +7,8 @@ use Rattle.vt_grid.proofs.row_lists.report_all.Given as goal
 -- what follows from here leads there from the beginning
 abbrev pub invariant-loop-row : goal.invariant-loop-row
 invariant-loop-row g l = record {
-  told : (z : _) → FoldsTo g.L.Leaving.leaves l.leaving l.rows.items z → FoldsTo g.L.Leaving.leaves l.initial.leaving l.initial.rows.items z;
+  told : (z : _) → FoldsTo g.L.Leaving.leaves l.leaving l.rows.items z →
+      FoldsTo g.L.Leaving.leaves l.initial.leaving l.initial.rows.items z;
   sound : All (λ row. IsRow (length row.cells) row) l.rows.items;
 }
 

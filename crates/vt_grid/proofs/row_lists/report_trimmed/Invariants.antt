@@ -6,4 +6,5 @@ use Rattle.vt_grid.proofs.row_lists.report_trimmed.Given as goal
 -- what follows from here leads there from the beginning
 abbrev pub invariant-loop-k : goal.invariant-loop-k
 invariant-loop-k g l =
-    (z : _) → FoldsTo g.L.Leaving.leaves l.leaving (map trimmed_row (drop l.k (take l.count l.page.rows))) z → FoldsTo g.L.Leaving.leaves l.initial.leaving (map trimmed_row (take l.count l.page.rows)) z
+    (z : _) → FoldsTo g.L.Leaving.leaves l.leaving (map trimmed_row (drop l.k (take l.count l.page.rows))) z →
+    FoldsTo g.L.Leaving.leaves l.initial.leaving (map trimmed_row (take l.count l.page.rows)) z

@@ -9,13 +9,27 @@ pub push_reserved-requires : goal.push_reserved-requires
 push_reserved-requires c =
     let rows = c.args.page.now.rows in
     let n = ap length c.loop-k.invariant.copied in
-    omega (arith, n, length-map (take c.loop-k.k rows) trimmed_row, length-take c.loop-k.k rows, c.requires.inside, c.loop-k.invariant.room, c.loop-k.copies.ok.0)
+    omega (
+      arith,
+      n,
+      length-map (take c.loop-k.k rows) trimmed_row,
+      length-take c.loop-k.k rows,
+      c.requires.inside,
+      c.loop-k.invariant.room,
+      c.loop-k.copies.ok.0,
+    )
 
 pub loop-k-preserved : goal.loop-k-preserved
 loop-k-preserved c =
     let page = c.args.page.now in
-    let row = c.in_ok-trimmed_copy.ensures.ok ∙ ((λ z. trimmed_row (record { cells = c.cells.ensures.value z; wrapped = c.wrapped.ensures z })) ∙ ap trimmed_row c.row-row.ensures) in
+    let row = c.in_ok-trimmed_copy.ensures.ok
+    ∙ ((λ z. trimmed_row (record { cells = c.cells.ensures.value z; wrapped = c.wrapped.ensures z }))
+    ∙ ap trimmed_row c.row-row.ensures) in
     record {
-      copied = c.push_reserved.ensures.items ∙ ((λ z. c.loop-k.invariant.copied z ++ row z ∷ []) ∙ sym (copied_more c.loop-k.k page.rows (blank_row default_attrs page.width) (omega (arith, c.requires.inside))));
+      copied =
+          c.push_reserved.ensures.items
+          ∙ ((λ z. c.loop-k.invariant.copied z ++ row z ∷ [])
+          ∙ sym
+          (copied_more c.loop-k.k page.rows (blank_row default_attrs page.width) (omega (arith, c.requires.inside))));
       room = omega (arith, c.loop-k.invariant.room, c.push_reserved.ensures);
     }

@@ -20,10 +20,22 @@ loop-row-preserved g c =
       tt,
       record {
         kept = row_kept c.args.capacity at.kept.items c.push_row.new.kept.items rest row kept ∙ (rw steps at was.kept);
-        sent = λ z told. (rw steps at was.sent) z (row_sent g.L.Leaving.leaves c.args.capacity at.kept.items c.push_row.new.kept.items rest row at.leaving c.push_row.new.leaving z kept c.push_row.ensures.reported told);
+        sent =
+            λ z told. (rw steps at was.sent) z
+            (row_sent g.L.Leaving.leaves c.args.capacity at.kept.items c.push_row.new.kept.items
+            rest row at.leaving c.push_row.new.leaving z kept c.push_row.ensures.reported told);
         inside = omega (arith, counted);
-        room = room_left c.args.capacity (length at.kept.items) (length c.push_row.new.kept.items) (length (into_iter_items c.next.new.self)) (length (into_iter_items at.row-iterator)) _ counted (ap length steps) was.inside (subst (λ (n : ℕ). length at.kept.items + min (length (into_iter_items at.row-iterator)) (c.args.capacity - length at.kept.items) ≤ n) (sym c.push_row.ensures.capacity) was.room);
+        room =
+            room_left c.args.capacity (length at.kept.items) (length c.push_row.new.kept.items)
+            (length (into_iter_items c.next.new.self)) (length (into_iter_items at.row-iterator)) _ counted
+            (ap length steps) was.inside (subst
+            (λ (n : ℕ). length at.kept.items
+            + min (length (into_iter_items at.row-iterator)) (c.args.capacity - length at.kept.items)
+            ≤ n)
+            (sym c.push_row.ensures.capacity) was.room);
         sound = All-tail P row (into_iter_items c.next.new.self) whole;
-        sound_kept = All-pushed c.args.capacity at.kept.items c.push_row.new.kept.items row kept (All-head P row (into_iter_items c.next.new.self) whole) was.sound_kept;
+        sound_kept =
+            All-pushed c.args.capacity at.kept.items c.push_row.new.kept.items row kept
+            (All-head P row (into_iter_items c.next.new.self) whole) was.sound_kept;
       },
     )

@@ -15,20 +15,31 @@ nothing = record { ref_ptr = (0, 0); now = [] }
 pub loop-piece-preserved : goal.loop-piece-preserved
 loop-piece-preserved c =
     subst (λ (pieces : List (List ℕ)). FoldsTo (Ran NotesIt) c.in_ok-parser.parser pieces c.process.new.self)
-    (sym (map_more (λ (piece : Bor (List ℕ)). piece.now) c.args.pieces.now c.loop-piece.piece-index nothing c.loop-piece-test.true))
-    (read_more c.in_ok-parser.parser c.loop-piece.parser c.process.new.self (map (λ (piece : Bor (List ℕ)). piece.now) (take c.loop-piece.piece-index c.args.pieces.now))
+    (sym (map_more (λ (piece : Bor (List ℕ)). piece.now) c.args.pieces.now
+    c.loop-piece.piece-index nothing c.loop-piece-test.true))
+    (read_more c.in_ok-parser.parser c.loop-piece.parser c.process.new.self
+    (map (λ (piece : Bor (List ℕ)). piece.now) (take c.loop-piece.piece-index c.args.pieces.now))
     (get_or c.args.pieces.now c.loop-piece.piece-index nothing).now c.loop-piece.invariant c.in_ok-process.ensures.ran)
 
-at_end : (c : goal.Else-not-is_complete) → HasRead (fresh_screen c.args.rows.value c.args.cols.value 0) (pieces_joined (map (λ (piece : Bor (List ℕ)). piece.now) c.args.pieces.now)) c.loop-piece.parser
+at_end : (c : goal.Else-not-is_complete) →
+    HasRead (fresh_screen c.args.rows.value c.args.cols.value 0)
+    (pieces_joined (map (λ (piece : Bor (List ℕ)). piece.now) c.args.pieces.now)) c.loop-piece.parser
 at_end c =
-    has_read c.in_ok-parser.parser c.loop-piece.parser (fresh_screen c.args.rows.value c.args.cols.value 0) (map (λ (piece : Bor (List ℕ)). piece.now) c.args.pieces.now)
-    (c.in_ok-parser.ensures.shown ∙ ap (λ (notes : Noted). parsing c.in_ok-parser.parser.scanner (fresh_screen c.args.rows.value c.args.cols.value 0) notes) c.new.ensures)
+    has_read c.in_ok-parser.parser c.loop-piece.parser (fresh_screen c.args.rows.value c.args.cols.value 0)
+    (map (λ (piece : Bor (List ℕ)). piece.now) c.args.pieces.now)
+    (c.in_ok-parser.ensures.shown
+    ∙ ap (λ (notes : Noted). parsing c.in_ok-parser.parser.scanner
+    (fresh_screen c.args.rows.value c.args.cols.value 0) notes)
+    c.new.ensures)
     c.in_ok-parser.ensures.begun
-    (subst (λ (pieces : List (Bor (List ℕ))). FoldsTo (Ran NotesIt) c.in_ok-parser.parser (map (λ (piece : Bor (List ℕ)). piece.now) pieces) c.loop-piece.parser)
+    (subst (λ (pieces : List (Bor (List ℕ))). FoldsTo (Ran NotesIt) c.in_ok-parser.parser
+    (map (λ (piece : Bor (List ℕ)). piece.now) pieces) c.loop-piece.parser)
     (take_all c.loop-piece.piece-index c.args.pieces.now c.loop-piece-test.false) c.loop-piece.invariant)
 
 is_complete : (c : goal.Else-not-is_complete) → c.loop-piece.parser.callbacks.is_complete ≡ true
-is_complete c = ap (λ (notes : Noted). notes.is_complete) (sym c.callbacks.ensures) ∙ (sym c.is_complete.ensures ∙ c.if-not-is_complete.false)
+is_complete c =
+    ap (λ (notes : Noted). notes.is_complete) (sym c.callbacks.ensures)
+    ∙ (sym c.is_complete.ensures ∙ c.if-not-is_complete.false)
 
 pub returns-clause-noted : goal.returns-clause-noted
 returns-clause-noted c = (at_end c).noted (is_complete c)

@@ -11,8 +11,11 @@ loop-column-preserved c =
     let new = c.put.new.cells in
     let behind = drop (length new) at.cells.items in
     let long : length new ≡ at.cells.len = omega (arith, c.put.auto.cells, c.deref_mut.ensures.len) in
-    let same : take at.cells.len (new ++ behind) ≡ new = take-append-le at.cells.len new behind (omega (arith, long)) ∙ take_all at.cells.len new (omega (arith, long)) in
+    let same : take at.cells.len (new ++ behind) ≡ new =
+    take-append-le at.cells.len new behind (omega (arith, long)) ∙ take_all at.cells.len new (omega (arith, long)) in
     record {
       paired = subst IsPaired (sym same) c.put.ensures.paired;
-      sound = subst (All IsCell) (sym same) (c.put.ensures.sound (subst (All IsCell) (sym c.deref_mut.ensures.value) at.invariant.sound));
+      sound =
+          subst (All IsCell) (sym same)
+          (c.put.ensures.sound (subst (All IsCell) (sym c.deref_mut.ensures.value) at.invariant.sound));
     }

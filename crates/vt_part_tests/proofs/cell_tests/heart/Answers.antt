@@ -17,5 +17,7 @@ heart_shown e = omega (arith, e)
 pub set_wide-requires : goal.set_wide-requires
 unfolding encode_utf8
 set_wide-requires c =
-    subst (λ (cell : CellValue). IsCell (widened c.args.wide cell)) (sym (c.append.ensures ∙ ap (marked 0xFE0F) c.glyph-cell.ensures))
-    (IsGlyphText-selector (encode_utf8 0x2764) false c.args.wide (IsGlyphText-first 0x2764 false refl heart_shown heart_columns) refl)
+    subst (λ (cell : CellValue). IsCell (widened c.args.wide cell))
+    (sym (c.append.ensures ∙ ap (marked 0xFE0F) c.glyph-cell.ensures))
+    (IsGlyphText-selector (encode_utf8 0x2764) false c.args.wide
+    (IsGlyphText-first 0x2764 false refl heart_shown heart_columns) refl)

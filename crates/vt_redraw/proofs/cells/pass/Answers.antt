@@ -9,5 +9,8 @@ loop-next-preserved c =
     let ys = c.args.over.now.cells in
     let inside = c.requires.inside in
     let before = c.loop-next-test.true in
-    let order = l.invariant.1 in
-    (passes_then c.args.col l.next (l.next + 1) xs ys l.invariant.0 (passes_cell l.next xs ys (omega arith) c.requires.range (sym c.stands.ensures ∙ c.if-stands.true)), omega arith)
+    let order = l.invariant.1 in (
+      passes_then c.args.col l.next (l.next + 1) xs ys l.invariant.0
+          (passes_cell l.next xs ys (omega arith) c.requires.range (sym c.stands.ensures ∙ c.if-stands.true)),
+      omega arith,
+    )

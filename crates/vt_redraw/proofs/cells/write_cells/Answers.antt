@@ -13,8 +13,11 @@ loop-col-preserved-then-stands g c =
     let row = c.args.pos.row in
     let now = gathered (text l.sink) l.piece in
     let next = c.next_other-col.result in
-    leads_then (text c.args.sink.now) now now (cells_from row c.args.pos.col c.args.pen.now c.args.flag.now xs ys) (cells_from row l.col l.pen l.flag xs ys) (cells_from row next l.pen l.flag xs ys)
-    l.invariant (passes_leads l.col next row l.pen l.flag xs ys now (passes_then l.col (l.col + 1) next xs ys (passes_cell l.col xs ys (search rules) c.requires.range (search rules)) c.next_other-col.ensures.passed))
+    leads_then (text c.args.sink.now) now now (cells_from row c.args.pos.col c.args.pen.now c.args.flag.now xs ys)
+    (cells_from row l.col l.pen l.flag xs ys) (cells_from row next l.pen l.flag xs ys)
+    l.invariant (passes_leads l.col next row l.pen l.flag xs ys now
+    (passes_then l.col (l.col + 1) next xs ys
+    (passes_cell l.col xs ys (search rules) c.requires.range (search rules)) c.next_other-col.ensures.passed))
 
 pub returns-clause-text : goal.returns-clause-text
 returns-clause-text g c =
@@ -29,7 +32,9 @@ returns-clause-text g c =
     let inside = c.requires.range.inside in
     let past = c.loop-col-test.false in
     c.in_ok-flush.ensures.text
-    ∙ leads_text (gathered (text l.sink) l.piece) (text c.args.sink.now) (cells_from row l.col l.pen l.flag xs ys) (cells_from row c.args.pos.col c.args.pen.now c.args.flag.now xs ys) l.pen l.flag (cells_end row l.col l.pen l.flag xs ys (omega arith)) l.invariant
+    ∙ leads_text (gathered (text l.sink) l.piece) (text c.args.sink.now) (cells_from row l.col l.pen l.flag xs ys)
+    (cells_from row c.args.pos.col c.args.pen.now c.args.flag.now xs ys) l.pen
+    l.flag (cells_end row l.col l.pen l.flag xs ys (omega arith)) l.invariant
 
 pub returns-clause-pen : goal.returns-clause-pen
 returns-clause-pen g c =
@@ -39,7 +44,9 @@ returns-clause-pen g c =
     let less = c.min-cols.ensures in
     let inside = c.requires.range.inside in
     let past = c.loop-col-test.false in
-    ap (λ w. w.pen) (sym (cells_end c.args.pos.row l.col l.pen l.flag c.args.cells.now.cells c.args.over.now.cells (omega arith))) ∙ l.invariant.pen
+    ap (λ w. w.pen)
+    (sym (cells_end c.args.pos.row l.col l.pen l.flag c.args.cells.now.cells c.args.over.now.cells (omega arith)))
+    ∙ l.invariant.pen
 
 pub returns-clause-flag : goal.returns-clause-flag
 returns-clause-flag g c =
@@ -49,4 +56,6 @@ returns-clause-flag g c =
     let less = c.min-cols.ensures in
     let inside = c.requires.range.inside in
     let past = c.loop-col-test.false in
-    ap (λ w. w.flag) (sym (cells_end c.args.pos.row l.col l.pen l.flag c.args.cells.now.cells c.args.over.now.cells (omega arith))) ∙ l.invariant.flag
+    ap (λ w. w.flag)
+    (sym (cells_end c.args.pos.row l.col l.pen l.flag c.args.cells.now.cells c.args.over.now.cells (omega arith)))
+    ∙ l.invariant.flag

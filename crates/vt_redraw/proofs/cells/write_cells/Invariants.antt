@@ -5,7 +5,9 @@ use Rattle.vt_redraw.proofs.cells.write_cells.Given as goal
 
 abbrev pub invariant-loop-col : goal.invariant-loop-col
 invariant-loop-col g l =
-    Leads (gathered (g.S.Sink.text l.sink) l.piece) (cells_from l.pos.row l.col l.pen l.flag l.cells.cells l.over.cells) (g.S.Sink.text l.initial.sink) (cells_from l.pos.row l.pos.col l.initial.pen l.initial.flag l.cells.cells l.over.cells)
+    Leads (gathered (g.S.Sink.text l.sink) l.piece)
+    (cells_from l.pos.row l.col l.pen l.flag l.cells.cells l.over.cells) (g.S.Sink.text l.initial.sink)
+    (cells_from l.pos.row l.pos.col l.initial.pen l.initial.flag l.cells.cells l.over.cells)
 
 abbrev pub decreases-loop-col : goal.decreases-loop-col
 decreases-loop-col g l = l.cols - l.col

@@ -9,11 +9,17 @@ loop-row-preserved c =
     let l = c.loop-row in
     let some = c.if-at-eq0.false in
     let low = l.invariant.1 in (
-      nearest_up c.args.view.now.width c.args.view.now.rows l.at (omega arith) (ap (λ (z : RowValue). ends_blank z.cells) (sym c.row.ensures.value) ∙ (sym c.ends_blank.ensures ∙ c.loop-row-test.true)) ∙ l.invariant.0,
+      nearest_up c.args.view.now.width c.args.view.now.rows l.at (omega arith)
+          (ap (λ (z : RowValue). ends_blank z.cells) (sym c.row.ensures.value)
+          ∙ (sym c.ends_blank.ensures ∙ c.loop-row-test.true))
+          ∙ l.invariant.0,
       omega arith,
     )
 
 pub returns-clause-value : goal.returns-clause-value
 returns-clause-value c =
     let l = c.loop-row in
-    sym (nearest_here c.args.view.now.width c.args.view.now.rows l.at (ap (λ (z : RowValue). ends_blank z.cells) (sym c.row.ensures.value) ∙ (sym c.ends_blank.ensures ∙ c.loop-row-test.false))) ∙ l.invariant.0
+    sym (nearest_here c.args.view.now.width c.args.view.now.rows l.at
+    (ap (λ (z : RowValue). ends_blank z.cells) (sym c.row.ensures.value)
+    ∙ (sym c.ends_blank.ensures ∙ c.loop-row-test.false)))
+    ∙ l.invariant.0

@@ -4,4 +4,5 @@ use Rattle.vt_redraw.proofs.items.is_linked.Goals as goal
 
 pub returns-then-row-gt0 : goal.returns-then-row-gt0
 returns-then-row-gt0 c =
-    c.wrapped.ensures ∙ ap (λ row. row.wrapped) c.row.ensures.value ∙ sym (linked_below _ _ c.args.row c.if-row-gt0.true)
+    c.wrapped.ensures ∙ ap (λ row. row.wrapped) c.row.ensures.value
+    ∙ sym (linked_below _ _ c.args.row c.if-row-gt0.true)

@@ -14,7 +14,8 @@ returns-then-is_wide_continuation g c =
     let one = c.cols.ensures in
     let two = c.cols-2.ensures in
     let before = c.if-col-min.false in
-    half_stands c.args.pos.row col c.args.pen.now c.args.flag.now xs ys (g.S.Sink.text c.args.sink.now) (omega arith) c.requires.range.inside
+    half_stands c.args.pos.row col c.args.pen.now c.args.flag.now xs ys
+    (g.S.Sink.text c.args.sink.now) (omega arith) c.requires.range.inside
     (ap is_right_half (sym c.cell.ensures) ∙ (sym c.is_wide_continuation.ensures ∙ c.if-not-is_wide_continuation.false))
     (ap is_right_half (sym c.cell-2.ensures) ∙ (sym c.is_wide_continuation-2.ensures ∙ c.if-is_wide_continuation.true))
 
@@ -29,9 +30,13 @@ returns g c =
     let two = c.cols-2.ensures in
     let before = c.if-col-min.false in
     let n = c.run-count.result in
-    half_erased c.args.pos.row col n (n + 1) c.args.pen.now c.write_run.new.pen c.args.flag.now c.flag_past.result xs ys (text c.args.sink.now) (text c.write_run.new.sink) (omega arith) c.requires.range.inside
+    half_erased c.args.pos.row col n (n + 1) c.args.pen.now c.write_run.new.pen c.args.flag.now c.flag_past.result
+    xs ys (text c.args.sink.now) (text c.write_run.new.sink) (omega arith) c.requires.range.inside
     (ap is_right_half (sym c.cell.ensures) ∙ (sym c.is_wide_continuation.ensures ∙ c.if-not-is_wide_continuation.false))
     (ap is_right_half (sym c.cell-2.ensures) ∙ (sym c.is_wide_continuation-2.ensures ∙ c.if-is_wide_continuation.false))
     (c.run-count.ensures.value ∙ ap (λ a. blank_run a (drop (col + 1) xs)) c.new-attrs.ensures) refl
-    (c.in_ok-write_run.ensures.text ∙ ap (λ a. text c.args.sink.now ++ bytes_of_all (doing c.args.pen.now c.args.pos.row col a (erase_run (n + 1) (drop (col + (n + 1)) ys)))) c.new-attrs.ensures)
+    (c.in_ok-write_run.ensures.text
+    ∙ ap (λ a. text c.args.sink.now
+    ++ bytes_of_all (doing c.args.pen.now c.args.pos.row col a (erase_run (n + 1) (drop (col + (n + 1)) ys))))
+    c.new-attrs.ensures)
     (c.in_ok-write_run.ensures.pen ∙ ap (λ a. pen_at c.args.pos.row col a) c.new-attrs.ensures) c.flag_past.ensures

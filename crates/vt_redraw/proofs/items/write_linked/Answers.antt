@@ -12,6 +12,9 @@ returns g c =
     let text = g.S.Sink.text in
     let r = c.args.row in
     on_ok_weaker c.write_cells.result
-    (λ more. linked_wrote r c.args.cells.now.cells c.blank-over.result.cells (pen_at r 0 c.new.result) c.write_first.new.pen c.in_ok-link.link (text c.args.sink.now) (text c.write_first.new.sink) (text c.write_cells.new.sink)
-    (ap (λ (z : RowValue). z.cells) c.blank-over.ensures ∙ ap (blanks default_attrs) c.cols.ensures) (ap (λ (a : Attrs). pen_at r 0 a) c.new.ensures) c.in_ok-link.ensures more)
+    (λ more. linked_wrote r c.args.cells.now.cells c.blank-over.result.cells
+    (pen_at r 0 c.new.result) c.write_first.new.pen c.in_ok-link.link
+    (text c.args.sink.now) (text c.write_first.new.sink) (text c.write_cells.new.sink)
+    (ap (λ (z : RowValue). z.cells) c.blank-over.ensures ∙ ap (blanks default_attrs) c.cols.ensures)
+    (ap (λ (a : Attrs). pen_at r 0 a) c.new.ensures) c.in_ok-link.ensures more)
     c.write_cells.ensures.text

@@ -15,9 +15,14 @@ use Rattle.vt_redraw.proofs.items.write_over_blanks.Goals as goal
 pub write_range-requires : goal.write_range-requires
 write_range-requires g c =
     let xs = c.args.cells.now.cells in
-    let size = ap (λ (z : RowValue). length z.cells) c.blank-over.ensures ∙ length-replicate c.cols.result default_blank in
+    let size =
+    ap (λ (z : RowValue). length z.cells) c.blank-over.ensures ∙ length-replicate c.cols.result default_blank in
     let cols = c.cols.ensures in
-    record { range = subst (λ (z : List CellValue). IsRange z c.blank-over.result.cells) (sym c.up_to.ensures.cells) (range_taken xs c.blank-over.result.cells c.args.stop (omega arith) c.requires.paired) }
+    record {
+      range =
+          subst (λ (z : List CellValue). IsRange z c.blank-over.result.cells) (sym c.up_to.ensures.cells)
+          (range_taken xs c.blank-over.result.cells c.args.stop (omega arith) c.requires.paired);
+    }
 
 pub returns : goal.returns
 returns g c =
@@ -30,6 +35,8 @@ returns g c =
     on_ok_weaker c.write_range.result
     (λ more. more
     ∙ (ap (λ (w : Scripted). text c.args.sink.now ++ bytes_of_all w.ops)
-    (range_wrote r start stop (pen_at r start c.new.result) false c.up_to.result.cells xs c.blank-over.result.cells c.requires.order c.up_to.ensures.cells (ap (λ (a : Attrs). pen_at r start a) c.new.ensures))
-    ∙ ap (λ (zs : List CellValue). text c.args.sink.now ++ bytes_of_all (range_written r start stop false xs zs).ops) over))
+    (range_wrote r start stop (pen_at r start c.new.result) false c.up_to.result.cells xs c.blank-over.result.cells
+    c.requires.order c.up_to.ensures.cells (ap (λ (a : Attrs). pen_at r start a) c.new.ensures))
+    ∙ ap (λ (zs : List CellValue). text c.args.sink.now ++ bytes_of_all (range_written r start stop false xs zs).ops)
+    over))
     c.write_range.ensures.text

@@ -16,7 +16,12 @@ write_range-requires g c =
     let one = c.row-cells.ensures.sound.columns in
     let two = c.row-over.ensures.sound.columns in
     let same = c.requires.size.width in
-    record { range = subst (λ (z : List CellValue). IsRange z c.row-over.result.cells) (sym c.up_to.ensures.cells) (range_taken c.row-cells.result.cells c.row-over.result.cells c.args.stop (omega arith) c.row-cells.ensures.sound.paired) }
+    record {
+      range =
+          subst (λ (z : List CellValue). IsRange z c.row-over.result.cells) (sym c.up_to.ensures.cells)
+          (range_taken c.row-cells.result.cells c.row-over.result.cells
+          c.args.stop (omega arith) c.row-cells.ensures.sound.paired);
+    }
 
 pub returns-then-not-is_whole : goal.returns-then-not-is_whole
 returns-then-not-is_whole g c =
@@ -29,13 +34,18 @@ returns-then-not-is_whole g c =
     let pen = pen_at r start c.new.result in
     let flag = c.wrapped-flag.result in
     let cut = c.up_to.result.cells in
-    let w : Scripted = cells_written r start pen flag 0 (begun (drop start cut)) (begun_over (drop start cut) (drop start y.cells)) in
+    let w : Scripted =
+    cells_written r start pen flag 0 (begun (drop start cut)) (begun_over (drop start cut) (drop start y.cells)) in
     let e : w ≡ range_written r start stop y.wrapped x.cells y.cells =
-    range_wrote r start stop pen flag cut x.cells y.cells c.requires.order c.up_to.ensures.cells (ap (λ (a : Attrs). pen_at r start a) c.new.ensures)
+    range_wrote r start stop pen flag cut x.cells y.cells c.requires.order
+    c.up_to.ensures.cells (ap (λ (a : Attrs). pen_at r start a) c.new.ensures)
     ∙ ap (λ b. range_written r start stop b x.cells y.cells) c.wrapped-flag.ensures in
-    part_item r start stop x y w (text c.args.sink.now) (text c.write_range.new.sink) (sym c.is_whole.ensures ∙ c.if-not-is_whole.true) e c.in_ok-write_range.ensures.text
-    ∙ (ap (λ (z : RowValue). text c.args.sink.now ++ bytes_of_all (item_of_difference r start stop z y).ops) c.row-cells.ensures.value
-    ∙ ap (λ (z : RowValue). text c.args.sink.now ++ bytes_of_all (item_of_difference r start stop (row_or c.args.view.now.width c.args.view.now.rows r) z).ops)
+    part_item r start stop x y w (text c.args.sink.now) (text c.write_range.new.sink)
+    (sym c.is_whole.ensures ∙ c.if-not-is_whole.true) e c.in_ok-write_range.ensures.text
+    ∙ (ap (λ (z : RowValue). text c.args.sink.now ++ bytes_of_all (item_of_difference r start stop z y).ops)
+    c.row-cells.ensures.value
+    ∙ ap (λ (z : RowValue). text c.args.sink.now
+    ++ bytes_of_all (item_of_difference r start stop (row_or c.args.view.now.width c.args.view.now.rows r) z).ops)
     (c.row-over.ensures.value ∙ ap (λ n. row_or n c.args.prev.now.rows r) (sym c.requires.size.width)))
 
 pub returns : goal.returns
@@ -49,14 +59,19 @@ returns g c =
     let pen = pen_at r start c.new.result in
     let flag = c.wrapped-flag.result in
     let cut = c.up_to.result.cells in
-    let w : Scripted = cells_written r start pen flag 0 (begun (drop start cut)) (begun_over (drop start cut) (drop start y.cells)) in
+    let w : Scripted =
+    cells_written r start pen flag 0 (begun (drop start cut)) (begun_over (drop start cut) (drop start y.cells)) in
     let e : w ≡ range_written r start stop y.wrapped x.cells y.cells =
-    range_wrote r start stop pen flag cut x.cells y.cells c.requires.order c.up_to.ensures.cells (ap (λ (a : Attrs). pen_at r start a) c.new.ensures)
+    range_wrote r start stop pen flag cut x.cells y.cells c.requires.order
+    c.up_to.ensures.cells (ap (λ (a : Attrs). pen_at r start a) c.new.ensures)
     ∙ ap (λ b. range_written r start stop b x.cells y.cells) c.wrapped-flag.ensures in
     on_ok_weaker c.write_end.result
-    (λ more. whole_item r start stop x y w c.write_range.new.pen c.write_range.new.flag (text c.args.sink.now) (text c.write_range.new.sink) (text c.write_end.new.sink) (sym c.is_whole.ensures ∙ c.if-not-is_whole.false) e
+    (λ more. whole_item r start stop x y w c.write_range.new.pen c.write_range.new.flag (text c.args.sink.now)
+    (text c.write_range.new.sink) (text c.write_end.new.sink) (sym c.is_whole.ensures ∙ c.if-not-is_whole.false) e
     c.in_ok-write_range.ensures.text c.in_ok-write_range.ensures.pen c.in_ok-write_range.ensures.flag more
-    ∙ (ap (λ (z : RowValue). text c.args.sink.now ++ bytes_of_all (item_of_difference r start stop z y).ops) c.row-cells.ensures.value
-    ∙ ap (λ (z : RowValue). text c.args.sink.now ++ bytes_of_all (item_of_difference r start stop (row_or c.args.view.now.width c.args.view.now.rows r) z).ops)
+    ∙ (ap (λ (z : RowValue). text c.args.sink.now ++ bytes_of_all (item_of_difference r start stop z y).ops)
+    c.row-cells.ensures.value
+    ∙ ap (λ (z : RowValue). text c.args.sink.now
+    ++ bytes_of_all (item_of_difference r start stop (row_or c.args.view.now.width c.args.view.now.rows r) z).ops)
     (c.row-over.ensures.value ∙ ap (λ n. row_or n c.args.prev.now.rows r) (sym c.requires.size.width))))
     c.write_end.ensures

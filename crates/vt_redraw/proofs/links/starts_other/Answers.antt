@@ -11,6 +11,9 @@ returns-then-has_contents c =
     let ys = c.args.over.now.cells in
     let x = at xs 0 in
     let y = at ys 0 in
-    let glyph : is_glyph x ≡ true = ap is_glyph (sym c.cell-cell.ensures) ∙ (sym c.has_contents.ensures ∙ c.if-has_contents.true) in
-    ap not (c.eq.ensures ∙ (sym (same_cell-eq c.cell-cell.result.now c.cell.result.now) ∙ (ap (λ z. same_cell z c.cell.result.now) c.cell-cell.ensures ∙ ap (λ z. same_cell x z) c.cell.ensures)))
+    let glyph : is_glyph x ≡ true =
+    ap is_glyph (sym c.cell-cell.ensures) ∙ (sym c.has_contents.ensures ∙ c.if-has_contents.true) in
+    ap not (c.eq.ensures
+    ∙ (sym (same_cell-eq c.cell-cell.result.now c.cell.result.now)
+    ∙ (ap (λ z. same_cell z c.cell.result.now) c.cell-cell.ensures ∙ ap (λ z. same_cell x z) c.cell.ensures)))
     ∙ (sym (ap (λ b. b && not (same_cell x y)) glyph) ∙ sym (starts_at xs ys c.requires.some c.requires.over))

@@ -8,7 +8,8 @@ use Rattle.vt_redraw.proofs.script.write_rows.Goals as goal
 pub loop-row-init : goal.loop-row-init
 loop-row-init g c =
     let text = g.S.Sink.text in
-    top_leads c.args.view.now.width c.args.pen.now c.write_top.new.pen c.in_ok-on.on c.args.view.now.rows c.args.prev.now.rows (text c.args.sink.now) (text c.write_top.new.sink)
+    top_leads c.args.view.now.width c.args.pen.now c.write_top.new.pen c.in_ok-on.on
+    c.args.view.now.rows c.args.prev.now.rows (text c.args.sink.now) (text c.write_top.new.sink)
     c.rows-last.ensures.some c.requires.size.height c.in_ok-on.ensures
 
 pub returns-clause-text : goal.returns-clause-text
@@ -20,7 +21,8 @@ returns-clause-text g c =
     let width = c.args.view.now.width in
     let size = c.rows-last.ensures.value in
     let past = c.loop-row-test.false in
-    leads_text (text l.sink) (text c.args.sink.now) (rows_under l.row width l.pen l.on xs ys) (rows_written c.args.pen.now xs ys) l.pen l.on (rows_end width l.row l.pen l.on xs ys (omega arith)) l.invariant
+    leads_text (text l.sink) (text c.args.sink.now) (rows_under l.row width l.pen l.on xs ys)
+    (rows_written c.args.pen.now xs ys) l.pen l.on (rows_end width l.row l.pen l.on xs ys (omega arith)) l.invariant
 
 pub returns-clause-pen : goal.returns-clause-pen
 returns-clause-pen g c =

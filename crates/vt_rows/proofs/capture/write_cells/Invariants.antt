@@ -6,6 +6,7 @@ use Rattle.vt_rows.proofs.capture.write_cells.Given as goal
 -- what was written, and then the rest behind it, is the whole text
 abbrev pub invariant-loop-cell : goal.invariant-loop-cell
 invariant-loop-cell g l = record {
-  bytes : gathered (g.S.Sink.text l.sink) l.piece ++ cells_text l.last (drop l.cell-index l.cells) ≡ g.S.Sink.text l.initial.sink ++ cells_text l.fn.attrs l.cells;
+  bytes : gathered (g.S.Sink.text l.sink) l.piece ++ cells_text l.last (drop l.cell-index l.cells)
+      ≡ g.S.Sink.text l.initial.sink ++ cells_text l.fn.attrs l.cells;
   ends : attrs_after_all l.last (drop l.cell-index l.cells) ≡ attrs_after_all l.fn.attrs l.cells;
 }

@@ -9,7 +9,8 @@ use Rattle.vt_rows.proofs.cells.put_text.Goals as goal
 pub space_right-requires-clause-room : goal.space_right-requires-clause-room
 space_right-requires-clause-room c =
     let h : c.args.column < length c.args.cells.now = omega arith in
-    rw c.blank_left.ensures (HasRoom-left_blanked c.args.column (c.args.column + length c.args.text.now - 1) c.args.cells.now c.requires.paired h)
+    rw c.blank_left.ensures (HasRoom-left_blanked c.args.column
+    (c.args.column + length c.args.text.now - 1) c.args.cells.now c.requires.paired h)
 
 pub returns-clause-value : goal.returns-clause-value
 returns-clause-value c =
@@ -24,7 +25,11 @@ returns-clause-value c =
     ∙ ap (λ (m : ℕ). put_cells start space new m c.args.cells.now) size
 
 pub returns-clause-paired : goal.returns-clause-paired
-returns-clause-paired c = rw (returns-clause-value c) (IsPaired-put_text c.args.column c.args.text.now c.args.attrs c.args.cells.now c.requires.inside c.requires.paired)
+returns-clause-paired c =
+    rw (returns-clause-value c)
+    (IsPaired-put_text c.args.column c.args.text.now c.args.attrs c.args.cells.now c.requires.inside c.requires.paired)
 
 pub returns-clause-sound : goal.returns-clause-sound
-returns-clause-sound c = λ all. rw (returns-clause-value c) (All-put_text c.args.column c.args.text.now c.args.attrs c.args.cells.now c.requires.printable all)
+returns-clause-sound c =
+    λ all. rw (returns-clause-value c)
+    (All-put_text c.args.column c.args.text.now c.args.attrs c.args.cells.now c.requires.printable all)

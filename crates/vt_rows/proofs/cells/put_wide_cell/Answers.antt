@@ -9,7 +9,8 @@ use Rattle.vt_rows.proofs.cells.put_wide_cell.Goals as goal
 pub blank_right-requires-clause-room : goal.blank_right-requires-clause-room
 blank_right-requires-clause-room c =
     let h : c.args.column < length c.args.cells.now = omega arith in
-    rw c.blank_left.ensures (HasRoom-left_blanked c.args.column (c.args.column + 1) c.args.cells.now c.requires.paired h)
+    rw c.blank_left.ensures
+    (HasRoom-left_blanked c.args.column (c.args.column + 1) c.args.cells.now c.requires.paired h)
 
 pub returns-clause-value : goal.returns-clause-value
 returns-clause-value c =
@@ -18,12 +19,15 @@ returns-clause-value c =
     let k = c.args.column in
     rw (c.right_half.ensures, c.blank_right.ensures, c.blank_left.ensures, c.attrs.ensures)
     (wide_steps k (blank (attrs_of x)) x cells c.requires.paired c.requires.inside
-    ∙ ap (λ (g : CellValue). put_cells k (blank (attrs_of x)) (g ∷ right_half ∷ []) 2 cells) (wide_is x c.requires.wide))
+    ∙ ap (λ (g : CellValue). put_cells k (blank (attrs_of x)) (g ∷ right_half ∷ []) 2 cells)
+    (wide_is x c.requires.wide))
 
 pub returns-clause-paired : goal.returns-clause-paired
 returns-clause-paired c =
-    rw (returns-clause-value c) (IsPaired-put_wide c.args.column (text_of c.args.cell) (attrs_of c.args.cell) c.args.cells.now c.requires.inside c.requires.paired)
+    rw (returns-clause-value c) (IsPaired-put_wide c.args.column (text_of c.args.cell)
+    (attrs_of c.args.cell) c.args.cells.now c.requires.inside c.requires.paired)
 
 pub returns-clause-sound : goal.returns-clause-sound
 returns-clause-sound c = λ h all.
-    rw (returns-clause-value c) (All-put_wide c.args.column (text_of c.args.cell) (attrs_of c.args.cell) c.args.cells.now (subst IsCell (wide_is c.args.cell c.requires.wide) h) all)
+    rw (returns-clause-value c) (All-put_wide c.args.column (text_of c.args.cell)
+    (attrs_of c.args.cell) c.args.cells.now (subst IsCell (wide_is c.args.cell c.requires.wide) h) all)

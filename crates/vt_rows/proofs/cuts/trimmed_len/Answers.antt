@@ -14,19 +14,24 @@ loop-len-preserved c = (
         let lt : c.loop-len.len - 1 < length c.args.cells.now = omega arith in
         let i : k ≡ c.loop-len.len - 1 = omega arith in
         ap (λ (j : ℕ). at c.args.cells.now j) i
-        ∙ (sym (c.index-cells-len.is ∙ get_or_default c.args.cells.now (c.loop-len.len - 1) c.index-cells-len.result default_blank lt)
+        ∙ (sym (c.index-cells-len.is
+        ∙ get_or_default c.args.cells.now (c.loop-len.len - 1) c.index-cells-len.result default_blank lt)
         ∙ default_same c.index-cells-len.result (sym c.is_default.ensures ∙ c.if-is_default.true))
     | inr more ↦ c.loop-len.invariant.1 k (omega arith)
   ],
 )
 
 pub returns-else-is_default-clause-value : goal.returns-else-is_default-clause-value
-returns-else-is_default-clause-value c = trimmed_is c.args.cells.now c.loop-len.len c.loop-len.invariant.0 c.loop-len.invariant.1 (λ j e.
+returns-else-is_default-clause-value c =
+    trimmed_is c.args.cells.now c.loop-len.len c.loop-len.invariant.0 c.loop-len.invariant.1 (λ j e.
     let lt : c.loop-len.len - 1 < length c.args.cells.now = omega arith in
     let i : j ≡ c.loop-len.len - 1 = omega arith in
     ap (λ (m : ℕ). is_default_blank (at c.args.cells.now m)) i
-    ∙ (ap is_default_blank (sym (c.index-cells-len.is ∙ get_or_default c.args.cells.now (c.loop-len.len - 1) c.index-cells-len.result default_blank lt))
+    ∙ (ap is_default_blank (sym (c.index-cells-len.is
+    ∙ get_or_default c.args.cells.now (c.loop-len.len - 1) c.index-cells-len.result default_blank lt))
     ∙ (sym c.is_default.ensures ∙ c.if-is_default.false)))
 
 pub returns-after-loop-len-clause-value : goal.returns-after-loop-len-clause-value
-returns-after-loop-len-clause-value c = trimmed_is c.args.cells.now c.loop-len.len c.loop-len.invariant.0 c.loop-len.invariant.1 (λ j e. absurd (omega arith))
+returns-after-loop-len-clause-value c =
+    trimmed_is c.args.cells.now c.loop-len.len c.loop-len.invariant.0
+    c.loop-len.invariant.1 (λ j e. absurd (omega arith))

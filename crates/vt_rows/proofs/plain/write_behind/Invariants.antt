@@ -6,6 +6,7 @@ use Rattle.vt_rows.proofs.plain.write_behind.Given as goal
 -- what was written, and then the rest behind it, is the whole text
 abbrev pub invariant-loop-cell : goal.invariant-loop-cell
 invariant-loop-cell g l = record {
-  bytes : gathered (g.S.Sink.text l.sink) l.piece ++ plain_behind l.gap (drop l.cell-index l.cells) ≡ g.S.Sink.text l.fn.sink ++ plain_behind l.fn.gap l.cells;
+  bytes : gathered (g.S.Sink.text l.sink) l.piece ++ plain_behind l.gap (drop l.cell-index l.cells)
+      ≡ g.S.Sink.text l.fn.sink ++ plain_behind l.fn.gap l.cells;
   gap : l.gap ≤ l.fn.gap + l.cell-index;
 }

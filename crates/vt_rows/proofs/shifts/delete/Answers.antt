@@ -11,12 +11,15 @@ use Rattle.vt_rows.proofs.ShiftSteps.{deleted-none, delete_code}
 use Rattle.vt_rows.proofs.shifts.delete.Goals as goal
 
 pub returns-then-count-eq0-clause-value : goal.returns-then-count-eq0-clause-value
-returns-then-count-eq0-clause-value c = deleted-none c.args.column c.args.count c.args.cells.now c.requires.paired c.requires.inside (sym c.min-count.ensures ∙ c.if-count-eq0.true)
+returns-then-count-eq0-clause-value c =
+    deleted-none c.args.column c.args.count c.args.cells.now c.requires.paired
+    c.requires.inside (sym c.min-count.ensures ∙ c.if-count-eq0.true)
 
 pub blank_right-requires-clause-room : goal.blank_right-requires-clause-room
 blank_right-requires-clause-room c =
     let h : c.args.column < length c.args.cells.now = omega arith in
-    rw c.blank_left.ensures (HasRoom-left_blanked c.args.column (c.args.column + c.min-count.result - 1) c.args.cells.now c.requires.paired h)
+    rw c.blank_left.ensures
+    (HasRoom-left_blanked c.args.column (c.args.column + c.min-count.result - 1) c.args.cells.now c.requires.paired h)
 
 pub returns-clause-value : goal.returns-clause-value
 returns-clause-value c =
@@ -25,19 +28,29 @@ returns-clause-value c =
     let turned = c.turn.new.items in
     let len = length cells in
     let a = ap length c.blank_left.ensures ∙ length-left_blanked c.args.column cells in
-    let b = ap length c.blank_right.ensures ∙ length-right_replaced (c.args.column + m - 1) (blank c.new.result) c.blank_left.new.cells in
+    let b = ap length c.blank_right.ensures
+    ∙ length-right_replaced (c.args.column + m - 1) (blank c.new.result) c.blank_left.new.cells in
     let l : length turned ≡ len = omega (arith, c.turn.ensures.len) in
     let w : len - (len - m) ≡ m = omega arith in
-    let size : length (take (len - (len - m)) (drop (len - m) turned)) ≡ m = omega (arith, length-take (len - (len - m)) (drop (len - m) turned), length-drop (len - m) turned) in
+    let size : length (take (len - (len - m)) (drop (len - m) turned)) ≡ m =
+    omega (arith, length-take (len - (len - m)) (drop (len - m) turned), length-drop (len - m) turned) in
     let new : c.clear.new.cells ≡ blanks default_attrs m =
-    c.clear.ensures ∙ (ap (λ (x : Attrs). blanks x (length (take (len - (len - m)) (drop (len - m) turned)))) c.new-2.ensures ∙ ap (λ (n : ℕ). blanks default_attrs n) size) in
-    let from : (j : ℕ) → at turned j ≡ at (right_replaced (c.args.column + m - 1) default_blank (left_blanked c.args.column cells)) (turn_source c.args.column len m j) =
+    c.clear.ensures
+    ∙ (ap (λ (x : Attrs). blanks x (length (take (len - (len - m)) (drop (len - m) turned)))) c.new-2.ensures
+    ∙ ap (λ (n : ℕ). blanks default_attrs n) size) in
+    let from : (j : ℕ) →
+    at turned j
+    ≡ at (right_replaced (c.args.column + m - 1) default_blank (left_blanked c.args.column cells))
+    (turn_source c.args.column len m j) =
     λ j. rw (c.blank_right.ensures, c.blank_left.ensures, c.new.ensures) at (c.turn.ensures.by_index j default_blank) in
     ap (λ (n : ℕ). put_mid (len - m) n turned c.clear.new.cells) w
-    ∙ delete_code c.args.column c.args.count m cells turned c.clear.new.cells c.requires.paired c.requires.inside c.min-count.ensures (omega arith) l from new
+    ∙ delete_code c.args.column c.args.count m cells turned c.clear.new.cells
+    c.requires.paired c.requires.inside c.min-count.ensures (omega arith) l from new
 
 pub returns-clause-paired : goal.returns-clause-paired
-returns-clause-paired c = rw (returns-clause-value c) (IsPaired-deleted c.args.column c.args.count c.args.cells.now c.requires.paired)
+returns-clause-paired c =
+    rw (returns-clause-value c) (IsPaired-deleted c.args.column c.args.count c.args.cells.now c.requires.paired)
 
 pub returns-clause-sound : goal.returns-clause-sound
-returns-clause-sound c = λ all. rw (returns-clause-value c) (All-deleted c.args.column c.args.count c.args.cells.now all)
+returns-clause-sound c =
+    λ all. rw (returns-clause-value c) (All-deleted c.args.column c.args.count c.args.cells.now all)

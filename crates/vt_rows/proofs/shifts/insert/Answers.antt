@@ -16,15 +16,21 @@ returns-clause-value c =
     let m = c.min-count.result in
     let turned = c.turn.new.items in
     let w : start + m - start ≡ m = omega arith in
-    let size : length (take (start + m - start) (drop start turned)) ≡ m = omega (arith, length-take (start + m - start) (drop start turned), length-drop start turned, c.turn.ensures.len) in
+    let size : length (take (start + m - start) (drop start turned)) ≡ m =
+    omega (arith, length-take (start + m - start) (drop start turned), length-drop start turned, c.turn.ensures.len) in
     let new : c.clear.new.cells ≡ blanks default_attrs m =
-    c.clear.ensures ∙ (ap (λ (a : Attrs). blanks a (length (take (start + m - start) (drop start turned)))) c.new.ensures ∙ ap (λ (n : ℕ). blanks default_attrs n) size) in
+    c.clear.ensures
+    ∙ (ap (λ (a : Attrs). blanks a (length (take (start + m - start) (drop start turned)))) c.new.ensures
+    ∙ ap (λ (n : ℕ). blanks default_attrs n) size) in
     c.blank_end.ensures ∙ (ap (λ (n : ℕ). end_blanked (put_mid start n turned c.clear.new.cells)) w
-    ∙ insert_code c.args.column c.args.count start m cells turned c.clear.new.cells c.requires.paired c.insert_column-start.ensures.value c.insert_column-start.ensures.inside c.min-count.ensures c.turn.ensures.len
+    ∙ insert_code c.args.column c.args.count start m cells turned c.clear.new.cells c.requires.paired
+    c.insert_column-start.ensures.value c.insert_column-start.ensures.inside c.min-count.ensures c.turn.ensures.len
     (λ j. c.turn.ensures.by_index j default_blank) new)
 
 pub returns-clause-paired : goal.returns-clause-paired
-returns-clause-paired c = rw (returns-clause-value c) (IsPaired-inserted c.args.column c.args.count c.args.cells.now c.requires.paired)
+returns-clause-paired c =
+    rw (returns-clause-value c) (IsPaired-inserted c.args.column c.args.count c.args.cells.now c.requires.paired)
 
 pub returns-clause-sound : goal.returns-clause-sound
-returns-clause-sound c = λ all. rw (returns-clause-value c) (All-inserted c.args.column c.args.count c.args.cells.now all)
+returns-clause-sound c =
+    λ all. rw (returns-clause-value c) (All-inserted c.args.column c.args.count c.args.cells.now all)

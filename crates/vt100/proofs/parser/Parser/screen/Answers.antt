@@ -5,4 +5,6 @@ use Rattle.vt100.specs.Parser.{Parsing}
 use Rattle.vt100.proofs.parser.Parser.screen.Goals as goal
 
 pub returns-clause-stands : goal.returns-clause-stands
-returns-clause-stands g c = subst (λ (held : Held). ∥ ((state : State) × StandsFor held state) ∥₁) (ap (λ (p : Parsing g.row.CB.Denot). p.scanner) c.self.view_is) c.stands.ensures
+returns-clause-stands g c =
+    subst (λ (held : Held). ∥ ((state : State) × StandsFor held state) ∥₁)
+    (ap (λ (p : Parsing g.row.CB.Denot). p.scanner) c.self.view_is) c.stands.ensures

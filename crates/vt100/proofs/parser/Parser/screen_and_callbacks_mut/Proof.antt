@@ -41,7 +41,8 @@ use prog.Wp.{Calls, Loops, Tables, WpFn}
 use sound.WpLaws.{WpFn-mono}
 use types.ByLocal.{alloc_all, free_all, get, look_at, pass_all, sets, through}
 use types.Follow.{after₂, takes_two}
-use types.Kit.{Item, ⋆, ‵, raw, ◌⊛◌, some, later, ◌$◌, ◌∵◌, !, qed, by, move, keep, use0, use1, use2, split, split3, join, group, pick, fsplit, fsplit3, fjoin, fjoin3, fpack, feq_i, feq_l, frame, suffices, await, done}
+use types.Kit.{Item, ⋆, ‵, raw, ◌⊛◌, some, later, ◌$◌, ◌∵◌, !, qed, by, move, keep, use0, use1, use2, split, split3}
+use types.Kit.{join, group, pick, fsplit, fsplit3, fjoin, fjoin3, fpack, feq_i, feq_l, frame, suffices, await, done}
 use types.Logic.{Logic, sem}
 use types.Mut.{open_ref}
 use types.Part.{agg}
@@ -169,7 +170,8 @@ module _ (T : RattleType) (laws : Laws T) (g : declared.Ghosts T.Denot) (d : Dic
 
     module _ (a : I.Denot) where
       abbrev scanner_in : Fml
-      scanner_in = part_at (Scanned T laws g d) full_share a.scanner b (o + up (align (lone (Scanned T laws g d).mir)) 0)
+      scanner_in =
+          part_at (Scanned T laws g d) full_share a.scanner b (o + up (align (lone (Scanned T laws g d).mir)) 0)
 
       abbrev failed_in : Fml
       failed_in = part_at builtin.bool full_share a.is_failed b (o + failed_at T laws g d)
@@ -178,14 +180,16 @@ module _ (T : RattleType) (laws : Laws T) (g : declared.Ghosts T.Denot) (d : Dic
       Rest = sep 𝓤 (sem 𝓛 scanner_in) (sep 𝓤 (sem 𝓛 failed_in) Back)
 
       apart : ent 𝓤 (sem 𝓛 (part_at I full_share a b o))
-          (sep 𝓤 (sem 𝓛 (part_at S full_share a.screen b s)) (sep 𝓤 (sem 𝓛 (part_at C full_share a.callbacks b h)) Rest))
+          (sep 𝓤 (sem 𝓛 (part_at S full_share a.screen b s))
+          (sep 𝓤 (sem 𝓛 (part_at C full_share a.callbacks b h)) Rest))
       unfolding part_of
       apart =
           let shown = part_at S full_share a.screen b s in
           let heard = part_at C full_share a.callbacks b h in
           qed 𝓛 (‵ (part_at I full_share a b o) ∷ []) ∵
           use1 𝓛 (‵ (fsep scanner_in (fsep shown (fsep heard (fsep failed_in ftrue)))) ⊛ raw Back)
-          (Struct-parts 𝓛 full_share [] (members T laws g d) (lawful T laws g d 𝓛) (values T laws g d a) b o) $ split ! $
+          (Struct-parts 𝓛 full_share [] (members T laws g d) (lawful T laws g d 𝓛) (values T laws g d a) b o) $
+          split ! $
           fsplit3 ! $ move ! (2 ∷ []) $ fsplit3 ! $ keep ! (4 ∷ 0 ∷ 3 ∷ 1 ∷ 5 ∷ []) $ done !
 
       back : view T laws g d a ≡ x → (w : S.Denot) (v : C.Denot)
@@ -195,12 +199,18 @@ module _ (T : RattleType) (laws : Laws T) (g : declared.Ghosts T.Denot) (d : Dic
       back seen w v =
           let t : I.Denot = record a { screen = w; callbacks = v } in
           let parts = parts_at full_share (members T laws g d) 0 (values T laws g d t) b o in
-          let whole = λ (z : Denots (rows_of (members T laws g d))). part_at (Struct (shape_of [] (members T laws g d))) full_share z b o in
-          let way = λ (z : Denots (rows_of (members T laws g d))). wand 𝓤 (sem 𝓛 (parts_at full_share (members T laws g d) 0 z b o)) (sem 𝓛 (whole z)) in
-          qed 𝓛 (‵ (part_at S full_share w b s) ∷ ‵ (part_at C full_share v b h) ∷ ‵ scanner_in ∷ ‵ failed_in ∷ raw Back ∷ []) ∵
+          let whole = λ (z : Denots (rows_of (members T laws g d))). part_at
+          (Struct (shape_of [] (members T laws g d))) full_share z b o in
+          let way = λ (z : Denots (rows_of (members T laws g d))). wand 𝓤
+          (sem 𝓛 (parts_at full_share (members T laws g d) 0 z b o)) (sem 𝓛 (whole z)) in
+          qed 𝓛
+          (‵ (part_at S full_share w b s) ∷ ‵ (part_at C full_share v b h) ∷ ‵ scanner_in ∷ ‵ failed_in ∷ raw Back ∷ [])
+          ∵
           use0 𝓛 (‵ ftrue) (id⊢ 𝓤 (emp 𝓤)) $
-          move ! (4 ∷ 0 ∷ []) $ fjoin ! $ move ! (2 ∷ 0 ∷ []) $ fjoin ! $ move ! (1 ∷ 0 ∷ []) $ fjoin ! $ move ! (1 ∷ 0 ∷ []) $ fjoin ! $
-          move ! (1 ∷ []) $ use1 𝓛 (raw (way (values T laws g d t))) (all_e 𝓤 way (values T laws g d t)) $ move ! (1 ∷ 0 ∷ []) $
+          move ! (4 ∷ 0 ∷ []) $ fjoin ! $ move ! (2 ∷ 0 ∷ []) $ fjoin ! $
+          move ! (1 ∷ 0 ∷ []) $ fjoin ! $ move ! (1 ∷ 0 ∷ []) $ fjoin ! $
+          move ! (1 ∷ []) $ use1 𝓛 (raw (way (values T laws g d t))) (all_e 𝓤 way (values T laws g d t)) $
+          move ! (1 ∷ 0 ∷ []) $
           use2 𝓛 (‵ (part_at I full_share t b o)) (apply∗ 𝓤 (sem 𝓛 parts) (sem 𝓛 (whole (values T laws g d t)))) $
           by ! (Plain-in P I (view_owns I P.Denot P.coded (view T laws g d) (good T laws g d)) 𝓛 full_share (new w v) t
           (view_made I P.Denot P.coded (view T laws g d) (good T laws g d) 𝓛 (new w v) t
@@ -218,18 +228,25 @@ module _ (T : RattleType) (laws : Laws T) (g : declared.Ghosts T.Denot) (d : Dic
       walk =
           let code = P.coded.code x in
           let out : Val = vstruct (vcons (vptr b s) (vcons (vptr b h) vnil)) in
-          qed 𝓛 Had ∵ enter ! Cs Λ (function T laws g d) (vptr b o ∷ []) _ $ alloc_all ! (λ l. pass_all ! refl ((tt, tt), tt) $
+          qed 𝓛 Had ∵ enter ! Cs Λ (function T laws g d) (vptr b o ∷ []) _ $
+          alloc_all ! (λ l. pass_all ! refl ((tt, tt), tt) $
           open_ref ! tt (mem P) {x = x} {b = b} {o = o} $
-          use1 𝓛 (some (λ (a : (a : I.Denot) × ((view T laws g d a ≡ x) × good T laws g d a)). ‵ (part_at I full_share a.0 b o)))
-          (plain_out P I (view_owns I P.Denot P.coded (view T laws g d) (good T laws g d)) 𝓛 full_share x b o) $ pick ! (λ y.
+          use1 𝓛 (some
+          (λ (a : (a : I.Denot) × ((view T laws g d a ≡ x) × good T laws g d a)). ‵ (part_at I full_share a.0 b o)))
+          (plain_out P I (view_owns I P.Denot P.coded (view T laws g d) (good T laws g d)) 𝓛 full_share x b o) $
+          pick ! (λ y.
           let a = y.0 in
-          use1 𝓛 (‵ (part_at S full_share a.screen b s) ⊛ ‵ (part_at C full_share a.callbacks b h) ⊛ raw (Rest a)) (apart a) $ split3 ! $
+          use1 𝓛 (‵ (part_at S full_share a.screen b s) ⊛ ‵ (part_at C full_share a.callbacks b h) ⊛ raw (Rest a))
+          (apart a) $
+          split3 ! $
           -- [the screen; the callbacks; the rest; the open borrow; obs; auth; the other tokens]
           move ! (3 ∷ 4 ∷ 5 ∷ 0 ∷ 1 ∷ 2 ∷ []) $ group ! 6 $
-          use1 𝓛 (later (some (λ (δ : GName × GName). (‵ (fobs δ.0 (S.coded.code a.screen)) ⊛ ‵ (fbor κ (Borrowed (mem S) b s δ.0)))
+          use1 𝓛 (later
+          (some (λ (δ : GName × GName). (‵ (fobs δ.0 (S.coded.code a.screen)) ⊛ ‵ (fbor κ (Borrowed (mem S) b s δ.0)))
           ⊛ (‵ (fobs δ.1 (C.coded.code a.callbacks)) ⊛ ‵ (fbor κ (Borrowed (mem C) b h δ.1)))
           ⊛ ‵ (flft κ q) ⊛ ‵ (after₂ (mem P) (mem S) (mem C) γ δ.0 δ.1 new))))
-          (takes_two 𝓛 (mem P) (mem S) (mem C) new κ q b o b s b h γ (Rest a) (back a y.1.0) code code a.screen a.callbacks) $
+          (takes_two 𝓛 (mem P) (mem S) (mem C) new κ q b o b s b h γ
+          (Rest a) (back a y.1.0) code code a.screen a.callbacks) $
           await ! tt $ pick ! (λ δ.
           let one : MutBor S.Denot = record { ref_ptr = (b, s); ghost_name = δ.0; now = a.screen } in
           let two : MutBor C.Denot = record { ref_ptr = (b, h); ghost_name = δ.1; now = a.callbacks } in
@@ -238,7 +255,8 @@ module _ (T : RattleType) (laws : Laws T) (g : declared.Ghosts T.Denot) (d : Dic
           -- [the callbacks' loan; the screen's loan; the token and what follows; the other tokens]
           nothing ! $ move ! (1 ∷ 0 ∷ []) $ fjoin ! $ move ! (1 ∷ 0 ∷ []) $ fjoin ! $
           feq_i ! (List Val) (out ∷ []) (out ∷ []) refl $ fjoin ! $
-          fpack ! (Valss (MutRef (named 0) κ S ∷ MutRef (named 0) κ C ∷ [])) (within (shape (tuple_type (MutRef (named 0) κ S ∷ MutRef (named 0) κ C ∷ []))) (one, (two, tt)) (out ∷ []))
+          fpack ! (Valss (MutRef (named 0) κ S ∷ MutRef (named 0) κ C ∷ []))
+          (within (shape (tuple_type (MutRef (named 0) κ S ∷ MutRef (named 0) κ C ∷ []))) (one, (two, tt)) (out ∷ []))
           (vptr b s ∷ [], (vptr b h ∷ [], tt)) $ move ! (1 ∷ []) $ split ! $
           -- [the token; what follows; the pair; the other tokens]
           sets ! (addr ! (through ! refl (fld ! refl (stop !)))) refl (tt, tt) $
@@ -246,19 +264,24 @@ module _ (T : RattleType) (laws : Laws T) (g : declared.Ghosts T.Denot) (d : Dic
           sets ! (agg ! (and_then ! (get ! refl) (and_then ! (get ! refl) (no_more !)))) refl (tt, (tt, (tt, tt))) $
           returns ! (look_at ! 0 refl) $ free_all ! refl $
           suffices ! _ (ends_at 𝓛 (end T laws g d) (stayed T laws g d) spec bound out (one, two) (tt, tt) (tt, tt)) $
-          move ! (2 ∷ 0 ∷ 1 ∷ 3 ∷ []) $ nothing ! $ nothing ! $ fjoin ! $ join ! $ move ! (1 ∷ 3 ∷ []) $ join ! $ join ! $
+          move ! (2 ∷ 0 ∷ 1 ∷ 3 ∷ []) $ nothing ! $ nothing ! $
+          fjoin ! $ join ! $ move ! (1 ∷ 3 ∷ []) $ join ! $ join ! $
           frame ! $ frame ! $ says ! (ap (λ (p : P.Denot). p.callbacks) y.1.0) $
           by ! (fact_i 𝓤 _ (emp 𝓤) (ap (λ (p : P.Denot). p.screen) y.1.0)))))
 
-      entry : ent 𝓤 (on_entry 𝓛 (end T laws g d).signature κs qs (self, tt) (ps, tt)) (WpFn 𝓤 H Cs Λ (function T laws g d) (ps ++ []) Post)
+      entry : ent 𝓤 (on_entry 𝓛 (end T laws g d).signature κs qs (self, tt) (ps, tt))
+          (WpFn 𝓤 H Cs Λ (function T laws g d) (ps ++ []) Post)
       entry =
           qed 𝓛 ((‵ (flft κ q) ⊛ others) ∷ ‵ (owns (MutRef (named 0) κ P ∷ []) (self, tt) (ps, tt)) ∷ []) ∵
           split ! $ move ! (2 ∷ []) $ fsplit ! $ fsplit3 ! $ feq_l ! (λ e. keep ! (0 ∷ 1 ∷ 3 ∷ 4 ∷ []) $
-          by ! (subst (λ (ws : List Val). ent 𝓤 (⋆ 𝓛 Had) (WpFn 𝓤 H Cs Λ (function T laws g d) (ws ++ []) Post)) (sym e) walk))
+          by ! (subst (λ (ws : List Val). ent 𝓤 (⋆ 𝓛 Had) (WpFn 𝓤 H Cs Λ (function T laws g d) (ws ++ []) Post))
+          (sym e) walk))
 
-  meets : (𝓣 : Tables 𝓤 H) → Meets 𝓛 (end T laws g d).signature (WpFn 𝓤 H 𝓣.C 𝓣.Λ (function T laws g d)) (closing 𝓛 (end T laws g d) spec)
+  meets : (𝓣 : Tables 𝓤 H) →
+      Meets 𝓛 (end T laws g d).signature (WpFn 𝓤 H 𝓣.C 𝓣.Λ (function T laws g d)) (closing 𝓛 (end T laws g d) spec)
   meets 𝓣 =
-      walk_Meets 𝓛 (end T laws g d) (stayed T laws g d) (Goes-spent_ref 𝓛 2 (0 ∷ []) tt (plain (λ _. Whole T laws g d)), tt) spec
+      walk_Meets 𝓛 (end T laws g d) (stayed T laws g d)
+      (Goes-spent_ref 𝓛 2 (0 ∷ []) tt (plain (λ _. Whole T laws g d)), tt) spec
       (WpFn 𝓤 H 𝓣.C 𝓣.Λ (function T laws g d)) (WpFn-mono 𝓤 H 𝓛.laws 𝓣 (function T laws g d))
       (λ z. let r = z.0.3.0 in via 𝓤 _ (fst∗ 𝓤 _ ((spec z.0.0 z.0.3).requires z.1))
       (entry z.0.0 z.0.1 z.0.2 r.ref_ptr.0 r.ref_ptr.1 r.ghost_name r.now z.0.4.0 𝓣.C 𝓣.Λ))
@@ -267,6 +290,7 @@ pub screen_and_callbacks_mut_spec : {M : Type 1} → stated.statement M
 unfolding tables_of
 screen_and_callbacks_mut_spec 𝓤 𝓛 𝓜 𝓡 wired T laws g d met =
     let 𝓣 : Tables 𝓤 𝓛.H = tables_of 𝓤 𝓛.H 𝓜 (tables 𝓤 𝓛.H 𝓜 𝓡 𝓡.env) in
-    entered 𝓤 𝓛.H (triple_of 𝓛 (end T laws g d).signature (closing 𝓛 (end T laws g d) (spec T laws g d 𝓛 𝓜.mem 𝓡.returns)))
+    entered 𝓤 𝓛.H
+    (triple_of 𝓛 (end T laws g d).signature (closing 𝓛 (end T laws g d) (spec T laws g d 𝓛 𝓜.mem 𝓡.returns)))
     𝓣.C 𝓣.Λ (#self (args T laws g d)) (function T laws g d) (code.unfolded 𝓤 𝓛.H 𝓜 𝓡 wired (T, tt) d)
     (meets T laws g d 𝓛 𝓜.mem 𝓡.returns 𝓣)

@@ -2,7 +2,9 @@ use Rattle.std.proofs.Common.{refl}
 use Rattle.vt100.proofs.writing.ParserUnitWrite.write.Goals as goal
 
 pub returns-in-Ok-clause-quiet : goal.returns-in-Ok-clause-quiet
-returns-in-Ok-clause-quiet c state after ready stands told = (refl, (c.process.ensures.quiet state after ready stands told).1)
+returns-in-Ok-clause-quiet c state after ready stands told =
+    (refl, (c.process.ensures.quiet state after ready stands told).1)
 
 pub returns-in-Err-OutOfMemory-clause-quiet : goal.returns-in-Err-OutOfMemory-clause-quiet
-returns-in-Err-OutOfMemory-clause-quiet c state after ready stands told = (refl, (c.process.ensures.quiet state after ready stands told).1)
+returns-in-Err-OutOfMemory-clause-quiet c state after ready stands told =
+    (refl, (c.process.ensures.quiet state after ready stands told).1)

@@ -3,7 +3,9 @@ use Rattle.vt_cells.proofs.KeptCells.{IsKept-first, cell_of-first}
 use Rattle.vt_cells.proofs.cell.Cell.glyph.Goals as goal
 
 pub invariant_of-result : goal.invariant_of-result
-invariant_of-result c = rw c.text.ensures (IsKept-first c.args.c _ _ c.args.wide c.args.attrs c.ranges.c.0 c.requires.reported c.requires.columns (c.push_char-len.ensures.len ∙ zero-add _) c.push_char-len.ensures.text)
+invariant_of-result c =
+    rw c.text.ensures (IsKept-first c.args.c _ _ c.args.wide c.args.attrs c.ranges.c.0 c.requires.reported
+    c.requires.columns (c.push_char-len.ensures.len ∙ zero-add _) c.push_char-len.ensures.text)
 
 pub returns : goal.returns
 returns c = rw c.text.ensures (cell_of-first _ c.args.c c.args.wide c.args.attrs c.push_char-len.ensures.text)

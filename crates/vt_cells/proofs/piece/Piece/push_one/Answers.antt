@@ -7,7 +7,10 @@ use Rattle.vt_cells.proofs.piece.Piece.push_one.Goals as goal
 pub invariant_of-self : goal.invariant_of-self
 invariant_of-self c =
     let len = c.self.inside.len in
-    subst (λ (n : ℕ). IsPiece (len + n) (take (len + n) (put_mid len (len + n - len) c.self.inside.bytes c.copy_one.new.to))) c.requires.one
+    subst
+    (λ (n : ℕ). IsPiece (len + n) (take (len + n) (put_mid len (len + n - len) c.self.inside.bytes c.copy_one.new.to)))
+    c.requires.one
     (pushed len (len + length c.args.text.now - len) c.self.inside.bytes c.copy_one.new.to c.args.text.now
-    c.self.invariant (omega (arith, c.self.told, c.self.invariant.bounded)) (omega (arith, c.requires.room, c.requires.one, ap length c.self.view_is))
+    c.self.invariant (omega (arith, c.self.told, c.self.invariant.bounded))
+    (omega (arith, c.requires.room, c.requires.one, ap length c.self.view_is))
     (c.copy_one.ensures ∙ c.as_bytes.ensures.value) c.utf8.text)

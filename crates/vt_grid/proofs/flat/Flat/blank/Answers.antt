@@ -13,12 +13,24 @@ returns-clause-others c =
     let p = (line_at flat.lines.items c.args.row).place in
     let s = c.part-start.result.0 in
     let k = c.part-start.result.1 - s in
-    let h = c.requires.flat.inside c.args.row (omega (arith, c.requires.inside, rows_counted w flat.cells.items flat.lines.items)) in
+    let h = c.requires.flat.inside c.args.row
+    (omega (arith, c.requires.inside, rows_counted w flat.cells.items flat.lines.items)) in
     let inside = place_inside p n w h in
     let new = c.clear.new.cells in
     let xs = c.deref_mut.result.now in
     let was = ap length c.deref_mut.ensures.value in
-    let size : length new ≡ w = ap length c.clear.ensures ∙ omega (arith, length-replicate (length (take k (drop s xs))) (blank c.args.attrs), length-take k (drop s xs), length-drop s xs, was, c.part-start.ensures.end, c.part-start.ensures.inside) in
-    let cells = written w n p s k flat.cells c.wrap.new.self.cells xs new c.wrap.ensures.cells c.deref_mut.ensures.value c.requires.flat.filled h c.part-start.ensures.start (omega (arith, c.part-start.ensures.end)) size in
+    let size : length new ≡ w = ap length c.clear.ensures
+    ∙ omega (
+      arith,
+      length-replicate (length (take k (drop s xs))) (blank c.args.attrs),
+      length-take k (drop s xs),
+      length-drop s xs,
+      was,
+      c.part-start.ensures.end,
+      c.part-start.ensures.inside,
+    ) in
+    let cells = written w n p s k flat.cells c.wrap.new.self.cells xs new c.wrap.ensures.cells c.deref_mut.ensures.value
+    c.requires.flat.filled h c.part-start.ensures.start (omega (arith, c.part-start.ensures.end)) size in
     λ place q other.
-    ap (λ (items : List CellValue). cells_at w items place) cells ∙ cells_at-put_other w n p place flat.cells.items new c.requires.flat.filled h q other size
+    ap (λ (items : List CellValue). cells_at w items place) cells
+    ∙ cells_at-put_other w n p place flat.cells.items new c.requires.flat.filled h q other size

@@ -14,24 +14,30 @@ pub put_back-requires-clause-inside : goal.put_back-requires-clause-inside
 put_back-requires-clause-inside g c =
     let carried = carried_of c.args.mark c.args.self.now c.requires.carried in
     let row = ap (λ (q : Page). (row_at c.args.self.now q.row).wrapped) c.self.view_is in
-    let parts = put_back_parts c.mark_col-col.result c.args.mark c.args.attrs c.args.self.now c.wrap.new.self c.lift-cell.result c.row_wrapped-goes_on.result c.mark_col-col.ensures.page carried
-    c.mark_col-col.ensures.value (c.in-Err.ensures.err.0 ∙ c.lift-cell.ensures.value) c.lift-cell.ensures.lifted (c.row_wrapped-goes_on.ensures ∙ row) in
+    let parts = put_back_parts c.mark_col-col.result c.args.mark c.args.attrs c.args.self.now
+    c.wrap.new.self c.lift-cell.result c.row_wrapped-goes_on.result c.mark_col-col.ensures.page carried
+    c.mark_col-col.ensures.value (c.in-Err.ensures.err.0 ∙ c.lift-cell.ensures.value)
+    c.lift-cell.ensures.lifted (c.row_wrapped-goes_on.ensures ∙ row) in
     parts.0
 
 pub put_back-requires-clause-page : goal.put_back-requires-clause-page
 put_back-requires-clause-page g c =
     let carried = carried_of c.args.mark c.args.self.now c.requires.carried in
     let row = ap (λ (q : Page). (row_at c.args.self.now q.row).wrapped) c.self.view_is in
-    let parts = put_back_parts c.mark_col-col.result c.args.mark c.args.attrs c.args.self.now c.wrap.new.self c.lift-cell.result c.row_wrapped-goes_on.result c.mark_col-col.ensures.page carried
-    c.mark_col-col.ensures.value (c.in-Err.ensures.err.0 ∙ c.lift-cell.ensures.value) c.lift-cell.ensures.lifted (c.row_wrapped-goes_on.ensures ∙ row) in
+    let parts = put_back_parts c.mark_col-col.result c.args.mark c.args.attrs c.args.self.now
+    c.wrap.new.self c.lift-cell.result c.row_wrapped-goes_on.result c.mark_col-col.ensures.page carried
+    c.mark_col-col.ensures.value (c.in-Err.ensures.err.0 ∙ c.lift-cell.ensures.value)
+    c.lift-cell.ensures.lifted (c.row_wrapped-goes_on.ensures ∙ row) in
     subst IsPage (sym parts.1) c.mark_col-col.ensures.page
 
 pub returns-in-Err-clause-err : goal.returns-in-Err-clause-err
 returns-in-Err-clause-err g c =
     let carried = carried_of c.args.mark c.args.self.now c.requires.carried in
     let row = ap (λ (q : Page). (row_at c.args.self.now q.row).wrapped) c.self.view_is in
-    let parts = put_back_parts c.mark_col-col.result c.args.mark c.args.attrs c.args.self.now c.wrap.new.self c.lift-cell.result c.row_wrapped-goes_on.result c.mark_col-col.ensures.page carried
-    c.mark_col-col.ensures.value (c.in-Err.ensures.err.0 ∙ c.lift-cell.ensures.value) c.lift-cell.ensures.lifted (c.row_wrapped-goes_on.ensures ∙ row) in
+    let parts = put_back_parts c.mark_col-col.result c.args.mark c.args.attrs c.args.self.now
+    c.wrap.new.self c.lift-cell.result c.row_wrapped-goes_on.result c.mark_col-col.ensures.page carried
+    c.mark_col-col.ensures.value (c.in-Err.ensures.err.0 ∙ c.lift-cell.ensures.value)
+    c.lift-cell.ensures.lifted (c.row_wrapped-goes_on.ensures ∙ row) in
     (c.put_back.ensures ∙ parts.1, c.in-Err.ensures.err.1)
 
 pub widened-requires-clause-selector : goal.widened-requires-clause-selector
@@ -47,7 +53,8 @@ widened-requires-clause-room g c =
 pub widened-requires-clause-shown : goal.widened-requires-clause-shown
 widened-requires-clause-shown g c =
     let carried = carried_of c.args.mark c.args.self.now c.requires.carried in
-    let place = mark_place c.args.self.now c.mark_col-col.ensures.page (omega (arith, carried.columns, carried.pending)) in
+    let place =
+    mark_place c.args.self.now c.mark_col-col.ensures.page (omega (arith, carried.columns, carried.pending)) in
     rw (c.lift-cell.ensures.lifted, c.mark_col-col.ensures.value) place.shown
 
 pub put_wide_cell-requires-clause-room : goal.put_wide_cell-requires-clause-room
@@ -62,4 +69,11 @@ pub returns-clause-page : goal.returns-clause-page
 returns-clause-page g c =
     let page = c.args.self.now in
     let here = carried_is c.args.mark c.args.attrs page c.requires.carried in
-    c.put_wide_cell.ensures ∙ (rw (c.widened.ensures, c.in_default.ensures.page, c.lift-cell.ensures.value, c.lift-cell.ensures.lifted, c.mark_col-col.ensures.value) (sym here))
+    c.put_wide_cell.ensures
+    ∙ (rw (
+      c.widened.ensures,
+      c.in_default.ensures.page,
+      c.lift-cell.ensures.value,
+      c.lift-cell.ensures.lifted,
+      c.mark_col-col.ensures.value,
+    ) (sym here))

@@ -13,5 +13,9 @@ invariant_of-self c =
     let s = c.self.inside in
     let i = c.self.invariant in
     let page = page_of s.sheet s.pos s.saved_pos s.scroll_top s.scroll_bottom s.origin_mode s.saved_origin_mode in
-    subst (λ (sheet : SheetValue). IsSized s.size.rows s.size.cols (page_of sheet s.pos s.saved_pos s.scroll_top s.scroll_bottom s.origin_mode s.saved_origin_mode)) (sym c.clear_all.ensures)
-    (sized s.size.rows s.size.cols page (erased_page c.args.attrs page) i (length-replicate (length page.rows) (blank_row c.args.attrs page.width)) refl (page_erased_page c.args.attrs page i.sound))
+    subst (λ (sheet : SheetValue). IsSized s.size.rows s.size.cols
+    (page_of sheet s.pos s.saved_pos s.scroll_top s.scroll_bottom s.origin_mode s.saved_origin_mode))
+    (sym c.clear_all.ensures)
+    (sized s.size.rows s.size.cols page (erased_page c.args.attrs page) i
+    (length-replicate (length page.rows) (blank_row c.args.attrs page.width))
+    refl (page_erased_page c.args.attrs page i.sound))

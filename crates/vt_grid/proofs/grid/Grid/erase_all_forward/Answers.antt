@@ -8,5 +8,7 @@ pub invariant_of-self : goal.invariant_of-self
 invariant_of-self c =
     let s = c.self.inside in
     let page = page_of s.sheet s.pos s.saved_pos s.scroll_top s.scroll_bottom s.origin_mode s.saved_origin_mode in
-    subst (λ (sheet : SheetValue). IsSized s.size.rows s.size.cols (page_of sheet s.pos s.saved_pos s.scroll_top s.scroll_bottom s.origin_mode s.saved_origin_mode)) (sym c.clear_below.ensures)
+    subst (λ (sheet : SheetValue). IsSized s.size.rows s.size.cols
+    (page_of sheet s.pos s.saved_pos s.scroll_top s.scroll_bottom s.origin_mode s.saved_origin_mode))
+    (sym c.clear_below.ensures)
     (sized_blanked_below s.size.rows s.size.cols c.args.attrs page c.self.invariant)

@@ -13,5 +13,10 @@ invariant_of-self c =
     let s = c.self.inside in
     let i = c.self.invariant in
     let page = page_of s.sheet s.pos s.saved_pos s.scroll_top s.scroll_bottom s.origin_mode s.saved_origin_mode in
-    subst (λ (sheet : SheetValue). IsSized s.size.rows s.size.cols (page_of sheet s.pos s.saved_pos s.scroll_top s.scroll_bottom s.origin_mode s.saved_origin_mode)) (sym (c.clear_row.ensures ∙ ap (λ (r : ℕ). with_sheet_row r (blank_row c.args.attrs s.sheet.width) s.sheet) c.from.ensures))
-    (sized s.size.rows s.size.cols page (erased_row c.args.attrs page) i (length-set page.rows page.row (blank_row c.args.attrs page.width)) refl (page_erased_row c.args.attrs page i.sound))
+    subst (λ (sheet : SheetValue). IsSized s.size.rows s.size.cols
+    (page_of sheet s.pos s.saved_pos s.scroll_top s.scroll_bottom s.origin_mode s.saved_origin_mode))
+    (sym (c.clear_row.ensures
+    ∙ ap (λ (r : ℕ). with_sheet_row r (blank_row c.args.attrs s.sheet.width) s.sheet) c.from.ensures))
+    (sized s.size.rows s.size.cols page (erased_row c.args.attrs page) i
+    (length-set page.rows page.row (blank_row c.args.attrs page.width))
+    refl (page_erased_row c.args.attrs page i.sound))

@@ -10,5 +10,8 @@ invariant_of-self c =
     let i = c.self.invariant in
     let w = i.width in
     let page = page_of s.sheet s.pos s.saved_pos s.scroll_top s.scroll_bottom s.origin_mode s.saved_origin_mode in
-    subst (λ (sheet : SheetValue). IsSized s.size.rows s.size.cols (page_of sheet s.pos s.saved_pos s.scroll_top s.scroll_bottom s.origin_mode s.saved_origin_mode)) (sym c.erase.ensures)
-    (sized_erased_columns s.size.rows s.size.cols 0 (c.min-end.result - 0) c.args.attrs page (omega (arith, c.min-end.ensures)) i)
+    subst (λ (sheet : SheetValue). IsSized s.size.rows s.size.cols
+    (page_of sheet s.pos s.saved_pos s.scroll_top s.scroll_bottom s.origin_mode s.saved_origin_mode))
+    (sym c.erase.ensures)
+    (sized_erased_columns s.size.rows s.size.cols 0 (c.min-end.result - 0)
+    c.args.attrs page (omega (arith, c.min-end.ensures)) i)

@@ -8,7 +8,9 @@ pub invariant_of-self : goal.invariant_of-self
 invariant_of-self c =
     let s = c.self.inside in
     let page = page_of s.sheet s.pos s.saved_pos s.scroll_top s.scroll_bottom s.origin_mode s.saved_origin_mode in
-    subst (λ (sheet : SheetValue). IsSized s.size.rows s.size.cols (page_of sheet s.pos s.saved_pos s.scroll_top s.scroll_bottom s.origin_mode s.saved_origin_mode)) (sym c.erase.ensures)
+    subst (λ (sheet : SheetValue). IsSized s.size.rows s.size.cols
+    (page_of sheet s.pos s.saved_pos s.scroll_top s.scroll_bottom s.origin_mode s.saved_origin_mode))
+    (sym c.erase.ensures)
     (let i = c.self.invariant in
     let w = i.width in
     sized_erased_columns s.size.rows s.size.cols s.pos.col (s.size.cols - s.pos.col) c.args.attrs page (omega arith) i)

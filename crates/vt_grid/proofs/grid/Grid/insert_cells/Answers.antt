@@ -14,5 +14,9 @@ invariant_of-self c =
     let s = c.self.inside in
     let i = c.self.invariant in
     let page = page_of s.sheet s.pos s.saved_pos s.scroll_top s.scroll_bottom s.origin_mode s.saved_origin_mode in
-    subst (λ (sheet : SheetValue). IsSized s.size.rows s.size.cols (page_of sheet s.pos s.saved_pos s.scroll_top s.scroll_bottom s.origin_mode s.saved_origin_mode)) (sym c.insert.ensures)
-    (sized s.size.rows s.size.cols page (chars_inserted c.args.count page) i (length-set page.rows page.row (inserted_row page.column c.args.count (cursor_row page))) refl (page_chars_inserted c.args.count page i.sound))
+    subst (λ (sheet : SheetValue). IsSized s.size.rows s.size.cols
+    (page_of sheet s.pos s.saved_pos s.scroll_top s.scroll_bottom s.origin_mode s.saved_origin_mode))
+    (sym c.insert.ensures)
+    (sized s.size.rows s.size.cols page (chars_inserted c.args.count page) i
+    (length-set page.rows page.row (inserted_row page.column c.args.count (cursor_row page)))
+    refl (page_chars_inserted c.args.count page i.sound))

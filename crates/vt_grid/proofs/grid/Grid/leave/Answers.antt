@@ -10,6 +10,11 @@ invariant_of-self c =
     let s = c.self.inside in
     let pos : Pos = record { row = s.pos.row; col = 0 } in
     let page = page_of s.sheet s.pos s.saved_pos s.scroll_top s.scroll_bottom s.origin_mode s.saved_origin_mode in
-    subst (λ (sheet : SheetValue). IsSized s.size.rows s.size.cols (page_of sheet pos s.saved_pos s.scroll_top s.scroll_bottom s.origin_mode s.saved_origin_mode)) (sym c.wrap_left.ensures)
-    (subst (IsSized s.size.rows s.size.cols) (sym (flagged_page c.args.left c.args.goes_on s.sheet s.pos s.saved_pos s.scroll_top s.scroll_bottom s.origin_mode s.saved_origin_mode))
-    (sized_left s.size.rows s.size.cols c.args.left c.args.goes_on page c.self.invariant (rw (← c.self.view_is) at c.requires.page)))
+    subst (λ (sheet : SheetValue). IsSized s.size.rows s.size.cols
+    (page_of sheet pos s.saved_pos s.scroll_top s.scroll_bottom s.origin_mode s.saved_origin_mode))
+    (sym c.wrap_left.ensures)
+    (subst (IsSized s.size.rows s.size.cols)
+    (sym (flagged_page c.args.left c.args.goes_on s.sheet s.pos s.saved_pos
+    s.scroll_top s.scroll_bottom s.origin_mode s.saved_origin_mode))
+    (sized_left s.size.rows s.size.cols c.args.left c.args.goes_on
+    page c.self.invariant (rw (← c.self.view_is) at c.requires.page)))

@@ -13,5 +13,8 @@ invariant_of-self c =
     let w = i.width in
     let pos : Pos = record { row = s.pos.row; col = s.pos.col } in
     let page = page_of s.sheet s.pos s.saved_pos s.scroll_top s.scroll_bottom s.origin_mode s.saved_origin_mode in
-    subst (λ (sheet : SheetValue). IsSized s.size.rows s.size.cols (page_of sheet pos s.saved_pos s.scroll_top s.scroll_bottom s.origin_mode s.saved_origin_mode)) (sym c.narrow.ensures)
-    (sized_made_narrow s.size.rows s.size.cols c.args.col c.args.attrs page (subst (λ (q : Page). IsSelected q c.args.col) (sym c.self.view_is) c.requires) i)
+    subst (λ (sheet : SheetValue). IsSized s.size.rows s.size.cols
+    (page_of sheet pos s.saved_pos s.scroll_top s.scroll_bottom s.origin_mode s.saved_origin_mode))
+    (sym c.narrow.ensures)
+    (sized_made_narrow s.size.rows s.size.cols c.args.col c.args.attrs page
+    (subst (λ (q : Page). IsSelected q c.args.col) (sym c.self.view_is) c.requires) i)

@@ -27,9 +27,11 @@ follow_width-requires-clause-selected c =
     let page = c.args.self.now in
     let k = c.mark_col-col.result in
     let p = c.mark_col-col.ensures.page in
-    let place : IsMarkPlace (cursor_row page).cells page.column k = rw c.mark_col-col.ensures.value (mark_place page p c.requires.some) in
+    let place : IsMarkPlace (cursor_row page).cells page.column k =
+    rw c.mark_col-col.ensures.value (mark_place page p c.requires.some) in
     let selector : is_selector c.args.mark ≡ true = eq-eqb c.args.mark 0xFE0F c.if-mark-eq65039.true in
-    rw c.put_mark.ensures (marked_selected k c.args.mark page (c.ranges.mark.0, c.requires.mark) selector (sym c.takes_mark.ensures ∙ c.if-takes_mark.true) place p)
+    rw c.put_mark.ensures (marked_selected k c.args.mark page (c.ranges.mark.0, c.requires.mark)
+    selector (sym c.takes_mark.ensures ∙ c.if-takes_mark.true) place p)
 
 pub follow_width-requires-clause-room : goal.follow_width-requires-clause-room
 follow_width-requires-clause-room c =
@@ -38,4 +40,5 @@ follow_width-requires-clause-room c =
     let selector : is_selector c.args.mark ≡ true = eq-eqb c.args.mark 0xFE0F c.if-mark-eq65039.true in
     let place = mark_place page p c.requires.some in
     rw (c.put_mark.ensures, c.mark_col-col.ensures.value)
-    (stays_before c.args.mark page p place.inside selector (rw c.mark_col-col.ensures.value at (sym c.takes_mark.ensures ∙ c.if-takes_mark.true)) c.requires.stays)
+    (stays_before c.args.mark page p place.inside selector
+    (rw c.mark_col-col.ensures.value at (sym c.takes_mark.ensures ∙ c.if-takes_mark.true)) c.requires.stays)

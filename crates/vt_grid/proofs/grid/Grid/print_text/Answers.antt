@@ -4,4 +4,6 @@ use Rattle.vt_grid.proofs.grid.Grid.print_text.Goals as goal
 
 pub returns : goal.returns
 returns c =
-    c.put_text.ensures.value ∙ text_printed c.args.text.now c.args.attrs c.args.self.now c.put_text.ensures.page c.requires.some c.requires.printable c.requires.room
+    c.put_text.ensures.value
+    ∙ text_printed c.args.text.now c.args.attrs c.args.self.now
+    c.put_text.ensures.page c.requires.some c.requires.printable c.requires.room

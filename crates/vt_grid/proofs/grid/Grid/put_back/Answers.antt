@@ -9,5 +9,7 @@ invariant_of-self c =
     let s = c.self.inside in
     let page = page_of s.sheet s.pos s.saved_pos s.scroll_top s.scroll_bottom s.origin_mode s.saved_origin_mode in
     let h = rw (← c.self.view_is) at c.requires.page in
-    subst (λ (sheet : SheetValue). IsSized s.size.rows s.size.cols (page_of sheet s.pos s.saved_pos s.scroll_top s.scroll_bottom s.origin_mode s.saved_origin_mode)) (sym c.put_back.ensures)
+    subst (λ (sheet : SheetValue). IsSized s.size.rows s.size.cols
+    (page_of sheet s.pos s.saved_pos s.scroll_top s.scroll_bottom s.origin_mode s.saved_origin_mode))
+    (sym c.put_back.ensures)
     (sized_with_row s.size.rows s.size.cols page.row _ page h c.self.invariant)

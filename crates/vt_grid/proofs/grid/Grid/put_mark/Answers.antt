@@ -12,5 +12,8 @@ invariant_of-self c =
     let w = i.width in
     let pos : Pos = record { row = s.pos.row; col = s.pos.col } in
     let page = page_of s.sheet s.pos s.saved_pos s.scroll_top s.scroll_bottom s.origin_mode s.saved_origin_mode in
-    subst (λ (sheet : SheetValue). IsSized s.size.rows s.size.cols (page_of sheet pos s.saved_pos s.scroll_top s.scroll_bottom s.origin_mode s.saved_origin_mode)) (sym c.append.ensures)
-    (let h = rw (← c.self.view_is) at c.requires.inside in sized_mark_put s.size.rows s.size.cols c.args.col c.args.mark page (c.ranges.mark.0, c.requires.mark) h i)
+    subst (λ (sheet : SheetValue). IsSized s.size.rows s.size.cols
+    (page_of sheet pos s.saved_pos s.scroll_top s.scroll_bottom s.origin_mode s.saved_origin_mode))
+    (sym c.append.ensures)
+    (let h = rw (← c.self.view_is) at c.requires.inside in
+    sized_mark_put s.size.rows s.size.cols c.args.col c.args.mark page (c.ranges.mark.0, c.requires.mark) h i)

@@ -13,5 +13,8 @@ invariant_of-self c =
     let room = rw (← c.self.view_is) at c.requires.room in
     let pos : Pos = record { row = s.pos.row; col = s.pos.col + 2 } in
     let page = page_of s.sheet s.pos s.saved_pos s.scroll_top s.scroll_bottom s.origin_mode s.saved_origin_mode in
-    subst (λ (sheet : SheetValue). IsSized s.size.rows s.size.cols (page_of sheet pos s.saved_pos s.scroll_top s.scroll_bottom s.origin_mode s.saved_origin_mode)) (sym c.put_wide_cell.ensures)
-    (sized_glyph_put s.size.rows s.size.cols (text_of c.args.cell) true (attrs_of c.args.cell) page c.requires.sound room i)
+    subst (λ (sheet : SheetValue). IsSized s.size.rows s.size.cols
+    (page_of sheet pos s.saved_pos s.scroll_top s.scroll_bottom s.origin_mode s.saved_origin_mode))
+    (sym c.put_wide_cell.ensures)
+    (sized_glyph_put s.size.rows s.size.cols (text_of c.args.cell)
+    true (attrs_of c.args.cell) page c.requires.sound room i)

@@ -11,5 +11,8 @@ invariant_of-self c =
     let s = c.self.inside in
     let i = c.self.invariant in
     let page = page_of s.sheet s.pos s.saved_pos s.scroll_top s.scroll_bottom s.origin_mode s.saved_origin_mode in
-    subst (λ (sheet : SheetValue). IsSized s.size.rows s.size.cols (page_of sheet s.pos s.saved_pos s.scroll_top s.scroll_bottom s.origin_mode s.saved_origin_mode)) (sym c.scroll_down.ensures)
-    (sized s.size.rows s.size.cols page (scrolled_down 1 page) i (length-rows_down page.width page.top page.bottom 1 page.rows) refl (page_scrolled_down 1 page i.sound))
+    subst (λ (sheet : SheetValue). IsSized s.size.rows s.size.cols
+    (page_of sheet s.pos s.saved_pos s.scroll_top s.scroll_bottom s.origin_mode s.saved_origin_mode))
+    (sym c.scroll_down.ensures)
+    (sized s.size.rows s.size.cols page (scrolled_down 1 page) i
+    (length-rows_down page.width page.top page.bottom 1 page.rows) refl (page_scrolled_down 1 page i.sound))

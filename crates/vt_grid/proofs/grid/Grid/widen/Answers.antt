@@ -13,7 +13,10 @@ invariant_of-self c =
     let w = i.width in
     let pos : Pos = record { row = s.pos.row; col = s.pos.col + 1 } in
     let page = page_of s.sheet s.pos s.saved_pos s.scroll_top s.scroll_bottom s.origin_mode s.saved_origin_mode in
-    subst (λ (sheet : SheetValue). IsSized s.size.rows s.size.cols (page_of sheet pos s.saved_pos s.scroll_top s.scroll_bottom s.origin_mode s.saved_origin_mode)) (sym c.widen.ensures)
+    subst (λ (sheet : SheetValue). IsSized s.size.rows s.size.cols
+    (page_of sheet pos s.saved_pos s.scroll_top s.scroll_bottom s.origin_mode s.saved_origin_mode))
+    (sym c.widen.ensures)
     (let before = rw (← c.self.view_is) at c.requires.before in
     let room = rw (← c.self.view_is) at c.requires.room in
-    sized_widened s.size.rows s.size.cols c.args.col c.args.attrs page (subst (λ (q : Page). IsSelected q c.args.col) (sym c.self.view_is) c.requires.selected) before room i)
+    sized_widened s.size.rows s.size.cols c.args.col c.args.attrs page
+    (subst (λ (q : Page). IsSelected q c.args.col) (sym c.self.view_is) c.requires.selected) before room i)

@@ -6,7 +6,8 @@ use Rattle.vt_grid.proofs.scrollback.Scrollback.growths.Goals as goal
 
 pub returns-then-self-eq0 : goal.returns-then-self-eq0
 returns-then-self-eq0 c = λ gone e.
-    subst (λ (above : Scrollback). narrow_rows c.args.size.cols (in_view c.args.size.rows (kept_after gone above)) ≤ 0) c.self.view_is
+    subst (λ (above : Scrollback). narrow_rows c.args.size.cols (in_view c.args.size.rows (kept_after gone above)) ≤ 0)
+    c.self.view_is
     (none_in_view c.args.size.cols c.args.size.rows gone _ (omega arith))
 
 pub returns : goal.returns
@@ -15,6 +16,14 @@ returns c = λ gone e.
     let first = c.len-len.result + c.args.count - c.min.result in
     let len : c.len-len.result ≡ length inside.rows.items = c.len-len.ensures ∙ inside.rows.ok.0 in
     let enough = growths_enough c.args.size.cols c.args.size.rows c.args.count first gone
-    (record { rows = inside.rows.items; capacity = inside.capacity; theoretical = inside.theoretical; offset = inside.offset }) c.self.invariant e (omega arith) (omega arith) in
-    subst (λ (above : Scrollback). narrow_rows c.args.size.cols (in_view c.args.size.rows (kept_after gone above)) ≤ c.narrow_rows.result + c.saturating_sub.result) c.self.view_is
+    (record {
+      rows = inside.rows.items;
+      capacity = inside.capacity;
+      theoretical = inside.theoretical;
+      offset = inside.offset;
+    })
+    c.self.invariant e (omega arith) (omega arith) in
+    subst (λ (above : Scrollback). narrow_rows c.args.size.cols (in_view c.args.size.rows (kept_after gone above))
+    ≤ c.narrow_rows.result + c.saturating_sub.result)
+    c.self.view_is
     (omega (arith, enough, len, c.narrow_rows.ensures.value))

@@ -6,13 +6,25 @@ use Rattle.vt_grid.proofs.scrollback.Scrollback.set_offset.Goals as goal
 pub invariant_of-self : goal.invariant_of-self
 invariant_of-self c =
     let inside = c.self.inside in
-    let above : Scrollback = record { rows = inside.rows.items; capacity = inside.capacity; theoretical = inside.theoretical; offset = inside.offset } in
-    subst IsScrollback (sym (viewed_is c.args.size.rows c.args.size.cols c.args.n c.min-offset.result above c.grow_in_view.new.rows.items (omega (arith, inside.rows.ok.0)) c.grow_in_view.ensures))
+    let above : Scrollback = record {
+      rows = inside.rows.items;
+      capacity = inside.capacity;
+      theoretical = inside.theoretical;
+      offset = inside.offset;
+    } in
+    subst IsScrollback (sym (viewed_is c.args.size.rows c.args.size.cols c.args.n c.min-offset.result
+    above c.grow_in_view.new.rows.items (omega (arith, inside.rows.ok.0)) c.grow_in_view.ensures))
     (IsScrollback-viewed c.args.size.rows c.args.size.cols c.args.n above c.self.invariant)
 
 pub returns-clause-ok : goal.returns-clause-ok
 returns-clause-ok c =
     let inside = c.self.inside in
-    let above : Scrollback = record { rows = inside.rows.items; capacity = inside.capacity; theoretical = inside.theoretical; offset = inside.offset } in
-    viewed_is c.args.size.rows c.args.size.cols c.args.n c.min-offset.result above c.grow_in_view.new.rows.items (omega (arith, inside.rows.ok.0)) c.grow_in_view.ensures
+    let above : Scrollback = record {
+      rows = inside.rows.items;
+      capacity = inside.capacity;
+      theoretical = inside.theoretical;
+      offset = inside.offset;
+    } in
+    viewed_is c.args.size.rows c.args.size.cols c.args.n c.min-offset.result above
+    c.grow_in_view.new.rows.items (omega (arith, inside.rows.ok.0)) c.grow_in_view.ensures
     ∙ ap (viewed c.args.size.rows c.args.size.cols c.args.n) c.self.view_is

@@ -8,6 +8,8 @@ use Rattle.vt_grid.proofs.sheet.Sheet.clear_row.Goals as goal
 pub returns : goal.returns
 returns c =
     let flat = c.self.inside.flat in
-    let inside : c.args.row < length (rows_of flat) = omega (arith, c.requires, ap (λ (s : SheetValue). length s.rows) c.self.view_is) in
-    row_blanked c.args.row c.args.attrs flat c.blank.new.self c.self.invariant inside c.blank.ensures.own c.blank.ensures.others c.blank.ensures.width c.blank.ensures.lines
+    let inside : c.args.row < length (rows_of flat) =
+    omega (arith, c.requires, ap (λ (s : SheetValue). length s.rows) c.self.view_is) in
+    row_blanked c.args.row c.args.attrs flat c.blank.new.self c.self.invariant inside
+    c.blank.ensures.own c.blank.ensures.others c.blank.ensures.width c.blank.ensures.lines
     ∙ ap (λ (s : SheetValue). with_sheet_row c.args.row (blank_row c.args.attrs s.width) s) c.self.view_is

@@ -7,5 +7,7 @@ abbrev pub invariant-loop-row : goal.invariant-loop-row
 invariant-loop-row l = record {
   len : length l.self.rows ≡ length l.fn.self.rows;
   width : l.self.width ≡ l.fn.self.width;
-  cleared : (j : ℕ) (d : RowValue) → j < length l.fn.self.rows → get_or l.self.rows j d ≡ (if nat_le l.from j && nat_lt j l.row then blank_row l.attrs l.fn.self.width else get_or l.fn.self.rows j d);
+  cleared : (j : ℕ) (d : RowValue) → j < length l.fn.self.rows →
+      get_or l.self.rows j d
+      ≡ (if nat_le l.from j && nat_lt j l.row then blank_row l.attrs l.fn.self.width else get_or l.fn.self.rows j d);
 }

@@ -6,4 +6,7 @@ use Rattle.vt_grid.proofs.sheet.Sheet.len.Goals as goal
 pub returns : goal.returns
 returns c =
     let flat = c.self.inside.flat in
-    c.len.ensures ∙ (flat.lines.ok.0 ∙ (sym (rows_counted flat.width flat.cells.items flat.lines.items) ∙ ap (λ (s : SheetValue). length s.rows) c.self.view_is))
+    c.len.ensures
+    ∙ (flat.lines.ok.0
+    ∙ (sym (rows_counted flat.width flat.cells.items flat.lines.items)
+    ∙ ap (λ (s : SheetValue). length s.rows) c.self.view_is))

@@ -8,16 +8,29 @@ use Rattle.vt_grid.proofs.sheet.Sheet.lift.Goals as goal
 
 pub invariant_of-self : goal.invariant_of-self
 invariant_of-self c =
-    (row_printed c.from-row.result c.part-start.result.0 c.part-start.result.1 c.self.inside.flat c.wrap.new.self c.deref_mut.result.now c.lift-cell.new.cells c.wrapped-goes_on.result c.flag_left-goes_on.result c.self.invariant c.part-start.ensures.line
-    c.wrap.ensures.cells c.deref_mut.ensures.value c.part-start.ensures.start c.part-start.ensures.end c.part-start.ensures.inside c.lift-cell.auto.cells c.wrap.ensures.width c.wrap.ensures.lines c.wrapped-goes_on.ensures c.flag_left-goes_on.ensures).1
+    (row_printed c.from-row.result c.part-start.result.0 c.part-start.result.1
+    c.self.inside.flat c.wrap.new.self c.deref_mut.result.now c.lift-cell.new.cells
+    c.wrapped-goes_on.result c.flag_left-goes_on.result c.self.invariant c.part-start.ensures.line
+    c.wrap.ensures.cells c.deref_mut.ensures.value c.part-start.ensures.start
+    c.part-start.ensures.end c.part-start.ensures.inside c.lift-cell.auto.cells c.wrap.ensures.width
+    c.wrap.ensures.lines c.wrapped-goes_on.ensures c.flag_left-goes_on.ensures).1
 
 pub returns-clause-value : goal.returns-clause-value
 returns-clause-value c =
     let r = c.from-row.result in
     let flat = c.self.inside.flat in
-    let edited = row_printed c.from-row.result c.part-start.result.0 c.part-start.result.1 c.self.inside.flat c.wrap.new.self c.deref_mut.result.now c.lift-cell.new.cells c.wrapped-goes_on.result c.flag_left-goes_on.result c.self.invariant c.part-start.ensures.line
-    c.wrap.ensures.cells c.deref_mut.ensures.value c.part-start.ensures.start c.part-start.ensures.end c.part-start.ensures.inside c.lift-cell.auto.cells c.wrap.ensures.width c.wrap.ensures.lines c.wrapped-goes_on.ensures c.flag_left-goes_on.ensures in
-    let cells = ap (λ (items : List CellValue). slice_range items c.part-start.result.0 c.part-start.result.1) c.deref_mut.ensures.value ∙ c.part-start.ensures.row in
+    let edited = row_printed c.from-row.result c.part-start.result.0 c.part-start.result.1
+    c.self.inside.flat c.wrap.new.self c.deref_mut.result.now c.lift-cell.new.cells
+    c.wrapped-goes_on.result c.flag_left-goes_on.result c.self.invariant c.part-start.ensures.line
+    c.wrap.ensures.cells c.deref_mut.ensures.value c.part-start.ensures.start
+    c.part-start.ensures.end c.part-start.ensures.inside c.lift-cell.auto.cells c.wrap.ensures.width
+    c.wrap.ensures.lines c.wrapped-goes_on.ensures c.flag_left-goes_on.ensures in
+    let cells = ap (λ (items : List CellValue). slice_range items c.part-start.result.0 c.part-start.result.1)
+    c.deref_mut.ensures.value
+    ∙ c.part-start.ensures.row in
     edited.0
-    ∙ (ap (λ (xs : List CellValue). with_row_cells r xs (sheet_of flat)) (c.lift-cell.ensures.value ∙ ap (λ (xs : List CellValue). erased c.from.result 1 c.args.attrs xs) cells)
-    ∙ (λ z. with_row_cells (c.from-row.ensures z) (erased (c.from.ensures z) 1 c.args.attrs (sheet_row (c.self.view_is z) (c.from-row.ensures z)).cells) (c.self.view_is z)))
+    ∙ (ap (λ (xs : List CellValue). with_row_cells r xs (sheet_of flat))
+    (c.lift-cell.ensures.value ∙ ap (λ (xs : List CellValue). erased c.from.result 1 c.args.attrs xs) cells)
+    ∙ (λ z. with_row_cells (c.from-row.ensures z)
+    (erased (c.from.ensures z) 1 c.args.attrs (sheet_row (c.self.view_is z) (c.from-row.ensures z)).cells)
+    (c.self.view_is z)))

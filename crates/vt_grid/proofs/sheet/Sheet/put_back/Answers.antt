@@ -13,9 +13,19 @@ returns c =
     let a = c.part-start.result.0 in
     let b = c.part-start.result.1 in
     let lent = take (b - a) (drop a c.deref_mut.result.now) in
-    let edited = row_changed r a b flat c.wrap.new.self c.deref_mut.result.now (set lent c.from.result c.args.cell) c.args.goes_on c.self.invariant c.part-start.ensures.line
-    c.wrap.ensures.cells c.deref_mut.ensures.value c.part-start.ensures.start c.part-start.ensures.end c.part-start.ensures.inside (length-set lent c.from.result c.args.cell) c.wrap.ensures.width c.wrap.ensures.lines in
-    let cells = ap (λ (items : List CellValue). slice_range items a b) c.deref_mut.ensures.value ∙ c.part-start.ensures.row in
+    let edited = row_changed r a b flat c.wrap.new.self c.deref_mut.result.now
+    (set lent c.from.result c.args.cell) c.args.goes_on c.self.invariant c.part-start.ensures.line
+    c.wrap.ensures.cells c.deref_mut.ensures.value c.part-start.ensures.start c.part-start.ensures.end
+    c.part-start.ensures.inside (length-set lent c.from.result c.args.cell) c.wrap.ensures.width c.wrap.ensures.lines in
+    let cells =
+    ap (λ (items : List CellValue). slice_range items a b) c.deref_mut.ensures.value ∙ c.part-start.ensures.row in
     edited.0
-    ∙ (ap (λ (xs : List CellValue). with_sheet_row r (record { cells = set xs c.from.result c.args.cell; wrapped = c.args.goes_on }) (sheet_of flat)) cells
-    ∙ (λ z. with_sheet_row (c.from-row.ensures z) (record { cells = set (sheet_row (c.self.view_is z) (c.from-row.ensures z)).cells (c.from.ensures z) c.args.cell; wrapped = c.args.goes_on }) (c.self.view_is z)))
+    ∙ (ap (λ (xs : List CellValue). with_sheet_row r
+    (record { cells = set xs c.from.result c.args.cell; wrapped = c.args.goes_on }) (sheet_of flat))
+    cells
+    ∙ (λ z. with_sheet_row (c.from-row.ensures z)
+    (record {
+      cells = set (sheet_row (c.self.view_is z) (c.from-row.ensures z)).cells (c.from.ensures z) c.args.cell;
+      wrapped = c.args.goes_on;
+    })
+    (c.self.view_is z)))

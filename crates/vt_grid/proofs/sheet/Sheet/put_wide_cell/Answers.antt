@@ -8,16 +8,31 @@ use Rattle.vt_grid.proofs.sheet.Sheet.put_wide_cell.Goals as goal
 
 pub invariant_of-self : goal.invariant_of-self
 invariant_of-self c =
-    (row_printed c.from-row.result c.part-start.result.0 c.part-start.result.1 c.self.inside.flat c.wrap.new.self c.deref_mut.result.now c.put_wide_cell.new.cells c.wrapped-goes_on.result c.flag_left-goes_on.result c.self.invariant c.part-start.ensures.line
-    c.wrap.ensures.cells c.deref_mut.ensures.value c.part-start.ensures.start c.part-start.ensures.end c.part-start.ensures.inside c.put_wide_cell.auto.cells c.wrap.ensures.width c.wrap.ensures.lines c.wrapped-goes_on.ensures c.flag_left-goes_on.ensures).1
+    (row_printed c.from-row.result c.part-start.result.0 c.part-start.result.1
+    c.self.inside.flat c.wrap.new.self c.deref_mut.result.now c.put_wide_cell.new.cells
+    c.wrapped-goes_on.result c.flag_left-goes_on.result c.self.invariant c.part-start.ensures.line
+    c.wrap.ensures.cells c.deref_mut.ensures.value c.part-start.ensures.start c.part-start.ensures.end
+    c.part-start.ensures.inside c.put_wide_cell.auto.cells c.wrap.ensures.width
+    c.wrap.ensures.lines c.wrapped-goes_on.ensures c.flag_left-goes_on.ensures).1
 
 pub returns : goal.returns
 returns c =
     let r = c.from-row.result in
     let flat = c.self.inside.flat in
-    let edited = row_printed c.from-row.result c.part-start.result.0 c.part-start.result.1 c.self.inside.flat c.wrap.new.self c.deref_mut.result.now c.put_wide_cell.new.cells c.wrapped-goes_on.result c.flag_left-goes_on.result c.self.invariant c.part-start.ensures.line
-    c.wrap.ensures.cells c.deref_mut.ensures.value c.part-start.ensures.start c.part-start.ensures.end c.part-start.ensures.inside c.put_wide_cell.auto.cells c.wrap.ensures.width c.wrap.ensures.lines c.wrapped-goes_on.ensures c.flag_left-goes_on.ensures in
-    let cells = ap (λ (items : List CellValue). slice_range items c.part-start.result.0 c.part-start.result.1) c.deref_mut.ensures.value ∙ c.part-start.ensures.row in
+    let edited = row_printed c.from-row.result c.part-start.result.0 c.part-start.result.1
+    c.self.inside.flat c.wrap.new.self c.deref_mut.result.now c.put_wide_cell.new.cells
+    c.wrapped-goes_on.result c.flag_left-goes_on.result c.self.invariant c.part-start.ensures.line
+    c.wrap.ensures.cells c.deref_mut.ensures.value c.part-start.ensures.start c.part-start.ensures.end
+    c.part-start.ensures.inside c.put_wide_cell.auto.cells c.wrap.ensures.width
+    c.wrap.ensures.lines c.wrapped-goes_on.ensures c.flag_left-goes_on.ensures in
+    let cells = ap (λ (items : List CellValue). slice_range items c.part-start.result.0 c.part-start.result.1)
+    c.deref_mut.ensures.value
+    ∙ c.part-start.ensures.row in
     edited.0
-    ∙ (ap (λ (xs : List CellValue). with_row_cells r xs (sheet_of flat)) (c.put_wide_cell.ensures.value ∙ ap (λ (xs : List CellValue). put_wide c.from.result (text_of c.args.cell) (attrs_of c.args.cell) xs) cells)
-    ∙ (λ z. with_row_cells (c.from-row.ensures z) (put_wide (c.from.ensures z) (text_of c.args.cell) (attrs_of c.args.cell) (sheet_row (c.self.view_is z) (c.from-row.ensures z)).cells) (c.self.view_is z)))
+    ∙ (ap (λ (xs : List CellValue). with_row_cells r xs (sheet_of flat))
+    (c.put_wide_cell.ensures.value
+    ∙ ap (λ (xs : List CellValue). put_wide c.from.result (text_of c.args.cell) (attrs_of c.args.cell) xs) cells)
+    ∙ (λ z. with_row_cells (c.from-row.ensures z)
+    (put_wide (c.from.ensures z) (text_of c.args.cell) (attrs_of c.args.cell)
+    (sheet_row (c.self.view_is z) (c.from-row.ensures z)).cells)
+    (c.self.view_is z)))

@@ -6,10 +6,17 @@ use Rattle.vt_grid.proofs.sheet.Sheet.size.Goals as goal
 pub overflow_cast-result : goal.overflow_cast-result
 overflow_cast-result c =
     let flat = c.self.inside.flat in
-    let all : c.len.result ≡ length c.args.self.now.rows = c.len.ensures ∙ (flat.lines.ok.0 ∙ (sym (rows_counted flat.width flat.cells.items flat.lines.items) ∙ ap (λ (s : SheetValue). length s.rows) c.self.view_is)) in
+    let all : c.len.result ≡ length c.args.self.now.rows =
+    c.len.ensures
+    ∙ (flat.lines.ok.0
+    ∙ (sym (rows_counted flat.width flat.cells.items flat.lines.items)
+    ∙ ap (λ (s : SheetValue). length s.rows) c.self.view_is)) in
     omega (arith, all, c.requires)
 
 pub returns-clause-rows : goal.returns-clause-rows
 returns-clause-rows c =
     let flat = c.self.inside.flat in
-    c.len.ensures ∙ (flat.lines.ok.0 ∙ (sym (rows_counted flat.width flat.cells.items flat.lines.items) ∙ ap (λ (s : SheetValue). length s.rows) c.self.view_is))
+    c.len.ensures
+    ∙ (flat.lines.ok.0
+    ∙ (sym (rows_counted flat.width flat.cells.items flat.lines.items)
+    ∙ ap (λ (s : SheetValue). length s.rows) c.self.view_is))

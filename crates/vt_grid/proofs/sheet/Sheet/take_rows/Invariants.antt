@@ -4,7 +4,8 @@ use Rattle.vt_grid.proofs.sheet.Sheet.take_rows.Given as goal
 
 abbrev pub invariant-loop-k : goal.invariant-loop-k
 invariant-loop-k l = record {
-  moved : MovedInto (λ j. l.down + (j - l.up)) (l.up + l.k) (l.up + min (length l.fn.self.rows - l.up) (length l.rows.rows - l.down)) l.rows.rows l.fn.self.rows l.self.rows;
+  moved : MovedInto (λ j. l.down + (j - l.up)) (l.up + l.k)
+      (l.up + min (length l.fn.self.rows - l.up) (length l.rows.rows - l.down)) l.rows.rows l.fn.self.rows l.self.rows;
   long : length l.self.rows ≡ length l.fn.self.rows;
   width : l.self.width ≡ l.fn.self.width;
   few : l.k ≤ min (length l.fn.self.rows - l.up) (length l.rows.rows - l.down);

@@ -6,6 +6,14 @@ use Rattle.vt_grid.proofs.sheet.Sheet.wrap.Goals as goal
 pub returns : goal.returns
 returns c =
     let flat = c.self.inside.flat in
-    let inside : c.args.row < length flat.lines.items = omega (arith, c.requires, rows_counted flat.width flat.cells.items flat.lines.items, ap (λ (s : SheetValue). length s.rows) c.self.view_is) in
-    row_flagged c.args.row c.args.wrapped flat c.wrap.new.self inside c.wrap.ensures.cells c.wrap.ensures.width c.wrap.ensures.lines
-    ∙ ap (λ (s : SheetValue). with_sheet_row c.args.row (record (sheet_row s c.args.row) { wrapped = c.args.wrapped }) s) c.self.view_is
+    let inside : c.args.row < length flat.lines.items = omega (
+      arith,
+      c.requires,
+      rows_counted flat.width flat.cells.items flat.lines.items,
+      ap (λ (s : SheetValue). length s.rows) c.self.view_is,
+    ) in
+    row_flagged c.args.row c.args.wrapped flat c.wrap.new.self inside
+    c.wrap.ensures.cells c.wrap.ensures.width c.wrap.ensures.lines
+    ∙ ap
+    (λ (s : SheetValue). with_sheet_row c.args.row (record (sheet_row s c.args.row) { wrapped = c.args.wrapped }) s)
+    c.self.view_is

@@ -9,7 +9,8 @@ use Rattle.vt_mirror.proofs.mirror.Mirror.update_from.Goals as goal
 
 pub contents_diff-requires : goal.contents_diff-requires
 contents_diff-requires c =
-    subst (λ (s : ScreenValue). SameSize s.page c.in-Some.prev.now.page) (sym c.screen-screen.ensures.value) (c.self.invariant c.args.viewer c.in-Some.prev.now (sym c.in-Some.ensures))
+    subst (λ (s : ScreenValue). SameSize s.page c.in-Some.prev.now.page) (sym c.screen-screen.ensures.value)
+    (c.self.invariant c.args.viewer c.in-Some.prev.now (sym c.in-Some.ensures))
 
 pub returns-clause-ok : goal.returns-clause-ok
 returns-clause-ok c =
@@ -17,8 +18,11 @@ returns-clause-ok c =
     let e = c.in_ok-contents_diff.ensures in
     subst (λ (m : MirrorValue). IsUpdate m.parser.screen (note_of m.viewers c.args.viewer) (Diff text)) c.self.view_is
     (subst (λ (o : Option ScreenValue). IsUpdate c.self.inside.parser.screen o (Diff text)) c.in-Some.ensures
-    (subst (λ (s : ScreenValue). IsUpdate s (Some c.in-Some.prev.now) (Diff text)) c.screen-screen.ensures.value (record {
-      size = subst (λ (s : ScreenValue). SameSize s.page c.in-Some.prev.now.page) (sym c.screen-screen.ensures.value) (c.self.invariant c.args.viewer c.in-Some.prev.now (sym c.in-Some.ensures));
+    (subst (λ (s : ScreenValue). IsUpdate s (Some c.in-Some.prev.now) (Diff text))
+    c.screen-screen.ensures.value (record {
+      size =
+          subst (λ (s : ScreenValue). SameSize s.page c.in-Some.prev.now.page) (sym c.screen-screen.ensures.value)
+          (c.self.invariant c.args.viewer c.in-Some.prev.now (sym c.in-Some.ensures));
       is = e.text;
       redraws = record { quiet = e.quiet; shows = e.shows; rows = e.rows; cursor = e.cursor; rest = e.rest };
       none = e.none;

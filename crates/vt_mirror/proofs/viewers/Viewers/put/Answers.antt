@@ -6,18 +6,28 @@ use Rattle.vt_mirror.proofs.viewers.Viewers.put.Goals as goal
 
 pub invariant_of-self : goal.invariant_of-self
 invariant_of-self c =
-    let old : ViewersValue = record { last = c.self.inside.last; numbers = c.self.inside.numbers.keys; notes = c.self.inside.notes.entries } in
-    subst (λ (notes : List (ℕ × ScreenValue)). AreViewers (record old { notes = notes })) (sym (if_refused c.insert.result (c.insert.new.self.entries ≡ c.self.inside.notes.entries) (sym c.if-is_err.ensures.value) c.insert.ensures.err)) c.self.invariant
+    let old : ViewersValue =
+    record { last = c.self.inside.last; numbers = c.self.inside.numbers.keys; notes = c.self.inside.notes.entries } in
+    subst (λ (notes : List (ℕ × ScreenValue)). AreViewers (record old { notes = notes }))
+    (sym (if_refused c.insert.result (c.insert.new.self.entries ≡ c.self.inside.notes.entries)
+    (sym c.if-is_err.ensures.value) c.insert.ensures.err))
+    c.self.invariant
 
 pub invariant_of-self-2 : goal.invariant_of-self-2
 invariant_of-self-2 c =
-    let old : ViewersValue = record { last = c.self.inside.last; numbers = c.self.inside.numbers.keys; notes = c.self.inside.notes.entries } in
-    told_viewers old c.args.viewer c.args.screen c.self.inside.notes c.insert.new.self refl (if_taken c.insert.result _ (sym c.if-is_err.ensures.value) c.insert.ensures.updates)
+    let old : ViewersValue =
+    record { last = c.self.inside.last; numbers = c.self.inside.numbers.keys; notes = c.self.inside.notes.entries } in
+    told_viewers old c.args.viewer c.args.screen c.self.inside.notes c.insert.new.self refl
+    (if_taken c.insert.result _ (sym c.if-is_err.ensures.value) c.insert.ensures.updates)
     (ap (λ (v : ViewersValue). is_viewer v c.args.viewer) c.self.view_is ∙ c.requires) c.self.invariant
 
 pub returns-clause-ok : goal.returns-clause-ok
 returns-clause-ok c =
-    let old : ViewersValue = record { last = c.self.inside.last; numbers = c.self.inside.numbers.keys; notes = c.self.inside.notes.entries } in
-    subst (λ (v : ViewersValue). Puts v c.args.viewer true (Some c.args.screen) (record old { notes = c.insert.new.self.entries })) c.self.view_is
-    (told old c.args.viewer c.args.screen c.self.inside.notes c.insert.new.self refl (if_taken c.insert.result _ (sym c.if-is_err.ensures.value) c.insert.ensures.updates)
+    let old : ViewersValue =
+    record { last = c.self.inside.last; numbers = c.self.inside.numbers.keys; notes = c.self.inside.notes.entries } in
+    subst (λ (v : ViewersValue). Puts v c.args.viewer true
+    (Some c.args.screen) (record old { notes = c.insert.new.self.entries }))
+    c.self.view_is
+    (told old c.args.viewer c.args.screen c.self.inside.notes c.insert.new.self refl
+    (if_taken c.insert.result _ (sym c.if-is_err.ensures.value) c.insert.ensures.updates)
     (ap (λ (v : ViewersValue). is_viewer v c.args.viewer) c.self.view_is ∙ c.requires))

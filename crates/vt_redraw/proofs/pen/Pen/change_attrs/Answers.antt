@@ -10,4 +10,5 @@ returns-then-is_same-clause-text g c =
 
 pub returns-then-is_same-clause-pen : goal.returns-then-is_same-clause-pen
 returns-then-is_same-clause-pen g c =
-    ap (λ attrs. pen_at c.args.self.now.row c.args.self.now.col attrs) (attrs_of-same _ _ (sym c.is_same.ensures ∙ c.if-is_same.true))
+    ap (λ attrs. pen_at c.args.self.now.row c.args.self.now.col attrs)
+    (attrs_of-same _ _ (sym c.is_same.ensures ∙ c.if-is_same.true))

@@ -9,11 +9,13 @@ returns-clause-cells c =
     let v = c.self.inside in
     let inside = c.self.invariant.inside in
     let stop = c.args.stop in
-    let size = ap (λ (z : RowValue). length z.cells) (sym c.self.view_is) ∙ length-filled v.cells.now v.cols v.end inside in
+    let size =
+    ap (λ (z : RowValue). length z.cells) (sym c.self.view_is) ∙ length-filled v.cells.now v.cols v.end inside in
     let asked = c.requires in
     let same = c.from.ensures in
     let least = c.min-kept.ensures in
     let kept : c.min-kept.result ≡ min (length v.cells.now) stop = omega arith in
     ap (λ n. filled (take n v.cells.now) stop c.copied.result) kept
     ∙ (ap (λ e. filled (take (min (length v.cells.now) stop) v.cells.now) stop e) c.copied.ensures
-    ∙ (filled_taken v.cells.now v.cols stop v.end (omega arith) inside ∙ ap (λ (z : RowValue). take stop z.cells) c.self.view_is))
+    ∙ (filled_taken v.cells.now v.cols stop v.end (omega arith) inside
+    ∙ ap (λ (z : RowValue). take stop z.cells) c.self.view_is))

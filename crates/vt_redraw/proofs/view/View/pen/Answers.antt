@@ -6,4 +6,5 @@ use Rattle.vt_redraw.proofs.view.View.pen.Goals as goal
 pub returns-clause-inside : goal.returns-clause-inside
 returns-clause-inside c =
     let v = c.self.inside in
-    subst (λ (p : Picture). p.row < length p.rows) c.self.view_is (viewed_row v.is_blank v.above.now v.rows.now.rows v.cols v.pen v.hidden c.self.invariant.0)
+    subst (λ (p : Picture). p.row < length p.rows) c.self.view_is
+    (viewed_row v.is_blank v.above.now v.rows.now.rows v.cols v.pen v.hidden c.self.invariant.0)

@@ -10,5 +10,6 @@ pub returns-clause-fed : goal.returns-clause-fed
 returns-clause-fed c = λ is.
     let told = c.if-not-is_empty.ensures in
     let empty : length c.self.inside.unfinished ≡ 0 = grind (arith, nat_tests) in
-    let none : c.args.self.now.unfinished ≡ [] = sym (ap (λ (h : Held). h.unfinished) c.self.view_is) ∙ nil_from_length c.self.inside.unfinished empty in
+    let none : c.args.self.now.unfinished ≡ [] =
+    sym (ap (λ (h : Held). h.unfinished) c.self.view_is) ∙ nil_from_length c.self.inside.unfinished empty in
     escape_feeds c.args.self.now c.begin.new.self c.args.byte c.requires none c.if-byte-ne27.false c.begin.ensures

@@ -5,4 +5,5 @@ use Rattle.vt_scan.proofs.automaton.Scanner.whole_character.Goals as goal
 pub returns-then-is_fresh-clause-fed : goal.returns-then-is_fresh-clause-fed
 returns-then-is_fresh-clause-fed c =
     let fresh = c.is_fresh.ensures.0 c.if-is_fresh.true in
-    found_fed c.args.self.now c.args.bytes.now c.first_character.result fresh.0 fresh.1 c.first_character.ensures.is c.first_character.ensures.means
+    found_fed c.args.self.now c.args.bytes.now c.first_character.result fresh.0
+    fresh.1 c.first_character.ensures.is c.first_character.ensures.means

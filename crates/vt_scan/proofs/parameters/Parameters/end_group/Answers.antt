@@ -5,7 +5,8 @@ use Rattle.vt_scan.proofs.parameters.Parameters.end_group.Goals as goal
 
 pub returns-then-self-eq-MAX_NUMBERS : goal.returns-then-self-eq-MAX_NUMBERS
 returns-then-self-eq-MAX_NUMBERS c = λ text e.
-    step_group_full c.self.inside.numbers (take c.self.inside.closed c.self.inside.ends) c.self.inside.len c.self.inside.is_cut text
+    step_group_full c.self.inside.numbers (take c.self.inside.closed c.self.inside.ends)
+    c.self.inside.len c.self.inside.is_cut text
     c.if-self-eq-MAX_NUMBERS.true (omega arith) c.self.invariant.2 (c.self.view_is ∙ e)
 
 pub invariant_of-self-2 : goal.invariant_of-self-2

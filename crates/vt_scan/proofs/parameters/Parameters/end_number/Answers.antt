@@ -6,7 +6,8 @@ use Rattle.vt_scan.proofs.parameters.Parameters.end_number.Goals as goal
 
 pub returns-then-self-eq-MAX_NUMBERS : goal.returns-then-self-eq-MAX_NUMBERS
 returns-then-self-eq-MAX_NUMBERS c = λ text e.
-    step_number_full c.self.inside.numbers (take c.self.inside.closed c.self.inside.ends) c.self.inside.len c.self.inside.is_cut text
+    step_number_full c.self.inside.numbers (take c.self.inside.closed c.self.inside.ends)
+    c.self.inside.len c.self.inside.is_cut text
     c.if-self-eq-MAX_NUMBERS.true (omega arith) c.self.invariant.2 (c.self.view_is ∙ e)
 
 pub invariant_of-self-2 : goal.invariant_of-self-2
@@ -19,5 +20,6 @@ invariant_of-self-2 c = (
 
 pub returns : goal.returns
 returns c = λ text e.
-    step_number c.self.inside.numbers (take c.self.inside.closed c.self.inside.ends) c.self.inside.len c.self.inside.is_cut text
+    step_number c.self.inside.numbers (take c.self.inside.closed c.self.inside.ends)
+    c.self.inside.len c.self.inside.is_cut text
     (omega arith) (omega arith) c.self.invariant.2 c.self.invariant.3 (c.self.view_is ∙ e)

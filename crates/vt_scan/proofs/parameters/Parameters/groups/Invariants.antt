@@ -7,4 +7,7 @@ abbrev pub invariant-loop-i : goal.invariant-loop-i
 invariant-loop-i l =
     (length l.groups ≡ l.i)
     × Ascends l.start (drop l.i (take l.self-inside.closed l.self-inside.ends)) l.self-inside.len
-    × (l.groups ++ groups_from l.start (drop l.i (take l.self-inside.closed l.self-inside.ends)) l.self-inside.len l.self-inside.numbers ≡ l.self.groups)
+    × (l.groups
+    ++ groups_from l.start (drop l.i (take l.self-inside.closed l.self-inside.ends))
+    l.self-inside.len l.self-inside.numbers
+    ≡ l.self.groups)

@@ -7,4 +7,7 @@ abbrev pub invariant-loop-i : goal.invariant-loop-i
 invariant-loop-i l =
     (length l.few ≡ l.i)
     × Ascends l.start (drop l.i (take l.self-inside.closed l.self-inside.ends)) l.self-inside.len
-    × (l.few ++ groups_from l.start (drop l.i (take l.self-inside.closed l.self-inside.ends)) l.self-inside.len l.self-inside.numbers ≡ l.self.groups)
+    × (l.few
+    ++ groups_from l.start (drop l.i (take l.self-inside.closed l.self-inside.ends))
+    l.self-inside.len l.self-inside.numbers
+    ≡ l.self.groups)

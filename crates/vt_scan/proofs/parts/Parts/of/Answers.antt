@@ -12,7 +12,8 @@ loop-i-preserved c =
         (
           c.loop-i.invariant.1.0 ++ take (c.loop-i.i - c.loop-i.start) (drop c.loop-i.start c.args.text.now) ∷ [],
           w.push.ensures c.loop-i.invariant.1.0 c.loop-i.invariant.1.1,
-          cut_here c.loop-i.invariant.1.0 c.loop-i.start c.loop-i.i c.args.text.now c.loop-i-test.true w.if-byte-eq59.true c.loop-i.invariant.1.2,
+          cut_here c.loop-i.invariant.1.0 c.loop-i.start c.loop-i.i c.args.text.now
+              c.loop-i-test.true w.if-byte-eq59.true c.loop-i.invariant.1.2,
         ),
       )
       | else-byte-eq59 w ↦ rw (w.parts-is, w.start-is) (
@@ -20,7 +21,8 @@ loop-i-preserved c =
         (
           c.loop-i.invariant.1.0,
           c.loop-i.invariant.1.1,
-          goes_on c.loop-i.invariant.1.0 c.loop-i.start c.loop-i.i c.args.text.now c.loop-i-test.true c.loop-i.invariant.0 w.if-byte-eq59.false c.loop-i.invariant.1.2,
+          goes_on c.loop-i.invariant.1.0 c.loop-i.start c.loop-i.i c.args.text.now
+              c.loop-i-test.true c.loop-i.invariant.0 w.if-byte-eq59.false c.loop-i.invariant.1.2,
         ),
       )
     ]

@@ -9,5 +9,7 @@ pub returns-in-Ok-clause-sets : goal.returns-in-Ok-clause-sets
 returns-in-Ok-clause-sets c =
     let attrs = c.attrs.result in
     let fits : FitsAttrs attrs = search rules in
-    let told : string_bytes c.write_attrs.new.sink ≡ attributes_text attrs = c.in-Ok.ensures.text ∙ ap (λ (before : List ℕ). before ++ attributes_text attrs) c.new-text.ensures.bytes in
-    subst (λ (a : Attrs). SetsAttrs a (string_bytes c.write_attrs.new.sink)) c.attrs.ensures (attributes_set attrs (string_bytes c.write_attrs.new.sink) told fits)
+    let told : string_bytes c.write_attrs.new.sink ≡ attributes_text attrs =
+    c.in-Ok.ensures.text ∙ ap (λ (before : List ℕ). before ++ attributes_text attrs) c.new-text.ensures.bytes in
+    subst (λ (a : Attrs). SetsAttrs a (string_bytes c.write_attrs.new.sink))
+    c.attrs.ensures (attributes_set attrs (string_bytes c.write_attrs.new.sink) told fits)

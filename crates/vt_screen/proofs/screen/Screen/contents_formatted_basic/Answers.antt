@@ -10,5 +10,6 @@ pub returns-in-Ok-clause-controls : goal.returns-in-Ok-clause-controls
 returns-in-Ok-clause-controls c =
     let whole : IsScreen c.args.self.now = search rules in
     let text = basic_texts unwritten (visible_rows c.args.self.now) in
-    let told : string_bytes c.write_contents_formatted_basic.new.sink ≡ text = c.in-Ok.ensures.text ∙ ap (λ (before : List ℕ). before ++ text) c.new-text.ensures.bytes in
+    let told : string_bytes c.write_contents_formatted_basic.new.sink ≡ text =
+    c.in-Ok.ensures.text ∙ ap (λ (before : List ℕ). before ++ text) c.new-text.ensures.bytes in
     subst IsCaptureText (sym told) (capture_is c.args.self.now whole)

@@ -17,5 +17,6 @@ returns g c =
     let told = c.clear.ensures.reported in
     let same = same_callbacks g.CB.Callbacks.does rows _ c.clear.new.leaving told in
     let all = reported_to g.CB.Callbacks.does s.is_alternate rows _ c.clear.new.leaving refl told in
-    scrollback_erased g.CB.Callbacks.does s c.args.self.now c.self.inside.scrollback c.self.inside.other_scrollback c.clear.new.self c.args.callbacks.now _ c.self.view_is refl c.self.invariant.nothing c.clear.ensures.rows
+    scrollback_erased g.CB.Callbacks.does s c.args.self.now c.self.inside.scrollback c.self.inside.other_scrollback
+    c.clear.new.self c.args.callbacks.now _ c.self.view_is refl c.self.invariant.nothing c.clear.ensures.rows
     (subst (λ z. FoldsTo (Hears g.CB.Callbacks.does s.is_alternate) c.args.callbacks.now rows z) (search rules) all)

@@ -6,17 +6,20 @@ use Rattle.vt_screen.proofs.screen.Screen.input_mode_diff.Goals as goal
 pub returns-in-Ok-clause-sets : goal.returns-in-Ok-clause-sets
 returns-in-Ok-clause-sets c =
     let bytes = input_change c.args.prev.now.modes c.args.self.now.modes in
-    let told : string_bytes c.write_input_mode_diff.new.sink ≡ bytes = c.in-Ok.ensures ∙ ap (λ (before : List ℕ). before ++ bytes) c.new-text.ensures.bytes in
+    let told : string_bytes c.write_input_mode_diff.new.sink ≡ bytes =
+    c.in-Ok.ensures ∙ ap (λ (before : List ℕ). before ++ bytes) c.new-text.ensures.bytes in
     modes_changed c.args.prev.now.modes c.args.self.now.modes (string_bytes c.write_input_mode_diff.new.sink) told
 
 pub returns-in-Ok-clause-empty : goal.returns-in-Ok-clause-empty
 returns-in-Ok-clause-empty c empty =
     let bytes = input_change c.args.prev.now.modes c.args.self.now.modes in
-    let told : string_bytes c.write_input_mode_diff.new.sink ≡ bytes = c.in-Ok.ensures ∙ ap (λ (before : List ℕ). before ++ bytes) c.new-text.ensures.bytes in
+    let told : string_bytes c.write_input_mode_diff.new.sink ≡ bytes =
+    c.in-Ok.ensures ∙ ap (λ (before : List ℕ). before ++ bytes) c.new-text.ensures.bytes in
     change_tells c.args.prev.now.modes c.args.self.now.modes (sym told ∙ empty)
 
 pub returns-in-Ok-clause-none : goal.returns-in-Ok-clause-none
 returns-in-Ok-clause-none c same =
     let bytes = input_change c.args.prev.now.modes c.args.self.now.modes in
-    let told : string_bytes c.write_input_mode_diff.new.sink ≡ bytes = c.in-Ok.ensures ∙ ap (λ (before : List ℕ). before ++ bytes) c.new-text.ensures.bytes in
+    let told : string_bytes c.write_input_mode_diff.new.sink ≡ bytes =
+    c.in-Ok.ensures ∙ ap (λ (before : List ℕ). before ++ bytes) c.new-text.ensures.bytes in
     told ∙ change_none c.args.prev.now.modes c.args.self.now.modes same

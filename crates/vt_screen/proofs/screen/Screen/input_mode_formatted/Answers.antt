@@ -6,5 +6,6 @@ use Rattle.vt_screen.proofs.screen.Screen.input_mode_formatted.Goals as goal
 pub returns-in-Ok-clause-sets : goal.returns-in-Ok-clause-sets
 returns-in-Ok-clause-sets c =
     let bytes = input_text c.args.self.now.modes in
-    let told : string_bytes c.write_input_mode_formatted.new.sink ≡ bytes = c.in-Ok.ensures ∙ ap (λ (before : List ℕ). before ++ bytes) c.new-text.ensures.bytes in
+    let told : string_bytes c.write_input_mode_formatted.new.sink ≡ bytes =
+    c.in-Ok.ensures ∙ ap (λ (before : List ℕ). before ++ bytes) c.new-text.ensures.bytes in
     modes_set c.args.self.now.modes (string_bytes c.write_input_mode_formatted.new.sink) told

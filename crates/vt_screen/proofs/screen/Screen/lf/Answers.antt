@@ -27,5 +27,7 @@ returns-clause-done g c =
     let sent = c.in_ok-line_feed.ensures.sent in
     let same = same_callbacks g.CB.Callbacks.does rows _ c.line_feed.new.leaving sent.1 in
     let all = reported_to g.CB.Callbacks.does s.is_alternate rows _ c.line_feed.new.leaving refl sent.1 in
-    line_fed g.CB.Callbacks.does s c.args.self.now c.line_feed.new.self c.self.inside.scrollback c.self.inside.other_scrollback c.line_feed.new.above c.args.callbacks.now _ c.self.view_is refl c.self.invariant.nothing c.in_ok-line_feed.ensures.page sent.0
+    line_fed g.CB.Callbacks.does s c.args.self.now c.line_feed.new.self c.self.inside.scrollback
+    c.self.inside.other_scrollback c.line_feed.new.above c.args.callbacks.now _
+    c.self.view_is refl c.self.invariant.nothing c.in_ok-line_feed.ensures.page sent.0
     (subst (λ z. FoldsTo (Hears g.CB.Callbacks.does s.is_alternate) c.args.callbacks.now rows z) (search rules) all)

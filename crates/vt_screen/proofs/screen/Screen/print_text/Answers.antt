@@ -12,7 +12,8 @@ invariant_of-self c =
     let b = c.requires.printable (length c.args.text.now - 1) 0 (omega arith) in
     let low : c.from.result < 0x7F = rw c.from.ensures b.1 in
     rw c.print_text.ensures
-    (kept_text c.args.text.now c.self.inside.attrs c.self.inside.grid c.self.inside.last c.from.result _ c.requires.printable low (search rules) c.self.invariant)
+    (kept_text c.args.text.now c.self.inside.attrs c.self.inside.grid c.self.inside.last
+    c.from.result _ c.requires.printable low (search rules) c.self.invariant)
 
 pub returns : goal.returns
 returns c =

@@ -13,9 +13,12 @@ use Rattle.vt_screen.proofs.screen.Screen.resize_below.Goals as goal
 
 pub invariant_of-self-2 : goal.invariant_of-self-2
 invariant_of-self-2 g c =
-    kept_by_steps c.args.size.rows c.args.size.cols c.self.inside.grid c.set_size.new.self c.self.inside.last _ c.in_ok-fresh.fresh c.resize_alternate.new.page c.set_size.new.above c.resize_alternate.new.nothing
-    (c.in_ok-fresh.ensures).ok c.requires.rows (search rules) c.requires.cols (search rules) (ap (λ (x : ScreenValue). x.is_alternate) c.self.view_is ∙ c.requires.main)
-    (c.in_ok-set_size.ensures).page (c.in_ok-set_size.ensures).above c.resize_alternate.ensures.page c.resize_alternate.ensures.nothing c.self.invariant
+    kept_by_steps c.args.size.rows c.args.size.cols c.self.inside.grid c.set_size.new.self c.self.inside.last
+    _ c.in_ok-fresh.fresh c.resize_alternate.new.page c.set_size.new.above c.resize_alternate.new.nothing
+    (c.in_ok-fresh.ensures).ok c.requires.rows (search rules) c.requires.cols (search rules)
+    (ap (λ (x : ScreenValue). x.is_alternate) c.self.view_is ∙ c.requires.main)
+    (c.in_ok-set_size.ensures).page (c.in_ok-set_size.ensures).above
+    c.resize_alternate.ensures.page c.resize_alternate.ensures.nothing c.self.invariant
 
 pub returns-clause-told : goal.returns-clause-told
 returns-clause-told g c =
@@ -23,6 +26,10 @@ returns-clause-told g c =
     let told = (c.in_ok-set_size.ensures).reported in
     let same = same_callbacks g.CB.Callbacks.does rows _ c.set_size.new.leaving told in
     let all = reported_to g.CB.Callbacks.does false rows _ c.set_size.new.leaving refl told in
-    told_by_steps g.CB.Callbacks.does c.args.size.rows c.args.size.cols (the_view c.self.inside) c.args.self.now c.self.inside.scrollback c.self.inside.other_scrollback c.in_ok-fresh.fresh
-    c.args.callbacks.now c.set_size.new.leaving.callbacks.now c.resize_alternate.new.callbacks c.self.view_is refl c.requires.main (c.in_ok-fresh.ensures).ok all
-    (subst (λ z. FoldsTo (Told g.CB.Callbacks.does) z (reports_of true c.args.size.rows c.self.inside.other (no_scrollback 0)) c.resize_alternate.new.callbacks) (search rules) c.resize_alternate.ensures.told)
+    told_by_steps g.CB.Callbacks.does c.args.size.rows c.args.size.cols (the_view c.self.inside)
+    c.args.self.now c.self.inside.scrollback c.self.inside.other_scrollback c.in_ok-fresh.fresh
+    c.args.callbacks.now c.set_size.new.leaving.callbacks.now c.resize_alternate.new.callbacks
+    c.self.view_is refl c.requires.main (c.in_ok-fresh.ensures).ok all
+    (subst (λ z. FoldsTo (Told g.CB.Callbacks.does) z
+    (reports_of true c.args.size.rows c.self.inside.other (no_scrollback 0)) c.resize_alternate.new.callbacks)
+    (search rules) c.resize_alternate.ensures.told)

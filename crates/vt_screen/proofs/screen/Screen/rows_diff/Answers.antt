@@ -8,22 +8,35 @@ use Rattle.vt_screen.proofs.screen.Screen.rows_diff.Goals as goal
 pub returns-clause-count : goal.returns-clause-count
 returns-clause-count c =
     let s = c.args.self.now in
-    ap (λ (t : List (List ℕ)). length t) c.new.ensures ∙ texts_count (changed_text c.args.start c.range_end.result (shown s) (shown c.args.prev.now)) (length s.page.rows)
+    ap (λ (t : List (List ℕ)). length t) c.new.ensures
+    ∙ texts_count (changed_text c.args.start c.range_end.result (shown s) (shown c.args.prev.now)) (length s.page.rows)
 
 pub returns-clause-draws : goal.returns-clause-draws
 returns-clause-draws c =
     let s = c.args.self.now in
-    let told = c.new.ensures ∙ ap (λ (stop : ℕ). texts_from (changed_text c.args.start stop (shown s) (shown c.args.prev.now)) 0 (length s.page.rows)) c.range_end.ensures.value in
-    changed_turns s c.args.prev.now c.args.start c.args.width c.new.result told c.sound.ensures.whole c.sound.ensures.colored c.requires.start
+    let told = c.new.ensures
+    ∙ ap
+    (λ (stop : ℕ). texts_from (changed_text c.args.start stop (shown s) (shown c.args.prev.now)) 0 (length s.page.rows))
+    c.range_end.ensures.value in
+    changed_turns s c.args.prev.now c.args.start c.args.width c.new.result
+    told c.sound.ensures.whole c.sound.ensures.colored c.requires.start
 
 pub returns-clause-off : goal.returns-clause-off
 returns-clause-off c =
     let s = c.args.self.now in
-    let told = c.new.ensures ∙ ap (λ (stop : ℕ). texts_from (changed_text c.args.start stop (shown s) (shown c.args.prev.now)) 0 (length s.page.rows)) c.range_end.ensures.value in
-    changed_leaves s c.args.prev.now c.args.start c.args.width c.new.result told c.sound.ensures.whole c.sound.ensures.colored c.sound-2.ensures.whole c.requires.size
+    let told = c.new.ensures
+    ∙ ap
+    (λ (stop : ℕ). texts_from (changed_text c.args.start stop (shown s) (shown c.args.prev.now)) 0 (length s.page.rows))
+    c.range_end.ensures.value in
+    changed_leaves s c.args.prev.now c.args.start c.args.width c.new.result told
+    c.sound.ensures.whole c.sound.ensures.colored c.sound-2.ensures.whole c.requires.size
 
 pub returns-clause-empty : goal.returns-clause-empty
 returns-clause-empty c =
     let s = c.args.self.now in
-    let told = c.new.ensures ∙ ap (λ (stop : ℕ). texts_from (changed_text c.args.start stop (shown s) (shown c.args.prev.now)) 0 (length s.page.rows)) c.range_end.ensures.value in
-    changed_empty s c.args.prev.now c.args.start c.args.width c.new.result told c.sound.ensures.whole c.sound-2.ensures.whole c.requires.size
+    let told = c.new.ensures
+    ∙ ap
+    (λ (stop : ℕ). texts_from (changed_text c.args.start stop (shown s) (shown c.args.prev.now)) 0 (length s.page.rows))
+    c.range_end.ensures.value in
+    changed_empty s c.args.prev.now c.args.start c.args.width c.new.result
+    told c.sound.ensures.whole c.sound-2.ensures.whole c.requires.size

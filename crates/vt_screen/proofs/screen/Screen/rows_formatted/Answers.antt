@@ -8,22 +8,30 @@ use Rattle.vt_screen.proofs.screen.Screen.rows_formatted.Goals as goal
 pub returns-clause-count : goal.returns-clause-count
 returns-clause-count c =
     let s = c.args.self.now in
-    ap (λ (t : List (List ℕ)). length t) c.new.ensures ∙ texts_count (formatted_text c.args.start c.range_end.result (shown s)) (length s.page.rows)
+    ap (λ (t : List (List ℕ)). length t) c.new.ensures
+    ∙ texts_count (formatted_text c.args.start c.range_end.result (shown s)) (length s.page.rows)
 
 pub returns-clause-draws : goal.returns-clause-draws
 returns-clause-draws c =
     let s = c.args.self.now in
-    let told = c.new.ensures ∙ ap (λ (stop : ℕ). texts_from (formatted_text c.args.start stop (shown s)) 0 (length s.page.rows)) c.range_end.ensures.value in
-    formatted_turns s c.args.start c.args.width c.new.result told c.sound.ensures.whole c.sound.ensures.colored c.requires
+    let told = c.new.ensures
+    ∙ ap (λ (stop : ℕ). texts_from (formatted_text c.args.start stop (shown s)) 0 (length s.page.rows))
+    c.range_end.ensures.value in
+    formatted_turns s c.args.start c.args.width c.new.result
+    told c.sound.ensures.whole c.sound.ensures.colored c.requires
 
 pub returns-clause-off : goal.returns-clause-off
 returns-clause-off c =
     let s = c.args.self.now in
-    let told = c.new.ensures ∙ ap (λ (stop : ℕ). texts_from (formatted_text c.args.start stop (shown s)) 0 (length s.page.rows)) c.range_end.ensures.value in
+    let told = c.new.ensures
+    ∙ ap (λ (stop : ℕ). texts_from (formatted_text c.args.start stop (shown s)) 0 (length s.page.rows))
+    c.range_end.ensures.value in
     formatted_off s c.args.start c.args.width c.new.result told c.sound.ensures.whole c.sound.ensures.colored c.requires
 
 pub returns-clause-linked : goal.returns-clause-linked
 returns-clause-linked c =
     let s = c.args.self.now in
-    let told = c.new.ensures ∙ ap (λ (stop : ℕ). texts_from (formatted_text c.args.start stop (shown s)) 0 (length s.page.rows)) c.range_end.ensures.value in
+    let told = c.new.ensures
+    ∙ ap (λ (stop : ℕ). texts_from (formatted_text c.args.start stop (shown s)) 0 (length s.page.rows))
+    c.range_end.ensures.value in
     formatted_linked s c.args.start c.args.width c.new.result told c.sound.ensures.whole c.sound.ensures.colored

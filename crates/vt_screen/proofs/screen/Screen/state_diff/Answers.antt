@@ -7,54 +7,69 @@ use Rattle.vt_screen.proofs.screen.Screen.state_diff.Goals as goal
 pub returns-in-Ok-clause-quiet : goal.returns-in-Ok-clause-quiet
 returns-in-Ok-clause-quiet c steady =
     let bytes = state_change c.args.prev.now c.args.self.now in
-    let told : string_bytes c.write_state_diff.new.sink ≡ bytes = c.in-Ok.ensures.text ∙ ap (λ (before : List ℕ). before ++ bytes) c.new-text.ensures.bytes in
+    let told : string_bytes c.write_state_diff.new.sink ≡ bytes =
+    c.in-Ok.ensures.text ∙ ap (λ (before : List ℕ). before ++ bytes) c.new-text.ensures.bytes in
     let size = same_shown c.args.self.now c.args.prev.now c.requires in
-    (change_gives c.args.self.now c.args.prev.now (string_bytes c.write_state_diff.new.sink) told c.in-Ok.ensures.whole c.in-Ok.ensures.colored steady c.in-Ok.ensures.other c.in-Ok.ensures.other_colored size).quiet
+    (change_gives c.args.self.now c.args.prev.now (string_bytes c.write_state_diff.new.sink) told c.in-Ok.ensures.whole
+    c.in-Ok.ensures.colored steady c.in-Ok.ensures.other c.in-Ok.ensures.other_colored size).quiet
 
 pub returns-in-Ok-clause-shows : goal.returns-in-Ok-clause-shows
 returns-in-Ok-clause-shows c steady =
     let bytes = state_change c.args.prev.now c.args.self.now in
-    let told : string_bytes c.write_state_diff.new.sink ≡ bytes = c.in-Ok.ensures.text ∙ ap (λ (before : List ℕ). before ++ bytes) c.new-text.ensures.bytes in
+    let told : string_bytes c.write_state_diff.new.sink ≡ bytes =
+    c.in-Ok.ensures.text ∙ ap (λ (before : List ℕ). before ++ bytes) c.new-text.ensures.bytes in
     let size = same_shown c.args.self.now c.args.prev.now c.requires in
-    (change_gives c.args.self.now c.args.prev.now (string_bytes c.write_state_diff.new.sink) told c.in-Ok.ensures.whole c.in-Ok.ensures.colored steady c.in-Ok.ensures.other c.in-Ok.ensures.other_colored size).shows
+    (change_gives c.args.self.now c.args.prev.now (string_bytes c.write_state_diff.new.sink) told c.in-Ok.ensures.whole
+    c.in-Ok.ensures.colored steady c.in-Ok.ensures.other c.in-Ok.ensures.other_colored size).shows
 
 pub returns-in-Ok-clause-rows : goal.returns-in-Ok-clause-rows
 returns-in-Ok-clause-rows c steady =
     let bytes = state_change c.args.prev.now c.args.self.now in
-    let told : string_bytes c.write_state_diff.new.sink ≡ bytes = c.in-Ok.ensures.text ∙ ap (λ (before : List ℕ). before ++ bytes) c.new-text.ensures.bytes in
+    let told : string_bytes c.write_state_diff.new.sink ≡ bytes =
+    c.in-Ok.ensures.text ∙ ap (λ (before : List ℕ). before ++ bytes) c.new-text.ensures.bytes in
     let size = same_shown c.args.self.now c.args.prev.now c.requires in
-    (change_gives c.args.self.now c.args.prev.now (string_bytes c.write_state_diff.new.sink) told c.in-Ok.ensures.whole c.in-Ok.ensures.colored steady c.in-Ok.ensures.other c.in-Ok.ensures.other_colored size).rows
+    (change_gives c.args.self.now c.args.prev.now (string_bytes c.write_state_diff.new.sink) told
+    c.in-Ok.ensures.whole c.in-Ok.ensures.colored steady c.in-Ok.ensures.other c.in-Ok.ensures.other_colored size).rows
 
 pub returns-in-Ok-clause-cursor : goal.returns-in-Ok-clause-cursor
 returns-in-Ok-clause-cursor c steady =
     let bytes = state_change c.args.prev.now c.args.self.now in
-    let told : string_bytes c.write_state_diff.new.sink ≡ bytes = c.in-Ok.ensures.text ∙ ap (λ (before : List ℕ). before ++ bytes) c.new-text.ensures.bytes in
+    let told : string_bytes c.write_state_diff.new.sink ≡ bytes =
+    c.in-Ok.ensures.text ∙ ap (λ (before : List ℕ). before ++ bytes) c.new-text.ensures.bytes in
     let size = same_shown c.args.self.now c.args.prev.now c.requires in
-    (change_gives c.args.self.now c.args.prev.now (string_bytes c.write_state_diff.new.sink) told c.in-Ok.ensures.whole c.in-Ok.ensures.colored steady c.in-Ok.ensures.other c.in-Ok.ensures.other_colored size).cursor
+    (change_gives c.args.self.now c.args.prev.now (string_bytes c.write_state_diff.new.sink) told c.in-Ok.ensures.whole
+    c.in-Ok.ensures.colored steady c.in-Ok.ensures.other c.in-Ok.ensures.other_colored size).cursor
 
 pub returns-in-Ok-clause-modes : goal.returns-in-Ok-clause-modes
 returns-in-Ok-clause-modes c steady =
     let bytes = state_change c.args.prev.now c.args.self.now in
-    let told : string_bytes c.write_state_diff.new.sink ≡ bytes = c.in-Ok.ensures.text ∙ ap (λ (before : List ℕ). before ++ bytes) c.new-text.ensures.bytes in
+    let told : string_bytes c.write_state_diff.new.sink ≡ bytes =
+    c.in-Ok.ensures.text ∙ ap (λ (before : List ℕ). before ++ bytes) c.new-text.ensures.bytes in
     let size = same_shown c.args.self.now c.args.prev.now c.requires in
-    (change_gives c.args.self.now c.args.prev.now (string_bytes c.write_state_diff.new.sink) told c.in-Ok.ensures.whole c.in-Ok.ensures.colored steady c.in-Ok.ensures.other c.in-Ok.ensures.other_colored size).modes
+    (change_gives c.args.self.now c.args.prev.now (string_bytes c.write_state_diff.new.sink) told c.in-Ok.ensures.whole
+    c.in-Ok.ensures.colored steady c.in-Ok.ensures.other c.in-Ok.ensures.other_colored size).modes
 
 pub returns-in-Ok-clause-rest : goal.returns-in-Ok-clause-rest
 returns-in-Ok-clause-rest c steady =
     let bytes = state_change c.args.prev.now c.args.self.now in
-    let told : string_bytes c.write_state_diff.new.sink ≡ bytes = c.in-Ok.ensures.text ∙ ap (λ (before : List ℕ). before ++ bytes) c.new-text.ensures.bytes in
+    let told : string_bytes c.write_state_diff.new.sink ≡ bytes =
+    c.in-Ok.ensures.text ∙ ap (λ (before : List ℕ). before ++ bytes) c.new-text.ensures.bytes in
     let size = same_shown c.args.self.now c.args.prev.now c.requires in
-    (change_gives c.args.self.now c.args.prev.now (string_bytes c.write_state_diff.new.sink) told c.in-Ok.ensures.whole c.in-Ok.ensures.colored steady c.in-Ok.ensures.other c.in-Ok.ensures.other_colored size).rest
+    (change_gives c.args.self.now c.args.prev.now (string_bytes c.write_state_diff.new.sink) told
+    c.in-Ok.ensures.whole c.in-Ok.ensures.colored steady c.in-Ok.ensures.other c.in-Ok.ensures.other_colored size).rest
 
 pub returns-in-Ok-clause-empty : goal.returns-in-Ok-clause-empty
 returns-in-Ok-clause-empty c steady empty =
     let bytes = state_change c.args.prev.now c.args.self.now in
-    let told : string_bytes c.write_state_diff.new.sink ≡ bytes = c.in-Ok.ensures.text ∙ ap (λ (before : List ℕ). before ++ bytes) c.new-text.ensures.bytes in
+    let told : string_bytes c.write_state_diff.new.sink ≡ bytes =
+    c.in-Ok.ensures.text ∙ ap (λ (before : List ℕ). before ++ bytes) c.new-text.ensures.bytes in
     let size = same_shown c.args.self.now c.args.prev.now c.requires in
-    state_tells c.args.self.now c.args.prev.now c.in-Ok.ensures.whole c.in-Ok.ensures.colored steady c.in-Ok.ensures.other c.in-Ok.ensures.other_colored size (sym told ∙ empty)
+    state_tells c.args.self.now c.args.prev.now c.in-Ok.ensures.whole c.in-Ok.ensures.colored
+    steady c.in-Ok.ensures.other c.in-Ok.ensures.other_colored size (sym told ∙ empty)
 
 pub returns-in-Ok-clause-none : goal.returns-in-Ok-clause-none
 returns-in-Ok-clause-none c same same_modes =
     let bytes = state_change c.args.prev.now c.args.self.now in
-    let told : string_bytes c.write_state_diff.new.sink ≡ bytes = c.in-Ok.ensures.text ∙ ap (λ (before : List ℕ). before ++ bytes) c.new-text.ensures.bytes in
+    let told : string_bytes c.write_state_diff.new.sink ≡ bytes =
+    c.in-Ok.ensures.text ∙ ap (λ (before : List ℕ). before ++ bytes) c.new-text.ensures.bytes in
     told ∙ state_none c.args.self.now c.args.prev.now same same_modes

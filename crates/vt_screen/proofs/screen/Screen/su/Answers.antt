@@ -27,5 +27,7 @@ returns-clause-done g c =
     let sent = c.in_ok-scroll_up.ensures.sent in
     let same = same_callbacks g.CB.Callbacks.does rows _ c.scroll_up.new.leaving sent.1 in
     let all = reported_to g.CB.Callbacks.does s.is_alternate rows _ c.scroll_up.new.leaving refl sent.1 in
-    scrolled_up_by g.CB.Callbacks.does c.args.count s c.args.self.now c.scroll_up.new.self c.self.inside.scrollback c.self.inside.other_scrollback c.scroll_up.new.above c.args.callbacks.now _ c.self.view_is refl c.self.invariant.nothing c.in_ok-scroll_up.ensures.page sent.0
+    scrolled_up_by g.CB.Callbacks.does c.args.count s c.args.self.now c.scroll_up.new.self
+    c.self.inside.scrollback c.self.inside.other_scrollback c.scroll_up.new.above c.args.callbacks.now
+    _ c.self.view_is refl c.self.invariant.nothing c.in_ok-scroll_up.ensures.page sent.0
     (subst (λ z. FoldsTo (Hears g.CB.Callbacks.does s.is_alternate) c.args.callbacks.now rows z) (search rules) all)

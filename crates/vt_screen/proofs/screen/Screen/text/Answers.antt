@@ -19,7 +19,8 @@ invariant_of-self-2 g c =
     (kept_sent _ _ _ _ _ c.self.inside.grid.width
     (rows_printed_out c.args.c c.self.inside.attrs c.self.inside.grid k.sound)
     (stable_printed_out coloring c.args.c c.self.inside.attrs c.self.inside.grid (search rules) k.colored)
-    (kept_printed c.args.c c.self.inside.attrs c.self.inside.grid c.self.inside.last _ _ (search rules) c.requires c.last_after-last.ensures.printable (search rules) k))
+    (kept_printed c.args.c c.self.inside.attrs c.self.inside.grid c.self.inside.last _
+    _ (search rules) c.requires c.last_after-last.ensures.printable (search rules) k))
 
 pub returns-clause-done : goal.returns-clause-done
 returns-clause-done g c =
@@ -28,5 +29,8 @@ returns-clause-done g c =
     let sent = c.in_ok-print_columns.ensures.sent in
     let same = same_callbacks g.CB.Callbacks.does rows _ c.print_columns.new.leaving sent.1 in
     let all = reported_to g.CB.Callbacks.does s.is_alternate rows _ c.print_columns.new.leaving refl sent.1 in
-    character_printed g.CB.Callbacks.does c.args.c s c.args.self.now c.print_columns.new.self c.self.inside.scrollback c.self.inside.other_scrollback c.print_columns.new.above c.last_after-last.result c.args.callbacks.now _ c.self.view_is refl c.self.invariant.nothing c.in_ok-print_columns.ensures.page c.last_after-last.ensures.value sent.0
+    character_printed g.CB.Callbacks.does c.args.c s c.args.self.now c.print_columns.new.self
+    c.self.inside.scrollback c.self.inside.other_scrollback c.print_columns.new.above
+    c.last_after-last.result c.args.callbacks.now _ c.self.view_is refl c.self.invariant.nothing
+    c.in_ok-print_columns.ensures.page c.last_after-last.ensures.value sent.0
     (subst (λ z. FoldsTo (Hears g.CB.Callbacks.does s.is_alternate) c.args.callbacks.now rows z) (search rules) all)

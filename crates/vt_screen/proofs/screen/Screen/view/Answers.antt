@@ -20,7 +20,8 @@ returns-clause-colored c =
 
 pub new-requires-clause-above : goal.new-requires-clause-above
 new-requires-clause-above c =
-    active_is c.self.inside.is_alternate c.self.inside.scrollback c.self.inside.other_scrollback c.self.invariant.nothing c.self.invariant.above
+    active_is c.self.inside.is_alternate c.self.inside.scrollback
+    c.self.inside.other_scrollback c.self.invariant.nothing c.self.invariant.above
 
 pub returns-clause-value : goal.returns-clause-value
 returns-clause-value c =
@@ -28,5 +29,7 @@ returns-clause-value c =
     let s = the_view inside in
     let attrs = c.attrs-attrs.ensures ∙ sym (ap (λ (t : ScreenValue). t.attrs) c.self.view_is) in
     c.new.ensures.value
-    ∙ (ap (λ (a : Attrs). picture_over (visible inside.scrollback s.page.rows) (record { page = s.page; attrs = a; saved_attrs = a; hidden = s.hidden })) attrs
+    ∙ (ap (λ (a : Attrs). picture_over (visible inside.scrollback s.page.rows)
+    (record { page = s.page; attrs = a; saved_attrs = a; hidden = s.hidden }))
+    attrs
     ∙ (viewed_is s inside.scrollback inside.other_scrollback refl c.self.invariant.nothing ∙ ap shown c.self.view_is))

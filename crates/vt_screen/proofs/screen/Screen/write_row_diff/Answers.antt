@@ -8,7 +8,8 @@ use Rattle.vt_screen.proofs.screen.Screen.write_row_diff.Goals as goal
 pub write_row_diff-requires-clause-size : goal.write_row_diff-requires-clause-size
 write_row_diff-requires-clause-size g c =
     subst (λ (p : Picture). SamePictureSize p c.view-2.result) (sym c.view.ensures.value)
-    (subst (λ (p : Picture). SamePictureSize (shown c.args.self.now) p) (sym c.view-2.ensures.value) (same_shown c.args.self.now c.args.prev.now c.requires.size))
+    (subst (λ (p : Picture). SamePictureSize (shown c.args.self.now) p)
+    (sym c.view-2.ensures.value) (same_shown c.args.self.now c.args.prev.now c.requires.size))
 
 pub write_row_diff-requires-clause-inside : goal.write_row_diff-requires-clause-inside
 write_row_diff-requires-clause-inside g c =

@@ -11,23 +11,35 @@ stacked_row-row-requires-clause-sound g c = rw (c.rows.ensures.rows, c.rows.ensu
 pub returns-in_err-write_formatted_basic-clause-err : goal.returns-in_err-write_formatted_basic-clause-err
 returns-in_err-write_formatted_basic-clause-err g c =
     let inv = c.loop-index.invariant in
-    on_err_any c.from_residual.result (behind_some c.args.state.now c.write_formatted_basic.new.state (all_rows c.args.self.now) c.args.start c.loop-index.index c.args.end inv.low c.loop-index-test.true inv.inside (c.in_err-write_formatted_basic.ensures.err ∙ inv.written))
+    on_err_any c.from_residual.result
+    (behind_some c.args.state.now c.write_formatted_basic.new.state (all_rows c.args.self.now)
+    c.args.start c.loop-index.index c.args.end inv.low c.loop-index-test.true
+    inv.inside (c.in_err-write_formatted_basic.ensures.err ∙ inv.written))
 
 pub loop-index-preserved : goal.loop-index-preserved
 loop-index-preserved g c =
     let inv = c.loop-index.invariant in
     let row = c.stacked_row-row.result in
-    let above = above_rows c.self.inside.is_alternate c.self.inside.scrollback c.self.inside.other_scrollback c.self.invariant.nothing in
+    let above = above_rows c.self.inside.is_alternate c.self.inside.scrollback
+    c.self.inside.other_scrollback c.self.invariant.nothing in
     let all : all_rows c.args.self.now ≡ c.self.inside.scrollback.rows ++ c.rows.result.now.rows =
-    sym (ap all_rows c.self.view_is) ∙ ap (λ (rows : List RowValue). rows ++ c.self.inside.grid.rows) above ∙ ap (λ (rows : List RowValue). c.self.inside.scrollback.rows ++ rows) (sym c.rows.ensures.rows) in
-    let same : get_or (all_rows c.args.self.now) c.loop-index.index row ≡ row = ap (λ rows. get_or rows c.loop-index.index row) all ∙ sym (c.stacked_row-row.ensures row) in
-    let more : slice_range (all_rows c.args.self.now) c.args.start (c.loop-index.index + 1) ≡ slice_range (all_rows c.args.self.now) c.args.start c.loop-index.index ++ row ∷ [] =
-    slice_more (all_rows c.args.self.now) c.args.start c.loop-index.index row inv.low (omega (arith, c.loop-index-test.true, inv.inside))
+    sym (ap all_rows c.self.view_is) ∙ ap (λ (rows : List RowValue). rows ++ c.self.inside.grid.rows) above
+    ∙ ap (λ (rows : List RowValue). c.self.inside.scrollback.rows ++ rows) (sym c.rows.ensures.rows) in
+    let same : get_or (all_rows c.args.self.now) c.loop-index.index row ≡ row =
+    ap (λ rows. get_or rows c.loop-index.index row) all ∙ sym (c.stacked_row-row.ensures row) in
+    let more : slice_range (all_rows c.args.self.now) c.args.start (c.loop-index.index + 1)
+    ≡ slice_range (all_rows c.args.self.now) c.args.start c.loop-index.index ++ row ∷ [] =
+    slice_more (all_rows c.args.self.now) c.args.start c.loop-index.index
+    row inv.low (omega (arith, c.loop-index-test.true, inv.inside))
     ∙ ap (λ (x : RowValue). slice_range (all_rows c.args.self.now) c.args.start c.loop-index.index ++ x ∷ []) same in
     record {
       low = omega (arith, inv.low);
       high = omega (arith, c.loop-index-test.true);
       inside = inv.inside;
-      bytes = texts_step c.args.state.now c.loop-index.state _ _ _ _ _ row inv.bytes inv.written c.in_ok-write_formatted_basic.ensures.ok more;
-      written = after_step c.args.state.now c.loop-index.state _ _ _ row inv.written c.in_ok-write_formatted_basic.ensures.state more;
+      bytes =
+          texts_step c.args.state.now c.loop-index.state _ _ _ _ _ row
+          inv.bytes inv.written c.in_ok-write_formatted_basic.ensures.ok more;
+      written =
+          after_step c.args.state.now c.loop-index.state _ _ _ row
+          inv.written c.in_ok-write_formatted_basic.ensures.state more;
     }

@@ -9,6 +9,7 @@ invariant-loop-index g l = record {
   low : l.start ≤ l.index;
   high : l.index ≤ l.end;
   inside : l.end ≤ length (all_rows l.self);
-  bytes : g.S.Sink.text l.sink ≡ g.S.Sink.text l.fn.sink ++ basic_texts l.fn.state (slice_range (all_rows l.self) l.start l.index);
+  bytes : g.S.Sink.text l.sink
+      ≡ g.S.Sink.text l.fn.sink ++ basic_texts l.fn.state (slice_range (all_rows l.self) l.start l.index);
   written : l.state ≡ written_after_all l.fn.state (slice_range (all_rows l.self) l.start l.index);
 }

@@ -16,7 +16,16 @@ returns-clause-err g c =
     let offset = above_offset s.is_alternate s.scrollback s.other_scrollback kept.nothing in
     let all : all_rows c.args.self.now ≡ s.scrollback.rows ++ s.grid.rows =
     sym (ap all_rows c.self.view_is) ∙ ap (λ (rows : List RowValue). rows ++ s.grid.rows) above in
-    let shown : visible_rows c.args.self.now ≡ visible s.scrollback s.grid.rows = sym (ap visible_rows c.self.view_is) ∙ same_visible (if s.is_alternate then no_scrollback 0 else main_scrollback s.is_alternate s.scrollback s.other_scrollback) s.scrollback s.grid.rows above offset in
+    let shown : visible_rows c.args.self.now ≡ visible s.scrollback s.grid.rows =
+    sym (ap visible_rows c.self.view_is)
+    ∙ same_visible
+    (if s.is_alternate then no_scrollback 0 else main_scrollback s.is_alternate s.scrollback s.other_scrollback)
+    s.scrollback s.grid.rows above offset in
     let rows = c.len.ensures ∙ ap length c.rows-rows.ensures.rows in
-    let part = visible_part s.scrollback s.grid.rows (all_rows c.args.self.now) (visible_rows c.args.self.now) (c.stacked_len.result - c.offset.result - c.len.result) (c.stacked_len.result - c.offset.result) (active_in_view s.is_alternate s.scrollback s.other_scrollback kept.nothing kept.above) all shown (omega (arith, c.stacked_len.ensures, c.offset.ensures, rows)) (omega (arith, rows)) in
-    subst (λ (rows : List RowValue). OnErr c.write_rows.result (IsBehindSome c.args.state.now rows c.write_rows.new.state)) part c.write_rows.ensures.err
+    let part = visible_part s.scrollback s.grid.rows (all_rows c.args.self.now) (visible_rows c.args.self.now)
+    (c.stacked_len.result - c.offset.result - c.len.result) (c.stacked_len.result - c.offset.result)
+    (active_in_view s.is_alternate s.scrollback s.other_scrollback kept.nothing kept.above) all
+    shown (omega (arith, c.stacked_len.ensures, c.offset.ensures, rows)) (omega (arith, rows)) in
+    subst
+    (λ (rows : List RowValue). OnErr c.write_rows.result (IsBehindSome c.args.state.now rows c.write_rows.new.state))
+    part c.write_rows.ensures.err

@@ -7,4 +7,5 @@ pub invariant_of-self : goal.invariant_of-self
 invariant_of-self c = end_without_first _ _ c.self.invariant c.if-self-lt-ROOM.true
 
 pub returns-then-self-lt-ROOM-clause-value : goal.returns-then-self-lt-ROOM-clause-value
-returns-then-self-lt-ROOM-clause-value c = without_first_is _ _ c.self.invariant c.if-self-lt-ROOM.true ∙ ap without_separator c.self.view_is
+returns-then-self-lt-ROOM-clause-value c =
+    without_first_is _ _ c.self.invariant c.if-self-lt-ROOM.true ∙ ap without_separator c.self.view_is

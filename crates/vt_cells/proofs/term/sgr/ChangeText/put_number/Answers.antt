@@ -12,12 +12,14 @@ write_digits-self-inside-requires c =
 pub invariant_of-self : goal.invariant_of-self
 invariant_of-self c =
     let byte : c.from.result < 256 = rw c.from.ensures c.ranges.number.fits in
-    digits_put _ _ _ _ _ byte c.self.invariant c.write_digits-self-inside.ensures.start c.write_digits-self-inside.ensures.written
+    digits_put _ _ _ _ _ byte c.self.invariant
+    c.write_digits-self-inside.ensures.start c.write_digits-self-inside.ensures.written
 
 pub put-requires-clause-room : goal.put-requires-clause-room
 put-requires-clause-room c =
     let byte : c.from.result < 256 = rw c.from.ensures c.ranges.number.fits in
-    room_for_separator _ _ _ _ _ _ byte c.self.invariant c.write_digits-self-inside.ensures.start c.write_digits-self-inside.ensures.written c.self.view_is c.requires
+    room_for_separator _ _ _ _ _ _ byte c.self.invariant c.write_digits-self-inside.ensures.start
+    c.write_digits-self-inside.ensures.written c.self.view_is c.requires
 
 pub returns-clause-room : goal.returns-clause-room
 returns-clause-room c =

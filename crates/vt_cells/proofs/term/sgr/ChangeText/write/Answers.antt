@@ -15,4 +15,6 @@ returns c =
       c.requires,
     )
     (change_put c.args.was.now c.args.new.now) in
-    c.begin.ensures ∙ ap (λ xs. 0x1B ∷ 0x5B ∷ xs) (ap without_separator put ∙ numbers_left (change_numbers c.args.was.now c.args.new.now))
+    c.begin.ensures
+    ∙ ap (λ xs. 0x1B ∷ 0x5B ∷ xs)
+    (ap without_separator put ∙ numbers_left (change_numbers c.args.was.now c.args.new.now))
