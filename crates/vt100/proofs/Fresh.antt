@@ -12,7 +12,7 @@ use Rattle.vt_screen.specs.Shown.{IsPlain}
 use Rattle.vt100.specs.Parser.{Parsing, parsing}
 use Rattle.vt100.specs.Pieces.{IsPlainParser}
 use Rattle.vt100.specs.Streams.{IsFreshParser}
-use Rattle.vt100.proofs.Sizing.{resized_plain, resized_size}
+use Rattle.vt_screen.proofs.Sizing.{resized_plain, resized_size}
 
 height_is : (rows cols capacity : ℕ) → length (fresh_screen rows cols capacity).page.rows ≡ rows
 height_is rows cols capacity = length-replicate rows (blank_row default_attrs cols)

@@ -9,5 +9,4 @@ pub mod Parting
 pub mod Pieces
 pub mod Streams
 pub mod Sizes
-pub mod Sizing
 pub mod Fresh

@@ -27,7 +27,7 @@ use Rattle.vt_mirror.specs.Watching.{TakesUpdate, TakesSize, Watching, numbers_g
 use Rattle.vt_mirror.specs.declared.update.Update.{Update}
 use Rattle.vt_mirror.specs.declared.update.Update.TheVariants.{Diff, Full}
 use Rattle.vt_mirror.proofs.Bookkeeping.{by_number, none_some}
-use Rattle.vt100.proofs.Sizing.{resized_is, resized_plain, resized_size}
+use Rattle.vt_screen.proofs.Sizing.{resized_is, resized_plain, resized_size}
 
 -- ---- what is noted for a number whose viewer is told nothing: what was, or nothing
 

@@ -47,3 +47,5 @@ pub mod Bare
 pub mod StreamedTexts
 pub mod Heard
 pub mod StepLists
+pub mod Sizing
+mod WideFlags

@@ -10,7 +10,7 @@ use Rattle.vt_screen.specs.Steps.{Step, scrolled}
 use Rattle.vt_screen.specs.Streamed.{sent_off, sent_off_all, sent_off_in}
 use Rattle.vt_screen.specs.Telling.{screen_in, stepped_all, steps_in, steps_of_all}
 
-stepped_then : (xs ys : List Step) (s : ScreenValue) → stepped_all (xs ++ ys) s ≡ stepped_all ys (stepped_all xs s)
+pub stepped_then : (xs ys : List Step) (s : ScreenValue) → stepped_all (xs ++ ys) s ≡ stepped_all ys (stepped_all xs s)
 stepped_then [] ys s = refl
 stepped_then (x ∷ xs) ys s = stepped_then xs ys (scrolled x s)
 

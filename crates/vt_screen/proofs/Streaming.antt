@@ -194,13 +194,13 @@ record Turned (s t : ScreenValue) : Type 0 where
   same : SameSize t.page s.page
   rows : t.scrollback.rows ≡ s.scrollback.rows
 
-like_fresh : (page : Page) → IsPage page → IsLike page (blank_page (length page.rows) page.width)
+pub like_fresh : (page : Page) → IsPage page → IsLike page (blank_page (length page.rows) page.width)
 like_fresh page p = record {
   sound = page_blank (length page.rows) page.width (omega (arith, p.cursor_row)) p.height p.has_columns p.columns;
   same = record { width = refl; height = length-replicate (length page.rows) (blank_row default_attrs page.width) };
 }
 
-like_aside : (s : ScreenValue) → Held s → IsLike s.page (page_aside s)
+pub like_aside : (s : ScreenValue) → Held s → IsLike s.page (page_aside s)
 like_aside s k = by s.other k.other where
   by : (o : Option Page) → IfSome o (IsLike s.page) → IsLike s.page (page_aside (record s { other = o }))
   by (Some p) l = l

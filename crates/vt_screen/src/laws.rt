@@ -1,7 +1,7 @@
 //! What holds of what screens show. These functions do nothing: their clauses
 //! are what a proof may cite.
 
-ghost use Rattle.std.specs.Prelude.{◌≡◌, ◌+◌, ◌<◌, ◌↔◌, ℕ, List, suc, ◌++◌, length, replicate};
+ghost use Rattle.std.specs.Prelude.{◌≡◌, ◌+◌, ◌<◌, ◌≤◌, ◌↔◌, ℕ, List, suc, ◌++◌, length, replicate};
 ghost use Rattle.vt_grid.specs.Page.{SameSize};
 ghost use Rattle.vt_redraw.specs.Locality.{row_of_picture};
 ghost use Rattle.vt_redraw.specs.Picture.{IsPicture, SamePictureSize};
@@ -15,6 +15,7 @@ ghost use Rattle.vt_screen.specs.Pages.{resized};
 ghost use Rattle.vt_screen.specs.Screen.{IsScreen, ScreenValue, fresh_screen, scrolled_back, visible_row, visible_rows};
 ghost use Rattle.vt_screen.specs.Selectors.{HasNoSelectors, ReadsNoSelector};
 ghost use Rattle.vt_screen.specs.Shown.{ShowSamePage, ShowsNoSelector, ShowsOwnPage, shown};
+ghost use Rattle.vt_screen.specs.Steps.{EraseScrollback, scrolled};
 ghost use Rattle.vt_screen.specs.Streamed.{AreAlike, HasNoRis, HasWideFlags, bare, rows_told, sent_off_in};
 ghost use Rattle.vt_screen.specs.Telling.{calls_in, screen_in};
 
@@ -106,4 +107,24 @@ pub fn streams()
         bare screen ≡ bare other → sent_off_in scan screen bytes ≡ sent_off_in scan other bytes }
     ensures rest { (scan : State) (screen other : ScreenValue) (bytes : List ℕ) →
         bare screen ≡ bare other → bare (screen_in scan screen bytes) ≡ bare (screen_in scan other bytes) }
+{}
+
+/// Rows of scrollback whose text goes on below are at least as wide as the
+/// screen, which `streams` has as a premise. So it is on a fresh screen. It
+/// stays so over any run whose callbacks leave the screen alone, RIS among its
+/// bytes or not, wherever the screen is scrolled back, where scrollback is
+/// given up, and in a size of no more columns.
+///
+/// A size of more columns need not keep it: a row of scrollback that goes on
+/// below keeps its old width. On a screen of two rows and one column whose
+/// scrollback keeps a row, after `abc`, the row of `a` is one column wide and
+/// goes on below, and stays so where the screen then gets more columns.
+pub fn wide_flags()
+    ensures fresh { (rows cols capacity : ℕ) → HasWideFlags (fresh_screen rows cols capacity) }
+    ensures run { (scan : State) (screen : ScreenValue) (bytes : List ℕ) → IsScreen screen →
+        HasWideFlags screen → HasWideFlags (screen_in scan screen bytes) }
+    ensures view { (rows : ℕ) (screen : ScreenValue) → HasWideFlags screen → HasWideFlags (scrolled_back rows screen) }
+    ensures cleared { (screen : ScreenValue) → HasWideFlags screen → HasWideFlags (scrolled EraseScrollback screen) }
+    ensures resized { (rows cols : ℕ) (screen : ScreenValue) → IsScreen screen → cols ≤ screen.page.width →
+        HasWideFlags screen → HasWideFlags (resized rows cols screen) }
 {}

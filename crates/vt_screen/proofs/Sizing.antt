@@ -1,10 +1,10 @@
 -- A screen of another size is a screen of that size, and one that is plain stays so.
-use Rattle.std.proofs.Common.{◌≡◌, ℕ, ◌+◌, ◌-◌, ◌^◌, ◌<◌, ◌==◌, ◌&&◌, Bool, true, false, List, length, take}
+use Rattle.std.proofs.Common.{◌≡◌, ℕ, ◌^◌, ◌<◌, Bool, true, false, length, take}
 use Rattle.std.proofs.Common.{Option, Some, None, refl, sym, subst, ap, ◌∙◌, arith}
 use Rattle.std.specs.Prelude.{if◌then◌else◌, option_map, unwrap_or, IfSome, IsSome}
 use Rattle.std.proofs.lemmas.Bool.Decides.{nat_tests}
-use Rattle.vt_grid.specs.Page.{IsPage, IsPlainPage, IsWhole, Page, SameSize}
-use Rattle.vt_grid.specs.Resize.{leaving, out_of_view, page_resized, scrollback_resized}
+use Rattle.vt_grid.specs.Page.{IsPage, IsPlainPage, Page, SameSize}
+use Rattle.vt_grid.specs.Resize.{leaving, page_resized, scrollback_resized}
 use Rattle.vt_grid.specs.Scrollback.{IsScrollback, Scrollback, no_scrollback}
 use Rattle.vt_grid.proofs.Pages.{page_blank}
 use Rattle.vt_grid.proofs.Resizing.{offset-pushed, page_page_resized, scrollback_resized_is}
@@ -20,7 +20,7 @@ plain_page rows cols above page some origin =
     let tall = height_resized rows cols above page in
     record { whole = (refl, omega (arith, tall, some)); origin = origin }
 
-width_is : (rows cols : ℕ) (above : Scrollback) (page : Page) → (page_resized rows cols above page).width ≡ cols
+pub width_is : (rows cols : ℕ) (above : Scrollback) (page : Page) → (page_resized rows cols above page).width ≡ cols
 unfolding page_resized
 width_is rows cols above page = refl
 
