@@ -5,7 +5,7 @@ use Rattle.std.specs.Prelude.{All}
 use Rattle.std.specs.List.{FoldsTo}
 use Rattle.std.proofs.lemmas.Bool.Decides.{nat_tests}
 use Rattle.std.proofs.lemmas.List.Elements.{All-head, All-tail}
-use Rattle.vt_rows.specs.Texts.{IsPrintableText}
+use Rattle.vt_rows.specs.Texts.{IsPrintableAscii}
 use Rattle.vt_grid.specs.Page.{Page}
 use Rattle.vt_grid.proofs.Texts.{printed_put}
 use Rattle.vt_scan.specs.Scanner.{Held, ReadsItself}
@@ -65,5 +65,5 @@ text_ran does (c ∷ text) held s screen plain room =
     (text_ran does text held s next (All-tail (ReadsItself held) c text plain) left)
 
 -- what the scanner reads as itself is printable
-pub printable_of : (held : Held) (text : List ℕ) → All (ReadsItself held) text → IsPrintableText text
+pub printable_of : (held : Held) (text : List ℕ) → All (ReadsItself held) text → IsPrintableAscii text
 printable_of held text plain = λ k d lt. let itself = plain k d lt in (itself.2, itself.3)

@@ -10,7 +10,7 @@ use Rattle.vt_screen.specs.Shown.{shown}
 use Rattle.vt100.specs.Parser.{Parsing}
 use Rattle.vt100.specs.Pieces as pieces
 use Rattle.vt100.specs.Pieces.{IsPlainParser, processing}
-use Rattle.vt_mirror.specs.Calls.{Asks, JoinsMirror, Processes}
+use Rattle.vt_mirror.specs.Calls.{Asks, JoinsMirror, MirrorProcesses}
 use Rattle.vt_mirror.specs.Mirror.{MirrorValue}
 use Rattle.vt_mirror.specs.Watching.{Ask, Goes, IsFresh, IsLeft, IsNew, IsTakenBy, Join, MirrorCall, Process}
 use Rattle.vt_mirror.specs.Watching.{ReadsText, Sees, ShowsSeen, TakesUpdate, TakesSize, Watching}
@@ -39,7 +39,7 @@ pub late_shows : {S : Type 0} →
     IsNew old → FoldsTo (Goes number) old calls new → ShowsSeen new) →
     (before read joined told : MirrorValue) (output : List ℕ)
     (answer : Result (Unit {0}) Error) (number : ℕ) (update : Update) (old new : Parsing S) → IsFresh before
-    → IsScreen old.screen → IsPlainParser old → Processes before output answer read → joined.parser ≡ read.parser
+    → IsScreen old.screen → IsPlainParser old → MirrorProcesses before output answer read → joined.parser ≡ read.parser
     → JoinsMirror read.viewers (Ok number) joined.viewers → Asks joined number (Ok (Some update)) told
     → TakesUpdate update old new → IsSteady (shown told.parser.screen) → ShowsScreen told.parser.screen new
 late_shows {S} law before read joined told output answer number update

@@ -9,7 +9,7 @@ use Rattle.vt_cells.specs.Attrs.{default_attrs, Attrs}
 use Rattle.vt_cells.proofs.Widths.{columns_of-ascii}
 use Rattle.vt_rows.specs.Cells.{ends_blank, put_narrow}
 use Rattle.vt_rows.specs.Row.{RowValue, IsRow, blank_row, with_cells}
-use Rattle.vt_rows.specs.Texts.{IsPrintableText, put_text}
+use Rattle.vt_rows.specs.Texts.{IsPrintableAscii, put_text}
 use Rattle.vt_rows.proofs.Rows.{ends_blank-put_narrow}
 use Rattle.vt_rows.proofs.Texts.{IsGlyphText-printable, IsRow-put_text, put_text_after}
 use Rattle.vt_grid.specs.Keeping.{IsSized}
@@ -82,7 +82,7 @@ text_put_after b text attrs page p h =
 -- ---- a whole text
 
 pub text_printed : (text : List ℕ) (attrs : Attrs) (page : Page) → IsPage page →
-    0 < length text → IsPrintableText text → page.column + length text ≤ page.width →
+    0 < length text → IsPrintableAscii text → page.column + length text ≤ page.width →
     text_put text attrs page ≡ printed_text text attrs page
 text_printed [] attrs page p some h room = absurd (omega (arith, some))
 text_printed (c ∷ []) attrs page p some h room =
@@ -100,7 +100,7 @@ text_printed (c ∷ d ∷ text) attrs page p some h room =
 
 -- ---- what it leaves
 
-pub page_text_put : (text : List ℕ) (attrs : Attrs) (page : Page) → IsPrintableText text →
+pub page_text_put : (text : List ℕ) (attrs : Attrs) (page : Page) → IsPrintableAscii text →
     page.column + length text ≤ page.width → IsPage page → IsPage (text_put text attrs page)
 page_text_put text attrs page t h p =
     let cells = put_text page.column text attrs (cursor_row page).cells in
@@ -108,7 +108,7 @@ page_text_put text attrs page t h p =
     (IsRow-put_text page.width (cursor_row page) page.column text attrs h t (IsRow-cursor_row page p)) in
     page_at page.row (page.column + length text) (with_cursor_cells cells page) q.cursor_row h q
 
-pub sized_text_put : (rows cols : ℕ) (text : List ℕ) (attrs : Attrs) (page : Page) → IsPrintableText text →
+pub sized_text_put : (rows cols : ℕ) (text : List ℕ) (attrs : Attrs) (page : Page) → IsPrintableAscii text →
     page.column + length text ≤ page.width → IsSized rows cols page → IsSized rows cols (text_put text attrs page)
 sized_text_put rows cols text attrs page t h s =
     sized rows cols page (text_put text attrs page) s

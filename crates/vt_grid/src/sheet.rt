@@ -9,7 +9,7 @@ ghost use Rattle.vt_cells.specs.Refusals.{OnlyOutOfMemory};
 ghost use Rattle.vt_rows.specs.Cells.{IsPaired, at, ends_blank, erased, marked_at};
 ghost use Rattle.vt_rows.specs.Cells.{narrowed_at, put_narrow, put_wide, widened_at};
 ghost use Rattle.vt_rows.specs.Row.{RowValue, IsRow, blank_row, deleted_row, inserted_row};
-ghost use Rattle.vt_rows.specs.Texts.{IsPrintableText, put_text};
+ghost use Rattle.vt_rows.specs.Texts.{IsPrintableAscii, put_text};
 ghost use Rattle.vt_grid.specs.Page.{rows_up};
 ghost use Rattle.vt_grid.specs.Shifts.{rows_down};
 ghost use Rattle.vt_grid.specs.Scrollback.{Sends, TakesMemory};
@@ -179,7 +179,7 @@ impl Sheet {
         requires paired { IsPaired (sheet_row self.old row).cells }
         requires some { 0 < length text.now }
         requires columns { col + length text.now ≤ length (sheet_row self.old row).cells }
-        requires printable { IsPrintableText text.now }
+        requires printable { IsPrintableAscii text.now }
         ensures { self.new ≡ with_row_cells row (put_text col text.now attrs (sheet_row self.old row).cells) self.old }
     {
         let row = usize::from(row);

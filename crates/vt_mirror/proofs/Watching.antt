@@ -18,10 +18,10 @@ use Rattle.vt100.specs.Parser.{Parsing}
 use Rattle.vt100.specs.Pieces.{HasRead, IsPlainParser}
 use Rattle.vt100.proofs.Pieces.{read_pieces}
 use Rattle.vt_mirror.specs.Calls.{Answers, Asks, IsDiff, IsFull, IsUpdate, JoinsMirror}
-use Rattle.vt_mirror.specs.Calls.{Leaves, Processes, Redraws, Resizes, Tells}
+use Rattle.vt_mirror.specs.Calls.{Leaves, MirrorProcesses, Redraws, Resizes, Tells}
 use Rattle.vt_mirror.specs.Mirror.{MirrorValue}
 use Rattle.vt_mirror.specs.Viewers.{Puts, ViewersValue, next_number, note_of}
-use Rattle.vt_mirror.specs.Watching.{Ask, CountUp, Does, Watches, Goes, IsFresh, IsLeft, IsNew, IsTakenBy}
+use Rattle.vt_mirror.specs.Watching.{Ask, CountUp, Goes, IsFresh, IsLeft, IsNew, IsTakenBy, MirrorDoes, Watches}
 use Rattle.vt_mirror.specs.Watching.{Join, Leave, MirrorCall, Process, ReadsText, Sees, SetSize, ShowsSeen}
 use Rattle.vt_mirror.specs.Watching.{TakesUpdate, TakesSize, Watching, numbers_given}
 use Rattle.vt_mirror.specs.declared.update.Update.{Update}
@@ -217,7 +217,7 @@ holds_ask number asked (Err error) old new a f h =
     holds_left number old new (before_equal number old.mirror new.mirror a.refused.1) f h
 
 holds_call : {S : Type 0} (number : ℕ) (call : MirrorCall) (old new : Watching S) →
-    Does old.mirror call new.mirror → Watches number old call new → Holds number old → Holds number new
+    MirrorDoes old.mirror call new.mirror → Watches number old call new → Holds number old → Holds number new
 holds_call number (Process bytes answer) old new d f h =
     holds_left number old new (before_same number old.mirror new.mirror d.viewers) f h
 holds_call number (SetSize rows cols answer) old new d f h =
@@ -280,7 +280,7 @@ last_ask old new viewer (Ok None) a = ap (λ (m : MirrorValue). m.viewers.last) 
 last_ask old new viewer (Err error) a = ap (λ (m : MirrorValue). m.viewers.last) a.refused.1
 
 pub numbers_count : (old new : MirrorValue) (calls : List MirrorCall) →
-    FoldsTo Does old calls new → CountUp (next_number old.viewers.last) (numbers_given calls)
+    FoldsTo MirrorDoes old calls new → CountUp (next_number old.viewers.last) (numbers_given calls)
 numbers_count old new [] f = tt
 numbers_count old new (Process bytes answer ∷ calls) f =
     last_stays old f.0 (next_number old.viewers.last) (numbers_given calls)

@@ -21,7 +21,7 @@ use Rattle.vt_mirror.specs.declared.update.Update.{Update}
 use Rattle.vt_mirror.specs.declared.update.Update.TheVariants.{Diff, Full}
 
 -- bytes are read as by the parser alone, whose callbacks do nothing; the size stays, and so do the viewers
-pub record Processes (old : MirrorValue) (bytes : List ℕ)
+pub record MirrorProcesses (old : MirrorValue) (bytes : List ℕ)
     (answer : Result (Unit {0}) Error) (new : MirrorValue) : Type 0 where
   pub viewers : new.viewers ≡ old.viewers
   pub size : SameSize new.parser.screen.page old.parser.screen.page

@@ -10,7 +10,7 @@ use Rattle.vt_screen.specs.Shown.{shown}
 use Rattle.vt100.specs.Parser.{Parsing}
 use Rattle.vt100.specs.Pieces as pieces
 use Rattle.vt100.specs.Pieces.{IsPlainParser, Processing, bytes_in}
-use Rattle.vt_mirror.specs.Calls.{Asks, JoinsMirror, Leaves, Processes, Resizes}
+use Rattle.vt_mirror.specs.Calls.{Asks, JoinsMirror, Leaves, MirrorProcesses, Resizes}
 use Rattle.vt_mirror.specs.Mirror.{MirrorValue}
 use Rattle.vt_mirror.specs.declared.update.Update.{Update}
 use Rattle.vt_mirror.specs.declared.update.Update.TheVariants.{Diff, Full}
@@ -26,12 +26,12 @@ pub data MirrorCall : Type 0 where
   Ask : (viewer : ℕ) → (answer : Result (Option Update) Error) → MirrorCall
 
 -- what the mirror does in a call
-abbrev pub Does : MirrorValue → MirrorCall → MirrorValue → Type 0
-Does old (Process bytes answer) new = Processes old bytes answer new
-Does old (SetSize rows cols answer) new = Resizes old rows cols answer new
-Does old (Join answer) new = (new.parser ≡ old.parser) × JoinsMirror old.viewers answer new.viewers
-Does old (Leave viewer answer) new = (new.parser ≡ old.parser) × Leaves old.viewers viewer answer new.viewers
-Does old (Ask viewer answer) new = Asks old viewer answer new
+abbrev pub MirrorDoes : MirrorValue → MirrorCall → MirrorValue → Type 0
+MirrorDoes old (Process bytes answer) new = MirrorProcesses old bytes answer new
+MirrorDoes old (SetSize rows cols answer) new = Resizes old rows cols answer new
+MirrorDoes old (Join answer) new = (new.parser ≡ old.parser) × JoinsMirror old.viewers answer new.viewers
+MirrorDoes old (Leave viewer answer) new = (new.parser ≡ old.parser) × Leaves old.viewers viewer answer new.viewers
+MirrorDoes old (Ask viewer answer) new = Asks old viewer answer new
 
 -- no number was given, nobody views, and nothing is noted
 pub record IsFresh (mirror : MirrorValue) : Type 0 where
@@ -103,7 +103,7 @@ Watches {S} number old (Ask viewer (Err error)) new = IsLeft old new
 
 -- a call of the mirror, and what its viewer does in it
 abbrev pub Goes : {S : Type 0} → ℕ → Watching S → MirrorCall → Watching S → Type 0
-Goes {S} number old call new = Does old.mirror call new.mirror × Watches number old call new
+Goes {S} number old call new = MirrorDoes old.mirror call new.mirror × Watches number old call new
 
 -- a terminal that was never told anything: it is plain
 pub record IsNew {S : Type 0} (watching : Watching S) : Type 0 where

@@ -5,7 +5,7 @@ ghost use Rattle.std.specs.List.{FoldsTo};
 ghost use Rattle.std.specs.Prelude.{ℕ, List};
 ghost use Rattle.vt_mirror.specs.Mirror.{MirrorValue};
 ghost use Rattle.vt_mirror.specs.Viewers.{next_number};
-ghost use Rattle.vt_mirror.specs.Watching.{CountUp, Does, Goes, IsFresh, IsNew, MirrorCall};
+ghost use Rattle.vt_mirror.specs.Watching.{CountUp, Goes, IsFresh, IsNew, MirrorCall, MirrorDoes};
 ghost use Rattle.vt_mirror.specs.Watching.{ShowsSeen, Watching, numbers_given};
 
 use vt100::Callbacks;
@@ -31,5 +31,5 @@ pub fn viewers<CB: Callbacks>()
     ensures shows { (number : ℕ) (calls : List MirrorCall) (old new : Watching CB) →
         IsFresh old.mirror → IsNew old → FoldsTo (Goes number) old calls new → ShowsSeen new }
     ensures numbers { (old new : MirrorValue) (calls : List MirrorCall) →
-        FoldsTo Does old calls new → CountUp (next_number old.viewers.last) (numbers_given calls) }
+        FoldsTo MirrorDoes old calls new → CountUp (next_number old.viewers.last) (numbers_given calls) }
 {}

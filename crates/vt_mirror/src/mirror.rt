@@ -3,7 +3,7 @@
 ghost use Rattle.std.specs.Prelude.{◌≡◌, IfOk, None, []};
 ghost use Rattle.vt_cells.specs.Refusals.{OnlyOutOfMemory};
 ghost use Rattle.vt100.specs.Parser.{parsing};
-ghost use Rattle.vt_mirror.specs.Calls.{Asks, IsUpdate, JoinsMirror, Leaves, Processes, Resizes};
+ghost use Rattle.vt_mirror.specs.Calls.{Asks, IsUpdate, JoinsMirror, Leaves, MirrorProcesses, Resizes};
 ghost use Rattle.vt_mirror.specs.Viewers.{note_of};
 ghost use Rattle.vt_scan.specs.Automaton.{start};
 ghost use Rattle.vt_scan.specs.Scanner.{StandsFor};
@@ -81,7 +81,7 @@ impl Mirror {
     /// the refused one were taken, and from then on the mirror reads nothing
     /// and answers `Failed`. Its viewers still join, leave and are updated.
     pub fn process(&mut self, bytes: &[u8]) -> Result<(), Error>
-        ensures call { Processes self.old bytes.now result self.new }
+        ensures call { MirrorProcesses self.old bytes.now result self.new }
     {
         self.parser.screen().size();
         self.parser.process(bytes)

@@ -14,7 +14,7 @@ use Rattle.vt_cells.specs.Op.{SaveCursor, RestoreCursor, ChangeAttrs, Print, Fit
 use Rattle.vt_rows.specs.Cells.{at, ends_blank}
 use Rattle.vt_rows.specs.Row.{RowValue, IsRow}
 use Rattle.vt_grid.specs.Page.{row_or}
-use Rattle.vt_redraw.specs.Fits.{Fits, IsPrintableText}
+use Rattle.vt_redraw.specs.Fits.{Fits, IsDrawnText}
 use Rattle.vt_cells.specs.Glyph.{first_columns}
 use Rattle.vt_redraw.specs.Script.{pen_at, going, changing, blank_run, erase_run}
 use Rattle.vt_redraw.specs.declared.pen.Pen.{Pen}
@@ -64,7 +64,7 @@ feeds_fit : (n : ℕ) → AllFit (replicate n LineFeed)
 feeds_fit zero = tt
 feeds_fit (suc n) = (tt, feeds_fit n)
 
-space_fits : IsPrintableText (0x20 ∷ [])
+space_fits : IsDrawnText (0x20 ∷ [])
 space_fits = printable_text (0x20 ∷ []) false IsGlyphText-space
 
 -- ---- cells
@@ -82,7 +82,7 @@ at_fits [] k h = (tt, (tt, tt))
 at_fits (x ∷ xs) zero h = h.0
 at_fits (x ∷ xs) (suc k) h = at_fits xs k h.1
 
-text_fits : (x : CellValue) → IsCell x → IsPrintableText (text_of x)
+text_fits : (x : CellValue) → IsCell x → IsDrawnText (text_of x)
 text_fits (glyph text wide a) h = printable_text text wide h
 text_fits (blank a) h = record { characters = []; spelled = refl; printable = tt }
 text_fits right_half h = record { characters = []; spelled = refl; printable = tt }

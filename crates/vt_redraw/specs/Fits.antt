@@ -8,16 +8,16 @@ use Rattle.vt_cells.specs.Op.{Op, Hide, ClearAttrs, MoveTo, MoveRight, NextRow, 
 use Rattle.vt_cells.specs.Op.{EraseRest, EraseChars, SaveCursor, RestoreCursor, ChangeAttrs, Print, FitsAttrs}
 
 -- a character that is drawn, or joins the one before it
-pub record IsPrintable (c : ℕ) : Type 0 where
+pub record IsDrawn (c : ℕ) : Type 0 where
   pub scalar : IsScalar c
   pub shown : columns_of c ≢ None
   pub reported : c ≢ 0xFFFD
 
 -- a text of such characters
-pub record IsPrintableText (text : List ℕ) : Type 0 where
+pub record IsDrawnText (text : List ℕ) : Type 0 where
   pub characters : List ℕ
   pub spelled : encode_utf8_all characters ≡ text
-  pub printable : AllByRecursion IsPrintable characters
+  pub printable : AllByRecursion IsDrawn characters
 
 -- a row and a column are written from 1 on
 abbrev pub Fits : Op → Type 0
@@ -34,4 +34,4 @@ Fits (EraseChars count) = count < 2 ^ 16
 Fits SaveCursor = Unit {0}
 Fits RestoreCursor = Unit {0}
 Fits (ChangeAttrs was new) = FitsAttrs was × FitsAttrs new
-Fits (Print text) = IsPrintableText text
+Fits (Print text) = IsDrawnText text

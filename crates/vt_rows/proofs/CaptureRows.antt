@@ -15,7 +15,7 @@ use Rattle.std.proofs.lemmas.Str.{encodes-append, drop_past_char, IsCharBoundary
 use Rattle.vt_rows.specs.CaptureRows.{ends_row, is_beyond, overflows}
 use Rattle.vt_rows.specs.Keeping.{rows_behind, rows_of}
 use Rattle.vt_rows.specs.Stretches.{begins_stretch, shown_columns, shown_columns_or, is_within_after}
-use Rattle.vt_rows.specs.Stretches.{is_within, columns_added, columns_from, columns_in}
+use Rattle.vt_rows.specs.Stretches.{ends_within, columns_added, columns_from, columns_in}
 
 within_more : (within : Bool) (text : List ℕ) (c : ℕ) →
     fold is_within_after within (text ++ c ∷ []) ≡ is_within_after (fold is_within_after within text) c
@@ -29,11 +29,11 @@ columns_more within (b ∷ text) c =
     let ih = columns_more (is_within_after within b) text c in
     omega arith
 
-pub is_within-more : (row : List ℕ) (c : ℕ) → is_within (row ++ c ∷ []) ≡ is_within_after (is_within row) c
-is_within-more row c = within_more false row c
+pub ends_within-more : (row : List ℕ) (c : ℕ) → ends_within (row ++ c ∷ []) ≡ is_within_after (ends_within row) c
+ends_within-more row c = within_more false row c
 
 pub columns_in-more : (row : List ℕ) (c : ℕ) →
-    columns_in (row ++ c ∷ []) ≡ columns_in row + columns_added (is_within row) c
+    columns_in (row ++ c ∷ []) ≡ columns_in row + columns_added (ends_within row) c
 columns_in-more row c = columns_more false row c
 
 -- the text was read up to `rest`, as the row so far
@@ -63,7 +63,7 @@ module _ (width : ℕ) (text row rest later : List ℕ) (c : ℕ)
   pub row_full : ends_row row c ≡ false → overflows width row c ≡ true →
       rows_of width text ≡ encode_utf8_all row ∷ rows_of width rest
   row_full goes full =
-      let outside : is_within row ≡ false = beyond_outside width (columns_in row) (is_within row) c full in
+      let outside : ends_within row ≡ false = beyond_outside width (columns_in row) (ends_within row) c full in
       let other : ends_row [] c ≡ false = rw outside at goes in
       let fits : overflows width [] c ≡ false = refl in
       let step : rows_behind width row (c ∷ chars later) ≡ row ∷ rows_behind width (c ∷ []) (chars later) =
@@ -107,7 +107,7 @@ back_part text front back n parts e = rw (parts, e) (drop-append_seam front back
 
 -- behind a line end
 pub line_end : (row : List ℕ) (c : ℕ) → ends_row row c ≡ true → c ≡ 0x0A
-line_end row c ends = eqb-true c 0x0A (and_parts (not (is_within row)) (c == 0x0A) ends).1
+line_end row c ends = eqb-true c 0x0A (and_parts (not (ends_within row)) (c == 0x0A) ends).1
 
 pub behind_line_end : (text row rest later : List ℕ) (c n : ℕ) → text ≡ encode_utf8_all row ++ rest →
     rest ≡ encode_utf8 c ++ later → n ≡ length (encode_utf8_all row) → c ≡ 0x0A → drop (n + 1) text ≡ later
@@ -155,4 +155,4 @@ pub bound_kept : (width : ℕ) (row : List ℕ) (c : ℕ) → overflows width ro
     columns_in row ≤ width + 2 → columns_in (row ++ c ∷ []) ≤ width + 2
 bound_kept width row c fits low =
     rw (columns_in-more row c)
-    (within_bound width (columns_in row) (columns_added (is_within row) c) fits low (added_most (is_within row) c))
+    (within_bound width (columns_in row) (columns_added (ends_within row) c) fits low (added_most (ends_within row) c))

@@ -14,7 +14,7 @@ use Rattle.vt_rows.specs.CaptureRows.{ends_row, overflows, IsUncut, IsRowOf, IsB
 use Rattle.vt_rows.specs.CaptureRows.{IsBehindFull, AreRowsFrom, AreRowsOf}
 use Rattle.vt_rows.specs.Keeping.{rows_behind}
 use Rattle.vt_rows.specs.Pieces.{Piece, end_of, texts_of}
-use Rattle.vt_rows.specs.Stretches.{is_within, columns_in}
+use Rattle.vt_rows.specs.Stretches.{ends_within, columns_in}
 use Rattle.vt_rows.proofs.CaptureRows.{beyond_outside, line_end}
 use Rattle.vt_rows.proofs.Outside.{Place, StandsAt, place, stands_later}
 
@@ -83,7 +83,7 @@ uncut_one width c goes (suc k) lt = absurd (omega (arith, lt))
 -- what is cut behind a row that it overflows does not end a row
 full_goes : (width : ℕ) (row : List ℕ) (c : ℕ) → overflows width row c ≡ true → ends_row row c ≡ ends_row [] c
 full_goes width row c full =
-    let outside : is_within row ≡ false = beyond_outside width (columns_in row) (is_within row) c full in
+    let outside : ends_within row ≡ false = beyond_outside width (columns_in row) (ends_within row) c full in
     ap (λ within. not within && (c == 0x0A)) outside
 
 -- the rows from byte `at` on, the first one with the characters of `row`

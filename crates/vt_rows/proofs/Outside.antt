@@ -8,8 +8,9 @@ use Rattle.std.proofs.lemmas.Bool.Decides.{nat_tests}
 use Rattle.std.proofs.lemmas.List.{length-append, drop-drop}
 use Rattle.std.proofs.Math.Seq.{take-append_seam, drop-append_seam}
 use Rattle.vt_rows.specs.Keeping.{piece_at, pieces_behind, pieces_within, pieces_from}
-use Rattle.vt_rows.specs.Pieces.{Piece, end_of, IsInSome, AreApart, ArePiecesOf, texts_of, plain_from, plain_text}
-use Rattle.vt_rows.specs.Stretches.{IsInStretch, begins_stretch, ends_stretch, is_within, is_within_after}
+use Rattle.vt_rows.specs.Pieces.{Piece, end_of, IsInSome, AreApart, ArePiecesOf, texts_of}
+use Rattle.vt_rows.specs.Pieces.{plain_from, without_stretches}
+use Rattle.vt_rows.specs.Stretches.{IsInStretch, begins_stretch, ends_stretch, ends_within, is_within_after}
 
 -- byte k stands in a stretch, for a text that begins within one or not
 abbrev in_stretch : Bool → List ℕ → ℕ → Bool
@@ -321,7 +322,7 @@ at_end : (within : Bool) (text : List ℕ) → in_stretch within text (length te
 at_end within [] = refl
 at_end within (b ∷ text) = at_end (is_within_after within b) text
 
-pub within_by_places : (text : List ℕ) → (is_within text ≡ true) ↔ IsInStretch text (length text)
+pub within_by_places : (text : List ℕ) → (ends_within text ≡ true) ↔ IsInStretch text (length text)
 within_by_places text = (
   λ e. by (told false text (length text) (omega arith) (at_end false text ∙ e)),
   λ s. sym (at_end false text) ∙ tells false text (length text) (omega arith) (inl s),
@@ -378,7 +379,7 @@ mutual
   joined_within at (b ∷ text) =
       byte_left at b text (ends_stretch b) refl (joined_behind (at + 1) [] text) (joined_within (at + 1) text)
 
-pub pieces_joined : (capture : List ℕ) → concat (texts_of (pieces_from 0 capture)) ≡ plain_text capture
+pub pieces_joined : (capture : List ℕ) → concat (texts_of (pieces_from 0 capture)) ≡ without_stretches capture
 pieces_joined capture = joined_behind 0 [] capture
 
 -- what an iterator over a whole capture has still to give
@@ -389,7 +390,7 @@ whole_are capture len e =
     rw none (pieces_are capture)
 
 pub whole_joined : (capture : List ℕ) (len : ℕ) → len ≡ length capture →
-    concat (texts_of (pieces_from (len - length capture) capture)) ≡ plain_text capture
+    concat (texts_of (pieces_from (len - length capture) capture)) ≡ without_stretches capture
 whole_joined capture len e =
     let none : len - length capture ≡ 0 = omega (arith, e) in
     rw none (pieces_joined capture)

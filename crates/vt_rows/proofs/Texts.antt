@@ -16,7 +16,7 @@ use Rattle.vt_cells.proofs.Glyphs.{IsGlyphText-first}
 use Rattle.vt_cells.proofs.Widths.{columns_of-ascii}
 use Rattle.vt_rows.specs.Cells.{at, IsPaired, put_cells, column_of, put_narrow}
 use Rattle.vt_rows.specs.Row.{RowValue, IsRow, with_cells}
-use Rattle.vt_rows.specs.Texts.{IsPrintableText, narrow_glyph, glyphs_of, put_text}
+use Rattle.vt_rows.specs.Texts.{IsPrintableAscii, narrow_glyph, glyphs_of, put_text}
 use Rattle.vt_rows.proofs.Columns.{put_columns, length-put_cells, same_columns}
 use Rattle.vt_rows.proofs.Pairs.{IsPaired-put_cells}
 use Rattle.vt_rows.proofs.Rows.{IsRow-with_cells}
@@ -110,7 +110,7 @@ IsGlyphText-printable b low high =
     IsGlyphText-first b false (low_scalar b (omega arith))
     (λ e. absurd (omega (arith, e))) (columns_of-ascii b low high)
 
-All-glyphs_of : (attrs : Attrs) (text : List ℕ) → IsPrintableText text → All IsCell (glyphs_of attrs text)
+All-glyphs_of : (attrs : Attrs) (text : List ℕ) → IsPrintableAscii text → All IsCell (glyphs_of attrs text)
 All-glyphs_of attrs [] h = All-nil IsCell
 All-glyphs_of attrs (b ∷ text) h =
     let first = All-head (λ b. (0x20 ≤ b) × (b < 0x7F)) b text h in
@@ -118,13 +118,13 @@ All-glyphs_of attrs (b ∷ text) h =
     (All-glyphs_of attrs text (All-tail (λ b. (0x20 ≤ b) × (b < 0x7F)) b text h))
 
 pub All-put_text : (c : ℕ) (text : List ℕ) (attrs : Attrs) (cells : List CellValue) →
-    IsPrintableText text → All IsCell cells → All IsCell (put_text c text attrs cells)
+    IsPrintableAscii text → All IsCell cells → All IsCell (put_text c text attrs cells)
 All-put_text c text attrs cells h all =
     All-put_cells c (length text) (glyph (0x20 ∷ []) false attrs)
     (glyphs_of attrs text) cells (IsCell-space attrs) (All-glyphs_of attrs text h) all
 
 pub IsRow-put_text : (width : ℕ) (row : RowValue) (c : ℕ) (text : List ℕ) (attrs : Attrs) → c + length text ≤ width →
-    IsPrintableText text → IsRow width row → IsRow width (with_cells row (put_text c text attrs row.cells))
+    IsPrintableAscii text → IsRow width row → IsRow width (with_cells row (put_text c text attrs row.cells))
 IsRow-put_text width row c text attrs h t r =
     let l = r.columns in
     IsRow-with_cells width row (put_text c text attrs row.cells)

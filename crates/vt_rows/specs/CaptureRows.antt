@@ -2,18 +2,18 @@
 use Rattle.std.specs.Prelude.{◌≡◌, ◌⊎◌, ℕ, Bool, true, false, not, ◌==◌, ◌&&◌, nat_lt, List, []}
 use Rattle.std.specs.Prelude.{◌∷◌, ◌+◌, ◌<◌, IsUtf8, chars, get_or, length, take, drop}
 use Rattle.vt_rows.specs.Pieces.{Piece, end_of}
-use Rattle.vt_rows.specs.Stretches.{columns_added, columns_in, is_within}
+use Rattle.vt_rows.specs.Stretches.{columns_added, columns_in, ends_within}
 
 -- the character is a line end behind the row: LF outside a stretch
 abbrev pub ends_row : List ℕ → ℕ → Bool
-ends_row row c = not (is_within row) && (c == 0x0A)
+ends_row row c = not (ends_within row) && (c == 0x0A)
 
 -- the character takes columns, and would make a row that has some already wider than the width
 abbrev pub is_beyond : ℕ → ℕ → ℕ → Bool
 is_beyond width used added = nat_lt 0 used && (nat_lt 0 added && nat_lt width (used + added))
 
 abbrev pub overflows : ℕ → List ℕ → ℕ → Bool
-overflows width row c = is_beyond width (columns_in row) (columns_added (is_within row) c)
+overflows width row c = is_beyond width (columns_in row) (columns_added (ends_within row) c)
 
 -- no character k of the row ends or overflows what stands before it in the row
 abbrev pub IsUncut : ℕ → List ℕ → Type 0

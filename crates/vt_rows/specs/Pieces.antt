@@ -45,5 +45,5 @@ plain_from true (b ∷ text) = plain_from (is_within_after true b) text
 plain_from false (b ∷ text) = if begins_stretch b then plain_from true text else b ∷ plain_from false text
 
 -- a capture without each stretch
-abbrev pub plain_text : List ℕ → List ℕ
-plain_text capture = plain_from false capture
+abbrev pub without_stretches : List ℕ → List ℕ
+without_stretches capture = plain_from false capture

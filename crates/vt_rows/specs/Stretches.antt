@@ -22,8 +22,8 @@ abbrev pub IsInStretch : List ℕ → ℕ → Type 0
 IsInStretch text k = (i : ℕ) × (i ≤ k) × (get_or text i 0 ≡ 0x1B) × ((j : ℕ) → i ≤ j → j < k → get_or text j 0 ≢ 0x6D)
 
 -- the text ends within a stretch
-abbrev pub is_within : List ℕ → Bool
-is_within text = fold is_within_after false text
+abbrev pub ends_within : List ℕ → Bool
+ends_within text = fold is_within_after false text
 
 -- the columns of a character: at most 2, and 1 where `unicode_width` gives none (UAX #11)
 abbrev pub shown_columns_or : Option ℕ → ℕ

@@ -6,8 +6,8 @@ use Rattle.vt_cells.specs.Cell.{CellValue, glyph}
 use Rattle.vt_rows.specs.Cells.{put_cells}
 
 -- bytes of printable ASCII, each a character of one column
-abbrev pub IsPrintableText : List ℕ → Type 0
-IsPrintableText text = All (λ b. (0x20 ≤ b) × (b < 0x7F)) text
+abbrev pub IsPrintableAscii : List ℕ → Type 0
+IsPrintableAscii text = All (λ b. (0x20 ≤ b) × (b < 0x7F)) text
 
 -- the narrow glyph of a character
 abbrev pub narrow_glyph : Attrs → ℕ → CellValue

@@ -12,7 +12,7 @@ ghost use Rattle.vt_cells.specs.Glyph.{columns_of};
 ghost use Rattle.vt_rows.specs.Cells.{IsPaired, at, blanks, ends_blank, erased, marked_at};
 ghost use Rattle.vt_rows.specs.Cells.{narrowed_at, put_narrow, put_wide, widened_at};
 ghost use Rattle.vt_rows.specs.Keeping.{HasRoom, left_blanked, right_replaced};
-ghost use Rattle.vt_rows.specs.Texts.{IsPrintableText, glyphs_of, put_text};
+ghost use Rattle.vt_rows.specs.Texts.{IsPrintableAscii, glyphs_of, put_text};
 
 use std::mem;
 use vt_cells::{Attrs, Cell};
@@ -50,7 +50,7 @@ pub fn put_text(cells: &mut [Cell], column: usize, text: &[u8], attrs: Attrs)
     requires paired { IsPaired cells.old }
     requires some { 0 < length text.now }
     requires inside { column + length text.now ≤ length cells.old }
-    requires printable { IsPrintableText text.now }
+    requires printable { IsPrintableAscii text.now }
     ensures value { cells.new ≡ put_text column text.now attrs cells.old }
     ensures paired { IsPaired cells.new }
     ensures sound { All IsCell cells.old → All IsCell cells.new }
@@ -65,7 +65,7 @@ pub fn put_text(cells: &mut [Cell], column: usize, text: &[u8], attrs: Attrs)
 #[inline]
 fn write_text(cells: &mut [Cell], text: &[u8], attrs: Attrs)
     requires same { length cells.old ≡ length text.now }
-    requires printable { IsPrintableText text.now }
+    requires printable { IsPrintableAscii text.now }
     ensures { cells.new ≡ glyphs_of attrs text.now }
 {
     let count = cells.len().min(text.len());

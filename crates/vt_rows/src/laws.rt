@@ -4,7 +4,7 @@
 ghost use Rattle.std.specs.Prelude.{◌≡◌, ◌↔◌, ℕ, List, IsUtf8, length, true};
 ghost use Rattle.vt_rows.specs.CaptureRows.{AreRowsOf};
 ghost use Rattle.vt_rows.specs.Pieces.{ArePiecesOf, Piece};
-ghost use Rattle.vt_rows.specs.Stretches.{IsInStretch, is_within};
+ghost use Rattle.vt_rows.specs.Stretches.{IsInStretch, ends_within};
 
 /// A capture has one list of pieces.
 pub fn pieces_are_one()
@@ -21,5 +21,5 @@ pub fn rows_are_one()
 /// A text ends within a stretch of SGR if an ESC stands in it, and no `m`
 /// behind that.
 pub fn stretch_is_open()
-    ensures { (text : List ℕ) → (is_within text ≡ true) ↔ IsInStretch text (length text) }
+    ensures { (text : List ℕ) → (ends_within text ≡ true) ↔ IsInStretch text (length text) }
 {}

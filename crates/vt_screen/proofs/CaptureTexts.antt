@@ -12,7 +12,7 @@ use Rattle.vt_rows.specs.Basic.{Written, unwritten, shown_text, attrs_after, cel
 use Rattle.vt_rows.specs.Cells.{blanks}
 use Rattle.vt_rows.specs.Row.{RowValue, IsRow, blank_row, trimmed}
 use Rattle.vt_grid.specs.Scrollback.{no_scrollback}
-use Rattle.vt_redraw.specs.Fits.{IsPrintable, IsPrintableText}
+use Rattle.vt_redraw.specs.Fits.{IsDrawn, IsDrawnText}
 use Rattle.vt_redraw.proofs.Cuts.{IsAnyRow}
 use Rattle.vt_redraw.proofs.Printable.{printable_text}
 use Rattle.vt_screen.specs.Capture.{basic_texts}
@@ -49,11 +49,11 @@ captured_part part is = record { parts = part ∷ []; are_parts = (is, tt); spel
 
 -- ---- cells
 
-graphic : (cs : List ℕ) → AllByRecursion IsPrintable cs → AllByRecursion IsGraphic cs
+graphic : (cs : List ℕ) → AllByRecursion IsDrawn cs → AllByRecursion IsGraphic cs
 graphic [] h = tt
 graphic (c ∷ cs) h = (shown_range c h.0.shown, graphic cs h.1)
 
-captured_glyph : (text : List ℕ) → IsPrintableText text → IsCaptureText text
+captured_glyph : (text : List ℕ) → IsDrawnText text → IsCaptureText text
 captured_glyph text is =
     subst IsCaptureText is.spelled (captured_part (Text is.characters) (graphic is.characters is.printable))
 

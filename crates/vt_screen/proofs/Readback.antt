@@ -16,7 +16,7 @@ use Rattle.vt_cells.specs.Op.{Op, Hide, ClearAttrs, MoveTo, MoveRight, NextRow, 
 use Rattle.vt_cells.specs.Op.{EraseRest, EraseChars, SaveCursor, RestoreCursor, ChangeAttrs, Print, csi, counted}
 use Rattle.vt_cells.specs.Op.{place, joined, change_numbers, change_text, FitsAttrs, bytes_of, bytes_of_all}
 use Rattle.vt_grid.specs.Canvas.{Canvas, and_then, drawn, drawn_all, drawn_text, fed}
-use Rattle.vt_redraw.specs.Fits.{Fits, IsPrintable}
+use Rattle.vt_redraw.specs.Fits.{Fits, IsDrawn}
 use Rattle.vt_grid.specs.Moves.{carriage_return, line_feed, feeds_out}
 use Rattle.vt_grid.specs.Printing.{pushes}
 use Rattle.vt_scan.specs.Automaton.{Character, Executed, start, fresh_step}
@@ -266,13 +266,13 @@ shown_range c shown =
     (cases_lt c 0x7F))
     (cases_lt c 0x20)
 
-pub prints : (c : ℕ) → IsPrintable c → character_steps c ≡ steps.Print c ∷ []
+pub prints : (c : ℕ) → IsDrawn c → character_steps c ≡ steps.Print c ∷ []
 unfolding character_steps
 prints c p = let range = shown_range c p.shown in let other = p.reported in grind (arith, nat_tests)
 
 -- a character's bytes print it
 pub character_read : (c : ℕ) (screen after : ScreenValue) →
-    IsPrintable c → quiet_step (steps.Print c) screen ≡ Some after →
+    IsDrawn c → quiet_step (steps.Print c) screen ≡ Some after →
     read (terminal start screen) (encode_utf8 c) ≡ Some (terminal start after)
 character_read c screen after p e =
     let range = shown_range c p.shown in
@@ -286,7 +286,7 @@ pub unpushed : (b : Bool) (cs : List ℕ) (e d : Canvas) →
 unpushed true cs e d h = absurd cc
 unpushed false cs e d h = (refl, h)
 
-reads_text : (cs : List ℕ) (screen : ScreenValue) (d : Canvas) → AllByRecursion IsPrintable cs →
+reads_text : (cs : List ℕ) (screen : ScreenValue) (d : Canvas) → AllByRecursion IsDrawn cs →
     drawn_text cs (canvas_of screen) ≡ Some d → Reads (encode_utf8_all cs) screen d
 reads_text [] screen d p h = known [] screen (canvas_of screen) d h refl
 reads_text (c ∷ cs) screen d (p, ps) h =
@@ -301,7 +301,7 @@ reads_text (c ∷ cs) screen d (p, ps) h =
           (encode_utf8 c) (encode_utf8_all cs) first more.1,
     )
 
-pub all_scalar : (cs : List ℕ) → AllByRecursion IsPrintable cs → all_scalars cs ≡ true
+pub all_scalar : (cs : List ℕ) → AllByRecursion IsDrawn cs → all_scalars cs ≡ true
 all_scalar [] p = refl
 all_scalar (c ∷ cs) (p, ps) = rw p.scalar (all_scalar cs ps)
 

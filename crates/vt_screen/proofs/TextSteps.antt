@@ -10,7 +10,7 @@ use Rattle.vt_cells.specs.Attrs.{Attrs}
 use Rattle.vt_cells.specs.Op.{FitsAttrs}
 use Rattle.vt_cells.proofs.Widths.{columns_of-ascii}
 use Rattle.vt_rows.specs.Row.{RowValue}
-use Rattle.vt_rows.specs.Texts.{IsPrintableText}
+use Rattle.vt_rows.specs.Texts.{IsPrintableAscii}
 use Rattle.vt_grid.specs.Outgoing.{printed_out}
 use Rattle.vt_grid.specs.Page.{Page}
 use Rattle.vt_grid.specs.Printing.{printed}
@@ -43,7 +43,7 @@ with_text text screen =
     record screen { page = printed_text text screen.attrs screen.page; last = Some (get_or text (length text - 1) 0) }
 
 pub text_stepped_is : (text : List ℕ) (screen : ScreenValue) → 0 < length text →
-    IsPrintableText text → 0 < screen.page.width → text_stepped text screen ≡ with_text text screen
+    IsPrintableAscii text → 0 < screen.page.width → text_stepped text screen ≡ with_text text screen
 text_stepped_is [] screen some h width = absurd (omega (arith, some))
 text_stepped_is (c ∷ []) screen some h width =
     let first = All-head (λ b. (0x20 ≤ b) × (b < 0x7F)) c [] h in
@@ -59,7 +59,7 @@ text_stepped_is (c ∷ d ∷ text) screen some h width =
     text_stepped_is (d ∷ text) next (omega arith) (All-tail (λ b. (0x20 ≤ b) × (b < 0x7F)) c (d ∷ text) h) wide
     ∙ ap (λ (l : ℕ). record screen { page = printed_text (c ∷ d ∷ text) screen.attrs screen.page; last = Some l }) last
 
-kept_each : (text : List ℕ) (attrs : Attrs) (page : Page) (last : Option ℕ) (aside : Aside) → IsPrintableText text →
+kept_each : (text : List ℕ) (attrs : Attrs) (page : Page) (last : Option ℕ) (aside : Aside) → IsPrintableAscii text →
     FitsAttrs attrs → IsKept page last aside → IsKept (printed_text text attrs page) last aside
 kept_each [] attrs page last aside h fits k = k
 kept_each (c ∷ text) attrs page last aside h fits k =
@@ -69,7 +69,7 @@ kept_each (c ∷ text) attrs page last aside h fits k =
     fits (kept_printed c attrs page last last aside shown.0 shown.1 k.printable fits k)
 
 pub kept_text : (text : List ℕ) (attrs : Attrs) (page : Page) (last : Option ℕ) (c : ℕ) (aside : Aside) →
-    IsPrintableText text → c < 0x7F → FitsAttrs attrs → IsKept page last aside →
+    IsPrintableAscii text → c < 0x7F → FitsAttrs attrs → IsKept page last aside →
     IsKept (printed_text text attrs page) (Some c) aside
 kept_text text attrs page last c aside h low fits k =
     kept_last (printed_text text attrs page) last (Some c) aside

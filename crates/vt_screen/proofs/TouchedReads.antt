@@ -18,7 +18,7 @@ use Rattle.vt_grid.specs.Erasing.{erased_below, erased_rest, erased_chars}
 use Rattle.vt_grid.specs.Moves.{at_bottom, carriage_return, cursor_restored, cursor_saved}
 use Rattle.vt_grid.specs.Moves.{feeds_out, line_feed, moved_left, moved_right, moved_to}
 use Rattle.vt_grid.specs.Printing.{printed, pushes, wraps}
-use Rattle.vt_redraw.specs.Fits.{Fits, IsPrintable}
+use Rattle.vt_redraw.specs.Fits.{Fits, IsDrawn}
 use Rattle.vt_redraw.specs.Touching.{CharTouches, TextTouches, OpTouches, Touches}
 use Rattle.vt_scan.specs.Automaton.{State, Event, Character, Executed, CsiDispatch, step_in, start, fresh_step}
 use Rattle.vt_scan.specs.Parameters.{table_of, groups_of, numbers_of, number_of}
@@ -252,7 +252,7 @@ both_true : (a b : Bool) → (a && b) ≡ false → a ≡ true → b ≡ false
 both_true true b h e = h
 both_true false b h e = absurd cc
 
-print_touches : (M : ℕ → ℕ → Type 0) (c : ℕ) (screen : ScreenValue) → IsPrintable c → screen.page.top ≡ 0 →
+print_touches : (M : ℕ → ℕ → Type 0) (c : ℕ) (screen : ScreenValue) → IsDrawn c → screen.page.top ≡ 0 →
     pushes c screen.page ≡ false → CharTouches M (columns_of c) c screen.attrs screen.page →
     ReadTouches M (terminal start screen) (encode_utf8 c)
 print_touches M c screen p top quiet touched =
@@ -267,7 +267,7 @@ print_touches M c screen p top quiet touched =
       λ next e. tt,
     ))
 
-text_touches : (M : ℕ → ℕ → Type 0) (cs : List ℕ) (screen : ScreenValue) (d : Canvas) → AllByRecursion IsPrintable cs →
+text_touches : (M : ℕ → ℕ → Type 0) (cs : List ℕ) (screen : ScreenValue) (d : Canvas) → AllByRecursion IsDrawn cs →
     screen.page.top ≡ 0 → drawn_text cs (canvas_of screen) ≡ Some d → TextTouches M cs (canvas_of screen) →
     ReadTouches M (terminal start screen) (encode_utf8_all cs)
 text_touches M [] screen d p top h touched = tt

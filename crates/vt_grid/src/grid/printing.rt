@@ -6,7 +6,7 @@ ghost use Rattle.vt_cells.specs.Cell.{IsCell, attrs_of, glyph, is_right_half, is
 ghost use Rattle.vt_cells.specs.Glyph.{IsGlyphText, columns_of, is_selector, is_wide_text};
 ghost use Rattle.vt_cells.specs.Refusals.{OnlyOutOfMemory};
 ghost use Rattle.vt_rows.specs.Cells.{at, widened_at};
-ghost use Rattle.vt_rows.specs.Texts.{IsPrintableText};
+ghost use Rattle.vt_rows.specs.Texts.{IsPrintableAscii};
 ghost use Rattle.vt_grid.specs.Keeping.{IsSelected, mark_out, room_out};
 ghost use Rattle.vt_grid.specs.Outgoing.{printed_out};
 ghost use Rattle.vt_grid.specs.Page.{IsPage, cursor_row, with_row};
@@ -81,7 +81,7 @@ impl Grid {
     pub fn print_text(&mut self, text: &[u8], attrs: Attrs)
         requires some { 0 < length text.now }
         requires room { self.old.column + length text.now ≤ self.old.width }
-        requires printable { IsPrintableText text.now }
+        requires printable { IsPrintableAscii text.now }
         ensures { self.new ≡ printed_text text.now attrs self.old }
     {
         self.put_text(text, attrs);
@@ -93,7 +93,7 @@ impl Grid {
     fn put_text(&mut self, text: &[u8], attrs: Attrs)
         requires some { 0 < length text.now }
         requires room { self.old.column + length text.now ≤ self.old.width }
-        requires printable { IsPrintableText text.now }
+        requires printable { IsPrintableAscii text.now }
         ensures value { self.new ≡ text_put text.now attrs self.old }
         ensures page { IsPage self.old }
     {

@@ -4,7 +4,7 @@ ghost use Rattle.std.specs.Prelude.{◌≡◌, ◌+◌, ◌-◌, ◌≤◌, ◌<
 ghost use Rattle.std.specs.Iterator.{YieldsFirstBy, YieldsFirstRef, item_count};
 ghost use Rattle.std.specs.List.{concat};
 ghost use Rattle.vt_rows.specs.Keeping.{piece_at, pieces_from, pieces_within};
-ghost use Rattle.vt_rows.specs.Pieces.{ArePiecesOf, Piece, plain_text, texts_of};
+ghost use Rattle.vt_rows.specs.Pieces.{ArePiecesOf, Piece, texts_of, without_stretches};
 
 use std::iter::FusedIterator;
 use std::marker::Model;
@@ -50,7 +50,7 @@ impl<'a> Model for BasicFormattedToPlainIndexed<'a> {
 /// ```
 pub fn basic_formatted_to_plain_indexed(capture: &str) -> BasicFormattedToPlainIndexed<'_>
     ensures pieces { ArePiecesOf capture.now result }
-    ensures joined { concat (texts_of result) ≡ plain_text capture.now }
+    ensures joined { concat (texts_of result) ≡ without_stretches capture.now }
 {
     BasicFormattedToPlainIndexed {
         rest: capture,
@@ -129,7 +129,7 @@ impl<'a> Model for BasicFormattedToPlain<'a> {
 /// the plain text of the capture.
 pub fn basic_formatted_to_plain(capture: &str) -> BasicFormattedToPlain<'_>
     ensures pieces { (pieces : List Piece) × ArePiecesOf capture.now pieces × (result ≡ texts_of pieces) }
-    ensures joined { concat result ≡ plain_text capture.now }
+    ensures joined { concat result ≡ without_stretches capture.now }
 {
     BasicFormattedToPlain {
         indexed: basic_formatted_to_plain_indexed(capture),

@@ -1,7 +1,7 @@
 //! A text of plain characters, printed as one edit of its row.
 
 ghost use Rattle.std.specs.Prelude.{◌≡◌, ◌+◌, ◌-◌, ◌<◌, ◌≤◌, length};
-ghost use Rattle.vt_rows.specs.Texts.{IsPrintableText};
+ghost use Rattle.vt_rows.specs.Texts.{IsPrintableAscii};
 ghost use Rattle.vt_screen.specs.Texts.{text_stepped};
 
 use super::Screen;
@@ -23,7 +23,7 @@ impl Screen {
     pub fn print_text(&mut self, text: &[u8])
         requires some { 0 < length text.now }
         requires room { self.old.page.column + length text.now ≤ self.old.page.width }
-        requires printable { IsPrintableText text.now }
+        requires printable { IsPrintableAscii text.now }
         ensures { self.new ≡ text_stepped text.now self.old }
     {
         self.grid.print_text(text, self.attrs);

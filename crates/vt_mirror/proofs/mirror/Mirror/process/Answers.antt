@@ -1,7 +1,7 @@
 use Rattle.std.proofs.Common.{refl, subst}
 use Rattle.vt_grid.specs.Page.{SameSize}
 use Rattle.vt_screen.specs.Screen.{IsScreen, ScreenValue}
-use Rattle.vt_mirror.specs.Calls.{Processes}
+use Rattle.vt_mirror.specs.Calls.{MirrorProcesses}
 use Rattle.vt_mirror.specs.Mirror.{MirrorValue}
 use Rattle.vt_mirror.proofs.Noted.{noted_parser}
 use Rattle.vt_mirror.proofs.Processing.{only_these, processed_size}
@@ -26,7 +26,7 @@ returns c =
     c.screen.ensures.stands e.ran e.memory e.failed e.only e.no_number in
     record {
       call =
-          subst (λ (old : MirrorValue). Processes old c.args.bytes.now c.process.result
+          subst (λ (old : MirrorValue). MirrorProcesses old c.args.bytes.now c.process.result
           (record { parser = c.process.new.self; viewers = c.self.inside.viewers }))
           c.self.view_is (record {
             viewers = refl;

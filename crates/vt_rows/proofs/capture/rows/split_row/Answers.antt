@@ -7,7 +7,7 @@ use Rattle.vt_rows.specs.Keeping.{rows_of}
 use Rattle.vt_rows.specs.Stretches.{columns_added, is_within_after}
 use Rattle.vt_rows.proofs.CaptureRows.{row_ended, row_full, row_goes_on, row_last, front_part}
 use Rattle.vt_rows.proofs.CaptureRows.{back_part, line_end, behind_line_end, boundary_behind}
-use Rattle.vt_rows.proofs.CaptureRows.{is_within-more, columns_in-more, bound_kept, length_more}
+use Rattle.vt_rows.proofs.CaptureRows.{ends_within-more, columns_in-more, bound_kept, length_more}
 use Rattle.vt_rows.proofs.capture.rows.split_row.Goals as goal
 
 pub range_from-requires : goal.range_from-requires
@@ -60,7 +60,7 @@ loop-at-preserved c =
     ∙ ap₂ (λ used within. used + columns_added within c.in-Some.c) inv.3 inv.4
     ∙ sym (columns_in-more inv.0 c.in-Some.c) in
     let within = c.with-reach.ensures.within ∙ ap (λ b. is_within_after b c.in-Some.c) inv.4
-    ∙ sym (is_within-more inv.0 c.in-Some.c) in
+    ∙ sym (ends_within-more inv.0 c.in-Some.c) in
     let place = steps.2 ∙ ap (λ n. n + length (encode_utf8 c.in-Some.c)) inv.2 ∙ sym (length_more inv.0 c.in-Some.c) in
     let least = bound_kept c.args.width inv.0 c.in-Some.c fits (rw inv.3 at inv.5) in (
       omega (arith, sizes, steps.2, can),

@@ -1,6 +1,6 @@
 use Rattle.std.proofs.Common.{◌≡◌, ◌+◌, ◌≤◌, ℕ, List, length, encode_utf8_all}
 use Rattle.std.specs.Str.Iter.{char_indices_offset, char_indices_rest}
-use Rattle.vt_rows.specs.Stretches.{columns_in, is_within}
+use Rattle.vt_rows.specs.Stretches.{columns_in, ends_within}
 use Rattle.vt_rows.proofs.CaptureRows.{IsRead}
 use Rattle.vt_rows.proofs.capture.rows.split_row.Given as goal
 
@@ -13,5 +13,5 @@ invariant-loop-at l =
     × IsRead l.width l.text row (char_indices_rest l.at-iterator)
     × (char_indices_offset l.at-iterator ≡ length (encode_utf8_all row))
     × (l.reach.columns ≡ columns_in row)
-    × (l.reach.is_within ≡ is_within row)
+    × (l.reach.is_within ≡ ends_within row)
     × (l.reach.columns ≤ l.width + 2))
