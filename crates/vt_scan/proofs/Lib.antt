@@ -16,3 +16,4 @@ pub mod Tables
 pub mod Whole
 pub mod Written
 pub mod Scalars
+pub mod Selectors

@@ -5,4 +5,5 @@ pub mod Automaton
 pub mod Scanner
 pub mod Run
 pub mod Texts
+pub mod Selectors
 pub mod Keeping

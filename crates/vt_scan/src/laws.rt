@@ -12,6 +12,7 @@ ghost use Rattle.vt_scan.specs.Automaton.{Character, CsiDispatch, EscDispatch, E
 ghost use Rattle.vt_scan.specs.Parameters.{table_of};
 ghost use Rattle.vt_scan.specs.Run.{run};
 ghost use Rattle.vt_scan.specs.Scanner.{Held, StandsFor};
+ghost use Rattle.vt_scan.specs.Selectors.{ReadsNoSelector, SpellsNoSelector};
 ghost use Rattle.vt_scan.specs.Texts.{IsParameterText, back_with, place_groups};
 
 /// Bytes may come in pieces: those of the second piece are read from the
@@ -40,6 +41,12 @@ pub fn characters()
     ensures text { (cs : List ℕ) → AllByRecursion (λ c. IsScalar c × (0x20 ≤ c)) cs →
         run start (encode_utf8_all cs) ≡ back_with (map Character cs) }
     ensures control { (b : ℕ) → b < 0x20 → b ≢ 0x1B → run start (b ∷ []) ≡ back_with (Executed b ∷ []) }
+{}
+
+/// Bytes in which EF B8 8F stands nowhere read no U+FE0F, from plain text with
+/// nothing unfinished on; no other bytes spell it (Unicode 3.9).
+pub fn selectors()
+    ensures { (bytes : List ℕ) → SpellsNoSelector bytes → ReadsNoSelector start bytes }
 {}
 
 /// A sequence that is written whole is read as it was meant: ESC and a last

@@ -18,12 +18,13 @@ use Rattle.vt_grid.specs.Resize.{page_resized, scrollback_resized}
 use Rattle.vt_grid.specs.Scrollback.{Scrollback, no_scrollback, viewed}
 use Rattle.vt_scan.specs.Automaton.{Character, Event, State}
 use Rattle.vt_scan.specs.Run.{run}
+use Rattle.vt_scan.specs.Selectors.{ReadsNoSelector}
 use Rattle.vt_scan.proofs.Scalars.{AreCoded, coded_run}
 use Rattle.vt_screen.specs.Controls.{seen_of, steps_of}
 use Rattle.vt_screen.specs.Pages.{above_aside, has_size, main_page, page_aside, resized}
 use Rattle.vt_screen.specs.Screen.{IsPrintable, IsScreen, ScreenValue, above_page}
 use Rattle.vt_screen.specs.Screen.{fresh_screen, scrolled_back, visible_row}
-use Rattle.vt_screen.specs.Selectors.{CellHasNoSelector, HasNoSelectors, ReadsNoSelector, RowsHaveNoSelector}
+use Rattle.vt_screen.specs.Selectors.{CellHasNoSelector, HasNoSelectors, RowsHaveNoSelector}
 use Rattle.vt_screen.specs.Shown.{ShowsNoSelector}
 use Rattle.vt_screen.specs.Telling.{screen_in, stepped_all, steps_in, steps_of_all}
 use Rattle.vt_screen.proofs.EventSteps.{AllAmong, Allows, all_then, none, stream_event}

@@ -1,11 +1,9 @@
--- Screens without U+FE0F, and bytes that read none.
+-- Screens without U+FE0F.
 use Rattle.std.specs.Prelude.{◌≡◌, ◌≢◌, ℕ, false, List, Some, IfSome, All, chars}
-use Rattle.std.specs.List.{list_any, AllByRecursion}
+use Rattle.std.specs.List.{list_any}
 use Rattle.vt_cells.specs.Cell.{CellValue, text_of}
 use Rattle.vt_cells.specs.Glyph.{is_selector}
 use Rattle.vt_rows.specs.Row.{RowValue}
-use Rattle.vt_scan.specs.Automaton.{State, Character}
-use Rattle.vt_scan.specs.Run.{run}
 use Rattle.vt_screen.specs.Screen.{ScreenValue}
 
 -- no character of the cell's text is U+FE0F
@@ -21,7 +19,3 @@ pub record HasNoSelectors (screen : ScreenValue) : Type 0 where
   pub other : IfSome screen.other (λ page. RowsHaveNoSelector page.rows)
   pub above : RowsHaveNoSelector screen.scrollback.rows
   pub last : screen.last ≢ Some 0xFE0F
-
--- no event of a run over bytes is the character U+FE0F
-abbrev pub ReadsNoSelector : State → List ℕ → Type 0
-ReadsNoSelector scan bytes = AllByRecursion (λ event. event ≢ Character 0xFE0F) (run scan bytes).events

@@ -9,11 +9,12 @@ ghost use Rattle.vt_redraw.specs.Steady.{IsSteady};
 ghost use Rattle.vt_rows.specs.Basic.{unwritten};
 ghost use Rattle.vt_rows.specs.Cells.{at};
 ghost use Rattle.vt_scan.specs.Automaton.{State};
+ghost use Rattle.vt_scan.specs.Selectors.{ReadsNoSelector};
 ghost use Rattle.vt_screen.specs.Capture.{basic_texts};
 ghost use Rattle.vt_screen.specs.Contents.{between_of, contents_of};
 ghost use Rattle.vt_screen.specs.Pages.{resized};
 ghost use Rattle.vt_screen.specs.Screen.{IsScreen, ScreenValue, fresh_screen, scrolled_back, visible_row, visible_rows};
-ghost use Rattle.vt_screen.specs.Selectors.{HasNoSelectors, ReadsNoSelector};
+ghost use Rattle.vt_screen.specs.Selectors.{HasNoSelectors};
 ghost use Rattle.vt_screen.specs.Shown.{ShowSamePage, ShowsNoSelector, ShowsOwnPage, shown};
 ghost use Rattle.vt_screen.specs.Steps.{EraseScrollback, scrolled};
 ghost use Rattle.vt_screen.specs.Streamed.{AreAlike, HasNoRis, HasWideFlags, bare, rows_told, sent_off_in};
@@ -71,7 +72,8 @@ pub fn plain_steady()
 /// screen that has none on either page and in scrollback, as a fresh one has
 /// none (`fresh`), has none after a run whose callbacks leave the screen alone
 /// (`ran`), in another size (`sized`) and scrolled back (`viewed`). What it
-/// shows has none then (`shown`), and is steady by `plain_steady`.
+/// shows has none then (`shown`), and is steady by `plain_steady`. Bytes in
+/// which EF B8 8F stands nowhere read none, by `vt_scan::laws::selectors`.
 pub fn no_selectors()
     ensures fresh { (rows cols capacity : ℕ) → HasNoSelectors (fresh_screen rows cols capacity) }
     ensures ran { (scan : State) (screen : ScreenValue) (bytes : List ℕ) → IsScreen screen →
