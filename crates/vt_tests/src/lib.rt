@@ -3,29 +3,23 @@
 #![tactic(auto)]
 
 #[cfg(test)]
-mod callbacks_tests;
-#[cfg(test)]
 mod calls_tests;
 #[cfg(test)]
 mod capture_tests;
 #[cfg(test)]
-mod changing;
-#[cfg(test)]
-mod changing_tests;
-#[cfg(test)]
 mod copies_tests;
-#[cfg(test)]
-mod counter;
 #[cfg(test)]
 mod cuts;
 #[cfg(test)]
 mod difference_tests;
 #[cfg(test)]
+mod lending_tests;
+#[cfg(test)]
 mod limits_tests;
 #[cfg(test)]
 mod modes_tests;
 #[cfg(test)]
-mod noted;
+mod notes_tests;
 #[cfg(test)]
 mod pages_tests;
 #[cfg(test)]

@@ -155,15 +155,16 @@ fn expect_longer(alloc: Global, pieces: Pieces) -> Result<(), Fail> {
 }
 
 fn expect_rows(screen: &Screen, start: u16, width: u16, wanted: &[&str]) -> Result<(), Fail> {
-    let mut count: usize = 0;
-    for (item, text) in screen.rows(start, width).zip(wanted.iter()) {
+    let mut rows = screen.rows(start, width);
+    for text in wanted {
+        let Some(item) = rows.next() else {
+            return Err(Fail::new("fewer rows"));
+        };
         expect_text(item?, *text)?;
-        count = count.saturating_add(1);
     }
-    if count == wanted.len() {
-        Ok(())
-    } else {
-        Err(Fail::new("fewer rows"))
+    match rows.next() {
+        None => Ok(()),
+        Some(_) => Err(Fail::new("more rows")),
     }
 }
 

@@ -201,12 +201,19 @@ fn expect_in_turn(screen: &Screen) -> Result<(), Fail> {
     if cols.get() == 0 {
         return Err(Fail::new("no columns"));
     }
-    for (text, wanted) in screen.rows_formatted(0, 4).zip(["ab", "\x1b[1mcd"]) {
+    let mut rows = screen.rows_formatted(0, 4);
+    for wanted in ["ab", "\x1b[1mcd"] {
+        let Some(text) = rows.next() else {
+            return Err(Fail::new("fewer texts"));
+        };
         if text?.as_str() != wanted {
             return Err(Fail::new("other texts"));
         }
     }
-    Ok(())
+    match rows.next() {
+        None => Ok(()),
+        Some(_) => Err(Fail::new("more texts")),
+    }
 }
 
 #[test]

@@ -1,21 +1,12 @@
 //! Callbacks that resize the screen, exchange it or scroll it back, amid a text.
 
 use crate::changing::{Exchanger, Resizer, Viewer, run_exchanging, run_looking_back, run_resizing};
-use crate::seen::shown;
-use crate::steps::size_of;
+use crate::seen::{Seen, expect_seen, size_of};
 use std::alloc::Global;
 use std::test::Fail;
 use vt100::{Parser, Screen};
 
-/// Fails where a screen does not show this.
-fn expect_shown(alloc: Global, screen: &Screen, wanted: &str) -> Result<(), Fail> {
-    let found = shown(alloc, screen)?;
-    if found.as_str() != wanted {
-        return Err(Fail::new(format_args!("{found}and not {wanted}")));
-    }
-    Ok(())
-}
-
+/// Fails where a screen has another size.
 fn expect_size(screen: &Screen, size: (u16, u16)) -> Result<(), Fail> {
     if screen.size() != size_of(size)? {
         return Err(Fail::new(format_args!("not {size:?}")));
@@ -23,22 +14,25 @@ fn expect_size(screen: &Screen, size: (u16, u16)) -> Result<(), Fail> {
     Ok(())
 }
 
+/// A screen of one row that is full.
+const FULL: Seen = ("abcd", (0, 4), false, (0, 0));
+
 /// What is read on two rows of four columns, the size after it, and what is seen.
-const SIZED: [(&str, (u16, u16), &str); 7] = [
-    ("ab\x1b[8;3;2tcd", (3, 2), "0:ac/ 1:d @1,1\n"),
-    ("ab\x1b[8;0;2tcd", (2, 4), "0:abcd @0,4\n"),
-    ("ab\x1b[8;3;0tcd", (2, 4), "0:abcd @0,4\n"),
-    ("ab\x1b[8;;tcd", (2, 4), "0:abcd @0,4\n"),
-    ("ab\x1b[8tcd", (2, 4), "0:abcd @0,4\n"),
-    ("ab\x1b[8;1tcd", (1, 4), "0:abcd @0,4\n"),
-    ("ab\x1b[8;1;65535tcd", (1, 65535), "0:abcd @0,4\n"),
+const SIZED: [(&str, (u16, u16), Seen); 7] = [
+    ("ab\x1b[8;3;2tcd", (3, 2), ("acd", (1, 1), false, (0, 0))),
+    ("ab\x1b[8;0;2tcd", (2, 4), FULL),
+    ("ab\x1b[8;3;0tcd", (2, 4), FULL),
+    ("ab\x1b[8;;tcd", (2, 4), FULL),
+    ("ab\x1b[8tcd", (2, 4), FULL),
+    ("ab\x1b[8;1tcd", (1, 4), FULL),
+    ("ab\x1b[8;1;65535tcd", (1, 65535), FULL),
 ];
 
 #[test]
 fn gives_the_size_that_is_asked_for(rt: HostRuntime) -> Result<(), Fail> {
     for (text, size, wanted) in &SIZED {
         for cut in 0..=text.len() {
-            expect_resized(rt.alloc(), text.as_bytes(), cut, *size, wanted)?;
+            expect_resized(rt.alloc(), text.as_bytes(), cut, *size, *wanted)?;
         }
     }
     Ok(())
@@ -49,12 +43,11 @@ fn expect_resized(
     bytes: &[u8],
     cut: usize,
     size: (u16, u16),
-    wanted: &str,
+    wanted: Seen,
 ) -> Result<(), Fail> {
     let (rows, cols) = size_of((2, 4))?;
     let mut parser = Parser::new_with_callbacks(alloc, rows, cols, 0, Resizer::new())?;
     resize(
-        alloc,
         &mut parser,
         bytes.split_at(cut.min(bytes.len())),
         size,
@@ -63,11 +56,10 @@ fn expect_resized(
 }
 
 fn resize(
-    alloc: Global,
     parser: &mut Parser<Resizer>,
     (front, back): (&[u8], &[u8]),
     size: (u16, u16),
-    wanted: &str,
+    wanted: Seen,
 ) -> Result<(), Fail> {
     run_resizing(parser, front)?;
     run_resizing(parser, back)?;
@@ -75,18 +67,28 @@ fn resize(
         return Err(Fail::new("memory was refused"));
     }
     expect_size(parser.screen(), size)?;
-    expect_shown(alloc, parser.screen(), wanted)
+    expect_seen(parser.screen(), wanted)
 }
 
 /// What is read on two rows of four columns, the size after it, what is seen, and what is kept.
-const EXCHANGED: [(&str, (u16, u16), &str, &str); 3] = [
-    ("ab\x07c", (1, 1), "0:c @0,1\n", "0:ab @0,2\n"),
-    ("ab\x07c\x07d", (2, 4), "0:abd @0,3\n", "0:c @0,1\n"),
+const EXCHANGED: [(&str, (u16, u16), Seen, Seen); 3] = [
+    (
+        "ab\x07c",
+        (1, 1),
+        ("c", (0, 1), false, (0, 0)),
+        ("ab", (0, 2), false, (0, 0)),
+    ),
+    (
+        "ab\x07c\x07d",
+        (2, 4),
+        ("abd", (0, 3), false, (0, 0)),
+        ("c", (0, 1), false, (0, 0)),
+    ),
     (
         "ab\x07\x1b[?1049hc\x07d\x07",
         (1, 1),
-        "0:c @0,1 alternate\n",
-        "0:abd @0,3\n",
+        ("c", (0, 1), true, (0, 0)),
+        ("abd", (0, 3), false, (0, 0)),
     ),
 ];
 
@@ -94,7 +96,7 @@ const EXCHANGED: [(&str, (u16, u16), &str, &str); 3] = [
 fn exchanges_the_screen(rt: HostRuntime) -> Result<(), Fail> {
     for (text, size, seen, kept) in &EXCHANGED {
         for cut in 0..=text.len() {
-            expect_exchanged(rt.alloc(), text.as_bytes(), cut, *size, (seen, kept))?;
+            expect_exchanged(rt.alloc(), text.as_bytes(), cut, *size, (*seen, *kept))?;
         }
     }
     Ok(())
@@ -116,13 +118,12 @@ fn expect_exchanged(
     bytes: &[u8],
     cut: usize,
     size: (u16, u16),
-    wanted: (&str, &str),
+    wanted: (Seen, Seen),
 ) -> Result<(), Fail> {
     let (rows, cols) = size_of((2, 4))?;
     let exchanger = Exchanger::new(small(alloc)?);
     let mut parser = Parser::new_with_callbacks(alloc, rows, cols, 0, exchanger)?;
     exchange(
-        alloc,
         &mut parser,
         bytes.split_at(cut.min(bytes.len())),
         size,
@@ -131,31 +132,30 @@ fn expect_exchanged(
 }
 
 fn exchange(
-    alloc: Global,
     parser: &mut Parser<Exchanger>,
     (front, back): (&[u8], &[u8]),
     size: (u16, u16),
-    (seen, kept): (&str, &str),
+    (seen, kept): (Seen, Seen),
 ) -> Result<(), Fail> {
     run_exchanging(parser, front)?;
     run_exchanging(parser, back)?;
     expect_size(parser.screen(), size)?;
-    expect_shown(alloc, parser.screen(), seen)?;
-    expect_shown(alloc, parser.callbacks().kept(), kept)
+    expect_seen(parser.screen(), seen)?;
+    expect_seen(parser.callbacks().kept(), kept)
 }
 
 /// What is read on two rows of four columns with room for ten rows of scrollback, what is seen then,
 /// and what is seen once no row is in view.
-const LOOKED_BACK: [(&str, &str, &str); 2] = [
+const LOOKED_BACK: [(&str, Seen, Seen); 2] = [
     (
         "a\r\nb\r\nc\x07x",
-        "0:a 1:b @1,2 kept 1 in view 1\n",
-        "0:b 1:cx @1,2 kept 1\n",
+        ("a\nb", (1, 2), false, (1, 1)),
+        ("b\ncx", (1, 2), false, (1, 0)),
     ),
     (
         "a\r\nb\r\nc\x07\r\nd",
-        "0:a 1:b @1,1 kept 2 in view 2\n",
-        "0:c 1:d @1,1 kept 2\n",
+        ("a\nb", (1, 1), false, (2, 2)),
+        ("c\nd", (1, 1), false, (2, 0)),
     ),
 ];
 
@@ -163,7 +163,7 @@ const LOOKED_BACK: [(&str, &str, &str); 2] = [
 fn looks_back_at_a_bell(rt: HostRuntime) -> Result<(), Fail> {
     for (text, seen, below) in &LOOKED_BACK {
         for cut in 0..=text.len() {
-            expect_looked_back(rt.alloc(), text.as_bytes(), cut, (seen, below))?;
+            expect_looked_back(rt.alloc(), text.as_bytes(), cut, (*seen, *below))?;
         }
     }
     Ok(())
@@ -173,30 +173,24 @@ fn expect_looked_back(
     alloc: Global,
     bytes: &[u8],
     cut: usize,
-    wanted: (&str, &str),
+    wanted: (Seen, Seen),
 ) -> Result<(), Fail> {
     let (rows, cols) = size_of((2, 4))?;
     let mut parser = Parser::new_with_callbacks(alloc, rows, cols, 10, Viewer::new())?;
-    look_back(
-        alloc,
-        &mut parser,
-        bytes.split_at(cut.min(bytes.len())),
-        wanted,
-    )
+    look_back(&mut parser, bytes.split_at(cut.min(bytes.len())), wanted)
 }
 
 fn look_back(
-    alloc: Global,
     parser: &mut Parser<Viewer>,
     (front, back): (&[u8], &[u8]),
-    (seen, below): (&str, &str),
+    (seen, below): (Seen, Seen),
 ) -> Result<(), Fail> {
     run_looking_back(parser, front)?;
     run_looking_back(parser, back)?;
     if parser.callbacks().is_refused() {
         return Err(Fail::new("memory was refused"));
     }
-    expect_shown(alloc, parser.screen(), seen)?;
+    expect_seen(parser.screen(), seen)?;
     parser.screen_mut().set_scrollback(0)?;
-    expect_shown(alloc, parser.screen(), below)
+    expect_seen(parser.screen(), below)
 }
