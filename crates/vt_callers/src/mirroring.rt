@@ -1,8 +1,9 @@
 //! A mirror: a viewer that joins late shows what the mirror shows.
 
-ghost use Rattle.std.specs.Prelude.{IfOk, OnOk};
+ghost use Rattle.std.specs.Prelude.{◌≡◌, IfOk, OnOk, true};
 ghost use Rattle.vt100.specs.Pieces.{IsPlainParser};
 ghost use Rattle.vt_callers.specs.Remote.{ShowsScreen};
+ghost use Rattle.vt_mirror.specs.Viewers.{is_viewer, next_number};
 ghost use Rattle.vt_mirror.specs.Watching.{IsFresh, ReadsText, TakesUpdate, TakesSize};
 ghost use Rattle.vt_redraw.specs.Steady.{IsSteady};
 ghost use Rattle.vt_screen.specs.Shown.{shown};
@@ -13,16 +14,19 @@ use vt100::{Callbacks, Error, Parser};
 
 /// Has a mirror that nobody viewed before read an output, and a viewer join after it, whose terminal
 /// is given its first update. If that was plain, and what the mirror shows is steady, it shows the
-/// same then, whatever its size was. Answers the viewer's number.
+/// same then, whatever its size was. Answers the viewer's number, which is the next one.
 ///
-/// Fails where memory is refused, or the mirror or the terminal failed before.
+/// Fails where memory is refused, where the mirror or the terminal failed before, and where no viewer
+/// number is left.
 pub fn show_late<CB: Callbacks>(
     mirror: &mut Mirror,
     output: &[u8],
     terminal: &mut Parser<CB>,
 ) -> Result<u64, Error>
-    ensures { IfOk result (λ viewer. IsFresh mirror.old → IsPlainParser terminal.old →
+    ensures shows { IfOk result (λ viewer. IsFresh mirror.old → IsPlainParser terminal.old →
         IsSteady (shown mirror.new.parser.screen) → ShowsScreen mirror.new.parser.screen terminal.new) }
+    ensures number { IfOk result (λ viewer. viewer ≡ next_number mirror.old.viewers.last) }
+    ensures joined { IfOk result (λ viewer. is_viewer mirror.new.viewers viewer ≡ true) }
 {
     laws::viewers::<CB>();
     terminal.screen().size();
@@ -37,6 +41,8 @@ pub fn show_late<CB: Callbacks>(
 }
 
 /// Gives a terminal an update: its size first where it is a full one, and then its text.
+///
+/// Fails where memory is refused, or the terminal failed before.
 pub fn take_update<CB: Callbacks>(terminal: &mut Parser<CB>, update: &Update) -> Result<(), Error>
     ensures { OnOk result (TakesUpdate update.now terminal.old terminal.new) }
 {

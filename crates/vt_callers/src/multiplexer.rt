@@ -45,6 +45,8 @@ pub fn send_difference<CB: Callbacks>(
 
 /// Sends a screen whole, and after it another one as what differs: a remote terminal then shows the
 /// second one, whatever it showed at first.
+///
+/// Fails where memory is refused, or the remote terminal failed before.
 pub fn send_both<CB: Callbacks>(
     first: &Screen,
     second: &Screen,

@@ -2,7 +2,7 @@
 
 ghost use Rattle.std.specs.Prelude.{◌≡◌, ◌++◌, false, true, OnErr, OnOk};
 ghost use Rattle.vt_notes.specs.Recording.{nothing_recorded};
-ghost use Rattle.vt_screen.specs.Capture.{all_rows, basic_texts};
+ghost use Rattle.vt_screen.specs.Capture.{all_rows, basic_texts, written_after_all};
 
 use std::alloc::Global;
 use std::marker::Model;
@@ -53,6 +53,7 @@ impl Recorder {
     pub fn capture(&mut self, screen: &Screen) -> Result<(), Error>
         ensures whole { OnOk result (self.old.is_whole ≡ true) }
         ensures text { OnOk result (self.new.text ≡ self.old.text ++ basic_texts self.old.state (all_rows screen.now)) }
+        ensures state { OnOk result (self.new.state ≡ written_after_all self.old.state (all_rows screen.now)) }
         ensures kept { OnOk result (self.new.is_whole ≡ true) }
         ensures lost { OnErr result (self.new.is_whole ≡ false) }
     {

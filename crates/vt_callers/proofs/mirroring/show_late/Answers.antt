@@ -1,13 +1,14 @@
-use Rattle.std.proofs.Common.{subst}
+use Rattle.std.proofs.Common.{◌∙◌, ap, subst}
 use Rattle.vt_screen.specs.Screen.{IsScreen, ScreenValue}
 use Rattle.std.specs.Prelude.{Ok, Option}
 use Rattle.vt_mirror.specs.Calls.{Asks}
+use Rattle.vt_mirror.specs.Viewers.{ViewersValue, next_number}
 use Rattle.vt_mirror.specs.declared.update.Update.{Update}
 use Rattle.vt_callers.proofs.Viewing.{late_shows}
 use Rattle.vt_callers.proofs.mirroring.show_late.Goals as goal
 
-pub returns : goal.returns
-returns g c = λ fresh plain steady.
+pub returns-clause-shows : goal.returns-clause-shows
+returns-clause-shows g c = λ fresh plain steady.
     late_shows c.viewers.ensures.shows c.args.mirror.now c.process.new.self c.join.new.self
     c.update.new.self c.args.output.now c.process.result c.in_ok-viewer.viewer c.in-Some.update
     c.args.terminal.now c.take_update.new.terminal fresh
@@ -16,3 +17,12 @@ returns g c = λ fresh plain steady.
     (subst (λ (o : Option Update). Asks c.join.new.self c.in_ok-viewer.viewer (Ok o) c.update.new.self)
     c.in-Some.is c.in_ok-answer.ensures.call)
     c.in_ok-take_update.ensures steady
+
+pub returns-clause-number : goal.returns-clause-number
+returns-clause-number g c =
+    c.in_ok-viewer.ensures.call.number ∙ ap (λ (v : ViewersValue). next_number v.last) c.process.ensures.call.viewers
+
+pub returns-clause-joined : goal.returns-clause-joined
+returns-clause-joined g c =
+    (subst (λ (o : Option Update). Asks c.join.new.self c.in_ok-viewer.viewer (Ok o) c.update.new.self)
+    c.in-Some.is c.in_ok-answer.ensures.call).answers.puts.here
