@@ -81,6 +81,7 @@ fn clipboard<CB: Callbacks>(
     callbacks.unhandled_osc(screen, parts);
 }
 
+/// Whether these are the bytes of the word.
 fn is_text(text: &[u8], word: &[u8]) -> bool
     ensures { result ≡ bytes_eq text.now word.now }
 {

@@ -94,7 +94,8 @@ impl<CB: Callbacks> Parser<CB> {
     /// the page at its top at most `scrollback_capacity` are kept, the last
     /// ones.
     ///
-    /// Fails where memory for the screen is refused.
+    /// Fails where memory for the screen is refused; the callbacks are dropped
+    /// then.
     pub fn new_with_callbacks(
         alloc: Global,
         rows: NonZeroU16,

@@ -140,6 +140,7 @@ fn show_fresh_alternate(screen: &mut Screen, on: bool) -> Result<(), Error>
     Ok(())
 }
 
+/// Reports of mouse events in this mode, or none where it is this one.
 fn set_mouse_mode(screen: &mut Screen, on: bool, mode: MouseProtocolMode)
     ensures { screen.new ≡ stepped (mouse_step on mode) screen.old }
 {
@@ -150,6 +151,7 @@ fn set_mouse_mode(screen: &mut Screen, on: bool, mode: MouseProtocolMode)
     screen.clear_mouse_mode(mode);
 }
 
+/// This encoding of mouse events, or the default one where it is this one.
 fn set_mouse_encoding(screen: &mut Screen, on: bool, encoding: MouseProtocolEncoding)
     ensures { screen.new ≡ stepped (encoding_step on encoding) screen.old }
 {

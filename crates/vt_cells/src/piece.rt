@@ -86,6 +86,7 @@ impl Piece {
         Ok(())
     }
 
+    /// The text so far.
     #[inline]
     fn as_str(&self) -> &str
         ensures { result.now ≡ self.now }
@@ -101,6 +102,7 @@ impl Piece {
         ROOM - self.len
     }
 
+    /// Appends a text that there is room for.
     #[inline(always)]
     fn push(&mut self, text: &str)
         requires { length self.old + length text.now ≤ 128 }
@@ -123,6 +125,7 @@ impl Piece {
         self.len = end;
     }
 
+    /// Forgets the text.
     #[inline]
     fn clear(&mut self)
         ensures { self.new ≡ [] }

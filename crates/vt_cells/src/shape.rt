@@ -5,10 +5,10 @@ ghost use Rattle.vt_cells.specs.CellKeeping.{blank_shape, same_shape};
 
 use std::marker::Model;
 
-/// The bit of a wide glyph, and that of a right half; the bits below are the
-/// length of the text.
+/// The bit of a wide glyph. The bits below this one are the length of the text.
 const WIDE: u8 = 32;
 
+/// The bit of a right half.
 const RIGHT_HALF: u8 = 64;
 
 /// The length of a cell's text in bytes, whether it is a wide glyph, and whether

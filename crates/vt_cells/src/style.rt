@@ -6,11 +6,13 @@ ghost use Rattle.vt_cells.specs.AttrsKeeping.{StyleValue, intensity_bits, plain_
 use crate::attrs::Intensity;
 use std::marker::Model;
 
-/// The bit of each switch; the two bits below are the intensity.
+/// The bit of italics. The two bits below this one are the intensity.
 const ITALIC: u8 = 4;
 
+/// The bit of underlining.
 const UNDERLINE: u8 = 8;
 
+/// The bit of exchanged colours.
 const INVERSE: u8 = 16;
 
 /// Intensity, italics, underlining and the exchange of colours, in one byte:

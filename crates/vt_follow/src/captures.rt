@@ -20,11 +20,8 @@ pub fn are_one(alloc: Global, size: (NonZeroU16, NonZeroU16), bytes: &[u8]) -> R
         let text = captured(alloc, size, capacity, bytes)?;
         match &first {
             None => first = Some(text),
-            Some(wanted) => {
-                if text != *wanted {
-                    return Ok(false);
-                }
-            }
+            Some(wanted) if text == *wanted => {}
+            Some(_) => return Ok(false),
         }
     }
     Ok(true)

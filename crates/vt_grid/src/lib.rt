@@ -1,4 +1,4 @@
-//! A page of rows with its cursor, the scrollback above it, and the redraw of a page.
+//! A page of rows with its cursor, and the scrollback above it.
 #![tactic(auto)]
 
 pub mod flat;

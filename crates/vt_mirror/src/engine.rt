@@ -17,10 +17,11 @@ const BUFFER_SIZE: usize = 8192;
 /// that has one viewer, and writes the text of that viewer's update at the
 /// start, after every `every` bytes, and at the end. Each text is flushed, so
 /// that a fresh terminal of this size that reads what is written shows the
-/// screen as it was at the last update.
+/// screen as it was at the last update, if it was steady at each.
 ///
 /// Any error of a read is `Read`, an interrupted one as well; any error of
-/// writing or flushing is `Write`. What was written before a fault stays.
+/// writing or flushing is `Write`; and where memory is refused, the fault is
+/// `Memory`. What was written before a fault stays.
 pub fn run<R: Read, W: Write>(
     alloc: Global,
     reader: &mut R,

@@ -11,6 +11,9 @@ use vt_cells::term::{BufWrite, ChangeAttrs, MoveFromTo};
 use vt_cells::{Attrs, Cell, Piece, Pos, Sink};
 
 /// Where the reading terminal's cursor is, and what it draws with.
+///
+/// An error of a call that writes is the sink's own; then part of the text may
+/// have been written.
 #[derive(Clone, Copy, PartialEq, Eq, Debug)]
 pub struct Pen {
     /// The row, from 0.

@@ -277,6 +277,7 @@ impl Scanner {
         }
     }
 
+    /// Reads a byte outside of sequences.
     #[inline]
     fn feed_ground(&mut self, byte: u8) -> Events
         requires { self.old.kind ≡ Kind.Ground }
@@ -319,6 +320,10 @@ impl Scanner {
         }
     }
 
+    /// Reads a byte within a sequence.
+    ///
+    /// Fails where the byte is one of an OSC text and memory for it is refused;
+    /// then nothing has changed.
     fn feed_sequence(&mut self, byte: u8) -> Result<Events, Error>
         requires { self.old.kind ≢ Kind.Ground }
         ensures fed { IfOk result (Feeds self.old byte self.new) }

@@ -14,11 +14,11 @@ pub struct Parameters {
     numbers: [u16; MAX_NUMBERS],
     len: usize,
 
-    // the places where the groups end, but for the last group
+    /// The places where the groups end, but for the last group.
     ends: [usize; MAX_NUMBERS],
     closed: usize,
 
-    // whether there were more numbers
+    /// Whether there were more numbers.
     is_cut: bool,
 }
 
@@ -71,6 +71,7 @@ impl Parameters {
         }
     }
 
+    /// Reads a digit of the last number.
     fn push_digit(&mut self, byte: u8)
         requires from { 0x30 ≤ byte }
         requires to { byte < 0x3A }
@@ -83,6 +84,7 @@ impl Parameters {
         self.numbers[last] = with_digit(self.numbers[last], byte - b'0');
     }
 
+    /// Begins one more number in the same group, if there is room.
     fn end_number(&mut self)
         ensures { (text : List ℕ) → self.old ≡ table_of text → self.new ≡ table_of (text ++ 0x3A ∷ []) }
     {
@@ -94,6 +96,7 @@ impl Parameters {
         self.len += 1;
     }
 
+    /// Begins one more number in a group of its own, if there is room.
     fn end_group(&mut self)
         ensures { (text : List ℕ) → self.old ≡ table_of text → self.new ≡ table_of (text ++ 0x3B ∷ []) }
     {

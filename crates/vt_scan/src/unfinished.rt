@@ -122,6 +122,7 @@ pub fn first_character(bytes: &[u8]) -> Option<(char, usize)>
     Some((join_four(bytes[0], bytes[1], bytes[2], bytes[3]), 4))
 }
 
+/// One more byte behind those of a character.
 fn extend_bytes(bytes: Bytes, byte: u8) -> (Bytes, Extended)
     requires begun { is_beginning (bytes_in bytes) ≡ true }
     ensures extends { Extends (bytes_in bytes) byte result.1 (bytes_in result.0) }
@@ -135,6 +136,7 @@ fn extend_bytes(bytes: Bytes, byte: u8) -> (Bytes, Extended)
     }
 }
 
+/// A second byte.
 fn extend_one(first: u8, byte: u8) -> (Bytes, Extended)
     requires { is_beginning (first ∷ []) ≡ true }
     ensures extends { Extends (first ∷ []) byte result.1 (bytes_in result.0) }
@@ -149,6 +151,7 @@ fn extend_one(first: u8, byte: u8) -> (Bytes, Extended)
     (Bytes::Two(first, byte), Extended::Further)
 }
 
+/// A third byte.
 fn extend_two(first: u8, second: u8, byte: u8) -> (Bytes, Extended)
     requires { is_beginning (first ∷ second ∷ []) ≡ true }
     ensures extends { Extends (first ∷ second ∷ []) byte result.1 (bytes_in result.0) }
@@ -166,6 +169,7 @@ fn extend_two(first: u8, second: u8, byte: u8) -> (Bytes, Extended)
     (Bytes::Three(first, second, byte), Extended::Further)
 }
 
+/// A fourth byte.
 fn extend_three(first: u8, second: u8, third: u8, byte: u8) -> (Bytes, Extended)
     requires { is_beginning (first ∷ second ∷ third ∷ []) ≡ true }
     ensures extends { Extends (first ∷ second ∷ third ∷ []) byte result.1 (bytes_in result.0) }
@@ -200,6 +204,7 @@ fn may_continue(byte: u8) -> bool
     byte >= 0x80 && byte <= 0xBF
 }
 
+/// The character of two bytes.
 fn join_two(a: u8, b: u8) -> char
     requires { is_character (a ∷ b ∷ []) ≡ true }
     ensures { result ≡ character_of (a ∷ b ∷ []) }
@@ -208,6 +213,7 @@ fn join_two(a: u8, b: u8) -> char
     char::from_u32(code).unwrap()
 }
 
+/// The character of three bytes.
 fn join_three(a: u8, b: u8, c: u8) -> char
     requires { is_character (a ∷ b ∷ c ∷ []) ≡ true }
     ensures { result ≡ character_of (a ∷ b ∷ c ∷ []) }
@@ -216,6 +222,7 @@ fn join_three(a: u8, b: u8, c: u8) -> char
     char::from_u32(code).unwrap()
 }
 
+/// The character of four bytes.
 fn join_four(a: u8, b: u8, c: u8, d: u8) -> char
     requires { is_character (a ∷ b ∷ c ∷ d ∷ []) ≡ true }
     ensures { result ≡ character_of (a ∷ b ∷ c ∷ d ∷ []) }

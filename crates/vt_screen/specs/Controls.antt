@@ -68,7 +68,7 @@ control_steps b =
     else if (b == 0x0E) || (b == 0x0F) then []
     else Tell (UnhandledControl b) ∷ []
 
--- DECSC, DECRC, DECKPAM, DECKPNM, RI, RIS, and xterm's visual bell
+-- DECSC, DECRC, DECKPAM, DECKPNM, RI, RIS, and the visual bell of GNU Screen
 unfoldable pub escape_steps : List ℕ → ℕ → List Step
 escape_steps [] b =
     if b == 0x37 then SaveCursor ∷ []

@@ -130,7 +130,8 @@ pub trait Callbacks {
     }
 
     /// Called with a new name for the window's icon (OSC 0 and 1 of xterm's
-    /// control sequences). For OSC 0 the title follows.
+    /// control sequences), as its bytes were sent, which may be no UTF-8. For
+    /// OSC 0 the title follows.
     fn set_window_icon_name(&mut self, screen: &mut Screen, name: &[u8])
         ensures { does (calls.SetWindowIconName name.now) self.old screen.old self.new screen.new }
     {
@@ -138,7 +139,7 @@ pub trait Callbacks {
     }
 
     /// Called with a new title for the window (OSC 0 and 2 of xterm's control
-    /// sequences).
+    /// sequences), as its bytes were sent, which may be no UTF-8.
     fn set_window_title(&mut self, screen: &mut Screen, title: &[u8])
         ensures { does (calls.SetWindowTitle title.now) self.old screen.old self.new screen.new }
     {
@@ -148,7 +149,7 @@ pub trait Callbacks {
     /// Called where a program writes to clipboards (OSC 52 of xterm's control
     /// sequences): each byte of `kind` names one, by `c`, `p`, `q`, `s` or a
     /// digit from 0 to 7. The text is of the characters of Base64, as it was
-    /// sent.
+    /// sent. Both may be empty.
     fn copy_to_clipboard(&mut self, screen: &mut Screen, kind: &[u8], text: &[u8])
         ensures { does (calls.CopyToClipboard kind.now text.now) self.old screen.old self.new screen.new }
     {
@@ -183,6 +184,9 @@ pub trait Callbacks {
 
     /// Called for an escape sequence (ECMA-48) that the screen doesn't know,
     /// with its first two intermediates and its final byte.
+    ///
+    /// The string terminator `ESC \` is one, so that it comes here behind each
+    /// command or string that it ends, as `unhandled_escape(None, None, b'\\')`.
     fn unhandled_escape(
         &mut self,
         screen: &mut Screen,

@@ -307,7 +307,6 @@ impl Screen {
     }
 }
 
-// Texts that redraw the screen are in `redraw`.
 impl Screen {
     /// The current attributes.
     fn attrs(&self) -> Attrs
@@ -328,6 +327,7 @@ fn copied_page(page: &Option<Grid>, alloc: Global) -> Result<Option<Grid>, Error
     }
 }
 
+/// A number that is not 0, as one.
 fn non_zero(number: u16) -> NonZeroU16
     requires { 0 < number }
     ensures { result.value ≡ number }

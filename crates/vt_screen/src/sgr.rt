@@ -157,9 +157,10 @@ impl GroupRead {
 impl Wanted {
     /// Reads a group of an SGR sequence, where this is wanted.
     ///
-    /// After a colour that is cut short or has a part above 255 the rest of
-    /// the sequence is not read, and after a long colour of a form that is
-    /// neither 2 nor 5 neither. The first group of a sequence is read as
+    /// After a long colour with a part above 255 the rest of the sequence is
+    /// not read. Neither is it after one over several groups that is cut short
+    /// or is of a form other than 2 and 5; in one group such a colour is
+    /// unknown, and reading goes on. The first group of a sequence is read as
     /// [`Wanted::Any`]. (ECMA-48, and xterm's control sequences.)
     #[tactic(auto, unfolding(crate::specs::Sgr::group_read))]
     pub fn read(self, group: &[u16]) -> GroupRead
@@ -240,6 +241,7 @@ fn read_five(layer: Layer, form: u16, red: u16, green: u16, blue: u16) -> GroupR
     rgb_colored(layer, red, green, blue)
 }
 
+/// The colour of the palette with this index, up to 255.
 #[tactic(auto, using(std::proofs::lemmas::Bool::Decides::nat_tests), unfolding(crate::specs::Sgr::index_read))]
 fn index_colored(layer: Layer, index: u16) -> GroupRead
     ensures { result ≡ index_read layer index }
@@ -250,6 +252,7 @@ fn index_colored(layer: Layer, index: u16) -> GroupRead
     GroupRead::set(layer.colored(Color::Idx(index as u8)))
 }
 
+/// The colour of these parts, each up to 255.
 #[tactic(auto, using(std::proofs::lemmas::Bool::Decides::nat_tests), unfolding(crate::specs::Sgr::rgb_read))]
 fn rgb_colored(layer: Layer, red: u16, green: u16, blue: u16) -> GroupRead
     ensures { result ≡ rgb_read layer red green blue }
@@ -287,6 +290,7 @@ fn part_of(group: &[u16]) -> Option<u8>
     }
 }
 
+/// A group where the index of a colour is wanted.
 fn read_index(layer: Layer, group: &[u16]) -> GroupRead
     ensures { result ≡ part_read group.now (λ i. set (colored layer (Color.Idx i))) }
 {
@@ -296,6 +300,7 @@ fn read_index(layer: Layer, group: &[u16]) -> GroupRead
     }
 }
 
+/// A group where a colour's red part is wanted.
 fn read_red(layer: Layer, group: &[u16]) -> GroupRead
     ensures { result ≡ part_read group.now (λ r. silent (Wanted.Green layer r)) }
 {
@@ -305,6 +310,7 @@ fn read_red(layer: Layer, group: &[u16]) -> GroupRead
     }
 }
 
+/// A group where a colour's green part is wanted.
 fn read_green(layer: Layer, red: u8, group: &[u16]) -> GroupRead
     ensures { result ≡ part_read group.now (λ g. silent (Wanted.Blue layer red g)) }
 {
@@ -314,6 +320,7 @@ fn read_green(layer: Layer, red: u8, group: &[u16]) -> GroupRead
     }
 }
 
+/// A group where a colour's blue part is wanted.
 fn read_blue(layer: Layer, red: u8, green: u8, group: &[u16]) -> GroupRead
     ensures { result ≡ part_read group.now (λ b. set (colored layer (Color.Rgb red green b))) }
 {

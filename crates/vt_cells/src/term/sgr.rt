@@ -94,6 +94,7 @@ impl ChangeText {
         }
     }
 
+    /// Puts the numbers of the foreground colour, if it is another one.
     #[inline]
     #[tactic(auto, using(crate::proofs::ChangeTexts::numbers_put), unfolding(crate::specs::Op::foreground_numbers))]
     fn put_foreground(&mut self, was: &Attrs, new: &Attrs)
@@ -115,6 +116,7 @@ impl ChangeText {
         }
     }
 
+    /// Puts the numbers of the background colour, if it is another one.
     #[inline]
     #[tactic(auto, using(crate::proofs::ChangeTexts::numbers_put), unfolding(crate::specs::Op::background_numbers))]
     fn put_background(&mut self, was: &Attrs, new: &Attrs)
@@ -149,6 +151,7 @@ impl ChangeText {
         }
     }
 
+    /// Puts the number of each switch that differs, and that of the intensity.
     #[inline(never)]
     fn put_switches(&mut self, was: &Attrs, new: &Attrs)
         requires { length self.old + 16 ≤ 64 }
@@ -161,6 +164,7 @@ impl ChangeText {
         self.put_intensity(was.intensity(), new.intensity());
     }
 
+    /// Puts the number of the intensity, if it is another one.
     #[inline]
     fn put_intensity(&mut self, was: Intensity, new: Intensity)
         requires { length self.old + 4 ≤ 64 }
@@ -178,6 +182,7 @@ impl ChangeText {
         }
     }
 
+    /// Puts the number that turns a switch on or off, if it differs.
     #[inline]
     fn put_switch(&mut self, was: bool, new: bool, on: u8, off: u8)
         requires { length self.old + 4 ≤ 64 }

@@ -23,9 +23,10 @@ impl Grid {
     ///
     /// Fewer rows: those below the cursor go first. Where that is not enough,
     /// rows leave at the top and go to scrollback, and what that does not keep
-    /// is reported. More rows: as many as ever left come back at the top, the
-    /// newest from scrollback, and blank ones for those that were lost; what
-    /// is still free is blank rows at the bottom.
+    /// is reported. More rows: those that left come back at the top, at most as
+    /// many as left since scrollback was last cleared and are not back yet: the
+    /// newest from scrollback, and blank ones for those that it did not keep.
+    /// What is still free is blank rows at the bottom.
     ///
     /// Each row is cut or grown, and both cursors go with their rows, within
     /// the new page. The scroll region becomes the whole page, no column is

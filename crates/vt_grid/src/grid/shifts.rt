@@ -9,8 +9,8 @@ use super::Grid;
 impl Grid {
     /// Moves the cursor up by one row, its column as it is (RI).
     ///
-    /// At the scroll region's top, and at the first row outside of it, the
-    /// region scrolls down by one row instead.
+    /// At the scroll region's top, and in the page's first row, the region
+    /// scrolls down by one row instead.
     #[tactic(auto, using(crate::proofs::Shifting::moving_down), unfolding(crate::specs::Shifts::reverse_index))]
     pub fn reverse_index(&mut self)
         ensures { self.new ≡ reverse_index self.old }

@@ -36,12 +36,14 @@ impl<'a> Model for BasicFormattedRows<'a> {
 
 /// The rows of `capture` on a terminal of `screen_width` columns, in order.
 ///
-/// A row ends at `\n`, which is dropped, or before a character that would make
-/// it wider than `screen_width`, unless it has no columns yet. The rest is the
-/// last row, also if it is empty. SGR takes no columns, and stays where it
-/// stands: before a cut it belongs to the earlier row. A character takes the
-/// columns of [`UnicodeWidthChar`], but at most two, and one where that gives
-/// none; one of no columns begins a row only behind a `\n`.
+/// A row ends at a `\n` outside of SGR, which is dropped, or before a character
+/// that would make it wider than `screen_width`, unless it has no columns yet.
+/// The rest is the last row, also if it is empty. SGR is what stands from an ESC
+/// through the next `m`, or to the end where there is none; it takes no columns,
+/// and stays where it stands: before a cut it belongs to the earlier row. A
+/// character takes the columns of [`UnicodeWidthChar`], but at most two, and one
+/// where that gives none; one of no columns begins a row only at the begin of
+/// the capture or behind a `\n`.
 ///
 /// ```
 /// use vt100::capture::basic_formatted_rows;

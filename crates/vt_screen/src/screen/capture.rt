@@ -21,6 +21,12 @@ impl Screen {
     /// that begins each SGR change. Rows of scrollback may be wider than the
     /// screen.
     ///
+    /// A `\n` stands between two rows, unless the upper one goes on in the lower
+    /// one; default blanks at a row's end are dropped (see
+    /// [`RowContents::write_formatted_basic`](vt_rows::RowContents::write_formatted_basic)).
+    /// The text counts on default attributes where it begins, and does not go
+    /// back to them at its end.
+    ///
     /// Fails where memory for the text is refused.
     pub fn contents_formatted_basic(&self) -> Result<String, Error>
         ensures text { IfOk result (λ text. string_bytes text ≡ basic_texts unwritten (visible_rows self.now)) }

@@ -22,7 +22,8 @@ impl Screen {
     /// A row's text ends with its last glyph; before and between glyphs a
     /// column is a space. A row is followed by `\n`, unless its text goes on in
     /// the row below; where that has no glyph, a `\n` stands for it. There is
-    /// no `\n` at the end.
+    /// no `\n` at the end. Longer rows of scrollback are cut to the columns of
+    /// the screen.
     ///
     /// Fails where memory for the text is refused.
     pub fn contents(&self) -> Result<String, Error>
@@ -42,8 +43,10 @@ impl Screen {
     /// The text from a column of one row up to a column of another, as it may
     /// be copied: the first row from `start_col` on, the rows between, and the
     /// last one up to `end_col`; in one row the columns from `start_col` up to
-    /// `end_col`. A row before the last one is followed by `\n`, unless its
-    /// text goes on in the row below.
+    /// `end_col`. Rows and columns count from 0, and `end_col` itself is left
+    /// out. A row before the last one is followed by `\n`, unless its text goes
+    /// on in the row below. Where `start_row` is before `end_row`, `start_col`
+    /// is to be at most the number of columns.
     ///
     /// Rows that aren't shown have no text, and neither has a range whose end
     /// is before its start. Only the last row is read past the columns of the
@@ -77,7 +80,10 @@ impl Screen {
     }
 
     /// The texts of the rows that are shown, from the top, each in the columns
-    /// from `start` on, `width` of them, without line ends.
+    /// from `start` on, which counts from 0, `width` of them, without line ends.
+    /// Both may be any number: a column that a row doesn't have has no text.
+    /// Longer rows of scrollback are read as they stand. A wide glyph is in the
+    /// text where its left half is among the columns.
     ///
     /// There are as many items as rows. An item is an error where memory for
     /// its text is refused; the next one is then the next row's.

@@ -34,24 +34,24 @@ impl Screen {
         self.grid.move_to(row, col);
     }
 
-    /// Makes the screen blank from the cursor on (ED 0); at a pending wrap the
-    /// cursor's row stays.
+    /// Makes the screen blank, in the current attributes, from the cursor on
+    /// (ED 0); at a pending wrap the cursor's row stays.
     pub fn erase_below(&mut self)
         ensures { self.new ≡ stepped step.EraseBelow self.old }
     {
         self.grid.erase_all_forward(self.attrs);
     }
 
-    /// Makes the cursor's row blank from the cursor on (EL 0); at a pending
-    /// wrap nothing happens.
+    /// Makes the cursor's row blank, in the current attributes, from the cursor
+    /// on (EL 0); at a pending wrap nothing happens.
     pub fn erase_rest(&mut self)
         ensures { self.new ≡ stepped step.EraseRest self.old }
     {
         self.grid.erase_row_forward(self.attrs);
     }
 
-    /// Makes this many columns from the cursor on blank, at most to the end of
-    /// the row (ECH); at a pending wrap none.
+    /// Makes this many columns from the cursor on blank, in the current
+    /// attributes, at most to the end of the row (ECH); at a pending wrap none.
     pub fn ech(&mut self, count: u16)
         ensures { self.new ≡ stepped (step.EraseChars count) self.old }
     {
@@ -167,15 +167,15 @@ impl Screen {
         self.grid.delete_cells(count);
     }
 
-    /// Inserts blank rows at the cursor's row; what passes the scroll region's
-    /// bottom is lost. Outside the region nothing happens (IL).
+    /// Inserts default blank rows at the cursor's row; what passes the scroll
+    /// region's bottom is lost. Outside the region nothing happens (IL).
     pub fn il(&mut self, count: u16)
         ensures { self.new ≡ stepped (step.InsertLines count) self.old }
     {
         self.grid.insert_lines(count);
     }
 
-    /// Deletes rows at the cursor's row; blank rows come in at the scroll
+    /// Deletes rows at the cursor's row; default blank rows come in at the scroll
     /// region's bottom. Outside the region nothing happens (DL).
     pub fn dl(&mut self, count: u16)
         ensures { self.new ≡ stepped (step.DeleteLines count) self.old }
@@ -183,36 +183,37 @@ impl Screen {
         self.grid.delete_lines(count);
     }
 
-    /// Scrolls the scroll region down (SD).
+    /// Scrolls the scroll region down; default blank rows come in at its top (SD).
     pub fn sd(&mut self, count: u16)
         ensures { self.new ≡ stepped (step.ScrollDown count) self.old }
     {
         self.grid.scroll_down(count);
     }
 
-    /// Makes the screen blank from its first place through the cursor (ED 1).
+    /// Makes the screen blank, in the current attributes, from its first place
+    /// through the cursor (ED 1).
     pub fn erase_above(&mut self)
         ensures { self.new ≡ stepped step.EraseAbove self.old }
     {
         self.grid.erase_all_backward(self.attrs);
     }
 
-    /// Makes the whole screen blank (ED 2).
+    /// Makes the whole screen blank, in the current attributes (ED 2).
     pub fn erase_page(&mut self)
         ensures { self.new ≡ stepped step.ErasePage self.old }
     {
         self.grid.erase_all(self.attrs);
     }
 
-    /// Makes the cursor's row blank from its first column through the cursor
-    /// (EL 1).
+    /// Makes the cursor's row blank, in the current attributes, from its first
+    /// column through the cursor (EL 1).
     pub fn erase_start(&mut self)
         ensures { self.new ≡ stepped step.EraseStart self.old }
     {
         self.grid.erase_row_backward(self.attrs);
     }
 
-    /// Makes the cursor's row blank (EL 2).
+    /// Makes the cursor's row blank, in the current attributes (EL 2).
     pub fn erase_row(&mut self)
         ensures { self.new ≡ stepped step.EraseRow self.old }
     {
@@ -255,7 +256,8 @@ impl Screen {
         self.modes.bracketed_paste = on;
     }
 
-    /// Chooses which mouse events are reported.
+    /// Chooses which mouse events are reported (xterm's private modes 9, 1000,
+    /// 1002 and 1003).
     pub fn set_mouse_mode(&mut self, mode: MouseProtocolMode)
         ensures { self.new ≡ stepped (step.SetMouseMode mode) self.old }
     {
@@ -269,7 +271,7 @@ impl Screen {
         self.modes.mouse_mode = modes::clear_mode(self.modes.mouse_mode, mode);
     }
 
-    /// Chooses how mouse events are encoded.
+    /// Chooses how mouse events are encoded (xterm's private modes 1005 and 1006).
     pub fn set_mouse_encoding(&mut self, encoding: MouseProtocolEncoding)
         ensures { self.new ≡ stepped (step.SetMouseEncoding encoding) self.old }
     {

@@ -35,6 +35,13 @@ impl Screen {
     /// A text that redraws the screen on any plain terminal of the same size,
     /// whatever that showed before.
     ///
+    /// A terminal is *plain* if its scroll region is all of its page, its
+    /// origin mode is off, no scrollback is in view, it is in the midst of no
+    /// sequence and was never out of memory; so is every fresh one. What a
+    /// screen shows, its picture, is *steady* if each of its glyphs, printed on
+    /// a blank row, gives just itself. So are all without U+FE0F, which may make
+    /// a glyph wide.
+    ///
     /// By the clauses `quiet` to `rest`, for a screen whose picture is steady,
     /// a plain terminal of this size reads the text without calling anybody
     /// and without taking memory. Then it is plain and shows what this screen
@@ -129,7 +136,10 @@ impl Screen {
     /// By the clauses `quiet` to `rest`, for a screen whose picture is steady,
     /// such a terminal reads the text as that of
     /// [`Screen::contents_formatted`], to the same end. The text is empty where
-    /// both show the same, and by `empty` only there.
+    /// both show the same, and by `empty` only there. By `touches` it touches
+    /// only rows that differ and those directly under one, and of the glyphs
+    /// there that stand alike in both screens only one in the first column and
+    /// one in the last; and, to make a pending wrap, the end of one row.
     ///
     /// Fails where memory for the text is refused.
     ///
@@ -173,7 +183,9 @@ impl Screen {
     /// By the clauses `quiet` to `rest`, for a screen whose picture is steady,
     /// such a terminal reads the text without calling anybody and without
     /// taking memory. Its cells, its flags and its attributes are as before,
-    /// and it is plain again. Fails where memory for the text is refused.
+    /// and it is plain again. By `touches` it touches nothing, but the end of
+    /// one row where a wrap is pending. Fails where memory for the text is
+    /// refused.
     pub fn cursor_state_formatted(&self) -> Result<String, Error>
         ensures text { IfOk result (λ text. string_bytes text ≡ bytes_of_all (cursor_state (shown self.now))) }
         ensures quiet { IfOk result
@@ -213,6 +225,7 @@ impl Screen {
         }
     }
 
+    /// Writes the text of [`Screen::contents_formatted`].
     pub(super) fn write_contents_formatted<S: Sink>(&self, sink: &mut S) -> Result<(), S::Error>
         ensures whole { IsScreen self.now }
         ensures colored { IsColored self.now }
@@ -221,6 +234,7 @@ impl Screen {
         write_contents_formatted(sink, &self.view())
     }
 
+    /// Writes the text of [`Screen::contents_formatted_reset`].
     fn write_contents_formatted_reset<S: Sink>(&self, sink: &mut S) -> Result<(), S::Error>
         ensures whole { IsScreen self.now }
         ensures colored { IsColored self.now }
@@ -231,6 +245,7 @@ impl Screen {
         write_contents_formatted(sink, &view)
     }
 
+    /// Writes the text of [`Screen::contents_diff`].
     pub(super) fn write_contents_diff<S: Sink>(
         &self,
         sink: &mut S,
@@ -247,6 +262,7 @@ impl Screen {
         write_contents_diff(sink, &self.view(), &prev.view())
     }
 
+    /// Writes the text of [`Screen::cursor_state_formatted`].
     fn write_cursor_state<S: Sink>(&self, sink: &mut S) -> Result<(), S::Error>
         ensures whole { IsScreen self.now }
         ensures colored { IsColored self.now }

@@ -25,6 +25,12 @@ impl Screen {
     /// and a pending wrap ends, and scrollback leaves view. Nobody is told of
     /// the rows that leave. An equal size changes nothing and takes no memory.
     ///
+    /// Fewer rows: those below the cursor go first, and where that is not
+    /// enough, rows leave at the top, to scrollback. More rows: those that left
+    /// come back at the top, blank ones for those that scrollback did not keep,
+    /// and what is still free is blank rows at the bottom. Each row of the page
+    /// is cut or grown to the columns; text is not wrapped anew.
+    ///
     /// Fails where memory is refused; then nothing has changed.
     pub fn set_size(&mut self, rows: NonZeroU16, cols: NonZeroU16) -> Result<(), Error>
         ensures ok { OnOk result (self.new ≡ resized rows.value cols.value self.old) }

@@ -30,9 +30,9 @@ impl Screen {
     /// of this size whose row is blank, which have the cursor at the begin of
     /// the range and draw with default attributes. Such a terminal then has the
     /// row's cells in the range, and no other cell of it changes; its cursor
-    /// and its attributes may be others. By `linked` the text of a whole row
-    /// under one that goes on may also be read with a wrap pending in the row
-    /// above, which then goes on.
+    /// and its attributes may be others; and by `off` the row does not go on
+    /// below. By `linked` the text of a whole row under one that goes on may
+    /// also be read with a wrap pending in the row above, which then goes on.
     ///
     /// ```text
     /// for (row, text) in (1..).zip(screen.rows_formatted(10, 20)) {
@@ -169,6 +169,7 @@ impl Screen {
         }
     }
 
+    /// Writes the text of a row for [`Screen::rows_formatted`].
     fn write_row_formatted<S: Sink>(
         &self,
         sink: &mut S,
@@ -184,6 +185,7 @@ impl Screen {
         write_row_formatted(sink, &self.view(), row, start, stop)
     }
 
+    /// Writes the text of a row for [`Screen::rows_diff`].
     fn write_row_diff<S: Sink>(
         &self,
         sink: &mut S,

@@ -20,7 +20,8 @@ impl Screen {
     /// A character of one or two columns becomes a glyph in the current
     /// attributes, after a wrap where there is no room for it. One without
     /// columns of its own is put on the glyph before the cursor. A control,
-    /// and a character wider than the screen, draws nothing.
+    /// and a character wider than the screen, draws nothing. U+FFFD, which
+    /// stands for bytes that are no character, is not to be printed.
     ///
     /// A wrap at the bottom may scroll a row off the page, as in
     /// [`Screen::lf`].
@@ -85,8 +86,9 @@ impl Screen {
         Ok(())
     }
 
-    /// Scrolls the scroll region up (SU), with rows that leave the page as in
-    /// [`Screen::lf`].
+    /// Scrolls the scroll region up; default blank rows come in at its bottom
+    /// (SU). Rows that leave the page are kept and told, and memory is refused,
+    /// as in [`Screen::lf`].
     pub fn su<CB: Callbacks>(&mut self, count: u16, callbacks: &mut CB) -> Result<(), Error>
         ensures done { OnOk result
             (Takes CB.does (state callbacks.old self.old) (step.ScrollUp count) (state callbacks.new self.new)) }
@@ -140,7 +142,9 @@ impl Screen {
         Ok(())
     }
 
-    /// Gives up the scrollback of the active page; nobody is told of its rows.
+    /// Gives up scrollback, and the view goes back to the page; nobody is told
+    /// of the rows. None of them comes back where the screen gets more rows. On
+    /// the alternate page, which has no scrollback, nothing happens.
     pub fn clear_scrollback(&mut self)
         ensures { self.new ≡ scrolled step.EraseScrollback self.old }
     {

@@ -104,6 +104,7 @@ impl Screen {
         }
     }
 
+    /// Writes the text of [`Screen::state_formatted`].
     fn write_state_formatted<S: Sink>(&self, sink: &mut S) -> Result<(), S::Error>
         ensures whole { IsScreen self.now }
         ensures colored { IsColored self.now }
@@ -113,6 +114,7 @@ impl Screen {
         self.write_input_mode_formatted(sink)
     }
 
+    /// Writes the text of [`Screen::state_diff`].
     fn write_state_diff<S: Sink>(&self, sink: &mut S, prev: &Screen) -> Result<(), S::Error>
         requires { SameSize self.now.page prev.now.page }
         ensures whole { IsScreen self.now }
