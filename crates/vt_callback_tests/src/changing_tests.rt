@@ -1,7 +1,7 @@
 //! Callbacks that resize the screen, exchange it or scroll it back, amid a text.
 
 use crate::changing::{Exchanger, Resizer, Viewer, run_exchanging, run_looking_back, run_resizing};
-use crate::seen::{Seen, expect_seen, size_of};
+use crate::seen::{FRESH, Seen, Setting, expect_seen, expect_setting, size_of};
 use std::alloc::Global;
 use std::test::Fail;
 use vt100::{Parser, Screen};
@@ -15,11 +15,15 @@ fn expect_size(screen: &Screen, size: (u16, u16)) -> Result<(), Fail> {
 }
 
 /// A screen of one row that is full.
-const FULL: Seen = ("abcd", (0, 4), false, (0, 0));
+const FULL: Seen = ("abcd", (0, 4), false, (0, 0), &[]);
 
 /// What is read on two rows of four columns, the size after it, and what is seen.
 const SIZED: [(&str, (u16, u16), Seen); 7] = [
-    ("ab\x1b[8;3;2tcd", (3, 2), ("acd", (1, 1), false, (0, 0))),
+    (
+        "ab\x1b[8;3;2tcd",
+        (3, 2),
+        ("acd", (1, 1), false, (0, 0), &[0]),
+    ),
     ("ab\x1b[8;0;2tcd", (2, 4), FULL),
     ("ab\x1b[8;3;0tcd", (2, 4), FULL),
     ("ab\x1b[8;;tcd", (2, 4), FULL),
@@ -67,28 +71,41 @@ fn resize(
         return Err(Fail::new("memory was refused"));
     }
     expect_size(parser.screen(), size)?;
-    expect_seen(parser.screen(), wanted)
+    expect_seen(parser.screen(), wanted)?;
+    expect_setting(parser.screen(), FRESH)
 }
 
+/// What is seen of a screen, and its attributes and modes.
+type Whole = (Seen, Setting);
+
 /// What is read on two rows of four columns, the size after it, what is seen, and what is kept.
-const EXCHANGED: [(&str, (u16, u16), Seen, Seen); 3] = [
+const EXCHANGED: [(&str, (u16, u16), Whole, Whole); 4] = [
     (
         "ab\x07c",
         (1, 1),
-        ("c", (0, 1), false, (0, 0)),
-        ("ab", (0, 2), false, (0, 0)),
+        (("c", (0, 1), false, (0, 0), &[]), FRESH),
+        (("ab", (0, 2), false, (0, 0), &[]), FRESH),
     ),
     (
         "ab\x07c\x07d",
         (2, 4),
-        ("abd", (0, 3), false, (0, 0)),
-        ("c", (0, 1), false, (0, 0)),
+        (("abd", (0, 3), false, (0, 0), &[]), FRESH),
+        (("c", (0, 1), false, (0, 0), &[]), FRESH),
     ),
     (
         "ab\x07\x1b[?1049hc\x07d\x07",
         (1, 1),
-        ("c", (0, 1), true, (0, 0)),
-        ("abd", (0, 3), false, (0, 0)),
+        (("c", (0, 1), true, (0, 0), &[]), FRESH),
+        (("abd", (0, 3), false, (0, 0), &[]), FRESH),
+    ),
+    (
+        "\x1b[1;31;44m\x1b=\x1b[?25lab\x07c",
+        (1, 1),
+        (("c", (0, 1), false, (0, 0), &[]), FRESH),
+        (
+            ("ab", (0, 2), false, (0, 0), &[]),
+            ("\x1b[m\x1b[31;44;1m", "\x1b=\x1b[?1l\x1b[?2004l", true),
+        ),
     ),
 ];
 
@@ -118,7 +135,7 @@ fn expect_exchanged(
     bytes: &[u8],
     cut: usize,
     size: (u16, u16),
-    wanted: (Seen, Seen),
+    wanted: (Whole, Whole),
 ) -> Result<(), Fail> {
     let (rows, cols) = size_of((2, 4))?;
     let exchanger = Exchanger::new(small(alloc)?);
@@ -135,13 +152,18 @@ fn exchange(
     parser: &mut Parser<Exchanger>,
     (front, back): (&[u8], &[u8]),
     size: (u16, u16),
-    (seen, kept): (Seen, Seen),
+    (seen, kept): (Whole, Whole),
 ) -> Result<(), Fail> {
     run_exchanging(parser, front)?;
     run_exchanging(parser, back)?;
     expect_size(parser.screen(), size)?;
-    expect_seen(parser.screen(), seen)?;
-    expect_seen(parser.callbacks().kept(), kept)
+    expect_whole(parser.screen(), seen)?;
+    expect_whole(parser.callbacks().kept(), kept)
+}
+
+fn expect_whole(screen: &Screen, (seen, setting): Whole) -> Result<(), Fail> {
+    expect_seen(screen, seen)?;
+    expect_setting(screen, setting)
 }
 
 /// What is read on two rows of four columns with room for ten rows of scrollback, what is seen then,
@@ -149,13 +171,13 @@ fn exchange(
 const LOOKED_BACK: [(&str, Seen, Seen); 2] = [
     (
         "a\r\nb\r\nc\x07x",
-        ("a\nb", (1, 2), false, (1, 1)),
-        ("b\ncx", (1, 2), false, (1, 0)),
+        ("a\nb", (1, 2), false, (1, 1), &[]),
+        ("b\ncx", (1, 2), false, (1, 0), &[]),
     ),
     (
         "a\r\nb\r\nc\x07\r\nd",
-        ("a\nb", (1, 1), false, (2, 2)),
-        ("c\nd", (1, 1), false, (2, 0)),
+        ("a\nb", (1, 1), false, (2, 2), &[]),
+        ("c\nd", (1, 1), false, (2, 0), &[]),
     ),
 ];
 
@@ -191,6 +213,7 @@ fn look_back(
         return Err(Fail::new("memory was refused"));
     }
     expect_seen(parser.screen(), seen)?;
+    expect_setting(parser.screen(), FRESH)?;
     parser.screen_mut().set_scrollback(0)?;
     expect_seen(parser.screen(), below)
 }

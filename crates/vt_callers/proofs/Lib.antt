@@ -1,3 +1,4 @@
+pub mod Failing
 pub mod Remote
 pub mod Runs
 pub mod Viewing

@@ -1,2 +1,3 @@
+pub mod Failing
 pub mod Remote
 pub mod Spots

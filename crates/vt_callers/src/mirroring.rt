@@ -1,8 +1,11 @@
 //! A mirror: a viewer that joins late shows what the mirror shows.
 
-ghost use Rattle.std.specs.Prelude.{◌≡◌, IfOk, OnOk, true};
+ghost use Rattle.std.specs.Prelude.{◌≡◌, ◌<◌, IfErr, IfOk, OnOk, true};
+ghost use Rattle.vt100.specs.Parser.{Ran, quietly};
 ghost use Rattle.vt100.specs.Pieces.{IsPlainParser};
+ghost use Rattle.vt_callers.specs.Failing.{HasSides, IsFailure, IsLateFailure};
 ghost use Rattle.vt_callers.specs.Remote.{ShowsScreen};
+ghost use Rattle.vt_cells.specs.Refusals.{OnlyOutOfMemory};
 ghost use Rattle.vt_mirror.specs.Viewers.{is_viewer, next_number};
 ghost use Rattle.vt_mirror.specs.Watching.{IsFresh, ReadsText, TakesUpdate, TakesSize};
 ghost use Rattle.vt_redraw.specs.Steady.{IsSteady};
@@ -23,10 +26,12 @@ pub fn show_late<CB: Callbacks>(
     output: &[u8],
     terminal: &mut Parser<CB>,
 ) -> Result<u64, Error>
+    ensures read { IfOk result (λ viewer. Ran quietly mirror.old.parser output.now mirror.new.parser) }
     ensures shows { IfOk result (λ viewer. IsFresh mirror.old → IsPlainParser terminal.old →
         IsSteady (shown mirror.new.parser.screen) → ShowsScreen mirror.new.parser.screen terminal.new) }
     ensures number { IfOk result (λ viewer. viewer ≡ next_number mirror.old.viewers.last) }
     ensures joined { IfOk result (λ viewer. is_viewer mirror.new.viewers viewer ≡ true) }
+    ensures only { IfErr result (IsLateFailure mirror.old terminal.old) }
 {
     laws::viewers::<CB>();
     terminal.screen().size();
@@ -42,9 +47,11 @@ pub fn show_late<CB: Callbacks>(
 
 /// Gives a terminal an update: its size first where it is a full one, and then its text.
 ///
-/// Fails where memory is refused, or the terminal failed before.
+/// Fails where memory is refused, or the terminal failed before, and with `Failed` for a full update
+/// without a row or a column, which no mirror gives.
 pub fn take_update<CB: Callbacks>(terminal: &mut Parser<CB>, update: &Update) -> Result<(), Error>
-    ensures { OnOk result (TakesUpdate update.now terminal.old terminal.new) }
+    ensures takes { OnOk result (TakesUpdate update.now terminal.old terminal.new) }
+    ensures only { HasSides update.now → IfErr result (IsFailure terminal.old) }
 {
     match update {
         Update::Diff(text) => read_text(terminal, text.as_str()),
@@ -57,7 +64,8 @@ pub fn take_update<CB: Callbacks>(terminal: &mut Parser<CB>, update: &Update) ->
 
 /// Gives a terminal a size; no mirror has one of nothing.
 fn take_size<CB: Callbacks>(terminal: &mut Parser<CB>, rows: u16, cols: u16) -> Result<(), Error>
-    ensures { OnOk result (TakesSize rows cols terminal.old terminal.new) }
+    ensures takes { OnOk result (TakesSize rows cols terminal.old terminal.new) }
+    ensures only { 0 < rows → 0 < cols → OnlyOutOfMemory result }
 {
     let Some(rows) = NonZeroU16::new(rows) else {
         return Err(Error::Failed);
@@ -70,7 +78,8 @@ fn take_size<CB: Callbacks>(terminal: &mut Parser<CB>, rows: u16, cols: u16) -> 
 
 /// Has a terminal read a text, in one piece.
 fn read_text<CB: Callbacks>(terminal: &mut Parser<CB>, text: &str) -> Result<(), Error>
-    ensures { OnOk result (ReadsText text.now terminal.old terminal.new) }
+    ensures reads { OnOk result (ReadsText text.now terminal.old terminal.new) }
+    ensures only { IfErr result (IsFailure terminal.old) }
 {
     terminal.process(text.as_bytes())?;
     terminal.screen().size();

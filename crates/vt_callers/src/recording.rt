@@ -2,6 +2,7 @@
 
 ghost use Rattle.std.specs.Prelude.{◌≡◌, ◌++◌, false, true, IfOk, string_bytes};
 ghost use Rattle.vt100.specs.Streams.{whole_text};
+ghost use Rattle.vt_cells.specs.Refusals.{OnlyOutOfMemory};
 ghost use Rattle.vt_scan.specs.Automaton.{start};
 ghost use Rattle.vt_screen.specs.Capture.{all_rows, basic_texts};
 ghost use Rattle.vt_screen.specs.Screen.{fresh_screen};
@@ -24,9 +25,10 @@ pub fn record(
     capacity: usize,
     output: &[u8],
 ) -> Result<String, Error>
-    ensures { IfOk result (λ text. HasNoRis start output.now →
+    ensures text { IfOk result (λ text. HasNoRis start output.now →
         (screen_in start (fresh_screen rows.value cols.value capacity) output.now).is_alternate ≡ false →
         string_bytes text ≡ whole_text rows.value cols.value output.now) }
+    ensures memory { OnlyOutOfMemory result }
 {
     vt100::laws::one_text::<Recorder>();
     vt_notes::laws::recorded();
@@ -43,6 +45,7 @@ fn finish(alloc: Global, parser: &mut Parser<Recorder>) -> Result<String, Error>
     ensures whole { IfOk result (λ text. parser.old.callbacks.is_whole ≡ true) }
     ensures text { IfOk result (λ text. string_bytes text
         ≡ parser.old.callbacks.text ++ basic_texts parser.old.callbacks.state (all_rows parser.old.screen)) }
+    ensures memory { OnlyOutOfMemory result }
 {
     let (screen, recorder) = parser.screen_and_callbacks_mut();
     recorder.capture(screen)?;

@@ -2,6 +2,7 @@
 
 ghost use Rattle.std.specs.Prelude.{◌≡◌, ◌↔◌, true, IfOk};
 ghost use Rattle.vt_callers.specs.Spots.{HasText};
+ghost use Rattle.vt_cells.specs.Refusals.{OnlyOutOfMemory};
 ghost use Rattle.vt_scan.specs.Automaton.{start};
 ghost use Rattle.vt_screen.specs.Contents.{between_of, contents_of};
 ghost use Rattle.vt_screen.specs.Screen.{fresh_screen};
@@ -25,7 +26,8 @@ pub fn cell_shows(screen: &Screen, row: u16, column: u16, text: &str) -> bool
 ///
 /// Fails where memory for the text is refused.
 pub fn row_shows(screen: &Screen, row: u16, text: &str) -> Result<bool, Error>
-    ensures { IfOk result (λ is. is ≡ true ↔ between_of row 0 row screen.now.page.width screen.now ≡ text.now) }
+    ensures shows { IfOk result (λ is. is ≡ true ↔ between_of row 0 row screen.now.page.width screen.now ≡ text.now) }
+    ensures memory { OnlyOutOfMemory result }
 {
     let (_, columns) = screen.size();
     let shown = screen.contents_between(row, 0, row, columns.get())?;
@@ -36,7 +38,8 @@ pub fn row_shows(screen: &Screen, row: u16, text: &str) -> Result<bool, Error>
 ///
 /// Fails where memory for the text is refused.
 pub fn screen_shows(screen: &Screen, text: &str) -> Result<bool, Error>
-    ensures { IfOk result (λ is. is ≡ true ↔ contents_of screen.now ≡ text.now) }
+    ensures shows { IfOk result (λ is. is ≡ true ↔ contents_of screen.now ≡ text.now) }
+    ensures memory { OnlyOutOfMemory result }
 {
     let shown = screen.contents()?;
     Ok(shown.as_str() == text)
@@ -52,8 +55,9 @@ pub fn output_shows(
     output: &[u8],
     text: &str,
 ) -> Result<bool, Error>
-    ensures { IfOk result
+    ensures shows { IfOk result
         (λ is. is ≡ true ↔ contents_of (screen_in start (fresh_screen rows.value cols.value 0) output.now) ≡ text.now) }
+    ensures memory { OnlyOutOfMemory result }
 {
     laws::one_text::<()>();
     let mut parser = Parser::new(alloc, rows, cols, 0)?;

@@ -1,6 +1,7 @@
 //! Callbacks that write a capture as rows are reported.
 
 ghost use Rattle.std.specs.Prelude.{◌≡◌, ◌++◌, false, true, OnErr, OnOk};
+ghost use Rattle.vt_cells.specs.Refusals.{OnlyOutOfMemory};
 ghost use Rattle.vt_notes.specs.Recording.{nothing_recorded};
 ghost use Rattle.vt_screen.specs.Capture.{all_rows, basic_texts, written_after_all};
 
@@ -56,6 +57,7 @@ impl Recorder {
         ensures state { OnOk result (self.new.state ≡ written_after_all self.old.state (all_rows screen.now)) }
         ensures kept { OnOk result (self.new.is_whole ≡ true) }
         ensures lost { OnErr result (self.new.is_whole ≡ false) }
+        ensures memory { OnlyOutOfMemory result }
     {
         if !self.is_whole {
             return Err(Error::OutOfMemory);
@@ -65,7 +67,10 @@ impl Recorder {
             BasicFormattedCaptureRange::Full(&mut self.state),
         );
         self.is_whole = written.is_ok();
-        written
+        match written {
+            Ok(()) => Ok(()),
+            Err(_) => Err(Error::OutOfMemory),
+        }
     }
 }
 

@@ -1,7 +1,9 @@
-//! Tests of mirrors, and of what no clause says of the engines of `vtshow` and `vtmirror`: that runs
-//! succeed, what they write, and the words of the programs.
+//! Tests of mirrors, of the proved callers, and of what no clause says of the engines of `vtshow` and
+//! `vtmirror`: that runs succeed, what they write, and the words of the programs.
 #![tactic(auto)]
 
+#[cfg(test)]
+mod caller_tests;
 #[cfg(test)]
 mod mirror_tests;
 #[cfg(test)]

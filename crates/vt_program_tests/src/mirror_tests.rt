@@ -1,7 +1,7 @@
 //! Calls of a mirror, one after the other, and what each answers.
 
+use crate::numbers::size;
 use std::alloc::Global;
-use std::num::NonZeroU16;
 use std::test::Fail;
 use vt_mirror::{Mirror, Update};
 
@@ -100,12 +100,6 @@ const RESIZED: [Call; 14] = [
 fn mirror(alloc: Global) -> Result<Mirror, Fail> {
     let (rows, cols) = size((2, 4))?;
     Ok(Mirror::new(alloc, rows, cols, 0)?)
-}
-
-fn size((rows, cols): (u16, u16)) -> Result<(NonZeroU16, NonZeroU16), Fail> {
-    let rows = NonZeroU16::new(rows).ok_or("no rows")?;
-    let cols = NonZeroU16::new(cols).ok_or("no columns")?;
-    Ok((rows, cols))
 }
 
 /// Makes the calls, and fails where one answers otherwise.

@@ -7,3 +7,8 @@ use std::test::Fail;
 pub(crate) fn number(n: u16) -> Result<NonZeroU16, Fail> {
     Ok(NonZeroU16::new(n).ok_or("no number")?)
 }
+
+/// Rows and columns; 0 of one fails the test.
+pub(crate) fn size((rows, cols): (u16, u16)) -> Result<(NonZeroU16, NonZeroU16), Fail> {
+    Ok((number(rows)?, number(cols)?))
+}

@@ -74,7 +74,8 @@ fn run_scenes<R: AllocGlobal + Print>(rt: &R) -> io::Result<()> {
     for scene in &MORE_SCENES {
         run(rt, scene)?;
     }
-    mirrors::run(rt)
+    mirrors::run(rt)?;
+    users::run_recorder(rt)
 }
 
 /// Makes a parser, and then its calls.

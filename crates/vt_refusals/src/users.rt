@@ -5,7 +5,7 @@ use std::alloc::Global;
 use std::io;
 use std::io::Write;
 use std::num::NonZeroU16;
-use vt_notes::Notes;
+use vt_notes::{Notes, Recorder};
 use vt_show::{Fault, Mode};
 use vt100::{Error, Parser};
 
@@ -58,18 +58,47 @@ pub fn run_notes<R: AllocGlobal + Print>(rt: &R) -> io::Result<()> {
 
 fn process_each<R: AllocGlobal + Print>(rt: &R, parser: &mut Parser<Notes>) -> io::Result<()> {
     for bytes in [b"\x07".as_slice(), b"\x1b]2;t\x07", b"a\r\n"] {
-        let answer = match parser.process(bytes) {
-            Ok(()) => "ok",
-            Err(Error::OutOfMemory) => "refused",
-            Err(Error::Failed) => "failed",
-            Err(Error::NoNumber) => "no number",
-        };
+        let answer = word(parser.process(bytes));
         let notes = parser.callbacks();
         let (count, complete) = (notes.calls().len(), notes.is_complete());
         println!(rt;
             "process {}: {answer}; {count} noted, all of them: {complete}",
             bytes.escape_ascii()
         )?;
+    }
+    Ok(())
+}
+
+/// The word for an answer.
+fn word(answer: Result<(), Error>) -> &'static str {
+    match answer {
+        Ok(()) => "ok",
+        Err(Error::OutOfMemory) => "refused",
+        Err(Error::Failed) => "failed",
+        Err(Error::NoNumber) => "no number",
+    }
+}
+
+/// A capture that is written as rows leave, and behind them the page, twice.
+pub fn run_recorder<R: AllocGlobal + Print>(rt: &R) -> io::Result<()> {
+    println!(rt; "-- a capture that is written as rows leave")?;
+    let (rows, cols) = step::size((1, 8));
+    let recorder = Recorder::new(rt.alloc());
+    match Parser::new_with_callbacks(rt.alloc(), rows, cols, 0, recorder) {
+        Ok(mut parser) => record_each(rt, &mut parser),
+        Err(_) => println!(rt; "new: refused"),
+    }
+}
+
+fn record_each<R: AllocGlobal + Print>(rt: &R, parser: &mut Parser<Recorder>) -> io::Result<()> {
+    for bytes in [b"a\r\n".as_slice(), b"abcdefgh\r\n", b"ijklmnop"] {
+        let answer = word(parser.process(bytes));
+        println!(rt; "process {}: {answer}", bytes.escape_ascii())?;
+    }
+    for _ in 0..2 {
+        let (screen, recorder) = parser.screen_and_callbacks_mut();
+        let answer = word(recorder.capture(screen));
+        println!(rt; "capture: {answer}")?;
     }
     Ok(())
 }

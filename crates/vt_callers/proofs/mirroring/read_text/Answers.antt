@@ -5,8 +5,8 @@ use Rattle.std.specs.Prelude.{List, ℕ}
 use Rattle.vt_callers.proofs.Viewing.{read_at_once}
 use Rattle.vt_callers.proofs.mirroring.read_text.Goals as goal
 
-pub returns : goal.returns
-returns g c =
+pub returns-clause-reads : goal.returns-clause-reads
+returns-clause-reads g c =
     subst (λ (text : List ℕ). ReadsText text c.args.terminal.now c.process.new.self) c.as_bytes.ensures.value
     (read_at_once c.as_bytes.result.now c.process.result c.args.terminal.now c.process.new.self
     (subst (λ (s : ScreenValue). IsScreen s) c.screen.ensures.value c.size.ensures.whole) c.process.ensures.quiet)

@@ -1,11 +1,19 @@
-use Rattle.std.proofs.Common.{◌∙◌, ap, subst}
+use Rattle.std.proofs.Common.{◌∙◌, ap, subst, sym}
 use Rattle.vt_screen.specs.Screen.{IsScreen, ScreenValue}
 use Rattle.std.specs.Prelude.{Ok, Option}
+use Rattle.vt100.specs.Parser.{Ran, quietly}
 use Rattle.vt_mirror.specs.Calls.{Asks}
 use Rattle.vt_mirror.specs.Viewers.{ViewersValue, next_number}
 use Rattle.vt_mirror.specs.declared.update.Update.{Update}
 use Rattle.vt_callers.proofs.Viewing.{late_shows}
 use Rattle.vt_callers.proofs.mirroring.show_late.Goals as goal
+
+pub returns-clause-read : goal.returns-clause-read
+returns-clause-read g c =
+    let asks = subst (λ (o : Option Update). Asks c.join.new.self c.in_ok-viewer.viewer (Ok o) c.update.new.self)
+    c.in-Some.is c.in_ok-answer.ensures.call in
+    subst (Ran quietly c.args.mirror.now.parser c.args.output.now)
+    (sym (asks.answers.parser ∙ c.join.ensures.parser)) c.in_ok-process.ensures.call.ran
 
 pub returns-clause-shows : goal.returns-clause-shows
 returns-clause-shows g c = λ fresh plain steady.
@@ -16,7 +24,7 @@ returns-clause-shows g c = λ fresh plain steady.
     plain c.process.ensures.call c.join.ensures.parser c.in_ok-viewer.ensures.call
     (subst (λ (o : Option Update). Asks c.join.new.self c.in_ok-viewer.viewer (Ok o) c.update.new.self)
     c.in-Some.is c.in_ok-answer.ensures.call)
-    c.in_ok-take_update.ensures steady
+    c.in_ok-take_update.ensures.takes steady
 
 pub returns-clause-number : goal.returns-clause-number
 returns-clause-number g c =

@@ -5,8 +5,8 @@ use Rattle.vt_screen.specs.Shown.{IsReadBy, IsReaderOf, Makes, ShowsPlainly, sho
 use Rattle.vt_callers.proofs.Remote.{differing}
 use Rattle.vt_callers.proofs.multiplexer.send_difference.Goals as goal
 
-pub returns : goal.returns
-returns g c = λ steady was.
+pub returns-clause-shows : goal.returns-clause-shows
+returns-clause-shows g c = λ steady was.
     let self = c.args.screen.now in
     let same = c.as_bytes.ensures.value in
     differing self c.args.prev.now c.as_bytes.result.now c.process.result c.args.remote.now c.process.new.self

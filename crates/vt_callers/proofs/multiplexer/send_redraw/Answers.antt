@@ -5,8 +5,8 @@ use Rattle.vt_screen.specs.Shown.{IsReadBy, IsReader, Makes, ShowsPlainly, shown
 use Rattle.vt_callers.proofs.Remote.{redrawn}
 use Rattle.vt_callers.proofs.multiplexer.send_redraw.Goals as goal
 
-pub returns : goal.returns
-returns g c = λ steady plain size.
+pub returns-clause-shows : goal.returns-clause-shows
+returns-clause-shows g c = λ steady plain size.
     let self = c.args.screen.now in
     let same = c.as_bytes.ensures.value in
     redrawn self c.as_bytes.result.now c.process.result c.args.remote.now c.process.new.self

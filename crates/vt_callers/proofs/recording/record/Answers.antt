@@ -11,8 +11,8 @@ use Rattle.vt100.specs.Streams.{MakesCall, ParserCall, Process, whole_text}
 use Rattle.vt_callers.proofs.Runs.{fresh_parser}
 use Rattle.vt_callers.proofs.recording.record.Goals as goal
 
-pub returns : goal.returns
-returns c = λ none main.
+pub returns-clause-text : goal.returns-clause-text
+returns-clause-text c = λ none main.
     let rows = c.args.rows.value in
     let cols = c.args.cols.value in
     let output = c.args.output.now in

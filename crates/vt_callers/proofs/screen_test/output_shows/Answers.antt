@@ -7,8 +7,8 @@ use Rattle.vt100.specs.Parser.{Parsing}
 use Rattle.vt100.specs.Streams.{ParserCall, Process}
 use Rattle.vt_callers.proofs.screen_test.output_shows.Goals as goal
 
-pub returns : goal.returns
-returns c =
+pub returns-clause-shows : goal.returns-clause-shows
+returns-clause-shows c =
     let p = c.in_ok-parser.parser in
     let q = c.process.new.self in
     let calls : List ParserCall = Process c.args.output.now ∷ [] in
@@ -20,4 +20,4 @@ returns c =
     ≡ screen_in start (fresh_screen c.args.rows.value c.args.cols.value 0) c.args.output.now
     = c.screen.ensures.value ∙ (heard.0 ∙ ap (λ (s : ScreenValue). screen_in start s c.args.output.now) shown) in
     subst (λ (s : ScreenValue). (c.in_ok-holds.holds ≡ true) ↔ (contents_of s ≡ c.args.text.now))
-    same c.in_ok-holds.ensures
+    same c.in_ok-holds.ensures.shows

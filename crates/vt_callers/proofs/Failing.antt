@@ -1,0 +1,12 @@
+-- Why the second of two calls fails.
+use Rattle.std.proofs.Common.{◌≡◌, false, inl, inr, sym, ◌∙◌}
+use Rattle.std.proofs.lemmas.Bool.{false≢true}
+use Rattle.vt_cells.specs.declared.error.Error.{Error}
+use Rattle.vt100.specs.Parser.{Parsing}
+use Rattle.vt_callers.specs.Failing.{IsFailure}
+
+-- where the terminal did not fail before the second call, memory is refused
+pub fails_second : {S : Type 0} (before between : Parsing S) (error : Error)
+    → between.is_failed ≡ false → IsFailure between error → IsFailure before error
+fails_second before between error fine (inl refused) = inl refused
+fails_second before between error fine (inr failed) = absurd (false≢true (sym fine ∙ failed.1))
