@@ -27,6 +27,14 @@ const STYLE: &str = "text { white-space: pre; direction: ltr; unicode-bidi: bidi
 /// its columns, whatever font it is shown in.
 pub fn svg(alloc: Global, screen: &Screen) -> Result<String, AllocError> {
     let mut out = String::new(alloc);
+    write_head(&mut out, screen)?;
+    write_rows(alloc, &mut out, screen)?;
+    writeln!(out, "</g>\n</svg>")?;
+    Ok(out)
+}
+
+/// The size, the style and the paper of the whole picture, and the beginning of its one group.
+fn write_head(out: &mut String, screen: &Screen) -> Result<(), AllocError> {
     let (rows, cols) = screen.size();
     let width = u32::from(cols.get()) * WIDTH + 2 * MARGIN;
     let height = u32::from(rows.get()) * HEIGHT + 2 * MARGIN;
@@ -43,17 +51,21 @@ pub fn svg(alloc: Global, screen: &Screen) -> Result<String, AllocError> {
         out,
         r#"<g transform="translate({MARGIN} {MARGIN})" font-family="{FONTS}" font-size="15""#
     )?;
-    writeln!(out, r#" fill="{INK}" shape-rendering="crispEdges">"#)?;
+    writeln!(out, r#" fill="{INK}" shape-rendering="crispEdges">"#)
+}
+
+/// The backgrounds of all rows, and then their texts.
+fn write_rows(alloc: Global, out: &mut String, screen: &Screen) -> Result<(), AllocError> {
+    let (rows, _) = screen.size();
     for row in 0..rows.get() {
-        write_papers(&mut out, spots_of(alloc, screen, row)?.as_slice(), row)?;
+        write_papers(out, spots_of(alloc, screen, row)?.as_slice(), row)?;
     }
     for row in 0..rows.get() {
         let spots = spots_of(alloc, screen, row)?;
-        write_texts(&mut out, spots.as_slice(), row)?;
-        write_mark(&mut out, screen, spots.as_slice(), row)?;
+        write_texts(out, spots.as_slice(), row)?;
+        write_mark(out, screen, spots.as_slice(), row)?;
     }
-    writeln!(out, "</g>\n</svg>")?;
-    Ok(out)
+    Ok(())
 }
 
 /// A rectangle for each stretch of one background, but for those of the whole picture's.

@@ -87,13 +87,27 @@ fn place_not_drawn_by(
     bytes: &[u8],
 ) -> Result<Option<usize>> {
     for (place, byte) in bytes.chunks(1).enumerate() {
-        let prev = parser.screen().clone()?;
-        parser.process(byte)?;
-        if !cut::is_drawn(alloc, parser.screen(), &prev)? {
+        if !is_drawn_after(alloc, parser, byte)? {
             return Ok(Some(place));
         }
     }
     Ok(None)
+}
+
+/// Whether the texts of the screen after one more byte draw it again.
+fn is_drawn_after(alloc: Global, parser: &mut Parser<Notes>, byte: &[u8]) -> Result<bool> {
+    let prev = parser.screen().clone()?;
+    is_drawn_from(alloc, parser, &prev, byte)
+}
+
+fn is_drawn_from(
+    alloc: Global,
+    parser: &mut Parser<Notes>,
+    prev: &Screen,
+    byte: &[u8],
+) -> Result<bool> {
+    parser.process(byte)?;
+    cut::is_drawn(alloc, parser.screen(), prev)
 }
 
 /// The first place where the bytes, cut there, give something else.
@@ -129,8 +143,16 @@ fn is_picture(alloc: Global, screen: &Screen, case: &Case<'_>) -> Result<bool> {
 /// The line of the first text that the screen after all bytes doesn't give.
 fn differing_text<'a>(alloc: Global, case: &Case<'a>) -> Result<Option<&'a str>> {
     let prev = screen_before(alloc, case)?;
+    differing_text_from(alloc, case, &prev)
+}
+
+fn differing_text_from<'a>(
+    alloc: Global,
+    case: &Case<'a>,
+    prev: &Screen,
+) -> Result<Option<&'a str>> {
     let parser = fed(alloc, case, &[case.bytes.as_slice()])?;
-    differing_line(alloc, parser.screen(), &prev, case.texts.as_slice())
+    differing_line(alloc, parser.screen(), prev, case.texts.as_slice())
 }
 
 fn differing_line<'a>(
@@ -177,10 +199,19 @@ fn is_drawn(alloc: Global, parser: &Parser<Notes>, case: &Case<'_>, redraw: &str
 /// and cursor of the case, gives the same redraw, and calls nothing.
 fn is_updated(alloc: Global, case: &Case<'_>) -> Result<bool> {
     let prev = screen_before(alloc, case)?;
+    is_updated_from(alloc, case, &prev)
+}
+
+fn is_updated_from(alloc: Global, case: &Case<'_>, prev: &Screen) -> Result<bool> {
+    let update = update_from(alloc, case, prev)?;
+    let redraw = redraw_after(alloc, case, case.bytes.as_slice())?;
+    is_update(alloc, case, prev, update.as_str(), redraw.as_str())
+}
+
+/// The difference between the screen after all bytes and this one.
+fn update_from(alloc: Global, case: &Case<'_>, prev: &Screen) -> Result<String> {
     let parser = fed(alloc, case, &[case.bytes.as_slice()])?;
-    let update = difference(parser.screen(), &prev)?;
-    let redraw = redraw_of(&parser)?;
-    is_update(alloc, case, &prev, update.as_str(), redraw.as_str())
+    difference(parser.screen(), prev)
 }
 
 fn is_update(
@@ -205,7 +236,9 @@ fn redraw_of(parser: &Parser<Notes>) -> Result<String> {
     Ok(parser.screen().contents_formatted()?)
 }
 
-/// A fresh parser of the size of a case, after these pieces.
-fn fed(alloc: Global, case: &Case<'_>, pieces: &[&[u8]]) -> Result<Parser<Notes>> {
-    Ok(vt_notes::read(alloc, case.rows, case.cols, pieces)?)
+/// A fresh parser of the size of a case, after these pieces. It stands in a box, so that a function that
+/// holds one is proved soon: where a box is given up, the parser's parts are no steps of its own.
+fn fed(alloc: Global, case: &Case<'_>, pieces: &[&[u8]]) -> Result<Box<Parser<Notes>>> {
+    let parser = vt_notes::read(alloc, case.rows, case.cols, pieces)?;
+    Ok(Box::new(alloc, parser)?)
 }

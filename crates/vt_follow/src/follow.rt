@@ -37,7 +37,6 @@ fn follow_leader(alloc: Global, leader: &mut Parser, pace: Pace, bytes: &[u8]) -
     follow_all(leader, &mut follower, pace, bytes)
 }
 
-/// Lets the follower read on its alternate page, and looks at its main page and scrollback at the end.
 fn follow_all(
     leader: &mut Parser,
     follower: &mut Parser<Notes>,
@@ -46,10 +45,21 @@ fn follow_all(
 ) -> Result<Tally> {
     follower.process(MAIN)?;
     let mut before = follower.screen().clone()?;
+    follow_aside(leader, follower, &mut before, pace, bytes)
+}
+
+/// Lets the follower read on its alternate page, and looks at its main page and scrollback at the end.
+fn follow_aside(
+    leader: &mut Parser,
+    follower: &mut Parser<Notes>,
+    before: &mut Screen,
+    pace: Pace,
+    bytes: &[u8],
+) -> Result<Tally> {
     follower.process(ALTERNATE)?;
     let mut tally = follow_each(leader, follower, pace, bytes)?;
     follower.process(b"\x1b[?1049l")?;
-    if tally.differs.is_none() && !has_kept(follower.screen_mut(), &mut before)? {
+    if tally.differs.is_none() && !has_kept(follower.screen_mut(), before)? {
         tally.differs = Some(Part::Rest);
     }
     Ok(tally)
@@ -91,8 +101,17 @@ fn redraw(leader: &Screen, follower: &mut Parser<Notes>) -> Result<()> {
 /// Has the leader read these bytes and the follower the difference, and answers how long that is.
 fn update(leader: &mut Parser, follower: &mut Parser<Notes>, piece: &[u8]) -> Result<usize> {
     let prev = leader.screen().clone()?;
+    update_from(&prev, leader, follower, piece)
+}
+
+fn update_from(
+    prev: &Screen,
+    leader: &mut Parser,
+    follower: &mut Parser<Notes>,
+    piece: &[u8],
+) -> Result<usize> {
     leader.process(piece)?;
-    let text = difference(leader.screen(), &prev)?;
+    let text = difference(leader.screen(), prev)?;
     follower.process(text.as_bytes())?;
     Ok(text.len())
 }

@@ -50,9 +50,6 @@ fn run_both(
 ) -> Result<()> {
     let (rows, cols) = size(dice);
     let mut mirror = Parser::new(alloc, rows, cols, 0)?;
-    if dice.is_one_in(2) {
-        mirror.process(b"\x1b[?1049h")?;
-    }
     run_mirrored(alloc, dice, tally, steps, one, other, &mut mirror)
 }
 
@@ -65,20 +62,27 @@ fn run_mirrored(
     other: &mut Terminal,
     mirror: &mut Parser,
 ) -> Result<()> {
+    if dice.is_one_in(2) {
+        mirror.process(b"\x1b[?1049h")?;
+    }
     let (rows, cols) = size(dice);
     let mut painter = Parser::new(alloc, rows, cols, 0)?;
+    run_steps(alloc, dice, tally, steps, one, other, mirror, &mut painter)
+}
+
+fn run_steps(
+    alloc: Global,
+    dice: &mut Dice,
+    tally: &mut Tally,
+    steps: u64,
+    one: &mut Terminal,
+    other: &mut Terminal,
+    mirror: &mut Parser,
+    painter: &mut Parser,
+) -> Result<()> {
     let mut bytes = Vec::new(alloc);
     for _ in 0..steps {
-        tally.differs = step(
-            alloc,
-            dice,
-            tally,
-            &mut bytes,
-            one,
-            other,
-            mirror,
-            &mut painter,
-        )?;
+        tally.differs = step(alloc, dice, tally, &mut bytes, one, other, mirror, painter)?;
         if tally.differs.is_some() {
             break;
         }
@@ -98,12 +102,28 @@ fn step(
     painter: &mut Parser,
 ) -> Result<Option<Part>> {
     let prev = one.screen().clone()?;
+    step_from(
+        &prev, alloc, dice, tally, bytes, one, other, mirror, painter,
+    )
+}
+
+fn step_from(
+    prev: &Screen,
+    alloc: Global,
+    dice: &mut Dice,
+    tally: &mut Tally,
+    bytes: &mut Vec<u8>,
+    one: &mut Terminal,
+    other: &mut Terminal,
+    mirror: &mut Parser,
+    painter: &mut Parser,
+) -> Result<Option<Part>> {
     take_step(dice, tally, bytes, one, other)?;
     let found = twins_part(alloc, dice, one, other)?;
     if found.is_some() {
         return Ok(found);
     }
-    readers_part(dice, tally, mirror, painter, one.screen(), &prev)
+    readers_part(dice, tally, mirror, painter, one.screen(), prev)
 }
 
 /// What differs in two terminals that read the same, or in one of them from what every screen has.

@@ -1,10 +1,11 @@
 //! Captures: of rows that are shown or kept, streamed, and into sinks that refuse.
 
 use crate::cuts::expect_read_back_at_each_byte;
+use crate::plain_tests::expect_text;
 use crate::seen::read_keeping;
 use crate::steps::Step::{self, Bytes, Resize, Text, View};
 use crate::steps::{Pieces, feed, size_of, taken};
-use std::alloc::Global;
+use std::alloc::{AllocError, Global};
 use std::process::Abort;
 use std::test::Fail;
 use vt_notes::Recorder;
@@ -45,12 +46,15 @@ fn captures(rt: HostRuntime) -> Result<(), Fail> {
     for (size, capacity, steps, visible, full) in &CAPTURES {
         expect_read_back_at_each_byte(rt.alloc(), *size, *capacity, steps)?;
         let parser = taken(rt.alloc(), *size, *capacity, steps, Pieces::Single)?;
-        let screen = parser.screen();
-        assert_eq!(rt; screen.contents_formatted_basic()?.as_str(), *visible);
-        let mut state = BasicFormattedCaptureState::new();
-        assert_eq!(rt; all_rows(rt.alloc(), screen, &mut state)?.as_str(), *full);
+        expect_captures(rt.alloc(), parser.screen(), visible, full)?;
     }
     Ok(())
+}
+
+fn expect_captures(alloc: Global, screen: &Screen, visible: &str, full: &str) -> Result<(), Fail> {
+    expect_text(screen.contents_formatted_basic()?, visible)?;
+    let mut state = BasicFormattedCaptureState::new();
+    expect_text(all_rows(alloc, screen, &mut state)?, full)
 }
 
 /// The text of all rows behind those of the state.
@@ -139,16 +143,30 @@ const READ: [((u16, u16), &str, &[&str], &str); 4] = [
 #[test]
 fn reads_captures(rt: HostRuntime) -> Result<(), Fail> {
     for (size, text, wanted, plain) in &READ {
-        let parser = read_keeping(rt.alloc(), *size, 0, &[text.as_bytes()])?;
-        let capture = parser.screen().contents_formatted_basic()?;
+        let capture = captured(rt.alloc(), *size, text)?;
         expect_rows(&rt, capture.as_str(), size.1, wanted);
-        let mut joined = String::new(rt.alloc());
-        for piece in basic_formatted_to_plain(capture.as_str()) {
-            joined.push_str(piece)?;
-        }
-        assert_eq!(rt; joined.as_str(), *plain);
+        expect_text(joined(rt.alloc(), capture.as_str())?, plain)?;
     }
     Ok(())
+}
+
+/// The capture of a screen of this size that has read this text.
+fn captured(alloc: Global, size: (u16, u16), text: &str) -> Result<String, Fail> {
+    let parser = read_keeping(alloc, size, 0, &[text.as_bytes()])?;
+    capture_of(parser.screen())
+}
+
+fn capture_of(screen: &Screen) -> Result<String, Fail> {
+    Ok(screen.contents_formatted_basic()?)
+}
+
+/// The pieces of a capture, joined.
+fn joined(alloc: Global, capture: &str) -> Result<String, AllocError> {
+    let mut text = String::new(alloc);
+    for piece in basic_formatted_to_plain(capture) {
+        text.push_str(piece)?;
+    }
+    Ok(text)
 }
 
 fn expect_rows<A: Abort>(rt: &A, capture: &str, width: u16, wanted: &[&str]) {
@@ -203,30 +221,49 @@ fn refused(
 #[test]
 fn goes_on_behind_the_last_whole_row(rt: HostRuntime) -> Result<(), Fail> {
     let parser = read_keeping(rt.alloc(), (3, 2), 0, &[b"a\r\nb"])?;
+    expect_rest(rt.alloc(), parser.screen())
+}
+
+fn expect_rest(alloc: Global, screen: &Screen) -> Result<(), Fail> {
     let mut state = BasicFormattedCaptureState::new();
     let range = BasicFormattedCaptureRange::Full(&mut state);
-    let taken = refused(rt.alloc(), parser.screen(), range, 1)?;
-    assert_eq!(rt; taken.as_str(), "a");
-    let text = all_rows(rt.alloc(), parser.screen(), &mut state)?;
-    assert_eq!(rt; text.as_str(), "\na\nb\n");
-    Ok(())
+    expect_text(refused(alloc, screen, range, 1)?, "a")?;
+    expect_text(all_rows(alloc, screen, &mut state)?, "\na\nb\n")
 }
+
+/// What is read by a screen of two rows that keeps one in scrollback, and its captures then: of all
+/// rows, and of those that are shown.
+const PARTLY_TAKEN: (&[u8], &str, &str) = (
+    b"\x1b[1mab\x1b[mc\r\n\x1b[32md\r\ne",
+    "\x1b[1mab\x1b[mc\n\x1b[32md\ne",
+    "\x1b[32md\ne",
+);
 
 #[test]
 fn writes_a_beginning_where_refused(rt: HostRuntime) -> Result<(), Fail> {
-    let written = "\x1b[1mab\x1b[mc\r\n\x1b[32md\r\ne";
-    let parser = read_keeping(rt.alloc(), (2, 3), 10, &[written.as_bytes()])?;
-    let mut state = BasicFormattedCaptureState::new();
-    let full = all_rows(rt.alloc(), parser.screen(), &mut state)?;
-    assert_eq!(rt; full.as_str(), "\x1b[1mab\x1b[mc\n\x1b[32md\ne");
+    let parser = read_keeping(rt.alloc(), (2, 3), 10, &[PARTLY_TAKEN.0])?;
+    expect_beginnings(rt.alloc(), parser.screen())
+}
+
+fn expect_beginnings(alloc: Global, screen: &Screen) -> Result<(), Fail> {
+    let (_, full, visible) = PARTLY_TAKEN;
+    expect_captures(alloc, screen, visible, full)?;
     for left in 0..full.len() {
         let mut state = BasicFormattedCaptureState::new();
         let range = BasicFormattedCaptureRange::Full(&mut state);
-        let taken = refused(rt.alloc(), parser.screen(), range, left)?;
-        assert!(rt; full.as_str().starts_with(taken.as_str()));
-        let visible = BasicFormattedCaptureRange::Visible;
-        let visible = refused(rt.alloc(), parser.screen(), visible, left.min(3))?;
-        assert!(rt; "\x1b[32md\ne".starts_with(visible.as_str()));
+        expect_beginning(refused(alloc, screen, range, left)?, full)?;
+    }
+    for left in 0..visible.len() {
+        let range = BasicFormattedCaptureRange::Visible;
+        expect_beginning(refused(alloc, screen, range, left)?, visible)?;
     }
     Ok(())
+}
+
+fn expect_beginning(text: String, whole: &str) -> Result<(), Fail> {
+    if whole.starts_with(text.as_str()) {
+        Ok(())
+    } else {
+        Err(Fail::new(format_args!("{text:?} begins otherwise than {whole:?}")))
+    }
 }

@@ -1,6 +1,6 @@
 //! Copies of screens: alike, and each going its own way.
 
-use crate::seen::{read_keeping, shown};
+use crate::seen::{Terminal, read_keeping, shown};
 use crate::steps::Step::{Text, View};
 use crate::steps::{Pieces, Step, taken};
 use std::alloc::Global;
@@ -53,7 +53,7 @@ fn expect_alike_in_view(alloc: Global, one: &mut Screen, other: &mut Screen) -> 
 }
 
 /// A parser with a copy of this screen.
-fn with_copy(alloc: Global, screen: &Screen) -> Result<Parser<Notes>, Fail> {
+fn with_copy(alloc: Global, screen: &Screen) -> Result<Terminal, Fail> {
     let mut parser = read_keeping(alloc, (1, 1), 0, &[])?;
     *parser.screen_mut() = screen.clone()?;
     Ok(parser)

@@ -173,8 +173,12 @@ const ALONE: [((u16, u16), usize, &[Step]); 9] = [
 fn no_screen_differs_from_itself(rt: HostRuntime) -> Result<(), Fail> {
     for (size, capacity, steps) in &ALONE {
         let parser = taken(rt.alloc(), *size, *capacity, steps, Pieces::Single)?;
-        expect_none_from_itself(Change::Picture, parser.screen())?;
-        expect_none_from_itself(Change::State, parser.screen())?;
+        expect_none(parser.screen())?;
     }
     Ok(())
+}
+
+fn expect_none(screen: &Screen) -> Result<(), Fail> {
+    expect_none_from_itself(Change::Picture, screen)?;
+    expect_none_from_itself(Change::State, screen)
 }

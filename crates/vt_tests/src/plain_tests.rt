@@ -5,6 +5,7 @@ use crate::seen::read_keeping;
 use crate::steps::Step::{self, Resize, ResizeParser, Text, View};
 use crate::steps::{Pieces, longest, taken};
 use std::alloc::Global;
+use std::process::Abort;
 use std::test::Fail;
 use vt100::{Error, Screen};
 
@@ -76,7 +77,8 @@ fn expect_contents(
     expect_text(parser.screen().contents()?, wanted)
 }
 
-fn expect_text(text: String, wanted: &str) -> Result<(), Fail> {
+/// Fails where a text is another one.
+pub(crate) fn expect_text(text: String, wanted: &str) -> Result<(), Fail> {
     if text.as_str() == wanted {
         Ok(())
     } else {
@@ -148,7 +150,10 @@ fn longer_rows_of_scrollback(rt: HostRuntime) -> Result<(), Fail> {
 
 fn expect_longer(alloc: Global, pieces: Pieces) -> Result<(), Fail> {
     let parser = taken(alloc, (2, 6), 10, &LONGER, pieces)?;
-    let screen = parser.screen();
+    expect_longer_texts(parser.screen())
+}
+
+fn expect_longer_texts(screen: &Screen) -> Result<(), Fail> {
     expect_text(range(screen, (0, 2), (1, 9))?, "c\nghi")?;
     expect_text(range(screen, (0, 2), (0, 9))?, "cdef")?;
     expect_rows(screen, 0, 9, &["abcdef", "ghi"])
@@ -171,10 +176,14 @@ fn expect_rows(screen: &Screen, start: u16, width: u16, wanted: &[&str]) -> Resu
 #[test]
 fn rows(rt: HostRuntime) -> Result<(), Fail> {
     for most in 0..=5 {
-        let parser = taken(rt.alloc(), (2, 4), 0, &[Text("abcdx")], Pieces::Two(most))?;
-        expect_all_rows(rt.alloc(), parser.screen())?;
+        expect_rows_after(rt.alloc(), Pieces::Two(most))?;
     }
     Ok(())
+}
+
+fn expect_rows_after(alloc: Global, pieces: Pieces) -> Result<(), Fail> {
+    let parser = taken(alloc, (2, 4), 0, &[Text("abcdx")], pieces)?;
+    expect_all_rows(alloc, parser.screen())
 }
 
 fn expect_all_rows(alloc: Global, screen: &Screen) -> Result<(), Fail> {
@@ -200,9 +209,13 @@ fn expect_joined(texts: Vec<String>, wanted: &str) -> Result<(), Fail> {
 #[test]
 fn rows_end_for_good(rt: HostRuntime) -> Result<(), Fail> {
     let parser = read_keeping(rt.alloc(), (1, 4), 0, &[b"ab"])?;
-    let mut rows = parser.screen().rows(0, 4);
+    expect_one_row(&rt, parser.screen());
+    Ok(())
+}
+
+fn expect_one_row(rt: &impl Abort, screen: &Screen) {
+    let mut rows = screen.rows(0, 4);
     assert!(rt; rows.next().is_some());
     assert!(rt; rows.next().is_none());
     assert!(rt; rows.next().is_none());
-    Ok(())
 }

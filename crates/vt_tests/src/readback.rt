@@ -183,14 +183,32 @@ fn expect_reads(
     parts: &[Part],
     screen: &Screen,
 ) -> Result<(), Fail> {
-    let calls = reader.callbacks().calls().len();
     let mut before = reader.screen().clone()?;
+    expect_quiet(reader, text, pieces)?;
+    expect_changed(reader.screen_mut(), &mut before, screen, parts, text)
+}
+
+/// Has a terminal read a text in pieces; fails where that calls a function.
+fn expect_quiet(reader: &mut Parser<Notes>, text: &[u8], pieces: Pieces) -> Result<(), Fail> {
+    let calls = reader.callbacks().calls().len();
     feed(reader, text, pieces)?;
     if reader.callbacks().calls().len() != calls {
         return Err(Fail::new(format_args!("{} calls a function", text.escape_ascii())));
     }
-    expect_parts(reader.screen(), screen, &before, parts, text)?;
-    expect_same_scrollback(reader.screen_mut(), &mut before, text)
+    Ok(())
+}
+
+/// Fails where a terminal differs from the screen in one of these parts, or in another one, scrollback
+/// among them, from what it was before.
+fn expect_changed(
+    reader: &mut Screen,
+    before: &mut Screen,
+    screen: &Screen,
+    parts: &[Part],
+    text: &[u8],
+) -> Result<(), Fail> {
+    expect_parts(reader, screen, before, parts, text)?;
+    expect_same_scrollback(reader, before, text)
 }
 
 /// Fails where a terminal differs from the screen in one of these parts, or in another one from what it

@@ -6,13 +6,21 @@ use crate::seen::read_keeping;
 use crate::steps::Step::Text;
 use crate::steps::{Pieces, taken};
 use std::alloc::Global;
+use std::process::Abort;
 use std::test::Fail;
 use vt_notes::Notes;
 use vt100::{Error, Parser, Screen};
 
 /// A size, a text, a first column and how many columns, and the texts of the rows there.
+type Formatted = (
+    (u16, u16),
+    &'static str,
+    (u16, u16),
+    &'static [&'static str],
+);
+
 #[rattlefmt::skip]
-const FORMATTED: [((u16, u16), &str, (u16, u16), &[&str]); 9] = [
+const FORMATTED: [Formatted; 9] = [
     ((2, 4), "abcdx", (0, 4), &["abcd", "x"]),
     ((2, 4), "abcdx", (1, 2), &["bc", ""]),
     ((1, 4), "\x1b[31mabcd", (1, 2), &["\x1b[31mbc"]),
@@ -44,16 +52,24 @@ const CHANGED: [((u16, u16), &str, &str, (u16, u16), &[&str]); 9] = [
 
 #[test]
 fn rows_formatted(rt: HostRuntime) -> Result<(), Fail> {
-    for (size, text, range, wanted) in &FORMATTED {
+    for example in &FORMATTED {
+        let (size, text, ..) = example;
         for most in 0..=text.len() {
-            let parser = taken(rt.alloc(), *size, 0, &[Text(*text)], Pieces::Two(most))?;
-            expect_texts(formatted(rt.alloc(), parser.screen(), *range)?, *wanted)?;
+            expect_formatted(rt.alloc(), example, Pieces::Two(most))?;
         }
         expect_read_back_at_each_byte(rt.alloc(), *size, 0, &[Text(*text)])?;
-        let parser = taken(rt.alloc(), *size, 0, &[Text(*text)], Pieces::Single)?;
-        expect_texts(formatted(rt.alloc(), parser.screen(), *range)?, *wanted)?;
+        expect_formatted(rt.alloc(), example, Pieces::Single)?;
     }
     Ok(())
+}
+
+fn expect_formatted(
+    alloc: Global,
+    (size, text, range, wanted): &Formatted,
+    pieces: Pieces,
+) -> Result<(), Fail> {
+    let parser = taken(alloc, *size, 0, &[Text(*text)], pieces)?;
+    expect_texts(formatted(alloc, parser.screen(), *range)?, wanted)
 }
 
 #[test]
@@ -143,8 +159,11 @@ const OTHER: &[u8] = b"\x1b[32mfgh\xe4\xb8\xadij\x1b[1mklm\xe4\xb8\xadnopqr";
 #[test]
 fn rows_are_read(rt: HostRuntime) -> Result<(), Fail> {
     let shown = read_keeping(rt.alloc(), (4, 6), 0, &[ONE])?;
-    let texts = formatted(rt.alloc(), shown.screen(), (0, 6))?;
-    expect_read(rt.alloc(), shown.screen(), b"", texts)
+    expect_rows_read(rt.alloc(), shown.screen())
+}
+
+fn expect_rows_read(alloc: Global, shown: &Screen) -> Result<(), Fail> {
+    expect_read(alloc, shown, b"", formatted(alloc, shown, (0, 6))?)
 }
 
 #[test]
@@ -155,8 +174,11 @@ fn changed_rows_are_read(rt: HostRuntime) -> Result<(), Fail> {
 
 fn expect_change_read(alloc: Global, shown: &Screen) -> Result<(), Fail> {
     let prev = read_keeping(alloc, (4, 6), 0, &[OTHER])?;
-    let texts = changed(alloc, shown, prev.screen(), (0, 6))?;
-    expect_read(alloc, shown, OTHER, texts)
+    expect_change_read_from(alloc, shown, prev.screen())
+}
+
+fn expect_change_read_from(alloc: Global, shown: &Screen, prev: &Screen) -> Result<(), Fail> {
+    expect_read(alloc, shown, OTHER, changed(alloc, shown, prev, (0, 6))?)
 }
 
 /// Fails where a terminal that has read these bytes, and then the texts of rows, has other cells.
@@ -219,7 +241,16 @@ fn expect_in_turn(screen: &Screen) -> Result<(), Fail> {
 #[test]
 fn texts_end_for_good(rt: HostRuntime) -> Result<(), Fail> {
     let parser = read_keeping(rt.alloc(), (1, 4), 0, &[b"ab"])?;
-    let mut rows = parser.screen().rows_formatted(0, 4);
+    expect_one_text(&rt, parser.screen())
+}
+
+/// Fails where a row is followed by another one, also where it is asked for twice.
+fn expect_one_text(rt: &impl Abort, screen: &Screen) -> Result<(), Fail> {
+    let (_rows, cols) = screen.size();
+    if cols.get() == 0 {
+        return Err(Fail::new("no columns"));
+    }
+    let mut rows = screen.rows_formatted(0, 4);
     assert!(rt; rows.next().is_some());
     assert!(rt; rows.next().is_none());
     assert!(rt; rows.next().is_none());

@@ -9,6 +9,10 @@ use vt100::{
     Cell, Color, CursorStyle, Error, MouseProtocolEncoding, MouseProtocolMode, Parser, Screen,
 };
 
+/// A parser that has read something. It stands in a box, so that a test that holds one is proved soon:
+/// where a box is given up, the parser's parts are no steps of the test's own.
+pub(crate) type Terminal = Box<Parser<Notes>>;
+
 /// A fresh parser's size, how many rows its scrollback keeps, what is done, and what is seen then.
 pub(crate) type Example = ((u16, u16), usize, &'static [Step], &'static str);
 
@@ -94,13 +98,8 @@ pub(crate) fn shown(alloc: Global, screen: &Screen) -> Result<String, Fail> {
 }
 
 /// A fresh parser of this size after these pieces.
-pub(crate) fn read(
-    alloc: Global,
-    size: (u16, u16),
-    pieces: &[&[u8]],
-) -> Result<Parser<Notes>, Fail> {
-    let (rows, cols) = size_of(size)?;
-    Ok(vt_notes::read(alloc, rows, cols, pieces)?)
+pub(crate) fn read(alloc: Global, size: (u16, u16), pieces: &[&[u8]]) -> Result<Terminal, Fail> {
+    read_keeping(alloc, size, 0, pieces)
 }
 
 /// A fresh parser of this size, whose scrollback keeps `capacity` rows, after these pieces.
@@ -109,11 +108,16 @@ pub(crate) fn read_keeping(
     size: (u16, u16),
     capacity: usize,
     pieces: &[&[u8]],
-) -> Result<Parser<Notes>, Fail> {
-    let (rows, cols) = size_of(size)?;
-    let mut parser = Parser::new_with_callbacks(alloc, rows, cols, capacity, Notes::new(alloc))?;
+) -> Result<Terminal, Fail> {
+    let mut parser = fresh(alloc, size, capacity)?;
     process_each(&mut parser, pieces)?;
     Ok(parser)
+}
+
+fn fresh(alloc: Global, size: (u16, u16), capacity: usize) -> Result<Terminal, Fail> {
+    let (rows, cols) = size_of(size)?;
+    let parser = Parser::new_with_callbacks(alloc, rows, cols, capacity, Notes::new(alloc))?;
+    Ok(Box::new(alloc, parser)?)
 }
 
 fn process_each(parser: &mut Parser<Notes>, pieces: &[&[u8]]) -> Result<(), Error> {

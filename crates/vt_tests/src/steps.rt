@@ -1,6 +1,6 @@
 //! What is done to a parser, as values.
 
-use crate::seen::read_keeping;
+use crate::seen::{Terminal, read_keeping};
 use std::alloc::Global;
 use std::num::NonZeroU16;
 use std::test::Fail;
@@ -79,7 +79,7 @@ pub(crate) fn taken(
     capacity: usize,
     steps: &[Step],
     pieces: Pieces,
-) -> Result<Parser<Notes>, Fail> {
+) -> Result<Terminal, Fail> {
     let mut parser = read_keeping(alloc, size, capacity, &[])?;
     take_each(&mut parser, steps, pieces)?;
     Ok(parser)
