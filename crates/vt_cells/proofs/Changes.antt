@@ -1,7 +1,7 @@
 -- Changes of attributes: the code's `==` is the definitions' sameness, and what the numbers of a change are.
 use Rattle.std.proofs.Common.{◌≡◌, ℕ, ◌≤◌, ◌<◌, Bool, true, false, List, [], ◌∷◌, ◌++◌, length}
-use Rattle.std.proofs.Common.{nat_lt, decimal, refl, sym, ◌∙◌, ap, append_assoc, append-nil}
-use Rattle.std.proofs.Common.{length-append, flat_map, if◌then◌else◌, rules, arith}
+use Rattle.std.proofs.Common.{nat_lt, decimal, refl, sym, ap, append-nil}
+use Rattle.std.proofs.Common.{flat_map, if◌then◌else◌, rules, arith}
 use Rattle.std.proofs.lemmas.Bool.{cond_both}
 use Rattle.std.proofs.lemmas.Bool.Decides.{nat_tests}
 use Rattle.std.specs.List.{AllByRecursion}

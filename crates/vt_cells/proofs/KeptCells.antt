@@ -1,24 +1,34 @@
 -- What a cell's fields keep.
 use Rattle.std.proofs.Common.{◌≡◌, ◌≢◌, ℕ, ◌+◌, ◌<◌, ◌≤◌, Bool, true, false, List}
-use Rattle.std.proofs.Common.{◌++◌, length, Some, arith, sym, length-append}
+use Rattle.std.proofs.Common.{◌++◌, length, Some, arith, sym, length-append, zero, suc, refl}
+use Rattle.std.proofs.Common.{replicate, slice_index, rules}
 use Rattle.std.specs.Char.{encode_utf8, IsScalar}
 use Rattle.std.proofs.lemmas.Bool.Decides.{nat_tests}
 use Rattle.std.proofs.lemmas.Bool.{lt-ltb}
 use Rattle.vt_cells.specs.Cell.{glyph, cell_of, is_blank, is_right_half}
-use Rattle.vt_cells.specs.CellKeeping.{IsKept}
+use Rattle.vt_cells.specs.CellKeeping.{IsKept, IsStored, blank_shape, cell_of-text, half_shape}
+use Rattle.vt_cells.specs.CellKeeping.{text_room}
 use Rattle.vt_cells.specs.Glyph.{IsGlyphText, columns_of, first_columns, mark_limit, has_room}
-use Rattle.vt_cells.specs.Attrs.{Attrs}
+use Rattle.vt_cells.specs.Attrs.{Attrs, default_attrs}
 use Rattle.vt_cells.proofs.Glyphs.{IsGlyphText-first, IsGlyphText-utf8, IsGlyphText-length}
 use Rattle.vt_cells.proofs.Glyphs.{IsGlyphText-push, encode_bounds}
 
--- with a text the cell is a glyph
-pub cell_of-glyph : (text : List ℕ) (wide : Bool) (attrs : Attrs) →
-    1 ≤ length text → cell_of text wide false attrs ≡ glyph text wide attrs
-cell_of-glyph text wide attrs low = grind (arith, nat_tests)
+-- bytes that are all 0
+pub zeros_at : (n k : ℕ) → slice_index (replicate n 0) k ≡ 0
+zeros_at zero k = refl
+zeros_at (suc n) zero = refl
+zeros_at (suc n) (suc k) = zeros_at n k
+
+pub IsStored-blank : (attrs : Attrs)
+    → IsStored (record { attrs = attrs; shape = blank_shape }) (replicate text_room 0)
+IsStored-blank attrs = record { kept = search rules; room = refl; zeros = λ k _. zeros_at text_room k }
+
+pub IsStored-half : IsStored (record { attrs = default_attrs; shape = half_shape }) (replicate text_room 0)
+IsStored-half = record { kept = search rules; room = refl; zeros = λ k _. zeros_at text_room k }
 
 pub cell_of-first : (text : List ℕ) (c : ℕ) (wide : Bool) (attrs : Attrs) →
     text ≡ encode_utf8 c → cell_of text wide false attrs ≡ glyph (encode_utf8 c) wide attrs
-cell_of-first text c wide attrs e = rw e (cell_of-glyph (encode_utf8 c) wide attrs ((encode_bounds c).0))
+cell_of-first text c wide attrs e = rw e (cell_of-text (encode_utf8 c) wide attrs ((encode_bounds c).0))
 
 pub IsKept-glyph : (len : ℕ) (text : List ℕ) (wide : Bool) (attrs : Attrs) →
     IsGlyphText text wide → len ≡ length text → IsKept len text wide false attrs
@@ -32,7 +42,7 @@ IsKept-glyph len text wide attrs is_text e =
       half_plain = λ no. cc;
       half_narrow = λ no. cc;
       wide_text = λ _. omega arith;
-      sound = rw (cell_of-glyph text wide attrs bounds.0) is_text;
+      sound = rw (cell_of-text text wide attrs bounds.0) is_text;
     }
 
 pub IsKept-first : (c len : ℕ) (text : List ℕ) (wide : Bool) (attrs : Attrs) →
@@ -46,7 +56,7 @@ glyph_kept : (len : ℕ) (text : List ℕ) (wide : Bool) (attrs : Attrs) → IsK
     is_blank (cell_of text wide false attrs) ≡ false → IsGlyphText text wide
 glyph_kept len text wide attrs kept shown =
     let low : 1 ≤ length text = grind (arith, nat_tests) in
-    rw (cell_of-glyph text wide attrs low) at kept.sound
+    rw (cell_of-text text wide attrs low) at kept.sound
 
 -- a glyph with a mark behind its text, as wide as it was
 pub IsKept-mark : (c len next : ℕ) (text longer : List ℕ) (wide right same : Bool) (attrs : Attrs)

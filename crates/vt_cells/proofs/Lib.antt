@@ -4,10 +4,13 @@ pub mod ChangeTexts
 pub mod Texts
 pub mod Cells
 pub mod Encoding
+pub mod Four
 pub mod Glyphs
 pub mod KeptCells
 pub mod Packing
 pub mod Same
 pub mod SameCells
 pub mod Shapes
+pub mod Sinks
 pub mod Widths
+pub mod Words

@@ -1,38 +1,20 @@
--- Attributes in nine bytes are the same exactly where the bytes are.
-use Rattle.std.proofs.Common.{◌≡◌, ◌≢◌, ℕ, ◌+◌, ◌/◌, ◌%◌, ◌<◌, ◌≤◌, ◌&&◌, ◌==◌, Bool, true, false}
-use Rattle.std.proofs.Common.{zero, suc, refl, arith, ap, sym, ◌∙◌, eqb-true, if◌then◌else◌}
+-- Attributes in one word are the same exactly where the bytes are.
+use Rattle.std.proofs.Common.{◌≡◌, ℕ, ◌+◌, ◌*◌, ◌/◌, ◌%◌, ◌<◌, ◌≤◌, ◌==◌, zero, suc}
+use Rattle.std.proofs.Common.{Bool, true, false, refl, arith, ap, subst, sym, ◌∙◌, eqb-true, if◌then◌else◌}
 use Rattle.std.proofs.lemmas.Bool.Decides.{nat_tests}
-use Rattle.vt_cells.specs.Attrs.{Attrs, same_attrs, same_bool, same_color, same_intensity}
-use Rattle.vt_cells.specs.AttrsKeeping.{IsPacked, StyleValue, same_style, style_bits, style_of, unpacked}
+use Rattle.vt_cells.specs.Attrs.{Attrs, same_attrs, same_color}
+use Rattle.vt_cells.specs.AttrsKeeping.{StyleValue, same_style, style_bits, style_of, unpacked}
+use Rattle.vt_cells.specs.AttrsKeeping.{intensity_bits, color_bits, color_of, IsColorBits}
+use Rattle.vt_cells.specs.AttrsKeeping.{attrs_of_bits, attrs_of_word, attrs_word, word_of}
+use Rattle.vt_cells.specs.AttrsKeeping.{word_back, IsAttrsWord}
+use Rattle.vt_cells.specs.Op.{FitsAttrs, FitsColor}
+use Rattle.vt_cells.specs.declared.color.Color.{Color}
+use Rattle.vt_cells.specs.declared.color.Color.TheVariants.{Idx, Rgb}
 use Rattle.vt_cells.specs.declared.attrs.Intensity.{Intensity}
 use Rattle.vt_cells.specs.declared.attrs.Intensity.TheVariants.{Normal, Bold, Dim}
-use Rattle.vt_cells.proofs.Same.{bool_of-same, intensity_of-same, same_bool-itself, same_intensity-itself, two_parts}
-
-last_two : (p : Bool) → ((p && true) && true) ≡ p
-last_two true = refl
-last_two false = refl
-
-from_left : (p q r : Bool) → ((p && q) && r) ≡ (p && (q && r))
-from_left true q r = refl
-from_left false q r = refl
-
--- four bytes are compared, and the colours are
-pub packed_same : (k a b c l d e f : ℕ) → IsPacked k a b c → IsPacked l d e f
-    → ((((k == l) && (a == d)) && (b == e)) && (c == f)) ≡ same_color (unpacked k a b c) (unpacked l d e f)
-unfolding same_color
-packed_same zero a b c zero d e f p q = rw (p.0, p.1.0, p.1.1, q.0, q.1.0, q.1.1) refl
-packed_same zero a b c (suc zero) d e f p q = refl
-packed_same zero a b c (suc (suc zero)) d e f p q = refl
-packed_same zero a b c (suc (suc (suc l))) d e f p q = absurd q
-packed_same (suc zero) a b c zero d e f p q = refl
-packed_same (suc zero) a b c (suc zero) d e f p q = rw (p.0, p.1, q.0, q.1) (last_two (a == d))
-packed_same (suc zero) a b c (suc (suc zero)) d e f p q = refl
-packed_same (suc zero) a b c (suc (suc (suc l))) d e f p q = absurd q
-packed_same (suc (suc zero)) a b c zero d e f p q = refl
-packed_same (suc (suc zero)) a b c (suc zero) d e f p q = refl
-packed_same (suc (suc zero)) a b c (suc (suc zero)) d e f p q = from_left (a == d) (b == e) (c == f)
-packed_same (suc (suc zero)) a b c (suc (suc (suc l))) d e f p q = absurd q
-packed_same (suc (suc (suc k))) a b c l d e f p q = absurd p
+use Rattle.vt_cells.proofs.Same.{attrs_of-same, color_of-same, same_attrs-itself, same_color-itself}
+use Rattle.vt_cells.proofs.Same.{bool_of-same, intensity_of-same, same_bool-itself}
+use Rattle.vt_cells.proofs.Same.{same_intensity-itself, two_parts}
 
 -- the parts of a style are those of its byte
 pub style_back : (intensity : Intensity) (italic underline inverse : Bool)
@@ -103,14 +85,127 @@ bits_same m n p q =
     (λ e. rw (eqb-true m n e) (same_style-itself (style_of n)))
     (λ e. rw (sym p ∙ ap style_bits (style_of-same (style_of m) (style_of n) e) ∙ q) (itself n))
 
--- both colours and the style are compared
-pub attrs_same : (a b : Attrs) (f g s : Bool) → f ≡ same_color a.fgcolor b.fgcolor → g ≡ same_color a.bgcolor b.bgcolor
-    → s
-    ≡ same_style (record { intensity = a.intensity; italic = a.italic; underline = a.underline; inverse = a.inverse })
-    (record { intensity = b.intensity; italic = b.italic; underline = b.underline; inverse = b.inverse })
-    → ((f && g) && s) ≡ same_attrs a b
-unfolding same_attrs same_style
-attrs_same a b f g s is_f is_g is_s =
-    rw (is_f, is_g, is_s) (from_left (same_color a.fgcolor b.fgcolor) (same_color a.bgcolor b.bgcolor)
-    (same_style (record { intensity = a.intensity; italic = a.italic; underline = a.underline; inverse = a.inverse })
-    (record { intensity = b.intensity; italic = b.italic; underline = b.underline; inverse = b.inverse })))
+-- two numbers are compared, and the colours are
+pub packed_same : (m n : ℕ) → IsColorBits m → IsColorBits n
+    → (m == n) ≡ same_color (color_of m) (color_of n)
+packed_same m n p q =
+    alike (m == n) (same_color (color_of m) (color_of n))
+    (λ e. rw (eqb-true m n e) (same_color-itself (color_of n)))
+    (λ e. rw (sym p.back ∙ ap color_bits (color_of-same (color_of m) (color_of n) e) ∙ q.back) (itself n))
+
+-- a colour of the palette is the one of its number
+pub index_of : (i : ℕ) → i < 256 → color_of (1 + 4 * i) ≡ Idx i
+index_of i small =
+    let kind : (1 + 4 * i) % 4 ≡ 1 = omega arith in
+    let first : (1 + 4 * i) / 4 % 256 ≡ i = omega arith in
+    λ j. unpacked (kind j) (first j) ((1 + 4 * i) / 4 / 256 % 256) ((1 + 4 * i) / 4 / 256 / 256 % 256)
+
+pub index_bits : (i : ℕ) → i < 256 → IsColorBits (1 + 4 * i)
+index_bits i small = record { small = omega arith; back = ap color_bits (index_of i small) }
+
+pub rgb_of : (r g b : ℕ) → r < 256 → g < 256 → b < 256
+    → color_of (2 + 4 * (r + 256 * (g + 256 * b))) ≡ Rgb r g b
+rgb_of r g b red green blue =
+    let bits = 2 + 4 * (r + 256 * (g + 256 * b)) in
+    let kind : bits % 4 ≡ 2 = omega arith in
+    let first : bits / 4 % 256 ≡ r = omega arith in
+    let second : bits / 4 / 256 % 256 ≡ g = omega arith in
+    let third : bits / 4 / 256 / 256 % 256 ≡ b = omega arith in
+    λ j. unpacked (kind j) (first j) (second j) (third j)
+
+pub rgb_bits : (r g b : ℕ) → r < 256 → g < 256 → b < 256
+    → IsColorBits (2 + 4 * (r + 256 * (g + 256 * b)))
+rgb_bits r g b red green blue =
+    record { small = omega arith; back = ap color_bits (rgb_of r g b red green blue) }
+
+switch_most : (on : Bool) (n : ℕ) → (if on then n else 0) ≤ n
+switch_most true n = omega arith
+switch_most false n = omega arith
+
+intensity_most : (intensity : Intensity) → intensity_bits intensity ≤ 2
+intensity_most Normal = omega arith
+intensity_most Bold = omega arith
+intensity_most Dim = omega arith
+
+-- a style has five bits
+pub style_small : (style : StyleValue) → style_bits style < 32
+style_small style =
+    omega (
+      arith,
+      intensity_most style.intensity,
+      switch_most style.italic 4,
+      switch_most style.underline 8,
+      switch_most style.inverse 16,
+    )
+
+-- the parts of a word
+pub parts_of : (style fgcolor bgcolor : ℕ) → style < 32 → fgcolor < 67108864
+    → (word_of style fgcolor bgcolor % 32 ≡ style)
+    × ((word_of style fgcolor bgcolor / 32 % 67108864 ≡ fgcolor)
+    × (word_of style fgcolor bgcolor / 32 / 67108864 ≡ bgcolor))
+parts_of style fgcolor bgcolor s f = (omega arith, (omega arith, omega arith))
+
+pub word_sound : (style fgcolor bgcolor : ℕ)
+    → style_bits (style_of style) ≡ style → IsColorBits fgcolor → IsColorBits bgcolor
+    → IsAttrsWord (word_of style fgcolor bgcolor)
+word_sound style fgcolor bgcolor s f b =
+    let small : style < 32 = subst (λ n. n < 32) s (style_small (style_of style)) in
+    let parts = parts_of style fgcolor bgcolor small f.small in
+    record { style = rw (parts.0) s; fgcolor = rw (parts.1.0) f; bgcolor = rw (parts.1.1) b }
+
+pub word_parts : (style fgcolor bgcolor : ℕ) → style < 32 → fgcolor < 67108864
+    → attrs_of_word (word_of style fgcolor bgcolor) ≡ attrs_of_bits style fgcolor bgcolor
+word_parts style fgcolor bgcolor s f =
+    let parts = parts_of style fgcolor bgcolor s f in
+    λ i. attrs_of_bits (parts.0 i) (parts.1.0 i) (parts.1.1 i)
+
+-- the attributes of a word that is made of a style and two colours
+pub attrs_made : (style fgcolor bgcolor : ℕ) (v : StyleValue) (front back : Color)
+    → style < 32 → IsColorBits fgcolor
+    → style_of style ≡ v → color_of fgcolor ≡ front → color_of bgcolor ≡ back
+    → attrs_of_word (style + 32 * (fgcolor + 67108864 * bgcolor)) ≡ record {
+      fgcolor = front;
+      bgcolor = back;
+      intensity = v.intensity;
+      italic = v.italic;
+      underline = v.underline;
+      inverse = v.inverse;
+    }
+attrs_made style fgcolor bgcolor v front back s f is_v is_front is_back =
+    word_parts style fgcolor bgcolor s f.small ∙ (λ i. record {
+      fgcolor = is_front i;
+      bgcolor = is_back i;
+      intensity = (is_v i).intensity;
+      italic = (is_v i).italic;
+      underline = (is_v i).underline;
+      inverse = (is_v i).inverse;
+    })
+
+-- attributes have 57 bits
+pub word_small : (word : ℕ) → IsAttrsWord word → word < 144115188075855872
+word_small word h =
+    let high = h.bgcolor.small in omega arith
+
+-- two words are compared, and the attributes are
+pub words_same : (m n : ℕ) → IsAttrsWord m → IsAttrsWord n
+    → (m == n) ≡ same_attrs (attrs_of_word m) (attrs_of_word n)
+words_same m n p q =
+    alike (m == n) (same_attrs (attrs_of_word m) (attrs_of_word n))
+    (λ e. rw (eqb-true m n e) (same_attrs-itself (attrs_of_word n)))
+    (λ e. rw (sym (word_back m p) ∙ ap attrs_word (attrs_of-same (attrs_of_word m) (attrs_of_word n) e)
+    ∙ word_back n q) (itself n))
+
+unpacked_fits : (kind first second third : ℕ) → first < 256 → second < 256 → third < 256
+    → FitsColor (unpacked kind first second third)
+unpacked_fits zero first second third f s t = tt
+unpacked_fits (suc zero) first second third f s t = f
+unpacked_fits (suc (suc kind)) first second third f s t = (f, (s, t))
+
+color_fits : (bits : ℕ) → FitsColor (color_of bits)
+color_fits bits = unpacked_fits (bits % 4) _ _ _ (omega arith) (omega arith) (omega arith)
+
+-- attributes that a word gives back have colours whose numbers are bytes
+pub attrs_fit : (attrs : Attrs) → attrs_of_word (attrs_word attrs) ≡ attrs → FitsAttrs attrs
+attrs_fit attrs back =
+    subst FitsAttrs back
+    (color_fits (attrs_word attrs / 32 % 67108864), color_fits (attrs_word attrs / 32 / 67108864))

@@ -1,5 +1,6 @@
 -- What `==` on attributes and colours says.
-use Rattle.std.proofs.Common.{◌≡◌, ◌≢◌, ◌&&◌, Bool, true, false, if◌then◌else◌, refl, arith, ap, sym, ◌∙◌, eqb-true}
+use Rattle.std.proofs.Common.{◌≡◌, ◌≢◌, ◌&&◌, Bool, true, false, if◌then◌else◌, refl, arith, ap}
+use Rattle.std.proofs.Common.{sym, eqb-true}
 use Rattle.std.proofs.lemmas.Bool.Decides.{nat_tests}
 use mathlib.Core.Bool.{beq}
 use Rattle.vt_cells.specs.Attrs.{default_attrs, same_color, same_intensity, same_bool, same_attrs, changed_attrs, Attrs}

@@ -1,6 +1,7 @@
 -- What `==` on cells says.
-use Rattle.std.proofs.Common.{◌≡◌, ◌≢◌, ℕ, ◌&&◌, IsTrue, Bool, true, false, [], ◌∷◌, ◌==◌}
-use Rattle.std.proofs.Common.{List, length, slice_index_or, refl, arith, ap, sym, ◌∙◌}
+use Rattle.std.proofs.Common.{◌≡◌, ◌≢◌, ℕ, IsTrue, Bool, true, false, [], ◌∷◌, ◌==◌}
+use Rattle.std.proofs.Common.{◌<◌, ◌≤◌, ◌++◌, zero, suc, take, List, length, refl, arith, ap, sym}
+use Rattle.std.proofs.Common.{◌∙◌}
 use Rattle.std.proofs.Math.Bool.{and-false}
 use Rattle.std.specs.Str.{bytes_eq}
 use Rattle.std.proofs.lemmas.Bool.Decides.{nat_tests}
@@ -8,20 +9,21 @@ use Rattle.std.proofs.lemmas.Cmp.{nat_list_eq_equiv}
 use Rattle.std.proofs.lemmas.Slice.Eq.{bytes_eq-Decides}
 use Rattle.vt_cells.specs.Cell.{CellValue, blank, glyph, right_half, cell_of, IsCell, is_blank}
 use Rattle.vt_cells.specs.Cell.{same_cell, text_of, attrs_of, is_wide, is_right_half}
-use Rattle.vt_cells.specs.CellKeeping.{IsKept, ShapeValue, blank_shape, same_shape, shape_of_cell}
-use mathlib.Core.Bool.{beq}
-use Rattle.vt_cells.specs.CellEq.{cell_eq, attrs_eq}
-use Rattle.vt_cells.specs.Attrs.{Attrs, same_attrs}
+use Rattle.vt_cells.specs.CellKeeping.{IsKept, blank_shape, same_shape, shape_of_cell, cell_head}
+use Rattle.vt_cells.specs.CellKeeping.{cell_of_parts, front, head_of_cell, padded, same_head}
+use Rattle.vt_cells.specs.CellKeeping.{HeadValue, IsStored, stored_contents, stored_head}
+use Rattle.vt_cells.specs.CellEq.{cell_eq}
+use Rattle.vt_cells.specs.Attrs.{Attrs}
 use Rattle.vt_cells.proofs.Glyphs.{IsGlyphText-length}
-use Rattle.vt_cells.proofs.KeptCells.{cell_of-glyph}
-use Rattle.vt_cells.proofs.Shapes.{same_shape-itself, shape_of-same}
+use Rattle.vt_cells.proofs.Packing.{alike}
+use Rattle.vt_cells.proofs.Shapes.{same_head-itself, head_of-same}
 use Rattle.vt_cells.proofs.Same.{attrs_of-same, same_attrs-itself, bool_of-same}
 use Rattle.vt_cells.proofs.Same.{same_bool-itself, attrs_eq-same, two_parts, false_of}
 
-text_of-same : (s t : List ℕ) → bytes_eq s t ≡ true → s ≡ t
+pub text_of-same : (s t : List ℕ) → bytes_eq s t ≡ true → s ≡ t
 text_of-same s t e = (bytes_eq-Decides s t).0 e
 
-same_text-itself : (s : List ℕ) → bytes_eq s s ≡ true
+pub same_text-itself : (s : List ℕ) → bytes_eq s s ≡ true
 same_text-itself s = nat_list_eq_equiv.refl s
 
 -- the same cells are equal
@@ -92,11 +94,6 @@ same_cell-eq right_half (glyph t true b) = refl
 same_cell-eq right_half (glyph t false b) = refl
 same_cell-eq right_half right_half = refl
 
-alike : (a b : Bool) → (a ≡ true → b ≡ true) → (b ≡ true → a ≡ true) → a ≡ b
-alike true b to from = sym (to refl)
-alike false true to from = from refl
-alike false false to from = refl
-
 pub cell_same : (x y : CellValue) (r : Bool) → r ≡ same_cell x y → IsTrue r → x ≡ y
 cell_same x y r tested holds = cell_of-same x y (sym tested ∙ holds)
 
@@ -106,14 +103,7 @@ same_cell_of x y r tested same = tested ∙ rw same (same_cell-itself y)
 -- the shape of a cell is the one that it keeps
 pub shape_of_parts : (len : ℕ) (text : List ℕ) (wide right : Bool) (attrs : Attrs) → IsKept len text wide right attrs
     → record { len = len; wide = wide; right_half = right } ≡ shape_of_cell (cell_of text wide right attrs)
-shape_of_parts len text wide true attrs kept =
-    λ i. record { len = kept.half_empty refl i; wide = kept.half_narrow refl i; right_half = true }
-shape_of_parts len [] true false attrs kept = absurd (omega (arith, kept.measured, kept.wide_text refl))
-shape_of_parts len [] false false attrs kept =
-    λ i. record { len = sym kept.measured i; wide = false; right_half = false }
-shape_of_parts len (b ∷ text) wide false attrs kept =
-    rw (cell_of-glyph (b ∷ text) wide attrs (omega arith))
-    (λ i. record { len = sym kept.measured i; wide = wide; right_half = false })
+shape_of_parts len text wide right attrs kept = sym (ap (λ h. h.shape) (cell_head len text wide right attrs kept))
 
 shape_of_blank : (cell : CellValue) → IsCell cell → same_shape (shape_of_cell cell) blank_shape ≡ is_blank cell
 unfolding same_shape
@@ -131,65 +121,51 @@ pub blank_kept : (len : ℕ) (text : List ℕ) (wide right : Bool) (attrs : Attr
 blank_kept len text wide right attrs kept =
     rw (shape_of_parts len text wide right attrs kept) (shape_of_blank (cell_of text wide right attrs) kept.sound)
 
--- cells of one shape, in the same attributes, are the same where their texts are
-pub same_cell-shaped : (x y : CellValue) → IsCell x → IsCell y
-    → same_shape (shape_of_cell x) (shape_of_cell y) ≡ true → same_attrs (attrs_of x) (attrs_of y) ≡ true
-    → bytes_eq (text_of x) (text_of y) ≡ same_cell x y
-same_cell-shaped x y is_x is_y shape attrs =
-    let shapes : shape_of_cell x ≡ shape_of_cell y = shape_of-same _ _ shape in
+-- cells of one head are the same where their texts are
+pub same_cell-headed : (x y : CellValue) → IsCell x → IsCell y
+    → same_head (head_of_cell x) (head_of_cell y) ≡ true → bytes_eq (text_of x) (text_of y) ≡ same_cell x y
+same_cell-headed x y is_x is_y e =
+    let heads : head_of_cell x ≡ head_of_cell y = head_of-same _ _ e in
     alike _ _
     (λ text. rw
-    (cell_by_parts x y is_x is_y (text_of-same _ _ text) (ap (λ s. s.wide) shapes) (ap (λ s. s.right_half) shapes)
-    (attrs_of-same _ _ attrs)) (same_cell-itself y))
+    (cell_by_parts x y is_x is_y (text_of-same _ _ text) (ap (λ h. h.shape.wide) heads)
+    (ap (λ h. h.shape.right_half) heads) (ap (λ h. h.attrs) heads)) (same_cell-itself y))
     (λ same. rw (cell_of-same x y same) (same_text-itself (text_of y)))
 
--- cells of other shapes, or in other attributes, differ
-pub same_cell-other_shape : (x y : CellValue) →
-    same_shape (shape_of_cell x) (shape_of_cell y) ≡ false → same_cell x y ≡ false
-same_cell-other_shape x y e =
-    same_cell-differ x y (λ same. let yes : same_shape (shape_of_cell x) (shape_of_cell y) ≡ true =
-    rw same (same_shape-itself (shape_of_cell y)) in cc)
+-- cells of other heads differ
+pub same_cell-other_head : (x y : CellValue) →
+    same_head (head_of_cell x) (head_of_cell y) ≡ false → same_cell x y ≡ false
+same_cell-other_head x y e =
+    same_cell-differ x y (λ same. let yes : same_head (head_of_cell x) (head_of_cell y) ≡ true =
+    rw same (same_head-itself (head_of_cell y)) in cc)
 
-pub same_cell-other_attrs : (x y : CellValue) → same_attrs (attrs_of x) (attrs_of y) ≡ false → same_cell x y ≡ false
-same_cell-other_attrs x y e =
-    same_cell-differ x y
-    (λ same. let yes : same_attrs (attrs_of x) (attrs_of y) ≡ true = rw same (same_attrs-itself (attrs_of y)) in cc)
+take_front : (s z : List ℕ) (n : ℕ) → length s ≤ n → take (length s) (take n (s ++ z)) ≡ s
+take_front [] z n le = refl
+take_front (x ∷ s) z zero le = absurd (omega arith)
+take_front (x ∷ s) z (suc n) le = ap (λ t. x ∷ t) (take_front s z n (omega arith))
 
--- texts of no byte and of one byte
-pub no_bytes : (s t : List ℕ) → 0 ≡ length s → length s ≡ length t → true ≡ bytes_eq s t
-no_bytes [] [] none same = refl
-no_bytes [] (y ∷ t) none same = absurd (omega (arith, same))
-no_bytes (x ∷ s) t none same = absurd (omega (arith, none))
+-- texts of one length whose first eight bytes are the same, and that have no more, are the same
+pub short_texts : (s t : List ℕ) → length s ≡ length t → length s ≤ 8 → front s ≡ front t → s ≡ t
+unfolding front
+short_texts s t same short fronts =
+    sym (take_front s _ 8 short) ∙ (λ i. take (same i) (fronts i)) ∙ take_front t _ 8 (omega (arith, same))
 
-alone : (p : Bool) → p ≡ (p && true)
-alone true = refl
-alone false = refl
+-- the bytes of a cell begin as its text does
+pub front_stored : (head : HeadValue) (contents : List ℕ) (cell : CellValue) → IsStored head contents
+    → cell_of_parts head contents ≡ cell → take 8 contents ≡ front (text_of cell)
+unfolding front
+front_stored head contents cell h is =
+    (λ i. take 8 (sym (stored_contents head contents h) i)) ∙ ap (λ v. take 8 (padded (text_of v))) is
 
-pub one_byte : (s t : List ℕ) → 1 ≡ length s → length s ≡ length t →
-    (slice_index_or s 0 0 == slice_index_or t 0 0) ≡ bytes_eq s t
-one_byte (x ∷ []) (y ∷ []) one same = alone (x == y)
-one_byte [] t one same = absurd (omega (arith, one))
-one_byte (x ∷ z ∷ s) t one same = absurd (omega (arith, one))
-one_byte (x ∷ []) [] one same = absurd (omega (arith, same))
-one_byte (x ∷ []) (y ∷ z ∷ t) one same = absurd (omega (arith, same))
+-- and its head is that of the cell
+pub head_stored : (head : HeadValue) (contents : List ℕ) (cell : CellValue) → IsStored head contents
+    → cell_of_parts head contents ≡ cell → head_of_cell cell ≡ head
+head_stored head contents cell h is = sym (ap head_of_cell is) ∙ stored_head head contents h
 
-three_parts : (p q r : Bool) → ((p && q) && r) ≡ (p && (q && (r && true)))
-three_parts true true true = refl
-three_parts true true false = refl
-three_parts true false r = refl
-three_parts false q r = refl
-
--- and of three
-pub three_bytes : (s t : List ℕ) → 3 ≡ length s → length s ≡ length t
-    → (((slice_index_or s 0 0 == slice_index_or t 0 0) && (slice_index_or s 1 0 == slice_index_or t 1 0))
-    && (slice_index_or s 2 0 == slice_index_or t 2 0))
-    ≡ bytes_eq s t
-three_bytes (a ∷ b ∷ c ∷ []) (x ∷ y ∷ z ∷ []) three same = three_parts (a == x) (b == y) (c == z)
-three_bytes [] t three same = absurd (omega (arith, three))
-three_bytes (a ∷ []) t three same = absurd (omega (arith, three))
-three_bytes (a ∷ b ∷ []) t three same = absurd (omega (arith, three))
-three_bytes (a ∷ b ∷ c ∷ d ∷ s) t three same = absurd (omega (arith, three))
-three_bytes (a ∷ b ∷ c ∷ []) [] three same = absurd (omega (arith, same))
-three_bytes (a ∷ b ∷ c ∷ []) (x ∷ []) three same = absurd (omega (arith, same))
-three_bytes (a ∷ b ∷ c ∷ []) (x ∷ y ∷ []) three same = absurd (omega (arith, same))
-three_bytes (a ∷ b ∷ c ∷ []) (x ∷ y ∷ z ∷ w ∷ t) three same = absurd (omega (arith, same))
+-- cells that begin alike, and have short texts, are the same
+pub cells_begin : (x y : CellValue) → IsCell x → IsCell y → length (text_of x) < 8
+    → head_of_cell x ≡ head_of_cell y → front (text_of x) ≡ front (text_of y) → x ≡ y
+cells_begin x y is_x is_y short heads fronts =
+    cell_by_parts x y is_x is_y
+    (short_texts (text_of x) (text_of y) (ap (λ h. h.shape.len) heads) (omega arith) fronts)
+    (ap (λ h. h.shape.wide) heads) (ap (λ h. h.shape.right_half) heads) (ap (λ h. h.attrs) heads)

@@ -1,10 +1,13 @@
 -- What a cell is, in one byte.
-use Rattle.std.proofs.Common.{◌≡◌, ℕ, ◌+◌, ◌/◌, ◌%◌, ◌<◌, ◌≤◌, ◌&&◌, ◌==◌, Bool, true, false}
+use Rattle.std.proofs.Common.{◌≡◌, ℕ, ◌+◌, ◌*◌, ◌/◌, ◌%◌, ◌<◌, ◌≤◌, ◌==◌, Bool, true, false}
 use Rattle.std.proofs.Common.{refl, arith, ap, sym, ◌∙◌, eqb-true, if◌then◌else◌, nat_le}
 use Rattle.std.proofs.lemmas.Bool.Decides.{nat_tests}
-use Rattle.vt_cells.specs.Attrs.{same_bool}
+use Rattle.vt_cells.specs.Attrs.{Attrs}
+use Rattle.vt_cells.specs.AttrsKeeping.{attrs_of_word, IsAttrsWord}
+use Rattle.vt_cells.specs.CellKeeping.{HeadValue, IsHead, head_back, head_of, head_word, same_head}
 use Rattle.vt_cells.specs.CellKeeping.{ShapeValue, blank_shape, same_shape, shape_bits, shape_of}
-use Rattle.vt_cells.proofs.Same.{bool_of-same, same_bool-itself, two_parts}
+use Rattle.vt_cells.proofs.Same.{attrs_of-same, same_attrs-itself, bool_of-same, same_bool-itself}
+use Rattle.vt_cells.proofs.Same.{two_parts}
 use Rattle.vt_cells.proofs.Packing.{alike, itself}
 
 -- the length and the width of a text are those of its byte
@@ -51,6 +54,51 @@ no_bits m p = bits_same m 0 p refl
 flag_bits : (flag : Bool) (n : ℕ) → (if flag then n else 0) ≤ n
 flag_bits true n = omega arith
 flag_bits false n = omega arith
+
+-- a shape that is one of a byte has seven bits
+pub shape_small : (m : ℕ) → shape_bits (shape_of m) ≡ m → m < 128
+shape_small m p =
+    let wide = flag_bits (m / 32 % 2 == 1) 32 in
+    let right = flag_bits (m / 64 == 1) 64 in
+    omega (arith, p, wide, right)
+
+head_parts : (low high : ℕ) → low < 128
+    → ((low + 128 * high) % 128 ≡ low) × ((low + 128 * high) / 128 ≡ high)
+head_parts low high small = (omega arith, omega arith)
+
+-- the head of a word that is made of a shape and attributes
+pub head_made : (low high : ℕ) (shape : ShapeValue) (attrs : Attrs) → low < 128 → shape_of low ≡ shape
+    → attrs_of_word high ≡ attrs → head_of (low + 128 * high) ≡ record { attrs = attrs; shape = shape }
+head_made low high shape attrs small is_shape is_attrs =
+    let parts = head_parts low high small in
+    (λ i. record { attrs = attrs_of_word (parts.1 i); shape = shape_of (parts.0 i) })
+    ∙ (λ i. record { attrs = is_attrs i; shape = is_shape i })
+
+pub head_sound : (low high : ℕ)
+    → low < 128 → shape_bits (shape_of low) ≡ low → IsAttrsWord high → IsHead (low + 128 * high)
+head_sound low high small s a =
+    let parts = head_parts low high small in record { shape = rw (parts.0) s; attrs = rw (parts.1) a }
+
+pub head_of-same : (a b : HeadValue) → same_head a b ≡ true → a ≡ b
+unfolding same_head
+head_of-same a b e =
+    let (shape, attrs) = two_parts _ _ e in
+    λ i. record { attrs = attrs_of-same a.attrs b.attrs attrs i; shape = shape_of-same a.shape b.shape shape i }
+
+pub same_head-itself : (a : HeadValue) → same_head a a ≡ true
+unfolding same_head
+same_head-itself a = rw (same_shape-itself a.shape, same_attrs-itself a.attrs) refl
+
+-- two words are compared, and the heads are
+pub heads_same : (m n : ℕ) → IsHead m → IsHead n → (m == n) ≡ same_head (head_of m) (head_of n)
+heads_same m n p q =
+    alike (m == n) (same_head (head_of m) (head_of n))
+    (λ e. rw (eqb-true m n e) (same_head-itself (head_of n)))
+    (λ e. rw (sym (head_back m p) ∙ ap head_word (head_of-same (head_of m) (head_of n) e) ∙ head_back n q) (itself n))
+
+-- where two of its bits are 0, the text of a head is short
+pub short_head : (word : ℕ) → word / 8 % 4 ≡ 0 → word % 128 % 32 < 8
+short_head word none = omega arith
 
 -- the highest bit is known by size
 pub high_bit : (m : ℕ) → shape_bits (shape_of m) ≡ m → nat_le 64 m ≡ (m / 64 == 1)

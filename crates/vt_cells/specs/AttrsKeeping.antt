@@ -1,6 +1,7 @@
--- How attributes keep their six components in nine bytes; for models, private contracts and proofs only.
-use Rattle.std.specs.Prelude.{◌≡◌, ℕ, ◌+◌, ◌/◌, ◌%◌, ◌<◌, ◌==◌, ◌&&◌, Bool, true, false, zero, suc, if◌then◌else◌}
-use Rattle.std.proofs.Common.{refl, sym}
+-- How attributes keep their six components in one word; for models, private contracts and proofs only.
+use Rattle.std.specs.Prelude.{◌≡◌, ℕ, ◌+◌, ◌*◌, ◌/◌, ◌%◌, ◌<◌, ◌==◌, ◌&&◌, Bool, zero, suc}
+use Rattle.std.specs.Prelude.{if◌then◌else◌}
+use Rattle.std.proofs.Common.{arith, ◌∙◌}
 use Rattle.vt_cells.specs.Attrs.{Attrs, same_bool, same_intensity}
 use Rattle.vt_cells.specs.declared.attrs.Intensity.{Intensity}
 use Rattle.vt_cells.specs.declared.attrs.Intensity.TheVariants.{Normal, Bold, Dim}
@@ -13,41 +14,19 @@ unpacked zero first second third = Default
 unpacked (suc zero) first second third = Idx first
 unpacked (suc (suc kind)) first second third = Rgb first second third
 
--- the kind and the parts of a colour
-abbrev pub kind_of : Color → ℕ
-kind_of Default = 0
-kind_of (Idx i) = 1
-kind_of (Rgb r g b) = 2
+-- the number of a colour: its kind in two bits, and behind them three parts of eight bits each
+abbrev pub color_bits : Color → ℕ
+color_bits Default = 0
+color_bits (Idx i) = 1 + 4 * i
+color_bits (Rgb r g b) = 2 + 4 * (r + 256 * (g + 256 * b))
 
-abbrev pub first_part : Color → ℕ
-first_part Default = 0
-first_part (Idx i) = i
-first_part (Rgb r g b) = r
+abbrev pub color_of : ℕ → Color
+color_of bits = unpacked (bits % 4) (bits / 4 % 256) (bits / 4 / 256 % 256) (bits / 4 / 256 / 256 % 256)
 
-abbrev pub second_part : Color → ℕ
-second_part (Rgb r g b) = g
-second_part _ = 0
-
-abbrev pub third_part : Color → ℕ
-third_part (Rgb r g b) = b
-third_part _ = 0
-
--- parts that the kind has none of are 0
-abbrev pub IsPacked : (kind first second third : ℕ) → Type 0
-IsPacked zero first second third = (first ≡ 0) × ((second ≡ 0) × (third ≡ 0))
-IsPacked (suc zero) first second third = (second ≡ 0) × (third ≡ 0)
-IsPacked (suc (suc zero)) first second third = Unit {0}
-IsPacked (suc (suc (suc kind))) first second third = ⊥
-
--- a colour gives its bytes back
-pub packed_back : (k a b c : ℕ) → IsPacked k a b c
-    → (kind_of (unpacked k a b c) ≡ k)
-    × ((first_part (unpacked k a b c) ≡ a)
-    × ((second_part (unpacked k a b c) ≡ b) × (third_part (unpacked k a b c) ≡ c)))
-packed_back zero a b c p = (refl, (sym p.0, (sym p.1.0, sym p.1.1)))
-packed_back (suc zero) a b c p = (refl, (refl, (sym p.0, sym p.1)))
-packed_back (suc (suc zero)) a b c p = (refl, (refl, (refl, refl)))
-packed_back (suc (suc (suc k))) a b c p = absurd p
+-- the number of a colour, in 26 bits
+pub record IsColorBits (bits : ℕ) : Type 0 where
+  pub small : bits < 67108864
+  pub back : color_bits (color_of bits) ≡ bits
 
 -- what attributes have beside their colours
 pub record StyleValue : Type 0 where
@@ -59,9 +38,6 @@ pub record StyleValue : Type 0 where
 abbrev pub style_of_attrs : Attrs → StyleValue
 style_of_attrs attrs =
     record { intensity = attrs.intensity; italic = attrs.italic; underline = attrs.underline; inverse = attrs.inverse }
-
-abbrev pub plain_style : StyleValue
-plain_style = record { intensity = Normal; italic = false; underline = false; inverse = false }
 
 unfoldable pub same_style : StyleValue → StyleValue → Bool
 same_style a b =
@@ -92,3 +68,33 @@ abbrev pub style_bits : StyleValue → ℕ
 style_bits style =
     intensity_bits style.intensity + (if style.italic then 4 else 0)
     + (if style.underline then 8 else 0) + (if style.inverse then 16 else 0)
+
+-- the word of attributes: five bits of style, and 26 of each colour
+abbrev pub attrs_of_bits : (style fgcolor bgcolor : ℕ) → Attrs
+attrs_of_bits style fgcolor bgcolor = record {
+  fgcolor = color_of fgcolor;
+  bgcolor = color_of bgcolor;
+  intensity = (style_of style).intensity;
+  italic = (style_of style).italic;
+  underline = (style_of style).underline;
+  inverse = (style_of style).inverse;
+}
+
+abbrev pub attrs_of_word : ℕ → Attrs
+attrs_of_word word = attrs_of_bits (word % 32) (word / 32 % 67108864) (word / 32 / 67108864)
+
+abbrev pub word_of : (style fgcolor bgcolor : ℕ) → ℕ
+word_of style fgcolor bgcolor = style + 32 * (fgcolor + 67108864 * bgcolor)
+
+abbrev pub attrs_word : Attrs → ℕ
+attrs_word attrs = word_of (style_bits (style_of_attrs attrs)) (color_bits attrs.fgcolor) (color_bits attrs.bgcolor)
+
+pub record IsAttrsWord (word : ℕ) : Type 0 where
+  pub style : style_bits (style_of (word % 32)) ≡ word % 32
+  pub fgcolor : IsColorBits (word / 32 % 67108864)
+  pub bgcolor : IsColorBits (word / 32 / 67108864)
+
+-- attributes give their word back
+pub word_back : (word : ℕ) → IsAttrsWord word → attrs_word (attrs_of_word word) ≡ word
+word_back word h =
+    (λ i. word_of (h.style i) (h.fgcolor.back i) (h.bgcolor.back i)) ∙ omega arith

@@ -1,5 +1,6 @@
 -- The text of a change of attributes while it is written; for private contracts and proofs only.
-use Rattle.std.specs.Prelude.{◌≡◌, ℕ, ◌+◌, ◌≤◌, List, [], ◌∷◌, ◌++◌, decimal, flat_map, length, if◌then◌else◌, IsAscii}
+use Rattle.std.specs.Prelude.{◌≡◌, ℕ, ◌+◌, List, [], ◌∷◌, ◌++◌, decimal, flat_map, length}
+use Rattle.std.specs.Prelude.{if◌then◌else◌, IsAscii}
 use Rattle.vt_cells.specs.Attrs.{Attrs, same_bool, same_intensity}
 use Rattle.vt_cells.specs.Op.{intensity_number, part}
 

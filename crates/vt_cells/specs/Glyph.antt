@@ -24,7 +24,7 @@ is_wide_text text = nat_lt 1 (str_width false (chars text))
 
 -- a cell whose text has this many bytes takes no further mark
 abbrev pub mark_limit : ℕ
-mark_limit = 18
+mark_limit = 26
 
 abbrev pub has_room : List ℕ → Bool
 has_room text = nat_lt (length text) mark_limit

@@ -10,3 +10,4 @@ pub mod InputModes
 pub mod Op
 pub mod PieceKeeping
 pub mod Refusals
+pub mod Sinks

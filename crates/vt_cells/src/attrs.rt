@@ -1,13 +1,23 @@
 //! Attributes that a cell is drawn with.
 
-ghost use Rattle.std.specs.Prelude.{◌≡◌};
+ghost use Rattle.std.specs.Prelude.{◌≡◌, ◌<◌, if◌then◌else◌};
 ghost use Rattle.vt_cells.specs.Attrs.{default_attrs, is_bold, is_dim, same_attrs, same_color};
-ghost use Rattle.vt_cells.specs.AttrsKeeping.{same_style, style_of_attrs};
+ghost use Rattle.vt_cells.specs.AttrsKeeping.{IsAttrsWord, attrs_of_word, attrs_word, same_style};
+ghost use Rattle.vt_cells.specs.AttrsKeeping.{style_of_attrs};
+ghost use Rattle.vt_cells.specs.AttrsKeeping.{intensity_bits, style_bits, style_of};
 
 use crate::color::Color;
 use crate::packed_color::PackedColor;
-use crate::style::Style;
 use std::marker::Model;
+
+/// The bit of italics. The two bits below this one are the intensity.
+const ITALIC: u64 = 4;
+
+/// The bit of underlining.
+const UNDERLINE: u64 = 8;
+
+/// The bit of exchanged colours.
+const INVERSE: u64 = 16;
 
 /// How strongly a character is drawn; bold and dim exclude each other.
 #[derive(Clone, Copy, PartialEq, Eq, Debug, Default)]
@@ -27,33 +37,38 @@ pub enum Intensity {
 /// foreground and the background colour, the intensity, and whether characters
 /// are drawn in italics, underlined, and with both colours exchanged.
 ///
-/// They take nine bytes, and are the same exactly where these are.
+/// They are kept in one word, which is the same exactly where they are: five
+/// bits for all but the colours, and 26 for each colour.
 #[derive(Clone, Copy, Debug)]
 pub struct Attrs {
+    word: u64,
+}
+
+/// The six parts, each by itself.
+#[derive(Clone, Copy)]
+struct Parts {
     fgcolor: PackedColor,
     bgcolor: PackedColor,
-    style: Style,
+    intensity: Intensity,
+    italic: bool,
+    underline: bool,
+    inverse: bool,
 }
 
 impl Model for Attrs {
     ghost use Rattle.vt_cells.specs.Attrs as specs;
+    ghost use Rattle.vt_cells.specs.AttrsKeeping.{IsAttrsWord, attrs_of_word, attrs_word};
+    ghost use Rattle.vt_cells.specs.AttrsKeeping.{word_back};
 
     ghost Value = { specs.Attrs };
 
-    ghost view = { λ a. record {
-      fgcolor = a.fgcolor;
-      bgcolor = a.bgcolor;
-      intensity = a.style.intensity;
-      italic = a.style.italic;
-      underline = a.style.underline;
-      inverse = a.style.inverse;
-    } };
+    ghost view = { λ a. attrs_of_word a.word };
 
-    ghost inverse = { λ v. record {
-      fgcolor = v.fgcolor;
-      bgcolor = v.bgcolor;
-      style = record { intensity = v.intensity; italic = v.italic; underline = v.underline; inverse = v.inverse };
-    } };
+    ghost invariant = { λ a. IsAttrsWord a.word };
+
+    ghost inverse = { λ v. record { word = attrs_word v } };
+
+    ghost inverse_ok = { λ a h. λ i. record { word = word_back a.word h i } };
 }
 
 impl Attrs {
@@ -62,22 +77,100 @@ impl Attrs {
     pub fn new() -> Self
         ensures { result ≡ default_attrs }
     {
+        Attrs { word: 0 }
+    }
+
+    /// The attributes of these parts.
+    #[inline]
+    fn of(parts: Parts) -> Self
+        ensures { result ≡ record {
+          fgcolor = parts.fgcolor;
+          bgcolor = parts.bgcolor;
+          intensity = parts.intensity;
+          italic = parts.italic;
+          underline = parts.underline;
+          inverse = parts.inverse;
+        } }
+    {
+        let style = style_bits(
+            parts.intensity,
+            parts.italic,
+            parts.underline,
+            parts.inverse,
+        );
+        let front = parts.fgcolor.bits();
+        let back = parts.bgcolor.bits();
         Attrs {
-            fgcolor: PackedColor::default_color(),
-            bgcolor: PackedColor::default_color(),
-            style: Style::plain(),
+            word: style + 32 * (u64::from(front) + 0x400_0000 * u64::from(back)),
         }
+    }
+
+    /// Their parts.
+    #[inline]
+    fn parts(&self) -> Parts
+        ensures { result ≡ record {
+          fgcolor = self.now.fgcolor;
+          bgcolor = self.now.bgcolor;
+          intensity = self.now.intensity;
+          italic = self.now.italic;
+          underline = self.now.underline;
+          inverse = self.now.inverse;
+        } }
+    {
+        Parts {
+            fgcolor: self.front(),
+            bgcolor: self.back(),
+            intensity: self.intensity(),
+            italic: self.italic(),
+            underline: self.underline(),
+            inverse: self.inverse(),
+        }
+    }
+
+    /// Their word, of which 57 bits are used.
+    #[inline]
+    #[tactic(auto, using(crate::proofs::Packing::word_small))]
+    pub(crate) fn word(&self) -> u64
+        ensures value { result ≡ attrs_word self.now }
+        ensures back { attrs_of_word result ≡ self.now }
+        ensures sound { IsAttrsWord result }
+        ensures small { result < 0x200_0000_0000_0000 }
+    {
+        self.word
+    }
+
+    /// The attributes of a word.
+    #[inline]
+    pub(crate) fn of_word(word: u64) -> Self
+        requires { IsAttrsWord word }
+        ensures { result ≡ attrs_of_word word }
+    {
+        Attrs { word }
+    }
+
+    /// The foreground colour, as it is kept.
+    #[inline]
+    fn front(&self) -> PackedColor
+        ensures { result ≡ self.now.fgcolor }
+    {
+        PackedColor::of_bits((self.word / 32 % 0x400_0000) as u32)
+    }
+
+    /// The background colour, as it is kept.
+    #[inline]
+    fn back(&self) -> PackedColor
+        ensures { result ≡ self.now.bgcolor }
+    {
+        PackedColor::of_bits((self.word / 32 / 0x400_0000) as u32)
     }
 
     /// Whether both are the same in all six parts.
     #[inline]
-    #[tactic(auto, using(crate::proofs::Packing::attrs_same))]
+    #[tactic(auto, using(crate::proofs::Packing::words_same))]
     pub fn is_same(&self, other: &Attrs) -> bool
         ensures { result ≡ same_attrs self.now other.now }
     {
-        self.fgcolor.is_same(&other.fgcolor)
-            & self.bgcolor.is_same(&other.bgcolor)
-            & self.style.is_same(&other.style)
+        self.word == other.word
     }
 
     /// Whether both have the same foreground colour.
@@ -85,7 +178,7 @@ impl Attrs {
     pub fn has_fgcolor_of(&self, other: &Attrs) -> bool
         ensures { result ≡ same_color self.now.fgcolor other.now.fgcolor }
     {
-        self.fgcolor.is_same(&other.fgcolor)
+        self.front().is_same(&other.front())
     }
 
     /// Whether both have the same background colour.
@@ -93,15 +186,16 @@ impl Attrs {
     pub fn has_bgcolor_of(&self, other: &Attrs) -> bool
         ensures { result ≡ same_color self.now.bgcolor other.now.bgcolor }
     {
-        self.bgcolor.is_same(&other.bgcolor)
+        self.back().is_same(&other.back())
     }
 
     /// Whether both are the same but for their colours.
     #[inline]
+    #[tactic(auto, using(crate::proofs::Packing::bits_same))]
     pub fn has_style_of(&self, other: &Attrs) -> bool
         ensures { result ≡ same_style (style_of_attrs self.now) (style_of_attrs other.now) }
     {
-        self.style.is_same(&other.style)
+        self.word % 32 == other.word % 32
     }
 
     /// The foreground colour.
@@ -109,7 +203,7 @@ impl Attrs {
     pub fn fgcolor(&self) -> Color
         ensures { result ≡ self.now.fgcolor }
     {
-        self.fgcolor.color()
+        self.front().color()
     }
 
     /// The background colour.
@@ -117,7 +211,7 @@ impl Attrs {
     pub fn bgcolor(&self) -> Color
         ensures { result ≡ self.now.bgcolor }
     {
-        self.bgcolor.color()
+        self.back().color()
     }
 
     /// Normal, bold or dim.
@@ -125,7 +219,11 @@ impl Attrs {
     pub fn intensity(&self) -> Intensity
         ensures { result ≡ self.now.intensity }
     {
-        self.style.intensity()
+        match self.word % 4 {
+            0 => Intensity::Normal,
+            1 => Intensity::Bold,
+            _ => Intensity::Dim,
+        }
     }
 
     /// Whether characters are drawn bold.
@@ -149,7 +247,7 @@ impl Attrs {
     pub fn italic(&self) -> bool
         ensures { result ≡ self.now.italic }
     {
-        self.style.italic()
+        self.word / ITALIC % 2 == 1
     }
 
     /// Whether characters are underlined.
@@ -157,7 +255,7 @@ impl Attrs {
     pub fn underline(&self) -> bool
         ensures { result ≡ self.now.underline }
     {
-        self.style.underline()
+        self.word / UNDERLINE % 2 == 1
     }
 
     /// Whether foreground and background are exchanged.
@@ -165,53 +263,67 @@ impl Attrs {
     pub fn inverse(&self) -> bool
         ensures { result ≡ self.now.inverse }
     {
-        self.style.inverse()
+        self.word / INVERSE % 2 == 1
     }
 
     /// Sets the foreground colour.
     pub fn set_fgcolor(&mut self, fgcolor: Color)
         ensures { self.new ≡ record self.old { fgcolor = fgcolor } }
     {
-        self.fgcolor = PackedColor::of(fgcolor);
+        *self = Attrs::of(Parts {
+            fgcolor: PackedColor::of(fgcolor),
+            ..self.parts()
+        });
     }
 
     /// Sets the background colour.
     pub fn set_bgcolor(&mut self, bgcolor: Color)
         ensures { self.new ≡ record self.old { bgcolor = bgcolor } }
     {
-        self.bgcolor = PackedColor::of(bgcolor);
+        *self = Attrs::of(Parts {
+            bgcolor: PackedColor::of(bgcolor),
+            ..self.parts()
+        });
     }
 
     /// Makes characters bold, dim, or neither.
     pub fn set_intensity(&mut self, intensity: Intensity)
         ensures { self.new ≡ record self.old { intensity = intensity } }
     {
-        let was = self.style;
-        self.style = Style::of(intensity, was.italic(), was.underline(), was.inverse());
+        *self = Attrs::of(Parts {
+            intensity,
+            ..self.parts()
+        });
     }
 
     /// Sets or ends italics.
     pub fn set_italic(&mut self, italic: bool)
         ensures { self.new ≡ record self.old { italic = italic } }
     {
-        let was = self.style;
-        self.style = Style::of(was.intensity(), italic, was.underline(), was.inverse());
+        *self = Attrs::of(Parts {
+            italic,
+            ..self.parts()
+        });
     }
 
     /// Sets or ends underlining.
     pub fn set_underline(&mut self, underline: bool)
         ensures { self.new ≡ record self.old { underline = underline } }
     {
-        let was = self.style;
-        self.style = Style::of(was.intensity(), was.italic(), underline, was.inverse());
+        *self = Attrs::of(Parts {
+            underline,
+            ..self.parts()
+        });
     }
 
     /// Sets or ends the exchange of foreground and background.
     pub fn set_inverse(&mut self, inverse: bool)
         ensures { self.new ≡ record self.old { inverse = inverse } }
     {
-        let was = self.style;
-        self.style = Style::of(was.intensity(), was.italic(), was.underline(), inverse);
+        *self = Attrs::of(Parts {
+            inverse,
+            ..self.parts()
+        });
     }
 }
 
@@ -250,4 +362,44 @@ impl Default for Attrs {
     {
         Attrs::new()
     }
+}
+
+/// The five lowest bits of a word: all but the colours.
+#[inline]
+#[tactic(auto, using(crate::proofs::Packing::style_back, crate::proofs::Packing::style_small))]
+fn style_bits(intensity: Intensity, italic: bool, underline: bool, inverse: bool) -> u64
+    ensures back { style_of result ≡ record {
+      intensity = intensity;
+      italic = italic;
+      underline = underline;
+      inverse = inverse;
+    } }
+    ensures sound { style_bits (style_of result) ≡ result }
+    ensures small { result < 32 }
+{
+    intensity_bits(intensity)
+        + switch_bits(italic, ITALIC)
+        + switch_bits(underline, UNDERLINE)
+        + switch_bits(inverse, INVERSE)
+}
+
+/// The two lowest bits.
+#[inline]
+fn intensity_bits(intensity: Intensity) -> u64
+    ensures { result ≡ intensity_bits intensity }
+{
+    match intensity {
+        Intensity::Normal => 0,
+        Intensity::Bold => 1,
+        Intensity::Dim => 2,
+    }
+}
+
+/// The bit of a switch, where it is on.
+#[inline]
+fn switch_bits(on: bool, bit: u64) -> u64
+    requires { bit < 32 }
+    ensures { result ≡ (if on then bit else 0) }
+{
+    if on { bit } else { 0 }
 }

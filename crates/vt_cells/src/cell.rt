@@ -1,47 +1,55 @@
 //! One cell of a screen.
 
-ghost use Rattle.std.specs.Prelude.{◌≡◌, ◌≢◌, ◌<◌, ◌≤◌, ◌++◌, ◌+◌, ◌%◌, ◌↔◌, [], ◌∷◌, length, take};
+ghost use Rattle.std.specs.Prelude.{◌≡◌, ◌≢◌, ◌<◌, ◌≤◌, ◌++◌, ◌+◌, ◌%◌, ◌&&◌, ◌↔◌, [], ◌∷◌, ℕ};
+ghost use Rattle.std.specs.Prelude.{length, slice_index, take};
 ghost use Rattle.std.specs.Prelude.{false, Some, if◌then◌else◌, IsTrue, encode_utf8, bytes_eq};
+ghost use Rattle.std.specs.Int.{to_le_bytes, w64};
 ghost use Rattle.vt_cells.specs.Attrs.{default_attrs, is_bold, is_dim, same_attrs};
 ghost use Rattle.vt_cells.specs.Cell.{blank, glyph, right_half, cell_of, is_wide, is_blank, is_glyph, is_right_half};
 ghost use Rattle.vt_cells.specs.Cell.{text_of, attrs_of, same_cell, marked, widened, redrawn, IsCell};
-ghost use Rattle.vt_cells.specs.CellKeeping.{same_shape, shape_of_cell, spaced};
+ghost use Rattle.vt_cells.specs.CellKeeping.{front, head_of_cell, same_head, spaced};
 ghost use Rattle.vt_cells.specs.Glyph.{columns_of, is_wide_text};
 
 use crate::attrs::Attrs;
 use crate::color::Color;
-use crate::shape::Shape;
+use crate::head::Head;
 use std::marker::Model;
 use std::str;
 use unicode_width::UnicodeWidthStr;
 
 /// A cell whose text has this many bytes takes no further mark.
-pub const MARK_LIMIT: u8 = 18;
+pub const MARK_LIMIT: u8 = 26;
 
 /// The bytes of a cell's array: one character more than [`MARK_LIMIT`].
-const TEXT_ROOM: usize = 22;
+const TEXT_ROOM: usize = 30;
 
 /// A cell: a blank, a glyph, or the right half of the wide glyph before it.
 ///
 /// A glyph is one character that takes columns and the marks put on it, at
-/// most 21 bytes in UTF-8.
-#[derive(Clone, Debug, Drop)]
+/// most 29 bytes in UTF-8.
+#[derive(Clone, Copy, Debug)]
 pub struct Cell {
-    attrs: Attrs,
+    head: Head,
     contents: [u8; TEXT_ROOM],
-    shape: Shape,
 }
 
 impl Model for Cell {
-    ghost use Rattle.std.specs.Prelude.{take};
-    ghost use Rattle.vt_cells.specs.Cell.{CellValue, cell_of};
-    ghost use Rattle.vt_cells.specs.CellKeeping.{IsKept};
+    ghost use Rattle.vt_cells.specs.Cell.{CellValue, text_of};
+    ghost use Rattle.vt_cells.specs.CellKeeping.{IsStored, cell_of_parts, head_of_cell, padded};
+    ghost use Rattle.vt_cells.specs.CellKeeping.{stored_contents, stored_head};
 
     ghost Value = { CellValue };
 
-    ghost view = { λ c. cell_of (take c.shape.len c.contents) c.shape.wide c.shape.right_half c.attrs };
+    ghost view = { λ c. cell_of_parts c.head c.contents };
 
-    ghost invariant = { λ c. IsKept c.shape.len (take c.shape.len c.contents) c.shape.wide c.shape.right_half c.attrs };
+    ghost invariant = { λ c. IsStored c.head c.contents };
+
+    ghost inverse = { λ v. record { head = head_of_cell v; contents = padded (text_of v) } };
+
+    ghost inverse_ok = { λ c h. λ i. record {
+      head = stored_head c.head c.contents h i;
+      contents = stored_contents c.head c.contents h i;
+    } };
 }
 
 impl Cell {
@@ -59,9 +67,8 @@ impl Cell {
         ensures { result ≡ blank attrs }
     {
         Cell {
-            attrs,
+            head: Head::text(0, false, attrs),
             contents: [0; TEXT_ROOM],
-            shape: Shape::text(0, false),
         }
     }
 
@@ -71,9 +78,8 @@ impl Cell {
         ensures { result ≡ right_half }
     {
         Cell {
-            attrs: Attrs::new(),
+            head: Head::right_half(),
             contents: [0; TEXT_ROOM],
-            shape: Shape::right_half(),
         }
     }
 
@@ -89,9 +95,8 @@ impl Cell {
         let mut contents = [0; TEXT_ROOM];
         let len = push_char(&mut contents, 0, c);
         Cell {
-            attrs,
+            head: Head::text(len, wide, attrs),
             contents,
-            shape: Shape::text(len, wide),
         }
     }
 
@@ -103,35 +108,12 @@ impl Cell {
         Cell::glyph(' ', false, attrs)
     }
 
-    /// A copy of the cell; it takes no memory.
-    #[inline]
-    pub fn copied(&self) -> Self
-        ensures { result ≡ self.now }
-    {
-        Cell {
-            attrs: self.attrs,
-            contents: self.contents,
-            shape: self.shape,
-        }
-    }
-
-    /// Makes the cell a copy of another one, in place.
-    #[inline]
-    pub fn set(&mut self, other: &Cell)
-        ensures { self.new ≡ other.now }
-    {
-        self.attrs = other.attrs;
-        self.contents = other.contents;
-        self.shape = other.shape;
-    }
-
     /// Makes the cell a blank with these attributes.
     #[inline]
     pub fn clear(&mut self, attrs: Attrs)
         ensures { self.new ≡ blank attrs }
     {
-        self.attrs = attrs;
-        self.shape = Shape::text(0, false);
+        *self = Cell::blank(attrs);
     }
 
     /// Makes the cell a glyph of one character, as [`Cell::glyph`] makes one.
@@ -141,9 +123,7 @@ impl Cell {
         requires columns { columns_of c ≡ Some (if wide then 2 else 1) }
         ensures { self.new ≡ glyph (encode_utf8 c) wide attrs }
     {
-        let len = push_char(&mut self.contents, 0, c);
-        self.attrs = attrs;
-        self.shape = Shape::text(len, wide);
+        *self = Cell::glyph(c, wide, attrs);
     }
 
     /// Puts a mark, a character of width 0, on the cell.
@@ -176,10 +156,11 @@ impl Cell {
         requires mark { columns_of c ≡ Some 0 }
         ensures { self.new ≡ marked c self.old }
     {
-        let len = self.shape.len();
+        let shape = self.head.shape();
+        let len = shape.len();
         if len < MARK_LIMIT {
             let longer = push_char(&mut self.contents, len, c);
-            self.shape = Shape::text(longer, self.shape.wide());
+            self.head = Head::text(longer, shape.wide(), self.head.attrs());
         }
     }
 
@@ -191,9 +172,9 @@ impl Cell {
         requires { IsCell (widened wide self.old) }
         ensures { self.new ≡ widened wide self.old }
     {
-        let len = self.shape.len();
+        let len = self.head.shape().len();
         if len > 0 {
-            self.shape = Shape::text(len, wide);
+            self.head = Head::text(len, wide, self.head.attrs());
         }
     }
 
@@ -202,19 +183,20 @@ impl Cell {
     pub fn set_attrs(&mut self, attrs: Attrs)
         ensures { self.new ≡ redrawn attrs self.old }
     {
-        if !self.shape.is_right_half() {
-            self.attrs = attrs;
+        let shape = self.head.shape();
+        if !shape.is_right_half() {
+            self.head = Head::of(shape, attrs);
         }
     }
 
-    /// The text: a character and its marks, 1 to 21 bytes, or nothing for a
+    /// The text: a character and its marks, 1 to 29 bytes, or nothing for a
     /// blank and a right half.
     #[inline]
     pub fn contents(&self) -> &str
         ensures value { result.now ≡ text_of self.now }
         ensures sound { IsCell self.now }
     {
-        let bytes = &self.contents[..usize::from(self.shape.len())];
+        let bytes = &self.contents[..usize::from(self.head.shape().len())];
         unsafe { str::from_utf8_unchecked(bytes) }
     }
 
@@ -223,7 +205,7 @@ impl Cell {
     pub fn has_contents(&self) -> bool
         ensures { result ≡ is_glyph self.now }
     {
-        self.shape.len() > 0
+        self.head.shape().len() > 0
     }
 
     /// Whether the cell is a wide glyph, the left half of two columns.
@@ -231,7 +213,7 @@ impl Cell {
     pub fn is_wide(&self) -> bool
         ensures { result ≡ is_wide self.now }
     {
-        self.shape.wide()
+        self.head.shape().wide()
     }
 
     /// Whether the cell is the right half of a wide glyph.
@@ -239,7 +221,7 @@ impl Cell {
     pub fn is_wide_continuation(&self) -> bool
         ensures { result ≡ is_right_half self.now }
     {
-        self.shape.is_right_half()
+        self.head.shape().is_right_half()
     }
 
     /// Whether the cell is a blank.
@@ -247,7 +229,7 @@ impl Cell {
     pub fn is_blank(&self) -> bool
         ensures { result ≡ is_blank self.now }
     {
-        self.shape.is_blank()
+        self.head.shape().is_blank()
     }
 
     /// Whether `unicode_width` gives the whole text more than one column.
@@ -263,52 +245,57 @@ impl Cell {
     fn is_same(&self, other: &Cell) -> bool
         ensures { result ≡ same_cell self.now other.now }
     {
-        if !self.has_shape_of(other) {
-            return false;
-        }
-        if !other.has_attrs(self.lend_attrs()) {
+        if !self.has_head_of(other) {
             return false;
         }
         self.has_text_of(other)
     }
 
-    /// Whether both have texts of the same length and are wide or right halves
-    /// alike.
+    /// Whether both are alike beside the text: its length, its width, whether
+    /// they are right halves, and their attributes.
     #[inline]
-    fn has_shape_of(&self, other: &Cell) -> bool
-        ensures value { result ≡ same_shape (shape_of_cell self.now) (shape_of_cell other.now) }
+    fn has_head_of(&self, other: &Cell) -> bool
+        ensures value { result ≡ same_head (head_of_cell self.now) (head_of_cell other.now) }
         ensures sound { IsCell self.now }
         ensures other { IsCell other.now }
     {
-        self.shape.is_same(&other.shape)
+        self.head.is_same(&other.head)
     }
 
-    /// Whether both have the same text, of one length. Texts of one byte, and
-    /// of three as of most wide glyphs, are compared without a call.
+    /// Whether both have the same text, of one length. The first eight bytes are
+    /// compared as one word; few texts have more.
     #[inline]
     fn has_text_of(&self, other: &Cell) -> bool
         requires { length (text_of self.now) ≡ length (text_of other.now) }
         ensures { result ≡ bytes_eq (text_of self.now) (text_of other.now) }
     {
-        match self.text_len() {
-            0 => true,
-            1 => self.contents().as_bytes()[0] == other.contents().as_bytes()[0],
-            3 => self.has_three_bytes_of(other),
-            _ => self.has_bytes_of(other),
+        if self.front_word() != other.front_word() {
+            return false;
         }
+        if !self.head.is_long() {
+            return true;
+        }
+        self.has_bytes_of(other)
     }
 
-    /// The same test, where both have three bytes.
-    #[inline]
-    #[tactic(auto, using(crate::proofs::SameCells::three_bytes))]
-    fn has_three_bytes_of(&self, other: &Cell) -> bool
-        requires three { 3 ≡ length (text_of self.now) }
-        requires same { length (text_of self.now) ≡ length (text_of other.now) }
-        ensures { result ≡ bytes_eq (text_of self.now) (text_of other.now) }
+    /// Bits that are all 0 only where both are the same cell, and its text has
+    /// at most seven bytes.
+    #[inline(always)]
+    pub(crate) fn odd_bits(&self, other: &Cell) -> u64
+        ensures { result ≡ 0 → self.now ≡ other.now }
     {
-        let own = self.contents().as_bytes();
-        let others = other.contents().as_bytes();
-        (own[0] == others[0]) & (own[1] == others[1]) & (own[2] == others[2])
+        self.head.odd_bits(&other.head) | (self.front_word() ^ other.front_word())
+    }
+
+    /// The first eight bytes, of the text and of the zeros behind it, as one word.
+    #[inline(always)]
+    fn front_word(&self) -> u64
+        ensures { to_le_bytes w64 result ≡ front (text_of self.now) }
+    {
+        let bytes = &self.contents;
+        u64::from_le_bytes([
+            bytes[0], bytes[1], bytes[2], bytes[3], bytes[4], bytes[5], bytes[6], bytes[7],
+        ])
     }
 
     /// The same test, of each byte.
@@ -319,29 +306,12 @@ impl Cell {
         self.contents() == other.contents()
     }
 
-    /// The attributes where they lie.
-    #[inline]
-    fn lend_attrs(&self) -> &Attrs
-        ensures { result.now ≡ attrs_of self.now }
-    {
-        &self.attrs
-    }
-
-    /// How many bytes the text has.
-    #[inline]
-    fn text_len(&self) -> u8
-        ensures value { result ≡ length (text_of self.now) }
-        ensures sound { IsCell self.now }
-    {
-        self.shape.len()
-    }
-
     /// The attributes; default ones for a right half.
     #[inline]
     pub fn attrs(&self) -> Attrs
         ensures { result ≡ attrs_of self.now }
     {
-        self.attrs
+        self.head.attrs()
     }
 
     /// Whether these are its attributes; they are compared where they lie.
@@ -349,7 +319,7 @@ impl Cell {
     pub fn has_attrs(&self, attrs: &Attrs) -> bool
         ensures { result ≡ same_attrs attrs.now (attrs_of self.now) }
     {
-        attrs.is_same(&self.attrs)
+        attrs.is_same(&self.head.attrs())
     }
 
     /// The foreground colour.
@@ -357,7 +327,7 @@ impl Cell {
     pub fn fgcolor(&self) -> Color
         ensures { result ≡ (attrs_of self.now).fgcolor }
     {
-        self.attrs.fgcolor()
+        self.head.attrs().fgcolor()
     }
 
     /// The background colour.
@@ -365,7 +335,7 @@ impl Cell {
     pub fn bgcolor(&self) -> Color
         ensures { result ≡ (attrs_of self.now).bgcolor }
     {
-        self.attrs.bgcolor()
+        self.head.attrs().bgcolor()
     }
 
     /// Whether the cell is drawn bold.
@@ -373,7 +343,7 @@ impl Cell {
     pub fn bold(&self) -> bool
         ensures { result ≡ is_bold (attrs_of self.now) }
     {
-        self.attrs.bold()
+        self.head.attrs().bold()
     }
 
     /// Whether the cell is drawn dim.
@@ -381,7 +351,7 @@ impl Cell {
     pub fn dim(&self) -> bool
         ensures { result ≡ is_dim (attrs_of self.now) }
     {
-        self.attrs.dim()
+        self.head.attrs().dim()
     }
 
     /// Whether the cell is drawn in italics.
@@ -389,7 +359,7 @@ impl Cell {
     pub fn italic(&self) -> bool
         ensures { result ≡ (attrs_of self.now).italic }
     {
-        self.attrs.italic()
+        self.head.attrs().italic()
     }
 
     /// Whether the cell is underlined.
@@ -397,7 +367,7 @@ impl Cell {
     pub fn underline(&self) -> bool
         ensures { result ≡ (attrs_of self.now).underline }
     {
-        self.attrs.underline()
+        self.head.attrs().underline()
     }
 
     /// Whether foreground and background are exchanged.
@@ -405,7 +375,7 @@ impl Cell {
     pub fn inverse(&self) -> bool
         ensures { result ≡ (attrs_of self.now).inverse }
     {
-        self.attrs.inverse()
+        self.head.attrs().inverse()
     }
 }
 
@@ -444,6 +414,8 @@ fn push_char(contents: &mut [u8; TEXT_ROOM], len: u8, c: char) -> u8
     ensures text { take result contents.new ≡ take len contents.old ++ encode_utf8 c }
     ensures len { result ≡ len + length (encode_utf8 c) }
     ensures fits { result ≤ TEXT_ROOM }
+    ensures rest { (k : ℕ) → result ≤ k
+        → slice_index contents.new k ≡ slice_index contents.old k }
 {
     let code = c as u32;
     if code < 0x80 {
@@ -469,6 +441,8 @@ fn push_byte(contents: &mut [u8; TEXT_ROOM], len: u8, byte: u8) -> u8
     requires { len < TEXT_ROOM }
     ensures text { take result contents.new ≡ take len contents.old ++ byte ∷ [] }
     ensures len { result ≡ len + 1 }
+    ensures rest { (k : ℕ) → result ≤ k
+        → slice_index contents.new k ≡ slice_index contents.old k }
 {
     contents[usize::from(len)] = byte;
     len + 1

@@ -6,13 +6,14 @@ pub mod attrs;
 pub mod cell;
 pub mod color;
 pub mod error;
+mod head;
 pub mod modes;
 mod packed_color;
 pub mod piece;
 pub mod pos;
+pub mod runs;
 mod shape;
 pub mod sink;
-mod style;
 pub mod term;
 pub mod width;
 

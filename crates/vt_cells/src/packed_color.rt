@@ -1,70 +1,66 @@
-//! A colour in four bytes.
+//! A colour in 26 bits.
 
 ghost use Rattle.std.specs.Prelude.{◌≡◌};
 ghost use Rattle.vt_cells.specs.Attrs.{same_color};
+ghost use Rattle.vt_cells.specs.AttrsKeeping.{IsColorBits, color_bits, color_of};
 ghost use Rattle.vt_cells.specs.declared.color.Color.TheVariants as color;
 
 use crate::color::Color;
 use std::marker::Model;
 
-/// A colour as its kind and three parts, 0 where the kind has none: two colours
-/// are the same exactly where their four bytes are.
+/// A colour as its kind in the two lowest bits and three parts of eight bits
+/// behind them, 0 where the kind has none: two colours are the same exactly
+/// where their numbers are.
 #[derive(Clone, Copy, Debug)]
 pub struct PackedColor {
-    kind: u8,
-    first: u8,
-    second: u8,
-    third: u8,
+    bits: u32,
 }
 
 impl Model for PackedColor {
-    ghost use Rattle.vt_cells.specs.AttrsKeeping.{IsPacked, first_part, kind_of, packed_back};
-    ghost use Rattle.vt_cells.specs.AttrsKeeping.{second_part, third_part, unpacked};
+    ghost use Rattle.vt_cells.specs.AttrsKeeping.{IsColorBits, color_bits, color_of};
     ghost use Rattle.vt_cells.specs.declared.color.Color.{Color};
 
     ghost Value = { Color };
 
-    ghost view = { λ c. unpacked c.kind c.first c.second c.third };
+    ghost view = { λ c. color_of c.bits };
 
-    ghost invariant = { λ c. IsPacked c.kind c.first c.second c.third };
+    ghost invariant = { λ c. IsColorBits c.bits };
 
-    ghost inverse = { λ v.
-        record { kind = kind_of v; first = first_part v; second = second_part v; third = third_part v } };
+    ghost inverse = { λ v. record { bits = color_bits v } };
 
-    ghost inverse_ok = { λ c h.
-        let parts = packed_back c.kind c.first c.second c.third h in
-        λ i. record { kind = parts.0 i; first = parts.1.0 i; second = parts.1.1.0 i; third = parts.1.1.1 i } };
+    ghost inverse_ok = { λ c h. λ i. record { bits = h.back i } };
 }
 
 impl PackedColor {
-    /// The terminal's own colour.
-    #[inline]
-    pub fn default_color() -> Self
-        ensures { result ≡ color.Default }
-    {
-        PackedColor {
-            kind: 0,
-            first: 0,
-            second: 0,
-            third: 0,
-        }
-    }
-
     /// This colour.
     #[inline]
     pub fn of(color: Color) -> Self
         ensures { result ≡ color }
     {
-        let (kind, first, second, third) = match color {
-            Color::Default => (0, 0, 0, 0),
-            Color::Idx(i) => (1, i, 0, 0),
-            Color::Rgb(r, g, b) => (2, r, g, b),
-        };
+        match color {
+            Color::Default => PackedColor { bits: 0 },
+            Color::Idx(i) => PackedColor::index(i),
+            Color::Rgb(r, g, b) => PackedColor::rgb(r, g, b),
+        }
+    }
+
+    /// A colour of the palette.
+    #[inline]
+    fn index(i: u8) -> Self
+        ensures { result ≡ color.Idx i }
+    {
         PackedColor {
-            kind,
-            first,
-            second,
-            third,
+            bits: 1 + 4 * u32::from(i),
+        }
+    }
+
+    /// A colour of three parts.
+    #[inline]
+    fn rgb(r: u8, g: u8, b: u8) -> Self
+        ensures { result ≡ color.Rgb r g b }
+    {
+        PackedColor {
+            bits: 2 + 4 * (u32::from(r) + 256 * (u32::from(g) + 256 * u32::from(b))),
         }
     }
 
@@ -73,11 +69,34 @@ impl PackedColor {
     pub fn color(&self) -> Color
         ensures { result ≡ self.now }
     {
-        match self.kind {
+        match self.bits % 4 {
             0 => Color::Default,
-            1 => Color::Idx(self.first),
-            _ => Color::Rgb(self.first, self.second, self.third),
+            1 => Color::Idx((self.bits / 4 % 256) as u8),
+            _ => Color::Rgb(
+                (self.bits / 4 % 256) as u8,
+                (self.bits / 4 / 256 % 256) as u8,
+                (self.bits / 4 / 256 / 256 % 256) as u8,
+            ),
         }
+    }
+
+    /// Its number.
+    #[inline]
+    pub fn bits(&self) -> u32
+        ensures value { result ≡ color_bits self.now }
+        ensures back { color_of result ≡ self.now }
+        ensures sound { IsColorBits result }
+    {
+        self.bits
+    }
+
+    /// The colour of a number.
+    #[inline]
+    pub fn of_bits(bits: u32) -> Self
+        requires { IsColorBits bits }
+        ensures { result ≡ color_of bits }
+    {
+        PackedColor { bits }
     }
 
     /// Whether both are the same colour.
@@ -86,9 +105,6 @@ impl PackedColor {
     pub fn is_same(&self, other: &PackedColor) -> bool
         ensures { result ≡ same_color self.now other.now }
     {
-        (self.kind == other.kind)
-            & (self.first == other.first)
-            & (self.second == other.second)
-            & (self.third == other.third)
+        self.bits == other.bits
     }
 }

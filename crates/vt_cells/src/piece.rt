@@ -1,7 +1,8 @@
 //! Small texts, gathered before they are written.
 
-ghost use Rattle.std.specs.Prelude.{◌≡◌, ◌+◌, ◌++◌, ◌<◌, ◌≤◌, [], length, IsErr, OnOk};
+ghost use Rattle.std.specs.Prelude.{◌≡◌, ◌+◌, ◌++◌, ◌<◌, ◌≤◌, [], length, IsErr, OnErr, OnOk};
 ghost use Rattle.vt_cells.specs.PieceKeeping.{gathered};
+ghost use Rattle.vt_cells.specs.Sinks.{IsStopped};
 
 use crate::sink::Sink;
 use std::marker::Model;
@@ -53,7 +54,10 @@ impl Piece {
             ≡ gathered (S.text sink.old) self.old ++ text.now) }
         ensures gathers { length self.old + length text.now ≤ 128
             → (self.new ≡ self.old ++ text.now) × (sink.new ≡ sink.old) }
+        ensures grows { OnOk result (length (S.text sink.old) ≤ length (S.text sink.new)) }
+        ensures err { OnErr result (IsStopped S.refuses (S.text sink.old) (self.old ++ text.now) (S.text sink.new)) }
         ensures full { IsErr result → 128 < length self.old + length text.now }
+        ensures some { IsErr result → 0 < length text.now }
     {
         if text.len() == 1 && self.len < ROOM {
             self.push_one(text);
@@ -76,6 +80,7 @@ impl Piece {
         ensures text { OnOk result (S.text sink.new ≡ gathered (S.text sink.old) self.old) }
         ensures empty { OnOk result (self.new ≡ []) }
         ensures nothing { self.old ≡ [] → sink.new ≡ sink.old }
+        ensures err { OnErr result (S.refuses (S.text sink.old) self.old (S.text sink.new)) }
         ensures some { IsErr result → 0 < length self.old }
     {
         if self.len == 0 {

@@ -1,7 +1,7 @@
 //! What a cell is, in one byte.
 
 ghost use Rattle.std.specs.Prelude.{◌≡◌, ◌<◌, false, true};
-ghost use Rattle.vt_cells.specs.CellKeeping.{blank_shape, same_shape};
+ghost use Rattle.vt_cells.specs.CellKeeping.{blank_shape, same_shape, shape_bits, shape_of};
 
 use std::marker::Model;
 
@@ -54,6 +54,27 @@ impl Shape {
         Shape { bits: RIGHT_HALF }
     }
 
+    /// Its byte, of which seven bits are used.
+    #[inline]
+    #[tactic(auto, using(crate::proofs::Shapes::shape_small))]
+    pub fn bits(&self) -> u8
+        ensures value { result ≡ shape_bits self.now }
+        ensures back { shape_of result ≡ self.now }
+        ensures sound { shape_bits (shape_of result) ≡ result }
+        ensures small { result < 128 }
+    {
+        self.bits
+    }
+
+    /// The shape of a byte.
+    #[inline]
+    pub fn of_bits(bits: u8) -> Self
+        requires { shape_bits (shape_of bits) ≡ bits }
+        ensures { result ≡ shape_of bits }
+    {
+        Shape { bits }
+    }
+
     /// How many bytes the text has.
     #[inline]
     pub fn len(&self) -> u8
@@ -86,14 +107,5 @@ impl Shape {
         ensures { result ≡ same_shape self.now blank_shape }
     {
         self.bits == 0
-    }
-
-    /// Whether both are the same.
-    #[inline]
-    #[tactic(auto, using(crate::proofs::Shapes::bits_same))]
-    pub fn is_same(&self, other: &Shape) -> bool
-        ensures { result ≡ same_shape self.now other.now }
-    {
-        self.bits == other.bits
     }
 }

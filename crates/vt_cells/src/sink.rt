@@ -12,12 +12,16 @@ pub trait Sink {
 
     ghost text: { Self → List ℕ };
 
+    ghost refuses: { List ℕ → List ℕ → List ℕ → Type 0 } = { λ _ _ _. Unit {0} };
+
     /// Appends `s`. On `Ok` the sink's text is the one before, followed by `s`.
     ///
-    /// What stands after an error is for each sink to say: a string stays as it was, and of any
-    /// other nothing is promised.
+    /// What stands after an error is for each sink to say, by `refuses` of the text before, `s`, and
+    /// the text then: a string stays as it was, a sink that keeps what fits has a beginning of `s`
+    /// more, and of one that says nothing nothing is promised.
     fn write_str(&mut self, s: &str) -> Result<(), Self::Error>
-        ensures { OnOk result (text self.new ≡ text self.old ++ s.now) };
+        ensures ok { OnOk result (text self.new ≡ text self.old ++ s.now) }
+        ensures err { OnErr result (refuses (text self.old) s.now (text self.new)) };
 }
 
 /// A string takes every text that its memory has room for.
@@ -25,6 +29,8 @@ impl Sink for String {
     type Error = Error;
 
     ghost text = { λ s. string_bytes s };
+
+    ghost refuses = { λ before _ after. after ≡ before };
 
     /// Appends `s`, or refuses with `OutOfMemory` and stays as it was; that happens only where `s`
     /// does not fit into the memory that the string has.

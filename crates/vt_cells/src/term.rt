@@ -1,7 +1,7 @@
 //! The small sequences that a redraw is made of, each with its exact text
 //! (ECMA-48, the VT510's manual and xterm's control sequences).
 
-ghost use Rattle.std.specs.Prelude.{◌≡◌, ◌++◌, ℕ, List, OnOk};
+ghost use Rattle.std.specs.Prelude.{◌≡◌, ◌++◌, ◌<◌, ℕ, List, length, OnErr, OnOk};
 
 use crate::sink::Sink;
 
@@ -27,7 +27,8 @@ pub trait BufWrite {
     ghost bytes: { Self → List ℕ };
 
     /// Appends the sequence's text to `sink`; an error is the sink's own, and then part of the
-    /// text may have been appended.
+    /// text may have been appended. An empty text is never refused.
     fn write_buf<S: Sink>(&self, sink: &mut S) -> Result<(), S::Error>
-        ensures { OnOk result (S.text sink.new ≡ S.text sink.old ++ bytes self.now) };
+        ensures text { OnOk result (S.text sink.new ≡ S.text sink.old ++ bytes self.now) }
+        ensures some { OnErr result (0 < length (bytes self.now)) };
 }

@@ -1,6 +1,6 @@
 -- Scrollback: the rows that left a page at its top, as far as they are kept (xterm's saved lines).
 use Rattle.std.specs.Prelude.{◌≡◌, ℕ, ◌+◌, ◌-◌, ◌==◌, ◌≤◌, ◌<◌, nat_lt, List, [], ◌∷◌}
-use Rattle.std.specs.Prelude.{◌++◌, length, All, take, drop, map, min, if◌then◌else◌}
+use Rattle.std.specs.Prelude.{◌++◌, length, All, take, drop, map, min, slice_index_or, if◌then◌else◌}
 use Rattle.std.specs.List.{FoldsTo}
 use Rattle.vt_rows.specs.Row.{RowValue, IsRow, resized_row, trimmed_row}
 
@@ -76,9 +76,17 @@ abbrev pub reported : List RowValue → Scrollback → List RowValue
 reported [] above = []
 reported (row ∷ gone) above = before_last above.capacity (stacked (row ∷ gone) above)
 
--- rows are moved into scrollback, which takes memory
+-- one row leaves and takes over the memory of the oldest one, which is no shorter: no more can be kept, none is in view
+pub record TurnsOver (gone : List RowValue) (above : Scrollback) : Type 0 where
+  pub one : length gone ≡ 1
+  pub full : length above.rows ≡ above.capacity
+  pub hidden : above.offset ≡ 0
+  pub room : (d : RowValue) → length (trimmed_row (slice_index_or gone 0 d)).cells
+      ≤ length (slice_index_or above.rows 0 d).cells
+
+-- rows are moved into scrollback, which takes memory but where one takes over that of the oldest
 abbrev pub TakesMemory : List RowValue → Scrollback → Type 0
-TakesMemory gone above = (0 < length gone) × (0 < above.capacity)
+TakesMemory gone above = (0 < length gone) × ((0 < above.capacity) × (TurnsOver gone above → ⊥))
 
 -- rows left: what scrollback is then, and what was reported one by one
 abbrev pub Sends : {S : Type 0} → (S → RowValue → S → Type 0) →

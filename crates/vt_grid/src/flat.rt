@@ -13,7 +13,7 @@ use crate::size::Size;
 use std::alloc::Global;
 use vt_cells::{Attrs, Cell, Error};
 use vt_rows::cells;
-use vt_rows::copies::copied;
+use vt_rows::copies::{blank_cells, copied};
 use vt_rows::shifts::turn;
 
 /// Where the cells of a row are, and whether its text goes on in the row below.
@@ -160,16 +160,4 @@ impl Flat {
         }
         Ok(lines)
     }
-}
-
-/// Default blanks, all of whose memory is taken at once.
-fn blank_cells(alloc: Global, count: usize) -> Result<Vec<Cell>, Error>
-    ensures ok { IfOk result (λ cells. cells.items ≡ blanks default_attrs count) }
-    ensures memory { OnlyOutOfMemory result }
-{
-    let mut cells = Vec::with_capacity(alloc, count)?;
-    for _cell in 0..count {
-        cells.push_reserved(Cell::new());
-    }
-    Ok(cells)
 }

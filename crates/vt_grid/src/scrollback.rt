@@ -10,8 +10,9 @@ ghost use Rattle.vt_cells.specs.Attrs.{default_attrs};
 ghost use Rattle.vt_cells.specs.Refusals.{OnlyOutOfMemory};
 ghost use Rattle.vt_rows.specs.Row.{RowValue, IsRow, blank_row, resized_row};
 ghost use Rattle.vt_grid.specs.Resize.{out_of_view, taken_back};
-ghost use Rattle.vt_grid.specs.Scrollback.{IsScrollback, Sends, TakesMemory, ViewTakesMemory, before_last, cleared};
-ghost use Rattle.vt_grid.specs.Scrollback.{grown_row, kept_after, last_of, narrow_rows, no_scrollback, viewed, visible};
+ghost use Rattle.vt_grid.specs.Scrollback.{IsScrollback, Sends, TakesMemory, TurnsOver, ViewTakesMemory};
+ghost use Rattle.vt_grid.specs.Scrollback.{before_last, cleared, grown_row, kept_after, last_of};
+ghost use Rattle.vt_grid.specs.Scrollback.{narrow_rows, no_scrollback, viewed, visible};
 ghost use Rattle.vt_grid.specs.Spare.{AreSpare, grown_from, in_view, window_from};
 
 use crate::row_lists::{
@@ -124,7 +125,8 @@ impl Scrollback {
     /// that are shown then grow to the page's width where they are shorter.
     ///
     /// Fails where memory is refused, and then nothing has changed and nothing
-    /// was reported. No row, or a capacity of 0, takes no memory.
+    /// was reported. No row, or a capacity of 0, takes no memory; nor does one
+    /// row that drives out one that is no shorter, where none is in view.
     pub fn push<L: Leaving>(
         &mut self,
         page: &Sheet,
@@ -171,7 +173,7 @@ impl Scrollback {
         ensures sent { OnOk result (Sends L.leaves size.rows size.cols
             (take count page.now.rows) (out_of_view self.old) leaving.old self.new leaving.new) }
         ensures err { OnErr result ((self.new ≡ self.old) × (leaving.new ≡ leaving.old)) }
-        ensures grows { IsErr result → TakesMemory (take count page.now.rows) self.old }
+        ensures grows { IsErr result → TakesMemory (take count page.now.rows) (out_of_view self.old) }
         ensures memory { OnlyOutOfMemory result }
     {
         let offset = self.offset;
@@ -231,6 +233,7 @@ impl Scrollback {
         ensures sent { OnOk result ((height width : ℕ) →
             Sends L.leaves height width (take 1 page.now.rows) self.old leaving.old self.new leaving.new) }
         ensures err { OnErr result ((self.new ≡ self.old) × (leaving.new ≡ leaving.old)) }
+        ensures grows { IsErr result → TurnsOver (take 1 page.now.rows) self.old → ⊥ }
         ensures memory { OnlyOutOfMemory result }
     {
         turn_over(&mut self.rows, page, leaving)?;

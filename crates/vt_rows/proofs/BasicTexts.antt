@@ -1,12 +1,15 @@
 -- The attributes of cells in basic texts.
-use Rattle.std.proofs.Common.{◌≡◌, ℕ, Bool, true, false, List, [], ◌++◌, refl, sym, ap, ◌∙◌, append-nil}
+use Rattle.std.proofs.Common.{◌≡◌, ℕ, Bool, true, false, List, [], ◌∷◌, ◌++◌, length, ◌≤◌, refl, sym, ap, ◌∙◌, append-nil, append_assoc}
 use Rattle.std.specs.Prelude.{◌||◌, if◌then◌else◌}
 use Rattle.std.proofs.lemmas.Bool.{cond_both}
 use Rattle.vt_cells.specs.Cell.{CellValue, blank, glyph, right_half, attrs_of, is_default_blank, is_right_half}
 use Rattle.vt_cells.specs.Attrs.{same_attrs, Attrs}
 use Rattle.vt_cells.specs.Op.{change_text}
+use Rattle.vt_cells.specs.PieceKeeping.{gathered}
+use Rattle.vt_cells.specs.Sinks.{IsStopped}
+use Rattle.vt_cells.proofs.Sinks.{stopped_before, stopped_behind}
 use Rattle.vt_cells.proofs.Same.{attrs_of-same, same_attrs-itself}
-use Rattle.vt_rows.specs.Basic.{attrs_after, is_bare, shown_text}
+use Rattle.vt_rows.specs.Basic.{attrs_after, cells_text, is_bare, shown_text}
 
 no_change : (attrs : Attrs) → change_text attrs attrs ≡ []
 unfolding change_text
@@ -60,3 +63,29 @@ right_keeps attrs cell e = sym (kept_right attrs cell e).0
 
 -- the attributes behind each kind of cell
 pub ruleset attrs_kept = (kept_same, kept_default, kept_right, own)
+
+-- a sink that stopped within the change of attributes before a cell stopped within the cell's text
+pub change_stopped : (refuses : List ℕ → List ℕ → List ℕ → Type 0) (before piece : List ℕ) (attrs new : Attrs)
+    (cell : CellValue) (after : List ℕ) → attrs_after attrs cell ≡ new
+    → IsStopped refuses before (piece ++ change_text attrs new) after
+    → IsStopped refuses before (piece ++ (change_text attrs (attrs_after attrs cell) ++ shown_text cell)) after
+change_stopped refuses before piece attrs new cell after e stopped =
+    rw e (stopped_before refuses before piece (change_text attrs new) (shown_text cell) after stopped)
+
+-- and so one that stopped behind that change
+pub shown_stopped : (refuses : List ℕ → List ℕ → List ℕ → Type 0) (old mid was piece : List ℕ) (attrs new : Attrs)
+    (cell : CellValue) (shown after : List ℕ) → attrs_after attrs cell ≡ new → shown ≡ shown_text cell
+    → gathered mid piece ≡ gathered old was ++ change_text attrs new → length old ≤ length mid
+    → IsStopped refuses mid (piece ++ shown) after
+    → IsStopped refuses old (was ++ (change_text attrs (attrs_after attrs cell) ++ shown_text cell)) after
+shown_stopped refuses old mid was piece attrs new cell shown after e s g le stopped =
+    rw (e, sym s) (stopped_behind refuses old mid was piece (change_text attrs new) shown after g le stopped)
+
+-- the text of the first cells is that of one, and of those behind it
+pub one_first : (attrs : Attrs) (cells rest : List CellValue) (cell : CellValue) → cells ≡ cell ∷ rest →
+    cells_text attrs cells
+    ≡ (change_text attrs (attrs_after attrs cell) ++ shown_text cell) ++ cells_text (attrs_after attrs cell) rest
+one_first attrs cells rest cell e =
+    ap (cells_text attrs) e
+    ∙ sym (append_assoc (change_text attrs (attrs_after attrs cell)) (shown_text cell)
+    (cells_text (attrs_after attrs cell) rest))

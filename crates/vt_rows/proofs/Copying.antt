@@ -1,9 +1,34 @@
--- Cells that are set behind others.
-use Rattle.std.proofs.Common.{◌≡◌, List, [], ◌∷◌, ◌++◌, length, slice_set, refl, ap}
-use Rattle.vt_cells.specs.Cell.{CellValue}
+-- Cells that are copied in pieces, and over the first ones of others.
+use Rattle.std.proofs.Common.{◌≡◌, ℕ, ◌+◌, ◌-◌, ◌<◌, ◌≤◌, List, ◌++◌, length, take, drop, slice_range, ap, sym, ◌∙◌, arith}
+use Rattle.std.proofs.Math.Seq.{take-add}
+use Rattle.std.proofs.lemmas.List.{length-take, length-drop, length-take-le}
+use Rattle.std.proofs.lemmas.List.{get_or_append_left, get_or-append_right, get_or-take, get_or-drop}
+use Rattle.vt_cells.specs.Cell.{CellValue, default_blank}
+use Rattle.vt_rows.specs.Cells.{at}
 
--- the last cell is set
-pub last_set : (cells : List CellValue) (was new : CellValue) →
-    slice_set (cells ++ was ∷ []) (length cells) new ≡ cells ++ new ∷ []
-last_set [] was new = refl
-last_set (cell ∷ cells) was new = ap (λ (rest : List CellValue). cell ∷ rest) (last_set cells was new)
+-- the cells before `from`, and the piece behind them
+pub piece_taken : (cells : List CellValue) (from to : ℕ) → from ≤ to →
+    take from cells ++ slice_range cells from to ≡ take to cells
+piece_taken cells from to le =
+    let whole : from + (to - from) ≡ to = omega arith in
+    sym (take-add from (to - from) cells) ∙ ap (λ (n : ℕ). take n cells) whole
+
+pub length-piece : (cells : List CellValue) (from to : ℕ) → from ≤ to → to ≤ length cells →
+    length (slice_range cells from to) ≡ to - from
+length-piece cells from to le inside =
+    omega (arith, length-take (to - from) (drop from cells), length-drop from cells)
+
+-- the first n cells are copies, and those behind them stay
+pub at-copied : (n k : ℕ) (copies cells : List CellValue) → n ≤ length copies → k < n →
+    at (take n copies ++ drop n cells) k ≡ at copies k
+at-copied n k copies cells le lt =
+    let size = length-take-le n copies le in
+    get_or_append_left (take n copies) (drop n cells) default_blank k (omega arith)
+    ∙ get_or-take n copies k default_blank lt
+
+pub at-behind_copied : (n k : ℕ) (copies cells : List CellValue) → n ≤ length copies → n ≤ k →
+    at (take n copies ++ drop n cells) k ≡ at cells k
+at-behind_copied n k copies cells le ge =
+    let there : n + (k - n) ≡ k = omega arith in
+    get_or-append_right (take n copies) (drop n cells) n k default_blank (length-take-le n copies le) ge
+    ∙ (get_or-drop n cells (k - n) default_blank ∙ ap (λ (j : ℕ). at cells j) there)

@@ -1,11 +1,12 @@
 //! Rows that are lent to be read, and their texts.
 
-ghost use Rattle.std.specs.Prelude.{◌≡◌, ◌<◌, ◌↔◌, [], ◌∷◌, ◌++◌, if◌then◌else◌, false};
-ghost use Rattle.std.specs.Prelude.{length, true, IfOk, IfSome, IsSome, OnErr, OnOk};
+ghost use Rattle.std.specs.Prelude.{◌≡◌, ◌<◌, ◌≤◌, ◌↔◌, [], ◌∷◌, ◌++◌, if◌then◌else◌, false};
+ghost use Rattle.std.specs.Prelude.{length, true, IfOk, IfSome, IsErr, IsSome, OnErr, OnOk};
 ghost use Rattle.vt_rows.specs.Cells.{at};
 ghost use Rattle.vt_cells.specs.Cell.{attrs_of};
 ghost use Rattle.vt_cells.specs.Op.{change_text};
 ghost use Rattle.vt_cells.specs.PieceKeeping.{gathered};
+ghost use Rattle.vt_cells.specs.Sinks.{IsStopped};
 ghost use Rattle.vt_rows.specs.Basic.{attrs_after, attrs_after_all, basic_text, cells_text};
 ghost use Rattle.vt_rows.specs.Basic.{shown_text, unwritten, written_after};
 ghost use Rattle.vt_rows.specs.Row.{IsRow, trimmed_row};
@@ -21,7 +22,7 @@ pub use plain::{
 };
 pub use rows::{BasicFormattedRows, basic_formatted_rows};
 use std::marker::Model;
-use vt_cells::term::{BufWrite, ChangeAttrs, LineFeed};
+use vt_cells::term::ChangeAttrs;
 use vt_cells::{Attrs, Cell, Piece, Sink};
 
 /// The contents of a row: its cells, and whether its text goes on in the row
@@ -124,8 +125,9 @@ impl RowContents<'_> {
     /// its own is a space in them.
     ///
     /// `state` is that of the rows written before. An error is the sink's own;
-    /// then part of the text may have been appended, and the state is as it
-    /// was.
+    /// then the state is as it was. The sink took a beginning of the text, and
+    /// refused the piece behind it; what it holds then is for it to say, and
+    /// nothing was written after. An empty text is never refused.
     pub fn write_formatted_basic<S: Sink>(
         &self,
         sink: &mut S,
@@ -134,6 +136,9 @@ impl RowContents<'_> {
         ensures ok { OnOk result (S.text sink.new ≡ S.text sink.old ++ basic_text state.old self.now) }
         ensures state { OnOk result (state.new ≡ written_after state.old self.now) }
         ensures err { OnErr result (state.new ≡ state.old) }
+        ensures stopped { OnErr result
+            (IsStopped S.refuses (S.text sink.old) (basic_text state.old self.now) (S.text sink.new)) }
+        ensures some { OnErr result (0 < length (basic_text state.old self.now)) }
     {
         write_line_end(sink, state.is_due)?;
         let cells = &self.cells[..cuts::trimmed_len(self.cells)];
@@ -145,13 +150,12 @@ impl RowContents<'_> {
 
 /// Writes the line end that is due, if any.
 fn write_line_end<S: Sink>(sink: &mut S, is_due: bool) -> Result<(), S::Error>
-    ensures { OnOk result (S.text sink.new ≡ S.text sink.old ++ (if is_due then 0x0A ∷ [] else [])) }
+    ensures text { OnOk result (S.text sink.new ≡ S.text sink.old ++ (if is_due then 0x0A ∷ [] else [])) }
+    ensures stopped { OnErr result
+        (IsStopped S.refuses (S.text sink.old) (if is_due then 0x0A ∷ [] else []) (S.text sink.new)) }
+    ensures due { IsErr result → is_due ≡ true }
 {
-    if is_due {
-        LineFeed.write_buf(sink)
-    } else {
-        Ok(())
-    }
+    if is_due { sink.write_str("\n") } else { Ok(()) }
 }
 
 /// Writes cells behind a text in `attrs`, and answers the attributes of the
@@ -160,6 +164,9 @@ fn write_line_end<S: Sink>(sink: &mut S, is_due: bool) -> Result<(), S::Error>
 fn write_cells<S: Sink>(sink: &mut S, cells: &[Cell], attrs: Attrs) -> Result<Attrs, S::Error>
     ensures text { OnOk result (S.text sink.new ≡ S.text sink.old ++ cells_text attrs cells.now) }
     ensures attrs { IfOk result (λ last. last ≡ attrs_after_all attrs cells.now) }
+    ensures stopped { OnErr result
+        (IsStopped S.refuses (S.text sink.old) (cells_text attrs cells.now) (S.text sink.new)) }
+    ensures some { OnErr result (0 < length (cells_text attrs cells.now)) }
 {
     let mut piece = Piece::new();
     let mut last = attrs;
@@ -184,6 +191,12 @@ fn add_cell<S: Sink>(
         ≡ gathered (S.text sink.old) piece.old
         ++ (change_text attrs.old (attrs_after attrs.old cell.now) ++ shown_text cell.now)) }
     ensures attrs { OnOk result (attrs.new ≡ attrs_after attrs.old cell.now) }
+    ensures grows { OnOk result (length (S.text sink.old) ≤ length (S.text sink.new)) }
+    ensures stopped { OnErr result (IsStopped S.refuses (S.text sink.old)
+        (piece.old ++ (change_text attrs.old (attrs_after attrs.old cell.now) ++ shown_text cell.now))
+        (S.text sink.new)) }
+    ensures some { OnErr result
+        (0 < length (change_text attrs.old (attrs_after attrs.old cell.now) ++ shown_text cell.now)) }
 {
     if cell.is_wide_continuation() {
         return Ok(());

@@ -1,10 +1,19 @@
-//! Copies of cells.
+//! Copies of cells, as memory.
 
-ghost use Rattle.std.specs.Prelude.{◌≡◌, ◌<◌, ◌≤◌, ◌+◌, ◌++◌, [], ◌∷◌, IfOk, length, vec_capacity, vec_len};
+ghost use Rattle.std.specs.Prelude.{◌≡◌, ◌≤◌, ◌+◌, ◌++◌, IfOk, length, vec_capacity, vec_len};
+ghost use Rattle.vt_cells.specs.Attrs.{default_attrs};
 ghost use Rattle.vt_cells.specs.Refusals.{OnlyOutOfMemory};
+ghost use Rattle.vt_rows.specs.Cells.{blanks};
 
 use std::alloc::Global;
 use vt_cells::{Cell, Error};
+
+/// How many cells are copied at a time: so few that the C library moves them by
+/// vector instructions.
+const PIECE: usize = 96;
+
+/// How many blanks are made at a time, for the same reason.
+const BLANKS: usize = 48;
 
 /// A copy of cells.
 ///
@@ -18,25 +27,43 @@ pub fn copied(alloc: Global, cells: &[Cell]) -> Result<Vec<Cell>, Error>
     Ok(copies)
 }
 
+/// Default blanks.
+///
+/// Fails where their memory is refused.
+pub fn blank_cells(alloc: Global, count: usize) -> Result<Vec<Cell>, Error>
+    ensures ok { IfOk result (λ cells. cells.items ≡ blanks default_attrs count) }
+    ensures memory { OnlyOutOfMemory result }
+{
+    let mut cells = Vec::with_capacity(alloc, count)?;
+    while cells.len() < count {
+        let end = count.min(cells.len() + BLANKS);
+        let _ = cells.resize(end, Cell::new());
+    }
+    Ok(cells)
+}
+
 /// Appends copies of cells, for which there is room.
 pub fn push_copies(cells: &mut Vec<Cell>, from: &[Cell])
     requires { vec_len cells.old + length from.now ≤ vec_capacity cells.old }
     ensures { cells.new.items ≡ cells.old.items ++ from.now }
 {
-    for k in 0..from.len() {
-        push_copy(cells, &from[k]);
+    let mut done = 0;
+    while done < from.len() {
+        let end = from.len().min(done + PIECE);
+        let _ = cells.extend_from_slice(&from[done..end]);
+        done = end;
     }
 }
 
-/// Appends a copy of a cell, for which there is room. A blank is appended and
-/// then set, so that the copy is made where it lies.
-#[inline(always)]
-fn push_copy(cells: &mut Vec<Cell>, from: &Cell)
-    requires { vec_len cells.old < vec_capacity cells.old }
-    ensures items { cells.new.items ≡ cells.old.items ++ from.now ∷ [] }
-    ensures capacity { vec_capacity cells.new ≡ vec_capacity cells.old }
+/// Copies cells over as many others.
+pub fn copy_over(cells: &mut [Cell], from: &[Cell])
+    requires { length cells.old ≡ length from.now }
+    ensures { cells.new ≡ from.now }
 {
-    let last = cells.len();
-    cells.push_reserved(Cell::new());
-    cells[last].set(from);
+    let mut done = 0;
+    while done < from.len() {
+        let end = from.len().min(done + PIECE);
+        cells[done..end].copy_from_slice(&from[done..end]);
+        done = end;
+    }
 }

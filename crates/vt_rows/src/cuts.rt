@@ -7,6 +7,7 @@ ghost use Rattle.vt_rows.specs.Cells.{IsPaired, blanks, resized};
 ghost use Rattle.vt_rows.specs.Keeping.{end_blanked};
 ghost use Rattle.vt_rows.specs.Row.{trimmed};
 
+use crate::copies::copy_over;
 use vt_cells::{Attrs, Cell};
 
 /// How many columns are left without the default blanks at the end.
@@ -32,9 +33,7 @@ pub fn refit(cells: &mut [Cell], from: &[Cell])
     ensures { cells.new ≡ resized (length cells.old) from.now }
 {
     let count = cells.len().min(from.len());
-    for k in 0..count {
-        cells[k] = from[k].copied();
-    }
+    copy_over(&mut cells[..count], &from[..count]);
     blank_end(cells);
 }
 

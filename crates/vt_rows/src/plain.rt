@@ -1,6 +1,6 @@
 //! The plain text of columns of a row.
 
-ghost use Rattle.std.specs.Prelude.{◌≡◌, ◌≤◌, ◌+◌, ◌++◌, drop, length, replicate, take, IfOk, OnOk};
+ghost use Rattle.std.specs.Prelude.{◌≡◌, ◌<◌, ◌≤◌, ◌+◌, ◌++◌, drop, length, replicate, take, IfOk, IsErr, OnErr, OnOk};
 ghost use Rattle.vt_cells.specs.PieceKeeping.{gathered};
 ghost use Rattle.vt_rows.specs.Keeping.{gap_behind, plain_behind, text_behind};
 ghost use Rattle.vt_rows.specs.Plain.{has_glyph, plain_text};
@@ -17,7 +17,7 @@ const SPACES: &str = "                ";
 /// between glyphs a column is a space. A wide glyph that begins in the last of
 /// these columns is written whole, and the right half of one that begins
 /// before the first is a space. An error is the sink's own; then part of the
-/// text may have been appended.
+/// text may have been appended. An empty text is never refused.
 #[tactic(auto, unfolding(crate::specs::Plain::plain_text), using(crate::proofs::PlainTexts::plain_rows))]
 pub fn write_contents<S: Sink>(
     sink: &mut S,
@@ -25,7 +25,8 @@ pub fn write_contents<S: Sink>(
     start: usize,
     stop: usize,
 ) -> Result<(), S::Error>
-    ensures { OnOk result (S.text sink.new ≡ S.text sink.old ++ plain_text start stop cells.now) }
+    ensures text { OnOk result (S.text sink.new ≡ S.text sink.old ++ plain_text start stop cells.now) }
+    ensures some { OnErr result (0 < length (plain_text start stop cells.now)) }
 {
     let columns = columns_between(cells, start, stop);
     if !columns.is_empty() && columns[0].is_wide_continuation() {
@@ -62,7 +63,8 @@ fn columns_between(cells: &[Cell], start: usize, stop: usize) -> &[Cell]
 #[tactic(auto, using(vt_cells::proofs::Pieces::nothing_gathered))]
 fn write_behind<S: Sink>(sink: &mut S, cells: &[Cell], gap: usize) -> Result<(), S::Error>
     requires { gap + length cells.now ≤ 18446744073709551615 }
-    ensures { OnOk result (S.text sink.new ≡ S.text sink.old ++ plain_behind gap cells.now) }
+    ensures text { OnOk result (S.text sink.new ≡ S.text sink.old ++ plain_behind gap cells.now) }
+    ensures some { OnErr result (0 < length (plain_behind gap cells.now)) }
 {
     let mut piece = Piece::new();
     let mut gap = gap;
@@ -86,6 +88,8 @@ fn add_cell<S: Sink>(
     ensures text { OnOk result
         (gathered (S.text sink.new) piece.new ≡ gathered (S.text sink.old) piece.old ++ text_behind gap cell.now) }
     ensures gap { IfOk result (λ new. new ≡ gap_behind gap cell.now) }
+    ensures grows { OnOk result (length (S.text sink.old) ≤ length (S.text sink.new)) }
+    ensures some { OnErr result (0 < length (text_behind gap cell.now)) }
 {
     if cell.has_contents() {
         add_spaces(sink, piece, gap)?;
@@ -101,8 +105,10 @@ fn add_cell<S: Sink>(
 /// Adds a number of spaces.
 #[inline]
 fn add_spaces<S: Sink>(sink: &mut S, piece: &mut Piece, count: usize) -> Result<(), S::Error>
-    ensures { OnOk result
+    ensures text { OnOk result
         (gathered (S.text sink.new) piece.new ≡ gathered (S.text sink.old) piece.old ++ replicate count 0x20) }
+    ensures grows { OnOk result (length (S.text sink.old) ≤ length (S.text sink.new)) }
+    ensures some { IsErr result → 0 < count }
 {
     let mut left = count;
     while left >= SPACES.len() {

@@ -1,14 +1,13 @@
 //! One row of a screen.
 
-ghost use Rattle.std.specs.Prelude.{◌≡◌, ◌&&◌, ◌<◌, ◌≤◌, ◌+◌, ◌++◌};
-ghost use Rattle.std.specs.Prelude.{IfOk, IsErr, OnErr, OnOk, length, vec_capacity, vec_len};
+ghost use Rattle.std.specs.Prelude.{◌≡◌, ◌&&◌, ◌<◌, IfOk, IsErr, OnErr, OnOk, length};
 ghost use Rattle.vt_cells.specs.Attrs.{default_attrs};
 ghost use Rattle.vt_cells.specs.Refusals.{OnlyOutOfMemory};
-ghost use Rattle.vt_rows.specs.Cells.{IsPaired, blanks};
+ghost use Rattle.vt_rows.specs.Cells.{IsPaired};
 ghost use Rattle.vt_rows.specs.Row.{IsRow, blank_row, resized_row, trimmed, trimmed_row};
 
 use crate::capture::Leaving;
-use crate::copies::{copied, push_copies};
+use crate::copies::{blank_cells, copied, push_copies};
 use crate::cuts;
 use std::alloc::Global;
 use std::marker::Model;
@@ -37,8 +36,7 @@ impl Row {
         ensures ok { IfOk result (λ row. row ≡ blank_row default_attrs columns) }
         ensures memory { OnlyOutOfMemory result }
     {
-        let mut cells = Vec::with_capacity(alloc, columns)?;
-        push_blanks(&mut cells, columns);
+        let cells = blank_cells(alloc, columns)?;
         Ok(Row {
             cells,
             wrapped: false,
@@ -143,14 +141,4 @@ pub fn flag_kept(wrapped: bool, same: bool) -> bool
     ensures { result ≡ (wrapped && same) }
 {
     wrapped && same
-}
-
-/// Appends default blanks, for which there is room.
-fn push_blanks(cells: &mut Vec<Cell>, count: usize)
-    requires { vec_len cells.old + count ≤ vec_capacity cells.old }
-    ensures { cells.new.items ≡ cells.old.items ++ blanks default_attrs count }
-{
-    for _column in 0..count {
-        cells.push_reserved(Cell::new());
-    }
 }

@@ -1,9 +1,10 @@
 //! Sequences that change the attributes (SGR).
 
-ghost use Rattle.std.specs.Prelude.{◌≡◌, ◌++◌, OnOk};
+ghost use Rattle.std.specs.Prelude.{◌≡◌, ◌++◌, ◌<◌, ◌≤◌, length, OnErr, OnOk};
 ghost use Rattle.vt_cells.specs.Op as op;
 ghost use Rattle.vt_cells.specs.Op.{bytes_of, change_numbers, change_text, csi, joined};
 ghost use Rattle.vt_cells.specs.PieceKeeping.{gathered};
+ghost use Rattle.vt_cells.specs.Sinks.{IsStopped};
 
 use crate::attrs::Attrs;
 use crate::piece::Piece;
@@ -40,8 +41,12 @@ impl ChangeAttrs {
     #[inline]
     #[tactic(auto, unfolding(crate::specs::Op::change_text))]
     pub fn add<S: Sink>(&self, sink: &mut S, piece: &mut Piece) -> Result<(), S::Error>
-        ensures { OnOk result (gathered (S.text sink.new) piece.new
+        ensures text { OnOk result (gathered (S.text sink.new) piece.new
             ≡ gathered (S.text sink.old) piece.old ++ change_text self.now.was self.now.new) }
+        ensures grows { OnOk result (length (S.text sink.old) ≤ length (S.text sink.new)) }
+        ensures err { OnErr result (IsStopped S.refuses (S.text sink.old)
+            (piece.old ++ change_text self.now.was self.now.new) (S.text sink.new)) }
+        ensures some { OnErr result (0 < length (change_text self.now.was self.now.new)) }
     {
         if self.was.is_same(&self.new) {
             Ok(())
@@ -55,8 +60,11 @@ impl ChangeAttrs {
     /// Adds the change as the numbers of what differs, none where nothing does.
     #[inline(never)]
     fn add_numbers<S: Sink>(&self, sink: &mut S, piece: &mut Piece) -> Result<(), S::Error>
-        ensures { OnOk result (gathered (S.text sink.new) piece.new
+        ensures text { OnOk result (gathered (S.text sink.new) piece.new
             ≡ gathered (S.text sink.old) piece.old ++ csi (joined (change_numbers self.now.was self.now.new)) 0x6D) }
+        ensures grows { OnOk result (length (S.text sink.old) ≤ length (S.text sink.new)) }
+        ensures err { OnErr result (IsStopped S.refuses (S.text sink.old)
+            (piece.old ++ csi (joined (change_numbers self.now.was self.now.new)) 0x6D) (S.text sink.new)) }
     {
         let mut text = ChangeText::new();
         text.write(&self.was, &self.new);

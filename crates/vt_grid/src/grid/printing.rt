@@ -215,7 +215,7 @@ impl Grid {
         requires shown { is_right_half (at (cursor_row self.now).cells col) ≡ false }
         ensures { result ≡ is_wide_text (text_of (marked mark (at (cursor_row self.now).cells col))) }
     {
-        let mut cell = self.sheet.cell(self.pos.row, col).copied();
+        let mut cell = *self.sheet.cell(self.pos.row, col);
         cell.append(mark);
         cell.is_wide_text()
     }

@@ -5,7 +5,7 @@ ghost use Rattle.std.specs.Prelude.{◌≡◌, ◌^◌, ◌-◌, ◌<◌, IsErr,
 ghost use Rattle.std.specs.List.{FoldsTo};
 ghost use Rattle.vt_cells.specs.Refusals.{OnlyOutOfMemory};
 ghost use Rattle.vt_grid.specs.Page.{blank_page};
-ghost use Rattle.vt_grid.specs.Resize.{page_resized, resize_reports, row_resized, scrollback_resized};
+ghost use Rattle.vt_grid.specs.Resize.{out_of_view, page_resized, resize_reports, row_resized, scrollback_resized};
 ghost use Rattle.vt_grid.specs.Resize as resize;
 ghost use Rattle.vt_grid.specs.Scrollback.{TakesMemory};
 ghost use Rattle.vt_grid.specs.Sheet.{blank_sheet};
@@ -47,7 +47,7 @@ impl Grid {
             (FoldsTo L.leaves leaving.old (resize_reports (length fresh.rows) self.old above.old) leaving.new) }
         ensures err { OnErr result ((self.new ≡ self.old) × ((above.new ≡ above.old) × (leaving.new ≡ leaving.old))) }
         ensures grows { IsErr result →
-            TakesMemory (take (resize.leaving (length fresh.rows) self.old) self.old.rows) above.old }
+            TakesMemory (take (resize.leaving (length fresh.rows) self.old) self.old.rows) (out_of_view above.old) }
         ensures memory { OnlyOutOfMemory result }
     {
         self.fill(fresh.sheet, above, leaving)?;
@@ -72,7 +72,7 @@ impl Grid {
             (FoldsTo L.leaves leaving.old (resize_reports (length fresh.rows) self.old above.old) leaving.new) }
         ensures err { OnErr result ((self.new ≡ self.old) × ((above.new ≡ above.old) × (leaving.new ≡ leaving.old))) }
         ensures grows { IsErr result →
-            TakesMemory (take (resize.leaving (length fresh.rows) self.old) self.old.rows) above.old }
+            TakesMemory (take (resize.leaving (length fresh.rows) self.old) self.old.rows) (out_of_view above.old) }
         ensures memory { OnlyOutOfMemory result }
     {
         let size = fresh.size();

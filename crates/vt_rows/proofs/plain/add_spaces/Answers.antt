@@ -8,4 +8,9 @@ loop-left-preserved g c =
     let more : 16 ≤ c.loop-left.left = omega arith in
     let before = gathered (g.S.Sink.text c.loop-left.sink) c.loop-left.piece in
     let after = gathered (g.S.Sink.text c.add.new.sink) c.add.new.self in
-    sixteen before after c.loop-left.left more c.in_ok-add.ensures.text ∙ c.loop-left.invariant
+    let inv = c.loop-left.invariant in
+    record {
+      bytes = sixteen before after c.loop-left.left more c.in_ok-add.ensures.text ∙ inv.bytes;
+      grows = search (arith, inv.grows, c.in_ok-add.ensures.grows);
+      left = omega (arith, inv.left);
+    }

@@ -1,20 +1,26 @@
-use Rattle.std.proofs.Common.{◌≡◌, ◌++◌, replicate}
+use Rattle.std.proofs.Common.{◌≡◌, ◌≤◌, ◌++◌, length, replicate}
 use Rattle.vt_cells.specs.PieceKeeping.{gathered}
 use Rattle.vt_rows.proofs.plain.add_spaces.Given as goal
 
 -- what was written, and then the spaces that are left, is the whole text
 abbrev pub invariant-loop-left : goal.invariant-loop-left
-invariant-loop-left g l =
-    gathered (g.S.Sink.text l.sink) l.piece ++ replicate l.left 0x20
-    ≡ gathered (g.S.Sink.text l.fn.sink) l.fn.piece ++ replicate l.count 0x20
+invariant-loop-left g l = record {
+  bytes : gathered (g.S.Sink.text l.sink) l.piece ++ replicate l.left 0x20
+      ≡ gathered (g.S.Sink.text l.fn.sink) l.fn.piece ++ replicate l.count 0x20;
+  grows : length (g.S.Sink.text l.fn.sink) ≤ length (g.S.Sink.text l.sink);
+  left : l.left ≤ l.count;
+}
 
 abbrev pub decreases-loop-left : goal.decreases-loop-left
 decreases-loop-left g l = l.left
 
 abbrev pub invariant-loop-left-2 : goal.invariant-loop-left-2
-invariant-loop-left-2 g l =
-    gathered (g.S.Sink.text l.sink) l.piece ++ replicate l.left 0x20
-    ≡ gathered (g.S.Sink.text l.fn.sink) l.fn.piece ++ replicate l.count 0x20
+invariant-loop-left-2 g l = record {
+  bytes : gathered (g.S.Sink.text l.sink) l.piece ++ replicate l.left 0x20
+      ≡ gathered (g.S.Sink.text l.fn.sink) l.fn.piece ++ replicate l.count 0x20;
+  grows : length (g.S.Sink.text l.fn.sink) ≤ length (g.S.Sink.text l.sink);
+  left : l.left ≤ l.count;
+}
 
 abbrev pub decreases-loop-left-2 : goal.decreases-loop-left-2
 decreases-loop-left-2 g l = l.left

@@ -1,4 +1,4 @@
-use Rattle.std.proofs.Common.{◌≡◌, ◌≤◌, ◌+◌, ◌++◌, drop}
+use Rattle.std.proofs.Common.{◌≡◌, ◌≤◌, ◌+◌, ◌++◌, drop, length}
 use Rattle.vt_cells.specs.PieceKeeping.{gathered}
 use Rattle.vt_rows.specs.Keeping.{plain_behind}
 use Rattle.vt_rows.proofs.plain.write_behind.Given as goal
@@ -8,5 +8,6 @@ abbrev pub invariant-loop-cell : goal.invariant-loop-cell
 invariant-loop-cell g l = record {
   bytes : gathered (g.S.Sink.text l.sink) l.piece ++ plain_behind l.gap (drop l.cell-index l.cells)
       ≡ g.S.Sink.text l.fn.sink ++ plain_behind l.fn.gap l.cells;
+  grows : length (g.S.Sink.text l.fn.sink) ≤ length (g.S.Sink.text l.sink);
   gap : l.gap ≤ l.fn.gap + l.cell-index;
 }

@@ -1,0 +1,44 @@
+-- Four cells, one by one.
+use Rattle.std.proofs.Common.{◌≡◌, ℕ, List, length, slice_index_or, zero, suc, arith, ap, sym, ◌∙◌}
+use Rattle.std.proofs.Common.{inl, inr}
+use Rattle.std.proofs.Common.{◌+◌, ◌-◌, ◌<◌}
+use Rattle.std.specs.List.{slice_range}
+use Rattle.std.proofs.lemmas.Bool.{cases_lt}
+use Rattle.std.proofs.lemmas.List.{same_lists}
+use Rattle.std.proofs.lemmas.Grind.{common_steps}
+use Rattle.std.proofs.lemmas.Simd.{get_or-chunk}
+use Rattle.vt_cells.specs.Cell.{CellValue}
+
+-- both have the same cell there
+abbrev pub IsSameAt : (s t : List CellValue) → ℕ → Type 0
+IsSameAt s t k = (d : CellValue) → slice_index_or s k d ≡ slice_index_or t k d
+
+pub same_at : (s t : List CellValue) (k : ℕ) (a b : CellValue) → k < length s → k < length t
+    → a ≡ slice_index_or s k a → b ≡ slice_index_or t k b → a ≡ b → IsSameAt s t k
+same_at s t k a b own other is_a is_b same d = grind (arith, common_steps, is_a, is_b, same)
+
+pub four_cells : (s t : List CellValue) → length s ≡ 4 → length t ≡ 4
+    → IsSameAt s t 0 → IsSameAt s t 1 → IsSameAt s t 2 → IsSameAt s t 3 → s ≡ t
+four_cells s t one two first second third fourth = same_lists s t (one ∙ sym two) at
+  where
+    at : (k : ℕ) (d : CellValue) → k < length s → slice_index_or s k d ≡ slice_index_or t k d
+    at zero d lt = first d
+    at (suc zero) d lt = second d
+    at (suc (suc zero)) d lt = third d
+    at (suc (suc (suc zero))) d lt = fourth d
+    at (suc (suc (suc (suc k)))) d lt = absurd (omega (arith, one))
+
+-- as far as four more
+pub four_more : (s t : List CellValue) (i : ℕ) → slice_range s i (i + 4) ≡ slice_range t i (i + 4)
+    → ((k : ℕ) (d : CellValue) → k < i → slice_index_or s k d ≡ slice_index_or t k d)
+    → (k : ℕ) (d : CellValue) → k < i + 4 → slice_index_or s k d ≡ slice_index_or t k d
+four_more s t i same before k d lt =
+    elim (cases_lt k i) [
+      | inl low ↦ before k d low
+      | inr high ↦
+          let at : i + (k - i) ≡ k = omega arith in
+          let own = get_or-chunk i (i + 4 - i) s (k - i) d (omega arith) in
+          let other = get_or-chunk i (i + 4 - i) t (k - i) d (omega arith) in
+          ap (λ j. slice_index_or s j d) (sym at) ∙ sym own
+          ∙ ap (λ l. slice_index_or l (k - i) d) same ∙ other ∙ ap (λ j. slice_index_or t j d) at
+    ]

@@ -1,0 +1,119 @@
+-- Texts that a sink stopped at.
+use Rattle.std.proofs.Common.{◌≡◌, ℕ, ◌+◌, ◌<◌, ◌≤◌, List, [], ◌∷◌, ◌++◌, length, drop}
+use Rattle.std.proofs.Common.{refl, sym, subst, ap, ◌∙◌, arith, append_assoc, append-nil, length-append}
+use Rattle.std.specs.Result.{OnErr}
+use Rattle.std.specs.declared.result.Result.{Result}
+use Rattle.std.specs.declared.result.Result.TheVariants.{Ok, Err}
+use Rattle.vt_cells.specs.PieceKeeping.{gathered}
+use Rattle.vt_cells.specs.Sinks.{IsStopped}
+
+-- what holds anyway holds after an error
+pub on_err : {T E P : Type 0} (r : Result T E) → P → OnErr r P
+on_err (Ok x) p = tt
+on_err (Err e) p = p
+
+-- the first piece of a text was refused
+pub stopped_first : (refuses : List ℕ → List ℕ → List ℕ → Type 0) (before piece rest after : List ℕ)
+    → refuses before piece after → IsStopped refuses before (piece ++ rest) after
+stopped_first refuses before piece rest after refused = record {
+  taken = [];
+  piece = piece;
+  rest = rest;
+  parts = refl;
+  refused = subst (λ (xs : List ℕ). refuses xs piece after) (sym (append-nil before)) refused;
+}
+
+head_same : (x y : ℕ) (xs ys : List ℕ) → x ∷ xs ≡ y ∷ ys → x ≡ y
+head_same x y xs ys e = cc
+
+tail_same : (x y : ℕ) (xs ys : List ℕ) → x ∷ xs ≡ y ∷ ys → xs ≡ ys
+tail_same x y xs ys e = cc
+
+-- what was taken between two texts, the second of which goes on behind the first
+between : (old mid more whole : List ℕ) → mid ++ more ≡ old ++ whole → length old ≤ length mid
+    → (old ++ drop (length old) mid ≡ mid) × (drop (length old) mid ++ more ≡ whole)
+between [] mid more whole e le = (refl, e)
+between (x ∷ old) [] more whole e le = let none : ⊥ = omega (arith, le) in absurd none
+between (x ∷ old) (y ∷ mid) more whole e le =
+    let first = head_same y x (mid ++ more) (old ++ whole) e in
+    let part = between old mid more whole (tail_same y x (mid ++ more) (old ++ whole) e) (omega (arith, le)) in
+    (ap (λ (xs : List ℕ). x ∷ xs) part.0 ∙ ap (λ (z : ℕ). z ∷ mid) (sym first), part.1)
+
+-- what stopped at a part of a text stopped at the text
+pub stopped_in : (refuses : List ℕ → List ℕ → List ℕ → Type 0) (old mid text rest whole after : List ℕ)
+    → mid ++ (text ++ rest) ≡ old ++ whole → length old ≤ length mid
+    → IsStopped refuses mid text after → IsStopped refuses old whole after
+stopped_in refuses old mid text rest whole after e le stopped =
+    let part = between old mid (text ++ rest) whole e le in
+    let front = drop (length old) mid in
+    record {
+      taken = front ++ stopped.taken;
+      piece = stopped.piece;
+      rest = stopped.rest ++ rest;
+      parts =
+          sym part.1
+          ∙ ap (λ (xs : List ℕ). front ++ (xs ++ rest)) stopped.parts
+          ∙ ap (λ (xs : List ℕ). front ++ xs) (append_assoc stopped.taken (stopped.piece ++ stopped.rest) rest
+          ∙ ap (λ (xs : List ℕ). stopped.taken ++ xs) (append_assoc stopped.piece stopped.rest rest))
+          ∙ sym (append_assoc front stopped.taken (stopped.piece ++ (stopped.rest ++ rest)));
+      refused =
+          subst (λ (xs : List ℕ). refuses xs stopped.piece after)
+          (ap (λ (xs : List ℕ). xs ++ stopped.taken) (sym part.0) ∙ append_assoc old front stopped.taken)
+          stopped.refused;
+    }
+
+-- it stopped behind what was gathered, in the first of two texts
+pub stopped_before : (refuses : List ℕ → List ℕ → List ℕ → Type 0) (before piece text rest after : List ℕ)
+    → IsStopped refuses before (piece ++ text) after → IsStopped refuses before (piece ++ (text ++ rest)) after
+stopped_before refuses before piece text rest after stopped =
+    stopped_in refuses before before (piece ++ text) rest (piece ++ (text ++ rest)) after
+    (ap (λ (xs : List ℕ). before ++ xs) (append_assoc piece text rest)) (omega arith) stopped
+
+-- or in the second, after the first was gathered
+pub stopped_behind : (refuses : List ℕ → List ℕ → List ℕ → Type 0) (old mid was piece text more after : List ℕ)
+    → gathered mid piece ≡ gathered old was ++ text → length old ≤ length mid
+    → IsStopped refuses mid (piece ++ more) after → IsStopped refuses old (was ++ (text ++ more)) after
+unfolding gathered
+stopped_behind refuses old mid was piece text more after e le stopped =
+    stopped_in refuses old mid (piece ++ more) [] (was ++ (text ++ more)) after
+    (ap (λ (xs : List ℕ). mid ++ xs) (append-nil (piece ++ more))
+    ∙ sym (append_assoc mid piece more)
+    ∙ ap (λ (xs : List ℕ). xs ++ more) (e ∙ append_assoc old was text)
+    ∙ append_assoc old (was ++ text) more
+    ∙ ap (λ (xs : List ℕ). old ++ xs) (append_assoc was text more))
+    le stopped
+
+-- or among many texts, of which those before are gathered
+pub stopped_among : (refuses : List ℕ → List ℕ → List ℕ → Type 0) (old mid piece text rest whole after : List ℕ)
+    → gathered mid piece ++ (text ++ rest) ≡ old ++ whole → length old ≤ length mid
+    → IsStopped refuses mid (piece ++ text) after → IsStopped refuses old whole after
+unfolding gathered
+stopped_among refuses old mid piece text rest whole after e le stopped =
+    stopped_in refuses old mid (piece ++ text) rest whole after
+    (ap (λ (xs : List ℕ). mid ++ xs) (append_assoc piece text rest)
+    ∙ sym (append_assoc mid piece (text ++ rest)) ∙ e)
+    le stopped
+
+-- a text is not empty if a part of it isn't
+pub some_among : (old mid piece text rest whole : List ℕ)
+    → gathered mid piece ++ (text ++ rest) ≡ old ++ whole → length old ≤ length mid
+    → 0 < length piece + length text → 0 < length whole
+unfolding gathered
+some_among old mid piece text rest whole e le some =
+    let wrote = length-append (mid ++ piece) (text ++ rest) in
+    let first = length-append mid piece in
+    let more = length-append text rest in
+    let all = length-append old whole in
+    let same : length ((mid ++ piece) ++ (text ++ rest)) ≡ length (old ++ whole) = ap (λ (xs : List ℕ). length xs) e in
+    omega arith
+
+-- or at a text behind one that it took
+pub stopped_after : (refuses : List ℕ → List ℕ → List ℕ → Type 0) (old mid first text after : List ℕ)
+    → mid ≡ old ++ first → IsStopped refuses mid text after → IsStopped refuses old (first ++ text) after
+stopped_after refuses old mid first text after e stopped =
+    let long = length-append old first in
+    let same : length mid ≡ length (old ++ first) = ap (λ (xs : List ℕ). length xs) e in
+    stopped_in refuses old mid text [] (first ++ text) after
+    (ap (λ (xs : List ℕ). mid ++ xs) (append-nil text) ∙ ap (λ (xs : List ℕ). xs ++ text) e
+    ∙ append_assoc old first text)
+    (omega arith) stopped

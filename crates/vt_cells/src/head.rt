@@ -1,0 +1,110 @@
+//! What a cell is beside its text, in one word.
+
+ghost use Rattle.std.specs.Prelude.{◌≡◌, ◌<◌, false};
+ghost use Rattle.vt_cells.specs.Attrs.{default_attrs, same_attrs};
+ghost use Rattle.vt_cells.specs.CellKeeping.{blank_shape, half_shape, same_head, same_shape};
+
+use crate::attrs::Attrs;
+use crate::shape::Shape;
+use std::marker::Model;
+
+/// The shape of a cell in the seven lowest bits of a word, and its attributes
+/// in the others: two are the same exactly where their words are.
+#[derive(Clone, Copy, Debug)]
+pub struct Head {
+    word: u64,
+}
+
+impl Model for Head {
+    ghost use Rattle.vt_cells.specs.CellKeeping.{HeadValue, IsHead, head_back, head_of, head_word};
+
+    ghost Value = { HeadValue };
+
+    ghost view = { λ h. head_of h.word };
+
+    ghost invariant = { λ h. IsHead h.word };
+
+    ghost inverse = { λ v. record { word = head_word v } };
+
+    ghost inverse_ok = { λ h is. λ i. record { word = head_back h.word is i } };
+}
+
+impl Head {
+    /// That of a cell of this shape and in these attributes.
+    #[inline]
+    pub fn of(shape: Shape, attrs: Attrs) -> Self
+        ensures { result ≡ record { attrs = attrs; shape = shape } }
+    {
+        let low = shape.bits();
+        let high = attrs.word();
+        Head {
+            word: u64::from(low) + 128 * high,
+        }
+    }
+
+    /// That of a text of so many bytes; without a text it is that of a blank.
+    #[inline]
+    pub fn text(len: u8, wide: bool, attrs: Attrs) -> Self
+        requires { len < 32 }
+        ensures { result ≡ record {
+          attrs = attrs;
+          shape = record { len = len; wide = wide; right_half = false };
+        } }
+    {
+        Head::of(Shape::text(len, wide), attrs)
+    }
+
+    /// That of the right half of a wide glyph.
+    #[inline]
+    pub fn right_half() -> Self
+        ensures { result ≡ record { attrs = default_attrs; shape = half_shape } }
+    {
+        Head::of(Shape::right_half(), Attrs::new())
+    }
+
+    /// The shape.
+    #[inline]
+    pub fn shape(&self) -> Shape
+        ensures { result ≡ self.now.shape }
+    {
+        Shape::of_bits((self.word % 128) as u8)
+    }
+
+    /// The attributes.
+    #[inline]
+    pub fn attrs(&self) -> Attrs
+        ensures { result ≡ self.now.attrs }
+    {
+        Attrs::of_word(self.word / 128)
+    }
+
+    /// Whether the text has more than seven bytes.
+    #[inline]
+    #[tactic(auto, using(crate::proofs::Shapes::short_head))]
+    pub fn is_long(&self) -> bool
+        ensures { result ≡ false → self.now.shape.len < 8 }
+    {
+        self.word / 8 % 4 != 0
+    }
+
+    /// Bits that are all 0 only where both are the same, and the text has at most
+    /// seven bytes: the bits in which the words differ, and the two of the length
+    /// that are 0 below eight.
+    #[inline(always)]
+    #[tactic(auto, using(crate::proofs::Words::heads_even, crate::proofs::Words::short_even))]
+    pub fn odd_bits(&self, other: &Head) -> u64
+        ensures same { result ≡ 0 → self.now ≡ other.now }
+        ensures short { result ≡ 0 → self.now.shape.len < 8 }
+    {
+        (self.word ^ other.word) | self.word % 32 / 8 * 8
+    }
+
+    /// Whether both are the same.
+    #[inline]
+    #[tactic(auto, using(crate::proofs::Shapes::heads_same))]
+    pub fn is_same(&self, other: &Head) -> bool
+        ensures { result ≡ same_head self.now other.now }
+    {
+        self.word == other.word
+    }
+}

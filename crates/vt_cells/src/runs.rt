@@ -1,0 +1,37 @@
+//! Runs of cells.
+
+ghost use Rattle.std.specs.Prelude.{◌≡◌, ◌<◌, ◌≤◌, ℕ, IsTrue, length, slice_index_or};
+ghost use Rattle.vt_cells.specs.Cell.{CellValue};
+
+use crate::cell::Cell;
+
+/// How many cells of both rows are the same, from the first on, as far as
+/// groups of four are with texts of at most seven bytes. There may be more.
+pub fn same_run(own: &[Cell], others: &[Cell]) -> usize
+    ensures own { result ≤ length own.now }
+    ensures others { result ≤ length others.now }
+    ensures same { (k : ℕ) (d : CellValue) → k < result
+        → slice_index_or own.now k d ≡ slice_index_or others.now k d }
+{
+    let len = own.len().min(others.len());
+    let mut count = 0;
+    while len - count >= 4 && four_same(&own[count..count + 4], &others[count..count + 4]) {
+        count += 4;
+    }
+    count
+}
+
+/// Whether four cells are the same as four others, and have short texts. What
+/// differs is gathered in one word, so that the compiler can compare vectors.
+#[inline(always)]
+fn four_same(own: &[Cell], others: &[Cell]) -> bool
+    requires own { length own.now ≡ 4 }
+    requires others { length others.now ≡ 4 }
+    ensures { IsTrue result → own.now ≡ others.now }
+{
+    let odd = own[0].odd_bits(&others[0])
+        | own[1].odd_bits(&others[1])
+        | own[2].odd_bits(&others[2])
+        | own[3].odd_bits(&others[3]);
+    odd == 0
+}
