@@ -166,6 +166,17 @@ plain_feeds held b is none low high = λ s stands.
     (subst (λ (c : List ℕ). Follows held (one_event (given.Character b)) (step_in Ground c b)) (sym collected)
     (fresh_character held b b (one_event (given.Character b)) is none low high refl refl))
 
+-- and so does a control function of one byte
+pub control_feeds : (held : Held) (b : ℕ) → held.kind ≡ Ground → held.unfinished ≡ [] →
+    b < 0x20 → b ≢ 0x1B → Feeds held b held (one_event (given.Executed b))
+control_feeds held b is none low other = λ s stands.
+    let kind : s.kind ≡ Ground = sym stands.kind ∙ is in
+    let read : Reads held Ground s.collected = subst (λ (k : Kind). Reads held k s.collected) is stands.reads in
+    let collected : s.collected ≡ [] = sym read ∙ none in
+    subst (λ (k : Kind). Follows held (one_event (given.Executed b)) (step_in k s.collected b)) (sym kind)
+    (subst (λ (c : List ℕ). Follows held (one_event (given.Executed b)) (step_in Ground c b)) (sym collected)
+    (fresh_control held b (one_event (given.Executed b)) is none low other refl))
+
 -- what an ending of a sequence gives: nothing that its events are read from is cleared by what begins
 given_by : (old new : Held) (next : Kind) (end : ending.Ending) (text : List ℕ) (b : ℕ) → old.kind ≢ Ground
     → FitsEnding old.kind next end → Begins old new next → Reads old old.kind text

@@ -1,21 +1,31 @@
 -- Bytes that lead into a control sequence have no event.
 use Rattle.std.proofs.Common.{◌≡◌, ◌⊎◌, ℕ, ◌≤◌, true, not, List, [], ◌∷◌, ◌++◌, take}
-use Rattle.std.proofs.Common.{filter, inl, inr, refl, sym, subst, ◌∙◌, ap, arith}
+use Rattle.std.proofs.Common.{◌≢◌, ◌<◌, ◌==◌, false, length, filter, inl, inr, refl, sym, subst, ◌∙◌, ap, arith}
+use Rattle.std.specs.List.{AllByRecursion}
+use Rattle.std.proofs.lemmas.List.{append_assoc, append-nil}
+use Rattle.std.proofs.lemmas.List.Elements.{filter-append}
+use Rattle.std.proofs.Common.{◌||◌, nat_lt, get_or, zero, suc}
+use Rattle.std.proofs.Math.Logic.{⊎_elim}
+use Rattle.std.proofs.lemmas.Bool.{cases_lt}
 use Rattle.std.proofs.lemmas.Bool.Decides.{nat_tests}
+use Rattle.vt_scan.specs.declared.table.Class.{Class}
 use Rattle.vt_scan.specs.Automaton as automaton
 use Rattle.vt_scan.specs.Automaton.{State, Step, is_parameter, after, step_in}
-use Rattle.vt_scan.specs.Keeping.{Begins}
+use Rattle.vt_scan.specs.Keeping.{Begins, Fits, IsUnended}
 use Rattle.vt_scan.specs.Parameters.{table_of}
 use Rattle.vt_scan.specs.Run.{run}
-use Rattle.vt_scan.specs.Scanner.{Feeds, FeedsAll, Held, Reads, ReadsSequence, Follows}
+use Rattle.vt_scan.specs.Scanner.{Feeds, FeedsAll, Held, Reads, ReadsSequence, Follows, StandsFor, is_final}
+use Rattle.vt_scan.specs.Texts.{IsParameterText}
 use Rattle.vt_scan.specs.Table.{class_of, turn_of}
 use Rattle.vt_scan.specs.declared.table.Kind.{Kind}
-use Rattle.vt_scan.specs.declared.table.Kind.TheVariants.{Ground, Escape, CsiEntry, CsiParam}
-use Rattle.vt_scan.proofs.Collecting.{filter-yes, filter-no}
-use Rattle.vt_scan.proofs.Feeding.{no_event, fresh_escape}
-use Rattle.vt_scan.proofs.Running.{run-append}
-use Rattle.vt_scan.proofs.Sequences.{class_of-parameter}
-use Rattle.vt_scan.proofs.Stepping.{gives}
+use Rattle.vt_scan.specs.declared.table.Kind.TheVariants.{Ground, Escape, CsiEntry, CsiParam, OscString, Skip}
+use Rattle.vt_scan.specs.declared.event.Event.TheVariants as event
+use Rattle.vt_scan.specs.declared.table.Turn.TheVariants.{Collect, End}
+use Rattle.vt_scan.specs.declared.table.Ending.TheVariants.{CsiDispatch}
+use Rattle.vt_scan.proofs.Feeding.{fed_end, no_event, one_event, fresh_escape}
+use Rattle.vt_scan.proofs.Readback.{run-known}
+use Rattle.vt_scan.proofs.Sequences.{class_of-final, class_of-parameter, no_marks, parameters_only, step_parameter}
+use Rattle.vt_scan.proofs.Stepping.{gives, either, class_of-control, class_of-text}
 
 pub escape_feeds : (old new : Held) (b : ℕ) → old.kind ≡ Ground →
     old.unfinished ≡ [] → b ≡ 0x1B → Begins old new Escape → Feeds old b new no_event
@@ -42,51 +52,207 @@ bracket_feeds old new b is same begun = λ s stands.
     (subst (λ (x : ℕ). Follows new no_event (step_in Escape s.collected x)) (sym same)
     (bracket new s.collected begun.kind begun.reads))
 
--- one more byte of the parameter text
-parameter : (old new : Held) (text : List ℕ) (b : ℕ) → is_parameter b ≡ true
-    → ReadsSequence old text → new.kind ≡ CsiParam → new.marks ≡ old.marks
-    → ((all : List ℕ) → old.table ≡ table_of all → new.table ≡ table_of (all ++ b ∷ []))
-    → Follows new no_event (gives CsiParam (text ++ b ∷ []) [])
-parameter old new text b is reads kind same pushed =
-    let more : ReadsSequence new (text ++ b ∷ []) = record {
-      table = pushed (filter is_parameter text) reads.table ∙ ap table_of (sym (filter-yes is_parameter text b is));
-      marks = same ∙ reads.marks ∙ ap (take 2) (sym (filter-no (λ x. not (is_parameter x)) text b (ap not is)));
-    } in
-    record {
-      stands = record { kind = kind; reads = subst (λ (k : Kind). Reads new k (text ++ b ∷ [])) (sym kind) more };
-      means = refl;
-    }
+-- ---- the parameter text
 
-pub parameter_feeds : (old new : Held) (b : ℕ) → (old.kind ≡ CsiEntry) ⊎ (old.kind ≡ CsiParam)
-    → is_parameter b ≡ true → new.kind ≡ CsiParam → new.marks ≡ old.marks
-    → ((all : List ℕ) → old.table ≡ table_of all → new.table ≡ table_of (all ++ b ∷ [])) → Feeds old b new no_event
-parameter_feeds old new b (inl is) byte kind same pushed = λ s stands.
-    let low : 0x30 ≤ b = grind (arith, nat_tests) in
-    let high : b ≤ 0x3B = grind (arith, nat_tests) in
-    let reads : ReadsSequence old s.collected = subst (λ (k : Kind). Reads old k s.collected) is stands.reads in
-    subst (λ (k : Kind). Follows new no_event (step_in k s.collected b)) (sym (sym stands.kind ∙ is))
-    (class_of-parameter (λ c. Follows new no_event (after CsiEntry s.collected b (turn_of CsiEntry c)))
-    b low high (parameter old new s.collected b byte reads kind same pushed))
-parameter_feeds old new b (inr is) byte kind same pushed = λ s stands.
-    let low : 0x30 ≤ b = grind (arith, nat_tests) in
-    let high : b ≤ 0x3B = grind (arith, nat_tests) in
-    let reads : ReadsSequence old s.collected = subst (λ (k : Kind). Reads old k s.collected) is stands.reads in
-    subst (λ (k : Kind). Follows new no_event (step_in k s.collected b)) (sym (sym stands.kind ∙ is))
-    (class_of-parameter (λ c. Follows new no_event (after CsiParam s.collected b (turn_of CsiParam c)))
-    b low high (parameter old new s.collected b byte reads kind same pushed))
+step_entry : (text : List ℕ) (b : ℕ) → 0x30 ≤ b → b ≤ 0x3B →
+    step_in CsiEntry text b ≡ gives CsiParam (text ++ b ∷ []) []
+step_entry text b low high =
+    class_of-parameter
+    (λ k. after CsiEntry text b (turn_of CsiEntry k) ≡ gives CsiParam (text ++ b ∷ []) []) b low high refl
+
+run_parameters : (before text : List ℕ) → IsParameterText text →
+    run (record { kind = CsiParam; collected = before }) text ≡ gives CsiParam (before ++ text) []
+run_parameters before [] is = ap (λ t. gives CsiParam t []) (sym (append-nil before))
+run_parameters before (b ∷ text) is =
+    run-known (record { kind = CsiParam; collected = before }) b text
+    (gives CsiParam (before ++ b ∷ []) []) (step_parameter before b is.0 is.1)
+    ∙ run_parameters (before ++ b ∷ []) text is.2
+    ∙ ap (λ t. gives CsiParam t []) (append_assoc before (b ∷ []) text)
+
+abbrev pub InParameters : Kind → Type 0
+InParameters kind = (kind ≡ CsiEntry) ⊎ (kind ≡ CsiParam)
+
+run_from : (kind : Kind) (before : List ℕ) (b : ℕ) (text : List ℕ) → InParameters kind →
+    IsParameterText (b ∷ text) →
+    run (record { kind = kind; collected = before }) (b ∷ text) ≡ gives CsiParam (before ++ b ∷ text) []
+run_from kind before b text (inl is) byte =
+    subst (λ (k : Kind). run (record { kind = k; collected = before }) (b ∷ text)
+    ≡ gives CsiParam (before ++ b ∷ text) []) (sym is)
+    (run-known (record { kind = CsiEntry; collected = before }) b text
+    (gives CsiParam (before ++ b ∷ []) []) (step_entry before b byte.0 byte.1)
+    ∙ run_parameters (before ++ b ∷ []) text byte.2
+    ∙ ap (λ t. gives CsiParam t []) (append_assoc before (b ∷ []) text))
+run_from kind before b text (inr is) byte =
+    subst (λ (k : Kind). run (record { kind = k; collected = before }) (b ∷ text)
+    ≡ gives CsiParam (before ++ b ∷ text) []) (sym is) (run_parameters before (b ∷ text) byte)
+
+sequence_read : (held : Held) (kind : Kind) (text : List ℕ) → InParameters kind →
+    Reads held kind text → ReadsSequence held text
+sequence_read held kind text (inl is) reads = subst (λ (k : Kind). Reads held k text) is reads
+sequence_read held kind text (inr is) reads = subst (λ (k : Kind). Reads held k text) is reads
+
+reads_sequence : (held : Held) (kind : Kind) (text : List ℕ) → InParameters kind →
+    ReadsSequence held text → Reads held kind text
+reads_sequence held kind text (inl is) reads = subst (λ (k : Kind). Reads held k text) (sym is) reads
+reads_sequence held kind text (inr is) reads = subst (λ (k : Kind). Reads held k text) (sym is) reads
+
+sequence_more : (old new : Held) (before text : List ℕ) → IsParameterText text → ReadsSequence old before →
+    new.marks ≡ old.marks →
+    ((all : List ℕ) → old.table ≡ table_of all → new.table ≡ table_of (all ++ text)) →
+    ReadsSequence new (before ++ text)
+sequence_more old new before text is reads same pushed = record {
+  table = pushed (filter is_parameter before) reads.table
+      ∙ ap table_of (sym (filter-append is_parameter before text
+      ∙ ap (λ t. filter is_parameter before ++ t) (parameters_only text is)));
+  marks = same ∙ reads.marks
+      ∙ ap (take 2) (sym (filter-append (λ x. not (is_parameter x)) before text
+      ∙ ap (λ t. filter (λ x. not (is_parameter x)) before ++ t) (no_marks text is)
+      ∙ append-nil (filter (λ x. not (is_parameter x)) before)));
+}
+
+pub parameters_feed : (old new : Held) (text : List ℕ) → InParameters old.kind → IsParameterText text →
+    0 < length text → new.kind ≡ CsiParam → new.marks ≡ old.marks →
+    ((all : List ℕ) → old.table ≡ table_of all → new.table ≡ table_of (all ++ text)) → FeedsAll old text new []
+parameters_feed old new [] within is some kind same pushed = absurd (omega (arith, some))
+parameters_feed old new (b ∷ text) within is some kind same pushed = λ s stands.
+    let there : InParameters s.kind = subst (λ (k : Kind). InParameters k) stands.kind within in
+    let reads = sequence_read old old.kind s.collected within stands.reads in
+    subst (λ (step : Step). StandsFor new step.state × (step.events ≡ []))
+    (sym (run_from s.kind s.collected b text there is)) (
+      record {
+        kind = kind;
+        reads = reads_sequence new new.kind (s.collected ++ b ∷ text) (inr kind)
+            (sequence_more old new s.collected (b ∷ text) is reads same pushed);
+      },
+      refl,
+    )
+
+pub parameters_none : (old new : Held) → InParameters old.kind → new.kind ≡ old.kind → new.marks ≡ old.marks →
+    ((all : List ℕ) → old.table ≡ table_of all → new.table ≡ table_of (all ++ [])) → FeedsAll old [] new []
+parameters_none old new within kind same pushed = λ s stands.
+    let reads = sequence_read old old.kind s.collected within stands.reads in
+    let more : ReadsSequence new s.collected =
+    subst (λ (text : List ℕ). ReadsSequence new text) (append-nil s.collected)
+    (sequence_more old new s.collected [] tt reads same pushed) in (
+      record {
+        kind = kind ∙ stands.kind;
+        reads = reads_sequence new new.kind s.collected
+            (subst (λ (k : Kind). InParameters k) (sym kind) within) more;
+      },
+      refl,
+    )
+
+-- ---- the final byte
+
+final_turn : (kind : Kind) (b : ℕ) → InParameters kind → is_final b ≡ true →
+    turn_of kind (class_of b) ≡ End Ground CsiDispatch
+final_turn kind b (inl is) final =
+    let low : 0x40 ≤ b = grind (arith, nat_tests) in
+    let high : b ≤ 0x7E = grind (arith, nat_tests) in
+    subst (λ (k : Kind). turn_of k (class_of b) ≡ End Ground CsiDispatch) (sym is)
+    (class_of-final (λ c. turn_of CsiEntry c ≡ End Ground CsiDispatch) b low high refl refl refl refl)
+final_turn kind b (inr is) final =
+    let low : 0x40 ≤ b = grind (arith, nat_tests) in
+    let high : b ≤ 0x7E = grind (arith, nat_tests) in
+    subst (λ (k : Kind). turn_of k (class_of b) ≡ End Ground CsiDispatch) (sym is)
+    (class_of-final (λ c. turn_of CsiParam c ≡ End Ground CsiDispatch) b low high refl refl refl refl)
+
+final_fits : (kind : Kind) → InParameters kind → (kind ≢ Ground) × Fits kind (End Ground CsiDispatch)
+final_fits kind (inl is) =
+    subst (λ (k : Kind). (k ≢ Ground) × Fits k (End Ground CsiDispatch)) (sym is) ((λ e. cc), (tt, refl))
+final_fits kind (inr is) =
+    subst (λ (k : Kind). (k ≢ Ground) × Fits k (End Ground CsiDispatch)) (sym is) ((λ e. cc), (tt, refl))
+
+pub final_feeds : (old new : Held) (b : ℕ) → InParameters old.kind → is_final b ≡ true → Begins old new Ground →
+    Feeds old b new (one_event (event.Csi b))
+final_feeds old new b within final begun =
+    let fits = final_fits old.kind within in
+    fed_end old new Ground CsiDispatch b (one_event (event.Csi b)) fits.0
+    (final_turn old.kind b within final) fits.1 begun refl
+
+-- ---- strings that are passed over
+
+skip_step : (text : List ℕ) (b : ℕ) → IsUnended b → step_in Skip text b ≡ gives Skip text []
+skip_step text b (can, sub, esc) =
+    let P : Class → Type 0 = λ k. after Skip text b (turn_of Skip k) ≡ gives Skip text [] in
+    let t0 : (b == 0x18 || b == 0x1A) ≡ false = grind (arith, nat_tests) in
+    ⊎_elim
+    (λ low. class_of-control P b low esc
+    (either P (b == 0x07) _ _ refl (rw t0 refl)))
+    (λ text. class_of-text P b text
+    (either P (nat_lt b 0x30) _ _ refl
+    (either P (nat_lt b 0x3C) _ _ refl (either P (nat_lt b 0x40) _ _ refl (either P (nat_lt b 0x7F) _ _
+    (either P (b == 0x5B) _ _ refl
+    (either P (b == 0x5D) _ _ refl (either P (b == 0x50 || (b == 0x58 || (b == 0x5E || b == 0x5F))) _ _ refl refl)))
+    (either P (b == 0x7F) _ _ refl refl))))))
+    (cases_lt b 0x20)
+
+run_skip : (text bytes : List ℕ) → AllByRecursion IsUnended bytes →
+    run (record { kind = Skip; collected = text }) bytes ≡ gives Skip text []
+run_skip text [] all = refl
+run_skip text (b ∷ bytes) all =
+    run-known (record { kind = Skip; collected = text }) b bytes (gives Skip text []) (skip_step text b all.0)
+    ∙ run_skip text bytes all.1
+
+pub skip_feeds : (held : Held) (bytes : List ℕ) → held.kind ≡ Skip → AllByRecursion IsUnended bytes →
+    FeedsAll held bytes held []
+skip_feeds held bytes is all = λ s stands.
+    let kind : s.kind ≡ Skip = sym stands.kind ∙ is in
+    let known : run s bytes ≡ gives s.kind s.collected [] =
+    subst (λ (k : Kind). run (record { kind = k; collected = s.collected }) bytes ≡ gives k s.collected [])
+    (sym kind) (run_skip s.collected bytes all) in
+    subst (λ (step : Step). StandsFor held step.state × (step.events ≡ [])) (sym known) (stands, refl)
+
+-- ---- the text of a command
+
+text_turn : (b : ℕ) → 0x20 ≤ b → turn_of OscString (class_of b) ≡ Collect OscString
+text_turn b low =
+    let P : Class → Type 0 = λ k. turn_of OscString k ≡ Collect OscString in
+    class_of-text P b low
+    (either P (nat_lt b 0x30) _ _ refl
+    (either P (nat_lt b 0x3C) _ _ refl (either P (nat_lt b 0x40) _ _ refl (either P (nat_lt b 0x7F) _ _
+    (either P (b == 0x5B) _ _ refl
+    (either P (b == 0x5D) _ _ refl (either P (b == 0x50 || (b == 0x58 || (b == 0x5E || b == 0x5F))) _ _ refl refl)))
+    (either P (b == 0x7F) _ _ refl refl)))))
+
+run_text : (text bytes : List ℕ) → AllByRecursion (λ b. 0x20 ≤ b) bytes →
+    run (record { kind = OscString; collected = text }) bytes ≡ gives OscString (text ++ bytes) []
+run_text text [] all = ap (λ t. gives OscString t []) (sym (append-nil text))
+run_text text (b ∷ bytes) all =
+    run-known (record { kind = OscString; collected = text }) b bytes (gives OscString (text ++ b ∷ []) [])
+    (ap (after OscString text b) (text_turn b all.0))
+    ∙ run_text (text ++ b ∷ []) bytes all.1
+    ∙ ap (λ t. gives OscString t []) (append_assoc text (b ∷ []) bytes)
+
+pub command_feeds : (old new : Held) (bytes : List ℕ) → old.kind ≡ OscString → new.kind ≡ OscString →
+    new.text ≡ old.text ++ bytes → AllByRecursion (λ b. 0x20 ≤ b) bytes → FeedsAll old bytes new []
+command_feeds old new bytes was is more all = λ s stands.
+    let kind : s.kind ≡ OscString = sym stands.kind ∙ was in
+    let read : old.text ≡ s.collected = subst (λ (k : Kind). Reads old k s.collected) was stands.reads in
+    let known : run s bytes ≡ gives OscString (s.collected ++ bytes) [] =
+    subst (λ (k : Kind). run (record { kind = k; collected = s.collected }) bytes
+    ≡ gives OscString (s.collected ++ bytes) []) (sym kind) (run_text s.collected bytes all) in
+    let reads : new.text ≡ s.collected ++ bytes = more ∙ ap (λ t. t ++ bytes) read in
+    subst (λ (step : Step). StandsFor new step.state × (step.events ≡ [])) (sym known)
+    (record { kind = is; reads = subst (λ (k : Kind). Reads new k (s.collected ++ bytes)) (sym is) reads }, refl)
+
+pub command_turn : (kind : Kind) (bytes : List ℕ) (n : ℕ) → kind ≡ OscString → 0 < n → n ≤ length bytes →
+    AllByRecursion (λ b. 0x20 ≤ b) (take n bytes) →
+    (0 < length bytes) × (turn_of kind (class_of (get_or bytes 0 0)) ≡ Collect OscString)
+command_turn kind [] n is some inside all = absurd (omega (arith, some, inside))
+command_turn kind (b ∷ bytes) zero is some inside all = absurd (omega (arith, some))
+command_turn kind (b ∷ bytes) (suc n) is some inside all =
+    (omega arith, ap (λ (k : Kind). turn_of k (class_of b)) is ∙ text_turn b all.0)
 
 -- ---- bytes one after the other
 
 pub feeds_none : (held : Held) → FeedsAll held [] held []
 feeds_none held = λ s stands. (stands, refl)
 
-pub feeds_on : (old middle new : Held) (bytes : List ℕ) (b : ℕ) → FeedsAll old bytes middle [] →
-    Feeds middle b new no_event → FeedsAll old (bytes ++ b ∷ []) new []
-feeds_on old middle new bytes b first second = λ s stands.
-    let before = first s stands in
-    let there = run s bytes in
-    let step = step_in there.state.kind there.state.collected b in
-    let follows = second there.state before.0 in
-    let events : step.events ++ [] ≡ [] = ap (λ (l : List automaton.Event). l ++ []) (sym follows.means) in
-    rw (run-append s bytes (b ∷ []))
-    (follows.stands, ap (λ (l : List automaton.Event). l ++ (step.events ++ [])) before.1 ∙ events)
+pub feeds_first : (old middle new : Held) (b : ℕ) (bytes : List ℕ) → Feeds old b middle no_event →
+    FeedsAll middle bytes new [] → FeedsAll old (b ∷ bytes) new []
+feeds_first old middle new b bytes first second = λ s stands.
+    let follows = first s stands in
+    let step = step_in s.kind s.collected b in
+    let rest = second step.state follows.stands in
+    (rest.0, ap (λ (l : List automaton.Event). l ++ (run step.state bytes).events) (sym follows.means) ∙ rest.1)

@@ -17,3 +17,4 @@ pub mod Whole
 pub mod Written
 pub mod Scalars
 pub mod Selectors
+pub mod Lanes

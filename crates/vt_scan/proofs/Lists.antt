@@ -1,4 +1,7 @@
 -- Lists that change at their last element, and texts that are split and grow at their end.
+use Rattle.std.proofs.Common.{ℕ, suc, ◌+◌, ◌-◌, ◌≤◌, drop, get_or, take}
+use Rattle.std.proofs.Math.Seq.{take-add}
+use Rattle.std.proofs.lemmas.List.{append_assoc, length-drop, take_all, take_more}
 use Rattle.std.proofs.Common.{◌≡◌, ◌<◌, Bool, true, false, cond, List, [], ◌∷◌}
 use Rattle.std.proofs.Common.{◌++◌, map, length, refl, sym, ◌∙◌, ap, arith}
 use Rattle.std.specs.List.{slice_split, onto_first}
@@ -79,3 +82,21 @@ slice_split-push_cut {A = A} p (x ∷ xs) c h = by (p x) (slice_split-push_cut p
         ≡ cond t ([] ∷ slice_split p xs) (onto_first x (slice_split p xs)) ++ [] ∷ []
     by true e = ap (λ l. [] ∷ l) e
     by false e = ap (onto_first x) e ∙ onto_first-append x (slice_split p xs) ([] ∷ []) (slice_split-some p xs)
+
+-- a slice up to the end is what is left
+pub all_left : (bytes : List ℕ) (k : ℕ) → take (length bytes - k) (drop k bytes) ≡ drop k bytes
+all_left bytes k = take_all (length bytes - k) (drop k bytes) (omega (arith, length-drop k bytes))
+
+-- some bytes, the next one, and some behind it
+pub take_past : (bytes : List ℕ) (k n : ℕ) → k < length bytes →
+    take (k + (1 + n)) bytes ≡ take k bytes ++ get_or bytes k 0 ∷ take n (drop (k + 1) bytes)
+take_past bytes k n h =
+    let at : k + (1 + n) ≡ (k + 1) + n = omega arith in
+    ap (λ m. take m bytes) at ∙ take-add (k + 1) n bytes
+    ∙ ap (λ l. l ++ take n (drop (k + 1) bytes)) (take_more bytes k 0 h)
+    ∙ append_assoc (take k bytes) (get_or bytes k 0 ∷ []) (take n (drop (k + 1) bytes))
+
+pub take_next : (bytes : List ℕ) (n : ℕ) → 0 < length bytes →
+    take (1 + n) bytes ≡ get_or bytes 0 0 ∷ take n (drop 1 bytes)
+take_next [] n h = absurd (omega (arith, h))
+take_next (b ∷ bytes) n h = let at : 1 + n ≡ suc n = omega arith in rw at refl

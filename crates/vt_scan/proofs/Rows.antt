@@ -1,9 +1,10 @@
 -- The first numbers of groups that grow at their end, and groups in an array with the places of their ends.
-use Rattle.std.proofs.Common.{◌≡◌, ℕ, zero, suc, ◌+◌, ◌-◌, ◌<◌, ◌≤◌, ◌==◌, false, List, [], ◌∷◌, ◌++◌, length, get_or}
+use Rattle.std.proofs.Common.{◌≡◌, ℕ, zero, suc, ◌+◌, ◌-◌, ◌<◌, ◌≤◌, ◌==◌, true, false, nat_lt, cond, List, [], ◌∷◌, ◌++◌, length, get_or}
 use Rattle.std.proofs.Common.{set, take, drop, refl, sym, subst, ◌∙◌, ap, ◌⊎◌, inl, inr, arith, length-append}
 use Rattle.std.proofs.Math.Logic.{⊎_elim}
 use Rattle.std.proofs.lemmas.List.{take-append-le, take_all, take-set-le, drop-set-add, take_more, take_more_set}
 use Rattle.std.proofs.lemmas.List.{get_or-drop, get_or-take, drop_more, drop_all, length-drop, length-take}
+use Rattle.std.proofs.lemmas.Bool.{cases_lt}
 use Rattle.std.proofs.lemmas.Bool.Decides.{nat_tests}
 use Rattle.vt_scan.specs.Parameters.{total, first_numbers}
 use Rattle.vt_scan.specs.Keeping.{groups_from, Ascends}
@@ -268,3 +269,97 @@ pub last_group : (start : ℕ) (ends : List ℕ) (closed len : ℕ) (numbers : L
 last_group start ends closed len numbers =
     ap (λ l. groups_from start l len numbers)
     (drop_all closed (take closed ends) (omega (arith, length-take closed ends)))
+
+-- ---- one group, by its number
+
+-- where group i ends
+abbrev pub end_at : List ℕ → ℕ → ℕ → ℕ
+end_at [] len i = len
+end_at (to ∷ ends) len zero = to
+end_at (to ∷ ends) len (suc i) = end_at ends len i
+
+group_at : (from : ℕ) (ends : List ℕ) (len : ℕ) (numbers : List ℕ) (i : ℕ) → i ≤ length ends →
+    get_or (groups_from from ends len numbers) i []
+    ≡ take (end_at ends len i - get_or (from ∷ ends) i 0) (drop (get_or (from ∷ ends) i 0) numbers)
+group_at from [] len numbers zero h = refl
+group_at from [] len numbers (suc i) h = absurd (omega (arith, h))
+group_at from (to ∷ ends) len numbers zero h = refl
+group_at from (to ∷ ends) len numbers (suc i) h = group_at to ends len numbers i (omega (arith, h))
+
+places_rise : (from : ℕ) (ends : List ℕ) (len i : ℕ) → Ascends from ends len → i ≤ length ends →
+    (get_or (from ∷ ends) i 0 < end_at ends len i) × (end_at ends len i ≤ len)
+places_rise from [] len zero a h = (a, omega arith)
+places_rise from [] len (suc i) a h = absurd (omega (arith, h))
+places_rise from (to ∷ ends) len zero a h = (a.0, omega (arith, Ascends-below to ends len a.1))
+places_rise from (to ∷ ends) len (suc i) a h = places_rise to ends len i a.1 (omega (arith, h))
+
+end_inside : (ends : List ℕ) (len i : ℕ) → i < length ends → end_at ends len i ≡ get_or ends i 0
+end_inside [] len i h = absurd (omega (arith, h))
+end_inside (to ∷ ends) len zero h = refl
+end_inside (to ∷ ends) len (suc i) h = end_inside ends len i (omega (arith, h))
+
+end_last : (ends : List ℕ) (len i : ℕ) → length ends ≤ i → end_at ends len i ≡ len
+end_last [] len i h = refl
+end_last (to ∷ ends) len zero h = absurd (omega (arith, h))
+end_last (to ∷ ends) len (suc i) h = end_last ends len i (omega (arith, h))
+
+start_is : (ends : List ℕ) (closed i : ℕ) → i ≤ closed → get_or (0 ∷ ends) i 0 ≡ get_or (0 ∷ take closed ends) i 0
+start_is ends closed zero h = refl
+start_is ends closed (suc i) h = sym (get_or-take closed ends i 0 (omega (arith, h)))
+
+end_is : (ends : List ℕ) (closed len i : ℕ) → closed ≤ length ends → i ≤ closed →
+    cond (nat_lt i closed) (get_or ends i 0) len ≡ end_at (take closed ends) len i
+end_is ends closed len i fits h =
+    let size : length (take closed ends) ≡ closed = omega (arith, length-take closed ends) in
+    ⊎_elim
+    (λ (inside : i < closed).
+    let test : nat_lt i closed ≡ true = grind (arith, nat_tests) in
+    rw test (sym (get_or-take closed ends i 0 inside)
+    ∙ sym (end_inside (take closed ends) len i (omega (arith, size, inside)))))
+    (λ (last : closed ≤ i).
+    let test : nat_lt i closed ≡ false = grind (arith, nat_tests) in
+    rw test (sym (end_last (take closed ends) len i (omega (arith, size, last)))))
+    (cases_lt i closed)
+
+-- a group is the numbers between its places, and has one
+pub record Lies (start end len : ℕ) (numbers group : List ℕ) : Type 0 where
+  pub rises : start < end
+  pub inside : end ≤ len
+  pub part : take (end - start) (drop start numbers) ≡ group
+  pub first : get_or numbers start 0 ≡ get_or group 0 0
+
+lies : (start end len : ℕ) (numbers group : List ℕ) → start < end → end ≤ len →
+    group ≡ take (end - start) (drop start numbers) → Lies start end len numbers group
+lies start end len numbers group rises inside part =
+    let at : start ≡ start + 0 = omega arith in record {
+      rises = rises;
+      inside = inside;
+      part = sym part;
+      first =
+          ap (λ k. get_or numbers k 0) at ∙ sym (get_or-drop start numbers 0 0)
+          ∙ sym (get_or-take (end - start) (drop start numbers) 0 0 (omega (arith, rises)))
+          ∙ ap (λ g. get_or g 0 0) (sym part);
+    }
+
+pub group_lies : (ends : List ℕ) (closed len : ℕ) (numbers : List ℕ) (i : ℕ) → closed ≤ length ends →
+    Ascends 0 (take closed ends) len → i ≤ closed →
+    Lies (get_or (0 ∷ ends) i 0) (cond (nat_lt i closed) (get_or ends i 0) len) len numbers
+    (get_or (groups_from 0 (take closed ends) len numbers) i [])
+group_lies ends closed len numbers i fits rises h =
+    let size : length (take closed ends) ≡ closed = omega (arith, length-take closed ends) in
+    let few : i ≤ length (take closed ends) = omega (arith, size, h) in
+    let places = places_rise 0 (take closed ends) len i rises few in
+    rw (start_is ends closed i h, end_is ends closed len i fits h)
+    (lies (get_or (0 ∷ take closed ends) i 0) (end_at (take closed ends) len i) len numbers
+    (get_or (groups_from 0 (take closed ends) len numbers) i []) places.0 places.1
+    (group_at 0 (take closed ends) len numbers i few))
+
+pub group_none : (groups : List (List ℕ)) (i : ℕ) → length groups ≤ i → get_or groups i [] ≡ []
+group_none [] i h = refl
+group_none (group ∷ groups) zero h = absurd (omega (arith, h))
+group_none (group ∷ groups) (suc i) h = group_none groups i (omega (arith, h))
+
+pub groups_count : (ends : List ℕ) (closed len : ℕ) (numbers : List ℕ) → closed ≤ length ends →
+    length (groups_from 0 (take closed ends) len numbers) ≡ closed + 1
+groups_count ends closed len numbers fits =
+    omega (arith, length-groups_from 0 (take closed ends) len numbers, length-take closed ends)

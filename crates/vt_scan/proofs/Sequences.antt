@@ -20,7 +20,7 @@ class_of-parameter P b low high p =
     let t1 : nat_lt b 0x3C ≡ true = grind (arith, nat_tests) in
     class_of-text P b (omega arith) (rw (t0, t1) p)
 
-class_of-final : (P : Class → Type 0) (b : ℕ) → 0x40 ≤ b → b ≤ 0x7E → P class.CsiStart →
+pub class_of-final : (P : Class → Type 0) (b : ℕ) → 0x40 ≤ b → b ≤ 0x7E → P class.CsiStart →
     P class.OscStart → P class.SkipStart → P class.Final → P (class_of b)
 class_of-final P b low high p q r s =
     let t0 : nat_lt b 0x30 ≡ false = grind (arith, nat_tests) in
@@ -35,7 +35,7 @@ class_of-final P b low high p q r s =
 abbrev pub sequence : List ℕ → ℕ → List Event
 sequence text final = CsiDispatch (table_of (parameter_text text)).groups (marks_of text) final ∷ []
 
-step_parameter : (text : List ℕ) (b : ℕ) → 0x30 ≤ b → b ≤ 0x3B →
+pub step_parameter : (text : List ℕ) (b : ℕ) → 0x30 ≤ b → b ≤ 0x3B →
     step_in CsiParam text b ≡ gives CsiParam (text ++ b ∷ []) []
 step_parameter text b low high =
     class_of-parameter
@@ -69,13 +69,13 @@ read_rest before (b ∷ text) final is low high =
     ∙ read_rest (before ++ b ∷ []) text final is.2 low high
     ∙ ap (λ t. back_with (sequence t final)) (append_assoc before (b ∷ []) text)
 
-parameters_only : (text : List ℕ) → IsParameterText text → parameter_text text ≡ text
+pub parameters_only : (text : List ℕ) → IsParameterText text → parameter_text text ≡ text
 parameters_only [] is = refl
 parameters_only (b ∷ text) is =
     let test : is_parameter b ≡ true = grind (arith, nat_tests) in
     ap (λ t. cond t (b ∷ parameter_text text) (parameter_text text)) test ∙ ap (λ l. b ∷ l) (parameters_only text is.2)
 
-no_marks : (text : List ℕ) → IsParameterText text → filter (λ b. not (is_parameter b)) text ≡ []
+pub no_marks : (text : List ℕ) → IsParameterText text → filter (λ b. not (is_parameter b)) text ≡ []
 no_marks [] is = refl
 no_marks (b ∷ text) is =
     let test : not (is_parameter b) ≡ false = grind (arith, nat_tests) in

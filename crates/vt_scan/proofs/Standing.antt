@@ -2,7 +2,9 @@
 use Rattle.std.proofs.Common.{◌≡◌, ℕ, List, [], ◌∷◌, ◌++◌, refl, sym, subst}
 use Rattle.std.proofs.Math.Logic.{∥∥₁_map}
 use Rattle.vt_scan.specs.Automaton.{State, step_in}
-use Rattle.vt_scan.specs.Scanner.{Feeds, Held, Reads, StandsFor}
+use Rattle.vt_scan.specs.Automaton as automaton
+use Rattle.vt_scan.specs.Run.{run}
+use Rattle.vt_scan.specs.Scanner.{Feeds, FeedsAll, Held, Reads, StandsFor}
 use Rattle.vt_scan.specs.declared.event.Events.{Events}
 use Rattle.vt_scan.specs.declared.table.Kind.{Kind}
 use Rattle.vt_scan.specs.declared.table.Kind.TheVariants.{Ground, OscString}
@@ -39,3 +41,10 @@ pub stands_fed : (old new : Held) (b : ℕ) (answer : Events) → Feeds old b ne
 stands_fed old new b answer feeds stands =
     ∥∥₁_map {B = (state : State) × StandsFor new state} stands
     (λ (s : (state : State) × StandsFor old state). ((step_in s.0.kind s.0.collected b).state, (feeds s.0 s.1).stands))
+
+-- bytes are fed
+pub stands_fed_all : (old new : Held) (bytes : List ℕ) (events : List automaton.Event) → FeedsAll old bytes new events
+    → ∥ ((state : State) × StandsFor old state) ∥₁ → ∥ ((state : State) × StandsFor new state) ∥₁
+stands_fed_all old new bytes events feeds stands =
+    ∥∥₁_map {B = (state : State) × StandsFor new state} stands
+    (λ (s : (state : State) × StandsFor old state). ((run s.0 bytes).state, (feeds s.0 s.1).0))

@@ -1,7 +1,8 @@
 -- The kept numbers of a parameter text that grows at its end.
 use Rattle.std.proofs.Common.{◌≡◌, ℕ, ◌+◌, ◌-◌, ◌<◌, ◌≤◌, ◌≢◌, Bool, true, false, nat_lt, List, []}
 use Rattle.std.proofs.Common.{◌∷◌, ◌++◌, length, get_or, set, take, refl, sym, ◌∙◌, ap, arith}
-use Rattle.std.proofs.lemmas.List.{take_more_set}
+use Rattle.std.proofs.Common.{zero, suc}
+use Rattle.std.proofs.lemmas.List.{append_assoc, append-nil, get_or-set_same, length-set, set-get_or, take_more, take_more_set}
 use Rattle.std.proofs.lemmas.Bool.Decides.{nat_tests}
 use Rattle.vt_scan.specs.Parameters.{GroupTable, groups_of, total, first_numbers, table_of}
 use Rattle.vt_scan.specs.Keeping.{groups_from, Ascends}
@@ -151,6 +152,39 @@ step_digit numbers ends len b v is_cut text some fits rises digit whole n e =
     (groups_from-digit (with_digit b) 0 ends len (len - 1) numbers (omega arith) rises (omega arith))
     ∙ digit_kept (groups_from 0 ends len numbers) text b digit
     (ap (table (groups_from 0 ends len numbers)) (sym whole) ∙ e)
+
+set_twice : (xs : List ℕ) (i a b : ℕ) → set (set xs i a) i b ≡ set xs i b
+set_twice [] i a b = refl
+set_twice (x ∷ xs) zero a b = refl
+set_twice (x ∷ xs) (suc i) a b = ap (λ l. x ∷ l) (set_twice xs i a b)
+
+-- one more digit of a number that is not stored yet
+pub more_digits : (numbers ends : List ℕ) (len last n v : ℕ) (is_cut : Bool) (text bytes : List ℕ) (k : ℕ) →
+    len ≡ last + 1 → len ≤ length numbers → Ascends 0 ends len → is_cut ≡ false →
+    k < length bytes → get_or bytes k 0 < 0x3A → v ≡ with_digit (get_or bytes k 0) n →
+    table (groups_from 0 ends len (set numbers last n)) is_cut ≡ table_of (text ++ take k bytes) →
+    table (groups_from 0 ends len (set numbers last v)) is_cut ≡ table_of (text ++ take (k + 1) bytes)
+more_digits numbers ends len last n v is_cut text bytes k at fits rises whole inside digit value e =
+    let place : len - 1 ≡ last = omega arith in
+    let size : length (set numbers last n) ≡ length numbers = length-set numbers last n in
+    let here : get_or (set numbers last n) (len - 1) 0 ≡ n =
+    ap (λ i. get_or (set numbers last n) i 0) place ∙ get_or-set_same numbers last n 0 (omega arith) in
+    ap (λ l. table (groups_from 0 ends len l) is_cut)
+    (sym (ap (λ i. set (set numbers last n) i v) place ∙ set_twice numbers last n v))
+    ∙ step_digit (set numbers last n) ends len (get_or bytes k 0) v is_cut (text ++ take k bytes)
+    (omega arith) (omega (arith, size, fits)) rises digit whole
+    (value ∙ ap (with_digit (get_or bytes k 0)) (sym here)) e
+    ∙ ap table_of (append_assoc text (take k bytes) (get_or bytes k 0 ∷ [])
+    ∙ ap (λ t. text ++ t) (sym (take_more bytes k 0 inside)))
+
+-- and before the first one
+pub no_digits : (numbers ends : List ℕ) (len last n : ℕ) (is_cut : Bool) (text : List ℕ) →
+    n ≡ get_or numbers last 0 → table (groups_from 0 ends len numbers) is_cut ≡ table_of text →
+    table (groups_from 0 ends len (set numbers last n)) is_cut ≡ table_of (text ++ [])
+no_digits numbers ends len last n is_cut text same e =
+    ap (λ l. table (groups_from 0 ends len l) is_cut)
+    (ap (set numbers last) same ∙ set-get_or numbers last 0)
+    ∙ e ∙ ap table_of (sym (append-nil text))
 
 pub step_digit_cut : (groups : List (List ℕ)) (b : ℕ) (is_cut : Bool) (text : List ℕ) → b < 0x3A →
     is_cut ≡ true → table groups is_cut ≡ table_of text → table groups is_cut ≡ table_of (text ++ b ∷ [])

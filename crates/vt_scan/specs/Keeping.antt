@@ -1,5 +1,6 @@
 -- Aids of proofs, which only contracts of private functions cite.
-use Rattle.std.specs.Prelude.{◌≡◌, ℕ, ◌-◌, ◌<◌, ◌⊎◌, Bool, true, false, List, [], ◌∷◌, ◌++◌, take, drop, Some, None}
+use Rattle.std.specs.Prelude.{◌≡◌, ◌≢◌, ℕ, ◌-◌, ◌<◌, ◌⊎◌, ◌&&◌, nat_le, Bool, true, false, List, [], ◌∷◌, ◌++◌}
+use Rattle.std.specs.Prelude.{take, drop, Some, None}
 use Rattle.vt_scan.specs.Characters.{is_character, is_beginning, character_of}
 use Rattle.vt_scan.specs.Parameters.{GroupTable}
 use Rattle.vt_scan.specs.Scanner.{Held, Reads}
@@ -65,6 +66,14 @@ Extends old b Further new =
 Extends old b (Character c) new =
     (is_character (old ++ b ∷ []) ≡ true) × (c ≡ character_of (old ++ b ∷ [])) × (new ≡ [])
 Extends old b Broken new = (is_character (old ++ b ∷ []) ≡ false) × (is_beginning (old ++ b ∷ []) ≡ false) × (new ≡ [])
+
+-- a decimal digit
+abbrev pub is_digit : ℕ → Bool
+is_digit b = nat_le 0x30 b && nat_le b 0x39
+
+-- a byte that ends no string: none of CAN, SUB and ESC
+abbrev pub IsUnended : ℕ → Type 0
+IsUnended b = (b ≢ 0x18) × (b ≢ 0x1A) × (b ≢ 0x1B)
 
 -- the groups of numbers that end at these places, and the last one that ends at len
 abbrev pub groups_from : ℕ → List ℕ → ℕ → List ℕ → List (List ℕ)

@@ -7,3 +7,4 @@ pub mod Run
 pub mod Texts
 pub mod Selectors
 pub mod Keeping
+pub mod Printable

@@ -1,6 +1,6 @@
 -- What the scanner holds of the bytes that it has read, which states of the automaton that stands for, and what its
 -- answer means.
-use Rattle.std.specs.Prelude.{◌≡◌, ℕ, ◌<◌, ◌≤◌, ◌==◌, ◌&&◌, Bool, false, List, [], ◌++◌, length, map, option_to_list}
+use Rattle.std.specs.Prelude.{◌≡◌, ℕ, ◌<◌, ◌≤◌, ◌==◌, ◌&&◌, nat_le, Bool, false, List, [], ◌++◌, length, map, option_to_list}
 use Rattle.vt_scan.specs.Parameters.{GroupTable, table_of}
 use Rattle.vt_scan.specs.Automaton as automaton
 use Rattle.vt_scan.specs.Automaton.{State, Step, is_parameter, parameter_text, marks_of, parts_of, step_in}
@@ -84,3 +84,13 @@ leads_in Escape unfinished b = b == 0x5B
 leads_in CsiEntry unfinished b = is_parameter b
 leads_in CsiParam unfinished b = is_parameter b
 leads_in _ unfinished b = false
+
+-- a final byte of a control sequence (ECMA-48, section 5.4)
+abbrev pub is_final : ℕ → Bool
+is_final b = nat_le 0x40 b && nat_le b 0x7E
+
+-- a byte that ends a control sequence without intermediates, which is then dispatched
+abbrev pub ends_sequence : Kind → ℕ → Bool
+ends_sequence CsiEntry b = is_final b
+ends_sequence CsiParam b = is_final b
+ends_sequence _ b = false

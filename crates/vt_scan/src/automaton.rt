@@ -4,27 +4,31 @@ ghost use Rattle.std.specs.Prelude.{◌≡◌, ◌≢◌, ◌≤◌, ◌<◌, �
 ghost use Rattle.std.specs.Prelude.{List, [], ◌∷◌, ◌++◌, All, IfOk, IfSome};
 ghost use Rattle.std.specs.Prelude.{IsErr, IsSome, IsTrue, None, OnErr, OnOk, Some};
 ghost use Rattle.std.specs.Prelude.{false, length, slice_index_or, take};
-ghost use Rattle.std.specs.Prelude.{true};
+ghost use Rattle.std.specs.Prelude.{map, true};
+ghost use Rattle.std.specs.Simd.Lanes.{mask_l};
+ghost use Rattle.vt_scan.specs.Printable.{is_odd};
 ghost use Rattle.vt_cells.specs.Refusals.{OnlyOutOfMemory};
 ghost use Rattle.vt_scan.specs.Automaton.{Character, State, fresh_step, is_parameter, parts_of, start, step_in};
 ghost use Rattle.vt_scan.specs.Characters.{is_character};
 ghost use Rattle.vt_scan.specs.Keeping.{Begins, Fits, answer_of};
 ghost use Rattle.vt_scan.specs.Scanner.{Feeds, FeedsAll, Follows, IsPrintableByte, Reads, ReadsItself, StandsFor};
-ghost use Rattle.vt_scan.specs.Scanner.{leads_in};
+ghost use Rattle.std.specs.List.{AllByRecursion};
+ghost use Rattle.vt_scan.specs.Scanner.{ends_sequence, is_final, leads_in};
+ghost use Rattle.vt_scan.specs.Keeping.{IsUnended};
 ghost use Rattle.vt_scan.specs.Table.{class_of, turn_of};
 ghost use Rattle.vt_scan.specs.declared.event.Event.{Event};
 ghost use Rattle.vt_scan.specs.declared.table.Kind.{Kind};
 ghost use Rattle.vt_scan.specs.declared.table.Turn.{Turn};
 
 use crate::event::{Event, Events};
-use crate::groups::{FewGroups, Groups};
 use crate::marks::Marks;
-use crate::parameters::Parameters;
+use crate::parameters::{Parameters, is_parameter_byte};
 use crate::parts::Parts;
 use crate::table::{Ending, Kind, Turn, turn_at};
 use crate::unfinished::{Extended, Unfinished, first_character};
 use std::alloc::Global;
 use std::marker::Model;
+use std::simd::prelude::*;
 use vt_cells::Error;
 
 /// Reads the bytes of a terminal one by one. It follows Williams' parser for
@@ -33,7 +37,6 @@ use vt_cells::Error;
 /// Of a sequence it keeps the first 32 numbers, each at most 65535, the first
 /// two of marker and intermediates, and the first 16 parts of an operating
 /// system command. Only the text of such a command takes memory.
-#[derive(Drop)]
 pub struct Scanner {
     kind: Kind,
     unfinished: Unfinished,
@@ -55,6 +58,20 @@ impl Model for Scanner {
 
     ghost invariant = { λ s.
         ∥ ((state : State) × StandsFor (held s.kind s.unfinished s.parameters s.marks s.text.items) state) ∥₁ };
+}
+
+// One call wherever a scanner is given up: a derived drop is taken apart field by field in each
+// caller's proof, at each of its exits.
+impl Drop for Scanner {
+    fn drop(self) {
+        let Scanner {
+            kind: _,
+            unfinished: _,
+            parameters: _,
+            marks: _,
+            text: _,
+        } = self;
+    }
 }
 
 impl Scanner {
@@ -131,11 +148,81 @@ impl Scanner {
         ensures longest { result < length bytes.now →
             leads_in self.new.kind self.new.unfinished (slice_index_or bytes.now result 0) ≡ false }
     {
-        let mut count = 0;
-        while count < bytes.len() && self.takes_lead(bytes[count]) {
-            count += 1;
+        match self.kind {
+            Kind::Ground => self.lead_from_text(bytes),
+            Kind::Escape => self.lead_from_escape(bytes),
+            Kind::CsiEntry | Kind::CsiParam => self.lead_parameters(bytes),
+            _ => 0,
         }
-        count
+    }
+
+    /// Reads the final byte of a control sequence, if it is one and its
+    /// sequence has no intermediates: the answer tells. The byte's one event is
+    /// then the control sequence.
+    #[inline(always)]
+    pub fn final_byte(&mut self, byte: u8) -> bool
+        ensures tells { result ≡ ends_sequence self.old.kind byte }
+        ensures fed { IsTrue result
+            → Feeds self.old byte self.new (record { first = Some (Event.Csi byte); second = None }) }
+        ensures kept { result ≡ false → self.new ≡ self.old }
+    {
+        match self.kind {
+            Kind::CsiEntry | Kind::CsiParam => self.ends_with(byte),
+            _ => false,
+        }
+    }
+
+    /// Whether this byte would be executed, and nothing else: it is a control
+    /// function of one byte, but not ESC, and no sequence and no character is
+    /// unfinished. Reading it leaves the scanner as it is, so that it need not
+    /// be fed.
+    #[inline(always)]
+    pub fn is_control(&self, byte: u8) -> bool
+        ensures { IsTrue result
+            → Feeds self.now byte self.now (record { first = Some (Event.Executed byte); second = None }) }
+    {
+        is_control_byte(byte) && self.is_fresh()
+    }
+
+    /// How many of these bytes, from the first on, are passed over in a string
+    /// whose text is not kept (DCS, SOS, PM, APC): all up to one that may end
+    /// it. Reading them leaves the scanner as it is, so that they need not be
+    /// fed. In no such string there are none.
+    #[inline]
+    pub fn skipped_len(&self, bytes: &[u8]) -> usize
+        ensures inside { result ≤ length bytes.now }
+        ensures fed { FeedsAll self.now (take result bytes.now) self.now [] }
+        ensures longest { self.now.kind ≡ Kind.Skip → result < length bytes.now →
+            IsUnended (slice_index_or bytes.now result 0) → ⊥ }
+    {
+        match self.kind {
+            Kind::Skip => unended_len(bytes),
+            _ => 0,
+        }
+    }
+
+    /// Reads what comes first of these bytes, as far as it goes on the text of
+    /// an operating system command: all up to a control function of one byte.
+    /// Answers how many bytes that were; outside of such a command it reads
+    /// none.
+    ///
+    /// Where memory for them is refused, the answer is `OutOfMemory`, nothing
+    /// is changed, and the same bytes may be given again.
+    #[inline]
+    pub fn command_text(&mut self, bytes: &[u8]) -> Result<usize, Error>
+        ensures inside { IfOk result (λ count. count ≤ length bytes.now) }
+        ensures fed { IfOk result (λ count. FeedsAll self.old (take count bytes.now) self.new []) }
+        ensures longest { IfOk result (λ count. self.old.kind ≡ Kind.OscString → count < length bytes.now →
+            slice_index_or bytes.now count 0 < 0x20) }
+        ensures err { OnErr result (self.new ≡ self.old) }
+        ensures only { OnlyOutOfMemory result }
+        ensures text { IsErr result → (0 < length bytes.now)
+            × (turn_of self.old.kind (class_of (slice_index_or bytes.now 0 0)) ≡ Turn.Collect Kind.OscString) }
+    {
+        match self.kind {
+            Kind::OscString => self.collect_text(bytes),
+            _ => Ok(0),
+        }
     }
 
     /// The character of more than one byte that these bytes begin with, and
@@ -165,26 +252,12 @@ impl Scanner {
         let _kind = self.kind;
     }
 
-    /// The groups of numbers of a control sequence, after its event.
+    /// The numbers of a control sequence, after its event.
     #[inline]
-    pub fn groups(&self) -> Groups<'_>
-        ensures { result ≡ self.now.table.groups }
+    pub fn parameters(&self) -> &Parameters
+        ensures { result.now ≡ self.now.table }
     {
-        self.parameters.groups()
-    }
-
-    /// Puts the groups of numbers of a control sequence, after its event, into
-    /// an empty table of few, and says whether all have room there. Where they
-    /// do, that is cheaper than [`Scanner::groups`]; where they do not, the
-    /// table stays empty.
-    #[inline(always)]
-    pub fn lend_groups<'a>(&'a self, few: &mut FewGroups<'a>) -> bool
-        requires { few.old ≡ [] }
-        ensures lent { IsTrue result → few.new ≡ self.now.table.groups }
-        ensures few { IsTrue result ↔ (length self.now.table.groups ≤ 6) }
-        ensures many { result ≡ false → few.new ≡ [] }
-    {
-        self.parameters.lend(few)
+        &self.parameters
     }
 
     /// The marker and the intermediates of a sequence, after its event: the
@@ -205,35 +278,75 @@ impl Scanner {
         Parts::of(&self.text)
     }
 
-    /// Reads one byte, if it leads into a control sequence.
+    /// The same from plain text on.
     #[inline(always)]
-    fn takes_lead(&mut self, byte: u8) -> bool
-        ensures tells { result ≡ leads_in self.old.kind self.old.unfinished byte }
-        ensures fed { IsTrue result → Feeds self.old byte self.new (record { first = None; second = None }) }
-        ensures kept { result ≡ false → self.new ≡ self.old }
+    fn lead_from_text(&mut self, bytes: &[u8]) -> usize
+        requires { self.old.kind ≡ Kind.Ground }
+        ensures inside { result ≤ length bytes.now }
+        ensures fed { FeedsAll self.old (take result bytes.now) self.new [] }
+        ensures longest { result < length bytes.now →
+            leads_in self.new.kind self.new.unfinished (slice_index_or bytes.now result 0) ≡ false }
     {
-        match self.kind {
-            Kind::CsiEntry | Kind::CsiParam => self.takes_parameter(byte),
-            Kind::Escape => self.takes_bracket(byte),
-            Kind::Ground => self.takes_escape(byte),
-            _ => false,
+        if bytes.is_empty() {
+            return 0;
         }
+        if !self.takes_escape(bytes[0]) {
+            return 0;
+        }
+        let more = self.lead_from_escape(&bytes[1..]);
+        1 + more
     }
 
-    /// Reads a byte of the parameter text.
+    /// The same from ESC on.
     #[inline(always)]
-    fn takes_parameter(&mut self, byte: u8) -> bool
+    fn lead_from_escape(&mut self, bytes: &[u8]) -> usize
+        requires { self.old.kind ≡ Kind.Escape }
+        ensures inside { result ≤ length bytes.now }
+        ensures fed { FeedsAll self.old (take result bytes.now) self.new [] }
+        ensures longest { result < length bytes.now →
+            leads_in self.new.kind self.new.unfinished (slice_index_or bytes.now result 0) ≡ false }
+    {
+        if bytes.is_empty() {
+            return 0;
+        }
+        if !self.takes_bracket(bytes[0]) {
+            return 0;
+        }
+        let more = self.lead_parameters(&bytes[1..]);
+        1 + more
+    }
+
+    /// The same within the parameter text.
+    #[inline(always)]
+    fn lead_parameters(&mut self, bytes: &[u8]) -> usize
         requires { (self.old.kind ≡ Kind.CsiEntry) ⊎ (self.old.kind ≡ Kind.CsiParam) }
-        ensures tells { result ≡ is_parameter byte }
-        ensures fed { IsTrue result → Feeds self.old byte self.new (record { first = None; second = None }) }
+        ensures inside { result ≤ length bytes.now }
+        ensures fed { FeedsAll self.old (take result bytes.now) self.new [] }
+        ensures longest { result < length bytes.now →
+            leads_in self.new.kind self.new.unfinished (slice_index_or bytes.now result 0) ≡ false }
+    {
+        let count = self.parameters.push_all(bytes);
+        if count == 0 {
+            return 0;
+        }
+        self.kind = Kind::CsiParam;
+        count
+    }
+
+    /// Reads the final byte of a control sequence, if it is one.
+    #[inline(always)]
+    fn ends_with(&mut self, byte: u8) -> bool
+        requires { (self.old.kind ≡ Kind.CsiEntry) ⊎ (self.old.kind ≡ Kind.CsiParam) }
+        ensures tells { result ≡ is_final byte }
+        ensures fed { IsTrue result
+            → Feeds self.old byte self.new (record { first = Some (Event.Csi byte); second = None }) }
         ensures kept { result ≡ false → self.new ≡ self.old }
     {
-        let takes = is_parameter_byte(byte);
-        if takes {
-            self.kind = Kind::CsiParam;
-            self.parameters.push(byte);
+        let ends = is_final_byte(byte);
+        if ends {
+            self.begin(Kind::Ground);
         }
-        takes
+        ends
     }
 
     /// Reads `[` after ESC.
@@ -241,6 +354,7 @@ impl Scanner {
     fn takes_bracket(&mut self, byte: u8) -> bool
         requires { self.old.kind ≡ Kind.Escape }
         ensures tells { result ≡ (byte == 0x5B) }
+        ensures begins { IsTrue result → self.new.kind ≡ Kind.CsiEntry }
         ensures fed { IsTrue result → Feeds self.old byte self.new (record { first = None; second = None }) }
         ensures kept { result ≡ false → self.new ≡ self.old }
     {
@@ -256,6 +370,7 @@ impl Scanner {
     fn takes_escape(&mut self, byte: u8) -> bool
         requires { self.old.kind ≡ Kind.Ground }
         ensures tells { result ≡ ((byte == 0x1B) && (length self.old.unfinished == 0)) }
+        ensures begins { IsTrue result → self.new.kind ≡ Kind.Escape }
         ensures fed { IsTrue result → Feeds self.old byte self.new (record { first = None; second = None }) }
         ensures kept { result ≡ false → self.new ≡ self.old }
     {
@@ -275,6 +390,28 @@ impl Scanner {
             Kind::Ground => self.unfinished.is_empty(),
             _ => false,
         }
+    }
+
+    /// The same within such a command.
+    fn collect_text(&mut self, bytes: &[u8]) -> Result<usize, Error>
+        requires { self.old.kind ≡ Kind.OscString }
+        ensures inside { IfOk result (λ count. count ≤ length bytes.now) }
+        ensures fed { IfOk result (λ count. FeedsAll self.old (take count bytes.now) self.new []) }
+        ensures longest { IfOk result (λ count. count < length bytes.now →
+            slice_index_or bytes.now count 0 < 0x20) }
+        ensures err { OnErr result (self.new ≡ self.old) }
+        ensures only { OnlyOutOfMemory result }
+        ensures text { IsErr result → (0 < length bytes.now)
+            × (turn_of self.old.kind (class_of (slice_index_or bytes.now 0 0)) ≡ Turn.Collect Kind.OscString) }
+    {
+        let count = text_len(bytes);
+        if count == 0 {
+            return Ok(0);
+        }
+        if self.text.extend_from_slice(&bytes[..count]).is_err() {
+            return Err(Error::OutOfMemory);
+        }
+        Ok(count)
     }
 
     /// Reads a byte outside of sequences.
@@ -403,18 +540,80 @@ fn printable_len(bytes: &[u8]) -> usize
     ensures longest { result < length bytes.now → IsPrintableByte (slice_index_or bytes.now result 0) → ⊥ }
 {
     let mut len = 0;
+    while bytes.len() - len >= 16 {
+        let odd = odd_lanes(u8x16::from_slice(&bytes[len..]));
+        if odd != 0 {
+            return len + odd.trailing_zeros() as usize;
+        }
+        len += 16;
+    }
     while len < bytes.len() && is_printable(bytes[len]) {
         len += 1;
     }
     len
 }
 
-/// Whether the byte is one of the parameter text.
-#[inline]
-fn is_parameter_byte(byte: u8) -> bool
-    ensures { result ≡ is_parameter byte }
+/// A bit for each lane that is no printable byte of ASCII.
+#[inline(always)]
+fn odd_lanes(lanes: u8x16) -> u64
+    ensures { result ≡ mask_l (map is_odd lanes) }
 {
-    byte >= 0x30 && byte <= 0x3B
+    (lanes - u8x16::splat(0x7F))
+        .simd_le(u8x16::splat(0xA0))
+        .to_bitmask()
+}
+
+/// Whether the byte is a control function of one byte.
+#[inline(always)]
+fn is_control_byte(byte: u8) -> bool
+    ensures { IsTrue result → (byte < 0x20) × (byte ≢ 0x1B) }
+{
+    byte < 0x20 && byte != 0x1B
+}
+
+/// Whether the byte ends a control sequence.
+#[inline(always)]
+fn is_final_byte(byte: u8) -> bool
+    ensures { result ≡ is_final byte }
+{
+    byte >= 0x40 && byte <= 0x7E
+}
+
+/// How many of these bytes, from the first on, leave a string going on.
+#[inline]
+fn unended_len(bytes: &[u8]) -> usize
+    ensures inside { result ≤ length bytes.now }
+    ensures unended { AllByRecursion IsUnended (take result bytes.now) }
+    ensures longest { result < length bytes.now → IsUnended (slice_index_or bytes.now result 0) → ⊥ }
+{
+    let mut len = 0;
+    while len < bytes.len() && is_unended(bytes[len]) {
+        len += 1;
+    }
+    len
+}
+
+/// How many of these bytes, from the first on, are no control functions of one
+/// byte.
+#[inline]
+fn text_len(bytes: &[u8]) -> usize
+    ensures inside { result ≤ length bytes.now }
+    ensures text { AllByRecursion (λ b. 0x20 ≤ b) (take result bytes.now) }
+    ensures longest { result < length bytes.now → slice_index_or bytes.now result 0 < 0x20 }
+{
+    let mut len = 0;
+    while len < bytes.len() && bytes[len] >= 0x20 {
+        len += 1;
+    }
+    len
+}
+
+/// Whether the byte leaves a string going on: it is none of CAN, SUB and ESC.
+#[inline(always)]
+fn is_unended(byte: u8) -> bool
+    ensures { IsTrue result ↔ IsUnended byte }
+{
+    byte != 0x18 && byte != 0x1A && byte != 0x1B
 }
 
 /// The events of an ending.

@@ -7,9 +7,6 @@ use std::marker::Model;
 /// How many numbers of a control sequence are kept; there are no more groups.
 pub(crate) const MAX_NUMBERS: usize = 32;
 
-/// How many groups the table of few has room for.
-pub(crate) const MAX_FEW: usize = 6;
-
 /// At most 32 groups, in a table of their own: no memory is taken.
 #[derive(Drop)]
 pub struct Groups<'a> {
@@ -49,53 +46,6 @@ impl<'a> Groups<'a> {
 
     /// The groups, each with its numbers.
     #[inline]
-    pub fn as_slice(&self) -> &[&'a [u16]]
-        ensures { map (λ r. r.now) result.now ≡ self.now }
-    {
-        &self.table[..self.len]
-    }
-}
-
-/// At most 6 groups, as most control sequences have. The table is small, and
-/// so is cheaper to make than that of [`Groups`].
-#[derive(Drop)]
-pub struct FewGroups<'a> {
-    table: [&'a [u16]; MAX_FEW],
-    len: usize,
-}
-
-impl<'a> Model for FewGroups<'a> {
-    ghost Value = { List (List ℕ) };
-
-    ghost view = { λ g. map (λ r. r.now) (take g.len g.table) };
-
-    ghost invariant = { λ g. g.len ≤ 6 };
-}
-
-impl<'a> FewGroups<'a> {
-    /// No groups.
-    #[inline(always)]
-    pub fn new() -> FewGroups<'a>
-        ensures { result ≡ [] }
-    {
-        FewGroups {
-            table: [&[]; MAX_FEW],
-            len: 0,
-        }
-    }
-
-    /// One more group.
-    #[inline(always)]
-    pub fn push(&mut self, group: &'a [u16])
-        requires { length self.old < 6 }
-        ensures { self.new ≡ self.old ++ group.now ∷ [] }
-    {
-        self.table[self.len] = group;
-        self.len += 1;
-    }
-
-    /// The groups, each with its numbers.
-    #[inline(always)]
     pub fn as_slice(&self) -> &[&'a [u16]]
         ensures { map (λ r. r.now) result.now ≡ self.now }
     {

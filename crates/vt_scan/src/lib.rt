@@ -13,5 +13,6 @@ pub mod unfinished;
 
 pub use automaton::Scanner;
 pub use event::{Event, Events};
-pub use groups::{FewGroups, Groups};
+pub use groups::Groups;
+pub use parameters::Parameters;
 pub use parts::Parts;

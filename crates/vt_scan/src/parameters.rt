@@ -1,14 +1,17 @@
 //! The numbers of a control sequence.
 
-ghost use Rattle.std.specs.Prelude.{◌≡◌, ℕ, ◌+◌, ◌*◌, ◌<◌, ◌≤◌, ◌↔◌, List, [], ◌∷◌};
-ghost use Rattle.std.specs.Prelude.{◌++◌, IsTrue, false, length, min, take, true};
+ghost use Rattle.std.specs.Prelude.{◌≡◌, ℕ, ◌+◌, ◌*◌, ◌<◌, ◌≤◌, List, [], ◌∷◌, ◌++◌};
+ghost use Rattle.std.specs.Prelude.{false, if◌then◌else◌, length, min, nat_lt, slice_index_or, take, true};
+ghost use Rattle.vt_scan.specs.Automaton.{is_parameter};
 ghost use Rattle.vt_scan.specs.Parameters.{GroupTable, table_of};
-ghost use Rattle.vt_scan.specs.Keeping.{Ascends, groups_from};
+ghost use Rattle.vt_scan.specs.Keeping.{Ascends, groups_from, is_digit};
+ghost use Rattle.vt_scan.specs.Texts.{IsParameterText};
 
-use crate::groups::{FewGroups, Groups, MAX_FEW, MAX_NUMBERS};
+use crate::groups::{Groups, MAX_NUMBERS};
 use std::marker::Model;
 
-/// The first 32 numbers of a parameter text, in their groups.
+/// The first 32 numbers of a parameter text, each at most 65535, in their
+/// groups (ECMA-48, section 5.4.2).
 #[derive(Drop)]
 pub struct Parameters {
     numbers: [u16; MAX_NUMBERS],
@@ -110,8 +113,81 @@ impl Parameters {
         self.len += 1;
     }
 
-    /// The groups, lent until the next byte.
+    /// Reads the bytes of the parameter text that come first of these, and
+    /// answers how many they were.
     #[inline]
+    pub fn push_all(&mut self, bytes: &[u8]) -> usize
+        ensures inside { result ≤ length bytes.now }
+        ensures parameters { IsParameterText (take result bytes.now) }
+        ensures read { (text : List ℕ) → self.old ≡ table_of text
+            → self.new ≡ table_of (text ++ take result bytes.now) }
+        ensures longest { result < length bytes.now
+            → is_parameter (slice_index_or bytes.now result 0) ≡ false }
+    {
+        let mut count = self.push_digits(bytes);
+        while count < bytes.len() && is_parameter_byte(bytes[count]) {
+            self.push(bytes[count]);
+            let more = self.push_digits(&bytes[count + 1..]);
+            count += 1 + more;
+        }
+        count
+    }
+
+    /// Reads the digits that come first of these bytes, and answers how many
+    /// they were. Their number is stored once.
+    #[inline(always)]
+    fn push_digits(&mut self, bytes: &[u8]) -> usize
+        ensures inside { result ≤ length bytes.now }
+        ensures parameters { IsParameterText (take result bytes.now) }
+        ensures read { (text : List ℕ) → self.old ≡ table_of text
+            → self.new ≡ table_of (text ++ take result bytes.now) }
+    {
+        if self.is_cut {
+            return 0;
+        }
+        let last = self.len - 1;
+        let mut number = self.numbers[last];
+        let mut count = 0;
+        while count < bytes.len() && is_digit_byte(bytes[count]) {
+            number = with_digit(number, bytes[count] - b'0');
+            count += 1;
+        }
+        self.numbers[last] = number;
+        count
+    }
+
+    /// How many groups there are: 1 to 32.
+    #[inline]
+    pub fn group_count(&self) -> usize
+        ensures { result ≡ length self.now.groups }
+    {
+        self.closed + 1
+    }
+
+    /// The numbers of a group, counted from 0.
+    #[inline]
+    pub fn group(&self, i: usize) -> &[u16]
+        requires { i < length self.now.groups }
+        ensures { result.now ≡ slice_index_or self.now.groups i [] }
+    {
+        let start = start_of(&self.ends, i);
+        let end = end_of(&self.ends, self.closed, self.len, i);
+        &self.numbers[start..end]
+    }
+
+    /// The first number of a group, counted from 0; 0 where there is no such
+    /// group.
+    #[inline]
+    pub fn number(&self, i: usize) -> u16
+        ensures { result ≡ slice_index_or (slice_index_or self.now.groups i []) 0 0 }
+    {
+        if i > self.closed {
+            return 0;
+        }
+        self.numbers[start_of(&self.ends, i)]
+    }
+
+    /// The groups, lent until the next byte.
     pub fn groups(&self) -> Groups<'_>
         ensures { result ≡ self.now.groups }
     {
@@ -125,28 +201,41 @@ impl Parameters {
         groups.push(&self.numbers[start..self.len]);
         groups
     }
+}
 
-    /// Puts the groups into an empty table of few, and says whether all have
-    /// room there; where they have not, the table stays empty.
-    #[inline(always)]
-    pub fn lend<'a>(&'a self, few: &mut FewGroups<'a>) -> bool
-        requires { few.old ≡ [] }
-        ensures lent { IsTrue result → few.new ≡ self.now.groups }
-        ensures few { IsTrue result ↔ (length self.now.groups ≤ 6) }
-        ensures many { result ≡ false → few.new ≡ [] }
-    {
-        if self.closed >= MAX_FEW {
-            return false;
-        }
-        let mut start = 0;
-        for i in 0..self.closed {
-            let end = self.ends[i];
-            few.push(&self.numbers[start..end]);
-            start = end;
-        }
-        few.push(&self.numbers[start..self.len]);
-        true
-    }
+/// The place where a group begins.
+#[inline(always)]
+fn start_of(ends: &[usize; MAX_NUMBERS], i: usize) -> usize
+    requires { i < 32 }
+    ensures { result ≡ slice_index_or (0 ∷ ends.now) i 0 }
+{
+    if i == 0 { 0 } else { ends[i - 1] }
+}
+
+/// The place where a group ends, if so many are closed; the last one ends with
+/// the numbers.
+#[inline(always)]
+fn end_of(ends: &[usize; MAX_NUMBERS], closed: usize, len: usize, i: usize) -> usize
+    requires { closed ≤ 32 }
+    ensures { result ≡ (if nat_lt i closed then slice_index_or ends.now i 0 else len) }
+{
+    if i < closed { ends[i] } else { len }
+}
+
+/// Whether the byte is one of the parameter text.
+#[inline(always)]
+pub(crate) fn is_parameter_byte(byte: u8) -> bool
+    ensures { result ≡ is_parameter byte }
+{
+    byte >= 0x30 && byte <= 0x3B
+}
+
+/// Whether the byte is a decimal digit.
+#[inline(always)]
+fn is_digit_byte(byte: u8) -> bool
+    ensures { result ≡ is_digit byte }
+{
+    byte >= 0x30 && byte <= 0x39
 }
 
 /// A number with one more digit, at most 65535.

@@ -1,11 +1,15 @@
--- The bytes so far are printable.
-use Rattle.std.proofs.Common.{◌-◌, ◌≤◌, length, take}
-use Rattle.std.specs.Prelude.{All}
-use Rattle.vt_scan.specs.Scanner.{IsPrintableByte}
+use Rattle.std.proofs.Common.{◌-◌, ◌≤◌, length}
+use Rattle.vt_scan.proofs.Lanes.{IsRun}
 use Rattle.vt_scan.proofs.automaton.printable_len.Given as goal
 
 abbrev pub invariant-loop-len : goal.invariant-loop-len
-invariant-loop-len l = (l.len ≤ length l.bytes) × All IsPrintableByte (take l.len l.bytes)
+invariant-loop-len l = (l.len ≤ length l.bytes) × IsRun l.bytes l.len
 
 abbrev pub decreases-loop-len : goal.decreases-loop-len
 decreases-loop-len l = length l.bytes - l.len
+
+abbrev pub invariant-loop-len-2 : goal.invariant-loop-len-2
+invariant-loop-len-2 l = (l.len ≤ length l.bytes) × IsRun l.bytes l.len
+
+abbrev pub decreases-loop-len-2 : goal.decreases-loop-len-2
+decreases-loop-len-2 l = length l.bytes - l.len
