@@ -4,6 +4,7 @@ use Rattle.std.proofs.Common.{length, drop, refl, sym, ap, subst, ◌∙◌, ari
 use Rattle.std.proofs.lemmas.Bool.{cond-true, cond-false}
 use Rattle.std.proofs.lemmas.List.Concat.{flat_map-append}
 use Rattle.std.proofs.lemmas.List.{drop_more, drop_all, drop-drop, length-drop}
+use Rattle.std.proofs.Math.Bool.{or-true}
 use Rattle.std.proofs.Math.Numerals.{one-add}
 use Rattle.vt_cells.proofs.Same.{same_attrs-itself}
 use Rattle.vt_cells.specs.Attrs.{default_attrs, same_attrs, Attrs}
@@ -202,6 +203,20 @@ passes_cell c xs ys h range same = record {
       λ r pen flag. at_column r c pen flag xs ys h range.inside
       ∙ passed r c pen flag (at xs c) (drop (c + 1) xs) (at ys c) (drop (c + 1) ys) same (first_half xs ys c range);
 }
+
+-- cells that are the same need nothing
+pub passes_run : (c n : ℕ) (xs ys : List CellValue) → IsRange xs ys → (0 < n → c + n ≤ length xs)
+    → ((k : ℕ) → k < n → at xs (c + k) ≡ at ys (c + k)) → Passes c (c + n) xs ys
+passes_run c zero xs ys range inside same =
+    subst (λ m. Passes c m xs ys) (omega arith) (passes_none c xs ys)
+passes_run c (suc n) xs ys range inside same =
+    let here = inside (omega arith) in
+    let stands : (is_right_half (at xs (c + n)) || same_cell (at xs (c + n)) (at ys (c + n))) ≡ true =
+    rw (same n (omega arith), same_cell-itself (at ys (c + n))) (or-true (is_right_half (at ys (c + n)))) in
+    subst (λ m. Passes c m xs ys) (omega arith)
+    (passes_then c (c + n) (c + n + 1) xs ys
+    (passes_run c n xs ys range (λ _. omega (arith, here)) (λ k lt. same k (omega arith)))
+    (passes_cell (c + n) xs ys (omega (arith, here)) range stands))
 
 pub passes_leads : (c next r : ℕ) (pen : Pen) (flag : Bool) (xs ys : List CellValue) (text : List ℕ) →
     Passes c next xs ys → Leads text (cells_from r next pen flag xs ys) text (cells_from r c pen flag xs ys)

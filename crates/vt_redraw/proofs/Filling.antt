@@ -3,6 +3,8 @@ use Rattle.std.proofs.Common.{min, append-nil, ◌≡◌, ℕ, zero, suc, ◌+�
 use Rattle.std.proofs.Common.{nat_lt, not, Bool, true, false, List, [], ◌∷◌, ◌++◌, length, take}
 use Rattle.std.proofs.Common.{drop, ⊎_elim, refl, sym, ap, ◌∙◌, arith, Some, None}
 use Rattle.std.specs.Prelude.{replicate, if◌then◌else◌}
+use Rattle.std.specs.List.{slice_range}
+use Rattle.std.proofs.lemmas.Simd.{get_or-chunk}
 use Rattle.std.proofs.lemmas.Bool.{cases_lt, cond-true, cond-false}
 use Rattle.std.proofs.lemmas.Bool.Decides.{nat_tests}
 use Rattle.std.proofs.lemmas.List.{take-append-le, take-replicate, take_all, length-append, length-take}
@@ -72,6 +74,14 @@ pub at-behind : (cells : List CellValue) (cols : ℕ) (end : CellValue) (k : ℕ
 at-behind cells cols end k h l =
     get_or-append_right cells (replicate (cols - length cells) end) (length cells) k default_blank refl h
     ∙ get_or-replicate (cols - length cells) (k - length cells) end default_blank (omega arith)
+
+-- a cell of some of those that lie in a row
+pub at-part : (cells : List CellValue) (cols : ℕ) (end : CellValue) (flag : Bool) (start stop k : ℕ) (row : RowValue)
+    → record { cells = filled cells cols end; wrapped = flag } ≡ row → start + k < stop → stop ≤ length cells
+    → at (slice_range cells start stop) k ≡ at row.cells (start + k)
+at-part cells cols end flag start stop k row is below inside =
+    get_or-chunk start (stop - start) cells k default_blank (omega arith)
+    ∙ sym (at-filled cells cols end (start + k) (omega arith)) ∙ ap (λ r. at r.cells (start + k)) is
 
 -- a row begins with another glyph
 pub starts_at : (xs ys : List CellValue) → 0 < length xs → 0 < length ys →

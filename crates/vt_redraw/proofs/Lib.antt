@@ -40,6 +40,8 @@ pub mod TouchedTexts
 pub mod Writing
 pub mod Filling
 pub mod CellSteps
+pub mod Moving
+pub mod BandPages
 pub mod Viewing
 pub mod RowSteps
 pub mod ItemSteps

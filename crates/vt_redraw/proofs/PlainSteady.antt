@@ -100,7 +100,7 @@ heart_wide = ap (λ (cs : List ℕ). nat_lt 1 (str_width false cs)) heart_chars 
 
 heart_room : has_room (encode_utf8 0x2764) ≡ true
 heart_room =
-    let bounds = encode_bounds 0x2764 in let most = bounds.1 in lt-ltb (length (encode_utf8 0x2764)) 18 (omega arith)
+    let bounds = encode_bounds 0x2764 in let most = bounds.1 in lt-ltb (length (encode_utf8 0x2764)) 26 (omega arith)
 
 pub heart_steady : (n : ℕ) (attrs : Attrs) → IsSteadyGlyph (suc (suc n)) heart_text true attrs
 heart_steady n attrs =

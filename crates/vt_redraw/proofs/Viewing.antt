@@ -1,17 +1,27 @@
 -- A picture that is read from a page and scrollback above it.
-use Rattle.std.proofs.Common.{◌≡◌, ℕ, zero, suc, ◌+◌, ◌-◌, ◌<◌, ◌==◌, Bool, true, false, List}
-use Rattle.std.proofs.Common.{[], ◌∷◌, ◌++◌, length, refl, sym, ap, subst, ◌∙◌, arith}
-use Rattle.std.specs.Prelude.{All, replicate}
+use Rattle.std.proofs.Common.{◌≡◌, ℕ, zero, suc, ◌+◌, ◌-◌, ◌<◌, ◌≤◌, ◌==◌, Bool, true, false, List}
+use Rattle.std.proofs.Common.{[], ◌∷◌, ◌++◌, length, inl, inr, refl, sym, ap, subst, ◌∙◌, arith}
+use Rattle.std.specs.Prelude.{◌&&◌, ◌||◌, not, All, replicate}
+use Rattle.std.proofs.lemmas.Bool.{cases_lt}
 use Rattle.std.proofs.lemmas.Bool.Decides.{nat_tests}
-use Rattle.std.proofs.lemmas.List.{length-replicate, get_or-replicate, length-take-le, length-append}
+use Rattle.std.proofs.lemmas.List.{length-replicate, get_or-replicate, get_or_past, length-take-le, length-append}
 use Rattle.std.proofs.lemmas.List.Elements.{All-take, All-drop, All-append, All-get_or, All-weaker}
 use Rattle.vt_cells.specs.Attrs.{default_attrs, Attrs}
 use Rattle.vt_rows.specs.Row.{RowValue, IsRow, blank_row}
+use Rattle.vt_cells.specs.Cell.{CellValue}
+use Rattle.vt_rows.specs.Cells.{ends_blank}
+use Rattle.vt_rows.proofs.Moves.{resized-same}
 use Rattle.vt_rows.proofs.Rows.{IsRow-blank_row}
+use Rattle.vt_grid.proofs.Pages.{IsRow-row_or}
 use Rattle.vt_grid.specs.Page.{Page, IsPage, row_or}
 use Rattle.vt_grid.specs.Scrollback.{Scrollback, IsScrollback, last_of, visible}
 use Rattle.vt_grid.specs.Canvas.{Canvas}
-use Rattle.vt_redraw.specs.Keeping.{IsSource, cut_row, viewed}
+use Rattle.vt_redraw.specs.Keeping.{IsSource, cut_row, row_seen, viewed}
+use Rattle.vt_redraw.specs.Moved.{band_source, last_moved, moved, rows_moved}
+use Rattle.vt_redraw.specs.declared.band.Band.{Band}
+use Rattle.vt_redraw.specs.declared.view.Source.{Source}
+use Rattle.vt_redraw.specs.declared.view.Source.TheVariants.{InView, Blank, Moved}
+use Rattle.vt_redraw.proofs.Moving.{All-rows_moved, length-rows_moved, row_or-rows_moved, unflagged_if}
 use Rattle.vt_redraw.specs.Picture.{IsPicture, cut_rows, picture_over}
 use Rattle.vt_redraw.specs.Script.{pen_at}
 use Rattle.vt_redraw.specs.Redraw.{blank_like}
@@ -45,10 +55,13 @@ viewed_is above canvas is page =
     picture_over_is (visible above canvas.page.rows) canvas page (visible_length above canvas.page.rows)
     (visible_sound above canvas.page.rows canvas.page.width is page.rows)
 
-pub viewed_height : (b : Bool) (above : Scrollback) (rows : List RowValue) (width : ℕ) (pen : Pen) (hidden : Bool) →
-    length (viewed b above rows width pen hidden).rows ≡ length rows
-viewed_height true above rows width pen hidden = length-replicate (length rows) (blank_row default_attrs width)
-viewed_height false above rows width pen hidden = length_cut width (visible above rows) ∙ visible_length above rows
+pub viewed_height : (s : Source) (above : Scrollback) (rows : List RowValue) (width : ℕ) (pen : Pen) (hidden : Bool) →
+    length (viewed s above rows width pen hidden).rows ≡ length rows
+viewed_height Blank above rows width pen hidden = length-replicate (length rows) (blank_row default_attrs width)
+viewed_height InView above rows width pen hidden = length_cut width (visible above rows) ∙ visible_length above rows
+viewed_height (Moved band) above rows width pen hidden =
+    length-rows_moved width band (cut_rows width (visible above rows))
+    ∙ (length_cut width (visible above rows) ∙ visible_length above rows)
 
 -- ---- its rows
 
@@ -63,14 +76,34 @@ cut_at width (x ∷ y ∷ rows) (suc r) h =
     let e : (r + 1 == suc (length rows)) ≡ (suc r + 1 == suc (suc (length rows))) = grind (arith, nat_tests) in
     cut_at width (y ∷ rows) r (omega arith) ∙ ap (λ (b : Bool). cut_row b width (row_or width (y ∷ rows) r)) e
 
-pub shown_row : (above : Scrollback) (rows : List RowValue) (width r : ℕ) (row : RowValue) →
-    r < length rows → row ≡ row_or width (visible above rows) r →
-    row_or width (cut_rows width (visible above rows)) r ≡ cut_row (r + 1 == length rows) width row
-shown_row above rows width r row h e =
-    let size = visible_length above rows in
-    cut_at width (visible above rows) r (omega arith)
-    ∙ (ap (λ (n : ℕ). cut_row (r + 1 == n) width (row_or width (visible above rows) r)) size
-    ∙ ap (λ (z : RowValue). cut_row (r + 1 == length rows) width z) (sym e))
+-- past the end there are blank rows, cut or not
+blank_cut : (b : Bool) (width : ℕ) → cut_row b width (blank_row default_attrs width) ≡ blank_row default_attrs width
+blank_cut b width =
+    let is = IsRow-blank_row default_attrs width in
+    let same = resized-same width (blank_row default_attrs width).cells is.columns is.paired in
+    ap (λ (cells : List CellValue). record { cells = cells; wrapped = not b && (false && not (ends_blank cells)) }) same
+    ∙ no_flag b where
+      no_flag : (b : Bool) →
+          record {
+            cells = (blank_row default_attrs width).cells;
+            wrapped = not b && (false && not (ends_blank (blank_row default_attrs width).cells));
+          }
+          ≡ blank_row default_attrs width
+      no_flag true = refl
+      no_flag false = refl
+
+-- a row of a picture over rows in view
+pub seen_at : (width : ℕ) (rows : List RowValue) (r : ℕ) →
+    row_or width (cut_rows width rows) r ≡ row_seen false width rows r
+seen_at width rows r = elim (cases_lt r (length rows)) [
+  | inl h ↦ cut_at width rows r h
+  | inr past ↦
+      let blank = blank_row default_attrs width in
+      let size = length_cut width rows in
+      get_or_past (cut_rows width rows) r blank (omega arith)
+      ∙ (sym (blank_cut (r + 1 == length rows) width)
+      ∙ ap (cut_row (r + 1 == length rows) width) (sym (get_or_past rows r blank past)))
+]
 
 pub shown_sound : (above : Scrollback) (rows : List RowValue) (width r : ℕ) → IsScrollback above →
     All (IsRow width) rows → r < length rows → IsRow width (row_or width (cut_rows width (visible above rows)) r)
@@ -99,16 +132,16 @@ pub new_is : (above : Scrollback) (page : Page) (rows : List RowValue)
     (width row column : ℕ) (attrs : Attrs) (hidden : Bool) →
     IsScrollback above → IsPage page →
     rows ≡ page.rows → width ≡ page.width → row ≡ page.row → column ≡ page.column →
-    IsPicture (viewed false above rows width (pen_at row column attrs) hidden)
+    IsPicture (viewed InView above rows width (pen_at row column attrs) hidden)
 new_is above page rows width row column attrs hidden is sound e f g h =
     let canvas : Canvas = record { page = page; attrs = attrs; saved_attrs = attrs; hidden = hidden } in
     rw (e, f, g, h) (viewed_is above canvas is sound)
 
-pub blanked_is : (b : Bool) (above : Scrollback) (rows : List RowValue) (width : ℕ) (pen new : Pen) (hidden : Bool) →
+pub blanked_is : (s : Source) (above : Scrollback) (rows : List RowValue) (width : ℕ) (pen new : Pen) (hidden : Bool) →
     new ≡ pen_at 0 0 default_attrs →
-    viewed true above rows width new hidden ≡ blank_like (viewed b above rows width pen hidden)
-blanked_is b above rows width pen new hidden e =
-    ap (λ (p : Pen). viewed true above rows width p hidden) e
+    viewed Blank above rows width new hidden ≡ blank_like (viewed s above rows width pen hidden)
+blanked_is s above rows width pen new hidden e =
+    ap (λ (p : Pen). viewed Blank above rows width p hidden) e
     ∙ ap (λ (n : ℕ).
     record {
       rows = replicate n (blank_row default_attrs width);
@@ -118,48 +151,123 @@ blanked_is b above rows width pen new hidden e =
       attrs = default_attrs;
       hidden = hidden;
     })
-    (sym (viewed_height b above rows width pen hidden))
+    (sym (viewed_height s above rows width pen hidden))
 
-pub viewed_row : (b : Bool) (above : Scrollback) (rows : List RowValue) (width : ℕ) (pen : Pen) (hidden : Bool) →
+pub viewed_row : (s : Source) (above : Scrollback) (rows : List RowValue) (width : ℕ) (pen : Pen) (hidden : Bool) →
     IsSource above rows width pen →
-    pen.row < length (viewed b above rows width pen hidden).rows
-viewed_row b above rows width pen hidden is =
-    let e = viewed_height b above rows width pen hidden in let h = is.row in omega arith
+    pen.row < length (viewed s above rows width pen hidden).rows
+viewed_row s above rows width pen hidden is =
+    let e = viewed_height s above rows width pen hidden in let h = is.row in omega arith
 
-pub viewed_cut : (b : Bool) (above : Scrollback) (rows : List RowValue) (width : ℕ) (pen : Pen) (hidden : Bool) →
-    b ≡ false →
-    (viewed b above rows width pen hidden).rows ≡ cut_rows width (visible above rows)
-viewed_cut b above rows width pen hidden e = rw e refl
-
-pub viewed_blank : (b : Bool) (above : Scrollback) (rows : List RowValue) (width : ℕ) (pen : Pen) (hidden : Bool) →
-    b ≡ true →
-    (viewed b above rows width pen hidden).rows ≡ replicate (length rows) (blank_row default_attrs width)
-viewed_blank b above rows width pen hidden e = rw e refl
-
--- a row that was found and cut
-pub row_is : (b : Bool) (above : Scrollback) (rows : List RowValue) (width : ℕ)
-    (pen : Pen) (hidden last : Bool) (r : ℕ) (found row : RowValue) →
-    b ≡ false → r < length rows → last ≡ (r + 1 == length rows) →
-    found ≡ row_or width (visible above rows) r → row ≡ cut_row last width found →
-    row ≡ row_or width (viewed b above rows width pen hidden).rows r
-row_is b above rows width pen hidden last r found row e h l f g =
-    g
-    ∙ (ap (λ (z : Bool). cut_row z width found) l
-    ∙ (sym (shown_row above rows width r found h f)
-    ∙ ap (λ (z : List RowValue). row_or width z r) (sym (viewed_cut b above rows width pen hidden e))))
-
-pub row_sound : (b : Bool) (above : Scrollback) (rows : List RowValue) (width : ℕ) (pen : Pen) (hidden : Bool) (r : ℕ) →
-    IsSource above rows width pen → r < length rows →
-    IsRow width (row_or width (viewed b above rows width pen hidden).rows r)
-row_sound true above rows width pen hidden r is h =
+pub row_sound : (s : Source) (above : Scrollback) (rows : List RowValue) (width : ℕ) (pen : Pen) (hidden : Bool) (r : ℕ)
+    → IsSource above rows width pen → r < length rows
+    → IsRow width (row_or width (viewed s above rows width pen hidden).rows r)
+row_sound Blank above rows width pen hidden r is h =
     subst (IsRow width) (sym (blank_at (length rows) width r h)) (IsRow-blank_row default_attrs width)
-row_sound false above rows width pen hidden r is h = shown_sound above rows width r is.scrollback is.page h
+row_sound InView above rows width pen hidden r is h = shown_sound above rows width r is.scrollback is.page h
+row_sound (Moved band) above rows width pen hidden r is h =
+    let cut = cut_rows width (visible above rows) in
+    let size = length_cut width (visible above rows) in
+    let tall = visible_length above rows in
+    IsRow-row_or width (rows_moved width band cut) r
+    (All-rows_moved width band cut
+    (cut_are width (visible above rows)
+    (recursion_from_All IsAnyRow (visible above rows) (visible_sound above rows width is.scrollback is.page))))
 
-pub row_blank : (b : Bool) (above : Scrollback) (rows : List RowValue)
-    (width : ℕ) (pen : Pen) (hidden : Bool) (r : ℕ) (row : RowValue) →
-    b ≡ true → r < length rows → row ≡ blank_row default_attrs width →
-    row ≡ row_or width (viewed b above rows width pen hidden).rows r
-row_blank b above rows width pen hidden r row e h f =
-    f
-    ∙ (sym (blank_at (length rows) width r h)
-    ∙ ap (λ (z : List RowValue). row_or width z r) (sym (viewed_blank b above rows width pen hidden e)))
+-- ---- a row as the code finds it
+
+-- past the end
+pub row_past : (b : Bool) (width : ℕ) (rows : List RowValue) (r : ℕ) → length rows ≤ r →
+    row_seen b width rows r ≡ blank_row default_attrs width
+row_past b width rows r past =
+    ap (cut_row (b || (r + 1 == length rows)) width) (get_or_past rows r (blank_row default_attrs width) past)
+    ∙ blank_cut (b || (r + 1 == length rows)) width
+
+-- a row that no longer goes on below is cut as the last one
+last_seen : (b c : Bool) (width : ℕ) (row : RowValue) →
+    unflagged_if b (cut_row c width row) ≡ cut_row (b || c) width row
+last_seen true c width row = refl
+last_seen false c width row = refl
+
+-- when a band has moved, it is the row where it was
+pub moved_seen : (width : ℕ) (band : Band) (rows : List RowValue) (r from : ℕ) → r < length rows →
+    from ≡ band_source band (length rows) r →
+    row_or width (rows_moved width band (cut_rows width rows)) r
+    ≡ row_seen (r + 1 == length rows) width rows from
+moved_seen width band rows r from h f =
+    let cut = cut_rows width rows in
+    let size = length_cut width rows in
+    row_or-rows_moved width band cut r (omega arith)
+    ∙ (ap (λ (n : ℕ). unflagged_if (r + 1 == n) (row_or width cut (band_source band n r))) size
+    ∙ (ap (λ (k : ℕ). unflagged_if (r + 1 == length rows) (row_or width cut k)) (sym f)
+    ∙ (ap (unflagged_if (r + 1 == length rows)) (seen_at width rows from)
+    ∙ last_seen (r + 1 == length rows) (from + 1 == length rows) width (row_or width rows from))))
+
+-- ---- as the code finds them
+
+pub seen_is : (is_last ends : Bool) (above : Scrollback) (rows : List RowValue) (width r : ℕ) (found row : RowValue) →
+    ends ≡ (r + 1 == length rows) → found ≡ row_or width (visible above rows) r →
+    row ≡ cut_row (is_last || ends) width found → row ≡ row_seen is_last width (visible above rows) r
+seen_is is_last ends above rows width r found row e f g =
+    let seen = visible above rows in
+    g
+    ∙ (ap (λ (b : Bool). cut_row (is_last || b) width found)
+    (e ∙ ap (λ (n : ℕ). r + 1 == n) (sym (visible_length above rows)))
+    ∙ ap (cut_row (is_last || (r + 1 == length seen)) width) f)
+
+pub after_is : (above : Scrollback) (rows : List RowValue) (width : ℕ) (band : Band)
+    (r from : ℕ) (last : Bool) (row : RowValue) →
+    r < length rows → last ≡ (r + 1 == length rows) → ((past : ℕ) → from ≡ band_source band past r) →
+    row ≡ row_seen last width (visible above rows) from →
+    row ≡ row_or width (rows_moved width band (cut_rows width (visible above rows))) r
+after_is above rows width band r from last row h l f g =
+    let seen = visible above rows in
+    let tall = visible_length above rows in
+    g
+    ∙ (ap (λ (b : Bool). row_seen b width seen from) (l ∙ ap (λ (n : ℕ). r + 1 == n) (sym tall))
+    ∙ sym (moved_seen width band seen r from (omega arith) (f (length seen))))
+
+pub free_is : (above : Scrollback) (rows : List RowValue) (width : ℕ) (band : Band) (r : ℕ) (row : RowValue) →
+    r < length rows → ((past : ℕ) → past ≡ band_source band past r) → row ≡ blank_row default_attrs width →
+    row ≡ row_or width (rows_moved width band (cut_rows width (visible above rows))) r
+free_is above rows width band r row h f g =
+    let seen = visible above rows in
+    let tall = visible_length above rows in
+    g
+    ∙ (sym (row_past (r + 1 == length seen) width seen (length seen) (omega arith))
+    ∙ sym (moved_seen width band seen r (length seen) (omega arith) (f (length seen))))
+
+-- ---- a row of the view
+
+pub row_in_view : (s : Source) (above : Scrollback) (rows : List RowValue) (width : ℕ)
+    (pen : Pen) (hidden : Bool) (r : ℕ) (row : RowValue) →
+    s ≡ InView → row ≡ row_seen false width (visible above rows) r →
+    row ≡ row_or width (viewed s above rows width pen hidden).rows r
+row_in_view s above rows width pen hidden r row e f = rw e (f ∙ sym (seen_at width (visible above rows) r))
+
+pub row_blank : (s : Source) (above : Scrollback) (rows : List RowValue) (width : ℕ)
+    (pen : Pen) (hidden : Bool) (r : ℕ) (row : RowValue) →
+    s ≡ Blank → r < length rows → row ≡ blank_row default_attrs width →
+    row ≡ row_or width (viewed s above rows width pen hidden).rows r
+row_blank s above rows width pen hidden r row e h f = rw e (f ∙ sym (blank_at (length rows) width r h))
+
+pub row_after : (s : Source) (above : Scrollback) (rows : List RowValue) (width : ℕ) (pen : Pen)
+    (hidden : Bool) (band : Band) (r : ℕ) (row : RowValue) →
+    s ≡ Moved band → row ≡ row_or width (rows_moved width band (cut_rows width (visible above rows))) r →
+    row ≡ row_or width (viewed s above rows width pen hidden).rows r
+row_after s above rows width pen hidden band r row e f = rw e f
+
+-- the view of a picture of which a band has moved
+pub moved_is : (above : Scrollback) (page : Page) (rows : List RowValue) (width height row : ℕ)
+    (attrs drawn : Attrs) (hidden : Bool) (band : Band) →
+    rows ≡ page.rows → width ≡ page.width → height ≡ length page.rows →
+    row ≡ last_moved height band → drawn ≡ default_attrs →
+    viewed (Moved band) above rows width (pen_at row 0 drawn) hidden
+    ≡ moved band (picture_over (visible above page.rows)
+    (record { page = page; attrs = attrs; saved_attrs = attrs; hidden = hidden }))
+moved_is above page rows width height row attrs drawn hidden band e f g h k =
+    let cut = cut_rows page.width (visible above page.rows) in
+    let tall : length cut ≡ length page.rows =
+    length_cut page.width (visible above page.rows) ∙ visible_length above page.rows in
+    let same : row ≡ last_moved (length cut) band = h ∙ ap (λ (n : ℕ). last_moved n band) (g ∙ sym tall) in
+    rw (e, f, same, k) refl

@@ -1,5 +1,5 @@
 -- How the code reads pictures, and how far a writer has come; for models, private contracts and proofs only.
-use Rattle.std.specs.Prelude.{◌≡◌, ℕ, ◌+◌, ◌-◌, ◌<◌, ◌≤◌, ◌^◌, ◌&&◌, nat_lt, not, Bool, true}
+use Rattle.std.specs.Prelude.{◌≡◌, ℕ, ◌+◌, ◌-◌, ◌<◌, ◌≤◌, ◌^◌, ◌==◌, ◌&&◌, ◌||◌, nat_lt, not, Bool, true}
 use Rattle.std.specs.Prelude.{List, [], ◌++◌, length, replicate, drop, All, if◌then◌else◌}
 use Rattle.vt_cells.specs.Attrs.{default_attrs}
 use Rattle.vt_cells.specs.Cell.{CellValue, blank, default_blank, is_blank, is_wide, is_right_half, attrs_of}
@@ -10,9 +10,12 @@ use Rattle.vt_grid.specs.Scrollback.{Scrollback, IsScrollback, visible}
 use Rattle.vt_redraw.specs.Picture.{Picture, cut_rows}
 use Rattle.vt_redraw.specs.Script.{Scripted, Linked, cells_written, going_behind}
 use Rattle.vt_redraw.specs.Redraw.{rows_below}
+use Rattle.vt_redraw.specs.Moved.{rows_moved}
 use Rattle.vt_grid.specs.Page.{row_or}
 use Rattle.vt_redraw.specs.declared.links.Link.{Link}
 use Rattle.vt_redraw.specs.declared.pen.Pen.{Pen}
+use Rattle.vt_redraw.specs.declared.view.Source.{Source}
+use Rattle.vt_redraw.specs.declared.view.Source.TheVariants.{InView, Blank, Moved}
 
 -- cells, and one and the same cell behind them, in all this many columns
 abbrev pub filled : List CellValue → ℕ → CellValue → List CellValue
@@ -58,11 +61,20 @@ pub record IsSource (above : Scrollback) (rows : List RowValue) (width : ℕ) (p
   pub row : pen.row < length rows
   pub column : pen.col ≤ width
 
--- the picture that is read from them, or a blank one
-abbrev pub viewed : (is_blank : Bool) → Scrollback → List RowValue → ℕ → Pen → Bool → Picture
-viewed is_blank above rows width pen hidden = record {
-  rows =
-      if is_blank then replicate (length rows) (blank_row default_attrs width) else cut_rows width (visible above rows);
+-- a row of a picture over rows in view; past the end a blank one
+abbrev pub row_seen : (is_last : Bool) → ℕ → List RowValue → ℕ → RowValue
+row_seen is_last width rows r = cut_row (is_last || (r + 1 == length rows)) width (row_or width rows r)
+
+-- which rows the picture has that is read from them
+abbrev pub source_rows : Source → Scrollback → List RowValue → ℕ → List RowValue
+source_rows InView above rows width = cut_rows width (visible above rows)
+source_rows Blank above rows width = replicate (length rows) (blank_row default_attrs width)
+source_rows (Moved band) above rows width = rows_moved width band (cut_rows width (visible above rows))
+
+-- that picture
+abbrev pub viewed : Source → Scrollback → List RowValue → ℕ → Pen → Bool → Picture
+viewed source above rows width pen hidden = record {
+  rows = source_rows source above rows width;
   width = width;
   row = pen.row;
   column = pen.col;

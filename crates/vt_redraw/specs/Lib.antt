@@ -6,4 +6,5 @@ pub mod Redraw
 pub mod Touching
 pub mod Locality
 pub mod Items
+pub mod Moved
 pub mod Keeping

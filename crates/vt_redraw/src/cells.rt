@@ -193,6 +193,18 @@ fn pass(cells: &PictureRow<'_>, over: &PictureRow<'_>, col: u16, stop: usize) ->
     next
 }
 
+/// A column from `col` on, with nothing between them that needs something: the
+/// cells there are the same.
+#[inline]
+fn pass_same(cells: &PictureRow<'_>, over: &PictureRow<'_>, col: u16) -> u16
+    requires short { length cells.now.cells < 65536 }
+    requires range { IsRange cells.now.cells over.now.cells }
+    ensures order { col ≤ result }
+    ensures passed { Passes col result cells.now.cells over.now.cells }
+{
+    col + cells.same_run(over, col) as u16
+}
+
 /// The first column from `col` on that needs something, or else one where the
 /// row has ended. Where both rows have cells of their own and where only this
 /// one has, each is a loop over slices.
@@ -206,7 +218,8 @@ fn next_other(cells: &PictureRow<'_>, over: &PictureRow<'_>, col: u16) -> u16
 {
     let cols = usize::from(cells.cols());
     let own = cells.own_len();
-    let both = pass(cells, over, col, own.min(over.own_len()));
+    let same = pass_same(cells, over, col);
+    let both = pass(cells, over, same, own.min(over.own_len()));
     let alone = pass(cells, over, both, own);
     pass(cells, over, alone, cols)
 }

@@ -2,10 +2,13 @@
 //! redraw, and the difference from what that terminal shows already.
 #![tactic(auto)]
 
+pub mod band;
 mod cells;
 mod cursor_rule;
+pub mod guess;
 mod items;
 pub mod laws;
+pub mod lines;
 mod links;
 pub mod pen;
 pub mod picture_row;
@@ -13,7 +16,10 @@ pub mod redraw;
 mod script;
 pub mod view;
 
+pub use band::Band;
+pub use guess::likely_band;
 pub use items::{write_row_diff, write_row_formatted};
+pub use lines::{DeleteLines, InsertLines, write_moves};
 pub use pen::Pen;
 pub use picture_row::PictureRow;
 pub use redraw::{write_contents_diff, write_contents_formatted, write_cursor_state};

@@ -1,6 +1,6 @@
 //! The rows of a picture, read where they lie.
 
-ghost use Rattle.std.specs.Prelude.{◌≡◌, ◌-◌, ◌+◌, ◌<◌, ◌≤◌, ◌&&◌, ◌==◌, drop, false};
+ghost use Rattle.std.specs.Prelude.{◌≡◌, ◌-◌, ◌+◌, ◌<◌, ◌≤◌, ◌&&◌, ◌==◌, ℕ, drop, false};
 ghost use Rattle.std.specs.Prelude.{length, not, replicate, take, if◌then◌else◌};
 ghost use Rattle.vt_cells.specs.Attrs.{default_attrs};
 ghost use Rattle.vt_cells.specs.Cell.{attrs_of, blank, default_blank, is_blank, is_right_half, is_wide};
@@ -10,6 +10,7 @@ ghost use Rattle.vt_redraw.specs.Keeping.{cut_row, end_of, kept_len};
 ghost use Rattle.vt_redraw.specs.Script.{is_blank_of, is_torn, last_column, blank_run};
 
 use std::marker::Model;
+use vt_cells::runs::same_run;
 use vt_cells::{Attrs, Cell};
 use vt_rows::RowContents;
 use vt_rows::capture::cells_of;
@@ -101,7 +102,7 @@ impl<'a> PictureRow<'a> {
         let kept = self.cells.len().min(usize::from(stop));
         PictureRow {
             cells: &self.cells[..kept],
-            end: self.end.copied(),
+            end: self.end,
             cols: stop,
             wrapped: self.wrapped,
         }
@@ -136,6 +137,22 @@ impl<'a> PictureRow<'a> {
         } else {
             &self.end
         }
+    }
+
+    /// How many cells from a column on are the same as those of another row, as
+    /// far as both have cells of their own; some behind them may be, too. Four
+    /// are compared at once.
+    pub fn same_run(&self, other: &PictureRow<'_>, col: u16) -> usize
+        ensures inside { 0 < result → col + result ≤ length self.now.cells }
+        ensures same { (k : ℕ) → k < result
+            → at self.now.cells (col + k) ≡ at other.now.cells (col + k) }
+    {
+        let start = usize::from(col);
+        let stop = self.cells.len().min(other.cells.len());
+        if stop <= start {
+            return 0;
+        }
+        same_run(&self.cells[start..stop], &other.cells[start..stop])
     }
 
     /// Whether the row's text goes on in the row below.

@@ -1,17 +1,33 @@
 //! What a screen shows, read where it lies.
 
-ghost use Rattle.std.specs.Prelude.{◌≡◌, ◌<◌, ◌+◌, ◌==◌, length};
+ghost use Rattle.std.specs.Prelude.{◌≡◌, ◌<◌, ◌+◌, ◌==◌, All, length};
 ghost use Rattle.vt_grid.specs.Page.{IsPage, row_or};
 ghost use Rattle.vt_grid.specs.Scrollback.{IsScrollback, visible};
 ghost use Rattle.vt_rows.specs.Row.{IsRow};
-ghost use Rattle.vt_redraw.specs.Picture.{IsPicture, picture_over};
+ghost use Rattle.vt_redraw.specs.Keeping.{row_seen};
+ghost use Rattle.vt_redraw.specs.Moved.{IsBand, moved, rows_moved};
+ghost use Rattle.vt_redraw.specs.Picture.{IsPicture, cut_rows, picture_over};
 ghost use Rattle.vt_redraw.specs.Redraw.{blank_like, pen_of};
 
+use crate::band::Band;
 use crate::pen::Pen;
 use crate::picture_row::PictureRow;
 use std::marker::Model;
 use vt_cells::Attrs;
 use vt_grid::{Grid, Scrollback, Sheet};
+
+/// Which rows a picture has.
+#[derive(Clone, Copy, PartialEq, Eq, Debug)]
+pub(crate) enum Source {
+    /// Those that are in view.
+    InView,
+
+    /// Default blanks, as many.
+    Blank,
+
+    /// Those in view, of which a band has moved.
+    Moved(Band),
+}
 
 /// The picture of a screen: the rows that are in view, each cut to the
 /// screen's columns, the cursor, the attributes and whether the cursor is
@@ -23,7 +39,7 @@ pub struct View<'a> {
     cols: u16,
     pen: Pen,
     hidden: bool,
-    is_blank: bool,
+    source: Source,
 }
 
 impl<'a> Model for View<'a> {
@@ -33,7 +49,7 @@ impl<'a> Model for View<'a> {
 
     ghost Value = { Picture };
 
-    ghost view = { λ v. viewed v.is_blank v.above.now v.rows.now.rows v.cols v.pen v.hidden };
+    ghost view = { λ v. viewed v.source v.above.now v.rows.now.rows v.cols v.pen v.hidden };
 
     ghost invariant = { λ v. IsSource v.above.now v.rows.now.rows v.cols v.pen × (v.rows.now.width ≡ v.cols) };
 }
@@ -60,7 +76,33 @@ impl<'a> View<'a> {
             cols: grid.size().cols,
             pen,
             hidden,
-            is_blank: false,
+            source: Source::InView,
+        }
+    }
+
+    /// The picture that a terminal shows which showed that of a page, and then
+    /// moved a band of its rows.
+    pub fn moved(above: &'a Scrollback, grid: &'a Grid, hidden: bool, band: Band) -> View<'a>
+        requires above { IsScrollback above.now }
+        requires page { IsPage grid.now }
+        requires band { IsBand (length grid.now.rows) band }
+        ensures { (attrs : Attrs) → result
+            ≡ moved band (picture_over (visible above.now grid.now.rows)
+            (record { page = grid.now; attrs = attrs; saved_attrs = attrs; hidden = hidden })) }
+    {
+        let size = grid.size();
+        let pen = Pen {
+            row: band.last_moved(size.rows),
+            col: 0,
+            attrs: Attrs::new(),
+        };
+        View {
+            above,
+            rows: grid.rows(),
+            cols: size.cols,
+            pen,
+            hidden,
+            source: Source::Moved(band),
         }
     }
 
@@ -75,7 +117,7 @@ impl<'a> View<'a> {
             cols: self.cols,
             pen: Pen::new(),
             hidden: self.hidden,
-            is_blank: true,
+            source: Source::Blank,
         }
     }
 
@@ -121,13 +163,60 @@ impl<'a> View<'a> {
         ensures sound { IsRow self.now.width result }
         ensures some { 0 < length result.cells }
     {
-        if self.is_blank {
-            return PictureRow::blank(self.cols);
+        match self.source {
+            Source::InView => row_seen(self.above, self.rows, self.cols, row, false),
+            Source::Blank => PictureRow::blank(self.cols),
+            Source::Moved(band) => row_moved(self.above, self.rows, self.cols, band, row),
         }
-        let is_last = usize::from(row) + 1 == self.rows.len();
-        match self.above.visible_row(self.rows, row) {
-            Some(found) => PictureRow::cut(&found, self.cols, is_last),
-            None => PictureRow::blank(self.cols),
-        }
+    }
+}
+
+/// A row of those in view, cut to a picture's columns; past the last one a blank
+/// row. As the last one of a picture it does not go on below.
+fn row_seen<'a>(
+    above: &'a Scrollback,
+    rows: &'a Sheet,
+    cols: u16,
+    row: u16,
+    is_last: bool,
+) -> PictureRow<'a>
+    requires above { IsScrollback above.now }
+    requires page { All (IsRow rows.now.width) rows.now.rows }
+    requires width { rows.now.width ≡ cols }
+    requires some { 0 < cols }
+    ensures { result ≡ row_seen is_last cols (visible above.now rows.now.rows) row }
+{
+    let last = is_last | ends(rows, row);
+    match above.visible_row(rows, row) {
+        Some(found) => PictureRow::cut(&found, cols, last),
+        None => PictureRow::blank(cols),
+    }
+}
+
+/// Whether this is the last row of a page.
+fn ends(rows: &Sheet, row: u16) -> bool
+    ensures { result ≡ (row + 1 == length rows.now.rows) }
+{
+    usize::from(row) + 1 == rows.len()
+}
+
+/// A row of a picture of which a band has moved, read where it was.
+fn row_moved<'a>(
+    above: &'a Scrollback,
+    rows: &'a Sheet,
+    cols: u16,
+    band: Band,
+    row: u16,
+) -> PictureRow<'a>
+    requires above { IsScrollback above.now }
+    requires page { All (IsRow rows.now.width) rows.now.rows }
+    requires width { rows.now.width ≡ cols }
+    requires some { 0 < cols }
+    requires inside { row < length rows.now.rows }
+    ensures { result ≡ row_or cols (rows_moved cols band (cut_rows cols (visible above.now rows.now.rows))) row }
+{
+    match band.source(row) {
+        Some(from) => row_seen(above, rows, cols, from, ends(rows, row)),
+        None => PictureRow::blank(cols),
     }
 }

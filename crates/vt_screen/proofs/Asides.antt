@@ -285,7 +285,7 @@ reported_if false gone active idle whole w n = ap (reported gone) (sym w)
 pub takes_if : (b : Bool) (gone : List RowValue) (active idle whole : Scrollback)
     → whole ≡ main_scrollback b active idle → IsNothing (alternate_scrollback b active idle)
     → TakesMemory gone active → TakesMemory gone (if b then no_scrollback 0 else whole)
-takes_if true gone active idle whole w n t = (t.0, rw (← n.capacity) t.1)
+takes_if true gone active idle whole w n t = absurd (omega (arith, n.capacity, t.1.0))
 takes_if false gone active idle whole w n t = rw w t
 
 pub visible_if : (b : Bool) (rows : List RowValue) (active idle whole : Scrollback)

@@ -77,7 +77,7 @@ pub record Redraws (Reader : ScreenValue → Type 0) (picture : Picture) (text :
   pub cursor : Makes Reader text (HasCursor picture)
   pub rest : Makes Reader text KeepsRest
 
-redraws : (Reader : ScreenValue → Type 0) (picture : Picture) (text : List ℕ)
+pub redraws : (Reader : ScreenValue → Type 0) (picture : Picture) (text : List ℕ)
     → IsPicture picture → ((reader : ScreenValue) → Reader reader → IsReader picture reader)
     → ((reader : ScreenValue) → Reader reader → Becomes picture text reader)
     → Redraws Reader picture text

@@ -1,17 +1,15 @@
 -- The texts of rows that are written one by one.
 use Rattle.std.proofs.Common.{◌≡◌, ℕ, zero, suc, ◌+◌, ◌-◌, ◌<◌, ◌≤◌, Bool, true, false, List}
 use Rattle.std.proofs.Common.{[], ◌∷◌, ◌++◌, length, take, drop, get_or, refl, sym, ap, ap₂}
-use Rattle.std.proofs.Common.{◌∙◌, append_assoc, append-nil, arith, if◌then◌else◌}
+use Rattle.std.proofs.Common.{◌∙◌, append_assoc, append-nil, length-append, subst, arith, if◌then◌else◌}
 use Rattle.std.specs.List.{slice_range}
 use Rattle.std.proofs.Math.Seq.{take-suc}
-use Rattle.std.proofs.lemmas.List.{get_or-drop, length-drop, drop-append-le, length-take}
+use Rattle.std.proofs.lemmas.List.{get_or-drop, length-drop, drop-append-le}
+use Rattle.vt_cells.specs.Sinks.{IsStopped}
 use Rattle.vt_rows.specs.Basic.{Written, basic_text, written_after}
 use Rattle.vt_rows.specs.Row.{RowValue}
 use Rattle.vt_grid.specs.Scrollback.{Scrollback, no_scrollback, visible}
-use Rattle.vt_screen.specs.Capture.{IsBehindSome, basic_texts, written_after_all}
-use Rattle.std.specs.Result.{OnErr}
-use Rattle.std.specs.declared.result.Result.{Result}
-use Rattle.std.specs.declared.result.Result.TheVariants.{Ok, Err}
+use Rattle.vt_screen.specs.Capture.{StopsBehind, basic_texts, written_after_all}
 use Rattle.vt_screen.specs.Keeping.{IsAbove, IsNothing, alternate_scrollback, main_scrollback}
 
 pub texts_more : (before : Written) (rows : List RowValue) (row : RowValue) →
@@ -43,23 +41,6 @@ pub slice_none : {X : Type 0} (xs : List X) (start : ℕ) → slice_range xs sta
 slice_none xs start =
     let none : start - start ≡ 0 = omega arith in
     ap (λ n. take n (drop start xs)) none
-
-pub length-slice : {X : Type 0} (xs : List X) (start end : ℕ) → start ≤ end →
-    end ≤ length xs → length (slice_range xs start end) ≡ end - start
-length-slice xs start end le most =
-    let cut = length-take (end - start) (drop start xs) in
-    let left = length-drop start xs in
-    omega arith
-
-take_of_take : {X : Type 0} (m n : ℕ) (xs : List X) → m ≤ n → take m (take n xs) ≡ take m xs
-take_of_take zero n xs le = refl
-take_of_take (suc m) zero xs le = absurd (omega arith)
-take_of_take (suc m) (suc n) [] le = refl
-take_of_take (suc m) (suc n) (x ∷ xs) le = ap (λ ys. x ∷ ys) (take_of_take m n xs (omega arith))
-
-pub slice_front : {X : Type 0} (xs : List X) (start k end : ℕ) → start ≤ k →
-    k ≤ end → take (k - start) (slice_range xs start end) ≡ slice_range xs start k
-slice_front xs start k end low high = take_of_take (k - start) (end - start) (drop start xs) (omega arith)
 
 pub slice_whole : {X : Type 0} (xs : List X) (n : ℕ) → n ≡ length xs → slice_range xs 0 n ≡ xs
 slice_whole xs n e =
@@ -110,18 +91,68 @@ after_step before state after rows longer row behind wrote more =
     wrote ∙ ap (λ w. written_after w row) behind
     ∙ sym (after_more before rows row) ∙ ap (written_after_all before) (sym more)
 
-pub on_err_any : {T E P : Type 0} (r : Result T E) → P → OnErr r P
-on_err_any (Ok x) p = tt
-on_err_any (Err e) p = p
+-- the front of a list, one item of it, and those behind that
+take_split : {X : Type 0} (xs : List X) (m n : ℕ) (d : X) → m < n → m < length xs →
+    take n xs ≡ take m xs ++ get_or xs m d ∷ take (n - suc m) (drop (suc m) xs)
+take_split [] m n d lt inside = let none : ⊥ = omega (arith, inside) in absurd none
+take_split (x ∷ xs) m zero d lt inside = let none : ⊥ = omega (arith, lt) in absurd none
+take_split (x ∷ xs) zero (suc n) d lt inside =
+    let same : suc n - 1 ≡ n = omega arith in
+    rw same refl
+take_split (x ∷ xs) (suc m) (suc n) d lt inside =
+    let same : suc n - suc (suc m) ≡ n - suc m = omega arith in
+    rw same (ap (λ ys. x ∷ ys) (take_split xs m n d (omega (arith, lt)) (omega (arith, inside))))
 
--- refused at a row: the state is that behind those before it
-pub behind_some : (before after : Written) (rows : List RowValue) (start k end : ℕ)
-    → start ≤ k → k < end → end ≤ length rows
-    → after ≡ written_after_all before (slice_range rows start k)
-    → IsBehindSome before (slice_range rows start end) after
-behind_some before after rows start k end low high inside e =
-    let many = length-slice rows start end (omega arith) inside in
-    (k - start, omega arith, e ∙ ap (written_after_all before) (sym (slice_front rows start k end low (omega arith))))
+-- a sink stopped in a row behind those that were written
+pub stopped_behind : (refuses : List ℕ → List ℕ → List ℕ → Type 0) (start front text : List ℕ)
+    (before state after : Written) (rows : List RowValue) (first k last : ℕ) (row : RowValue)
+    → first ≤ k → k < last → last ≤ length rows → get_or rows k row ≡ row
+    → front ≡ start ++ basic_texts before (slice_range rows first k)
+    → state ≡ written_after_all before (slice_range rows first k) → after ≡ state
+    → 0 < length (basic_text state row) → IsStopped refuses front (basic_text state row) text
+    → StopsBehind refuses start before (slice_range rows first last) text after
+stopped_behind refuses start front text before state after rows first k last row low high inside here ahead behind same
+    some stopped =
+    let long = length-drop first rows in
+    let there : first + (k - first) ≡ k = omega arith in
+    let item = get_or-drop first rows (k - first) row ∙ ap (λ n. get_or rows n row) there ∙ here in
+    let left = take (last - first - suc (k - first)) (drop (suc (k - first)) (drop first rows)) in
+    record {
+      whole = slice_range rows first k;
+      row = row;
+      left = left;
+      parts =
+          take_split (drop first rows) (k - first) (last - first) row (omega arith) (omega arith)
+          ∙ ap (λ (x : RowValue). slice_range rows first k ++ x ∷ left) item;
+      written = same ∙ behind;
+      some = subst (λ (w : Written). 0 < length (basic_text w row)) (sym same) some;
+      stopped =
+          subst (λ (w : Written). IsStopped refuses (start ++ basic_texts before (slice_range rows first k))
+          (basic_text w row) text) (sym same)
+          (subst (λ (xs : List ℕ). IsStopped refuses xs (basic_text state row) text) ahead stopped);
+    }
+
+texts_split : (before : Written) (rows more : List RowValue) →
+    basic_texts before (rows ++ more) ≡ basic_texts before rows ++ basic_texts (written_after_all before rows) more
+texts_split before [] more = refl
+texts_split before (first ∷ rows) more =
+    ap (λ (rest : List ℕ). basic_text before first ++ rest) (texts_split (written_after before first) rows more)
+    ∙ sym (append_assoc (basic_text before first) (basic_texts (written_after before first) rows)
+    (basic_texts (written_after_all (written_after before first) rows) more))
+
+-- rows have a text if one of them has
+pub some_texts : (refuses : List ℕ → List ℕ → List ℕ → Type 0) (start text : List ℕ) (before state : Written)
+    (rows : List RowValue) → StopsBehind refuses start before rows text state → 0 < length (basic_texts before rows)
+some_texts refuses start text before state rows stops =
+    let some = stops.some in
+    let rest = basic_texts (written_after state stops.row) stops.left in
+    let all : basic_texts before rows ≡ basic_texts before stops.whole ++ (basic_text state stops.row ++ rest) =
+    ap (basic_texts before) stops.parts ∙ texts_split before stops.whole (stops.row ∷ stops.left)
+    ∙ ap (λ (w : Written). basic_texts before stops.whole ++ basic_texts w (stops.row ∷ stops.left)) (sym stops.written) in
+    let long = ap (λ (xs : List ℕ). length xs) all in
+    let one = length-append (basic_texts before stops.whole) (basic_text state stops.row ++ rest) in
+    let two = length-append (basic_text state stops.row) rest in
+    omega arith
 
 pub active_in_view : (is_alternate : Bool) (active idle : Scrollback)
     → IsNothing (alternate_scrollback is_alternate active idle) → IsAbove (main_scrollback is_alternate active idle)

@@ -6,6 +6,7 @@ pub mod Seen
 pub mod Redrawing
 pub mod Became
 pub mod Telling
+pub mod MovedRead
 pub mod AnyRegion
 pub mod Chains
 pub mod Viewing

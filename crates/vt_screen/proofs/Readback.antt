@@ -97,7 +97,7 @@ count_read : (n : ℕ) (rest : List (List ℕ)) → 0 < n → number_or 1 0 ((n 
 count_read n rest h = let t : (n == 0) ≡ false = grind (arith, nat_tests) in rw t refl
 
 -- with a count: the step that the sequence is, with this count
-counted_read : (n final : ℕ) (step : ℕ → steps.Step) (screen : ScreenValue) → suc n < 2 ^ 16 → IsFinal final
+pub counted_read : (n final : ℕ) (step : ℕ → steps.Step) (screen : ScreenValue) → suc n < 2 ^ 16 → IsFinal final
     → ((groups : List (List ℕ))
     → quiet_steps (plain_steps groups final (seen_of screen)) screen
     ≡ Some (stepped (step (number_or 1 0 groups)) screen))
@@ -144,7 +144,7 @@ place_read zero zero screen = refl
 place_read zero (suc col) screen = placed zero (suc col) screen
 place_read (suc row) col screen = placed (suc row) col screen
 
-moved_to_read : (row col : ℕ) (screen : ScreenValue) → row < 65535 → col < 65535
+pub moved_to_read : (row col : ℕ) (screen : ScreenValue) → row < 65535 → col < 65535
     → read (terminal start screen) (csi (place row col) 0x48)
     ≡ Some (terminal start (stepped (steps.MoveTo row col) screen))
 moved_to_read row col screen low narrow =

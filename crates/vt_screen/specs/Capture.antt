@@ -1,8 +1,9 @@
 -- Captures: the basic texts of rows, one behind the other.
-use Rattle.std.specs.Prelude.{◌≡◌, ℕ, ◌<◌, List, [], ◌∷◌, ◌++◌, length, take, ◌⊎◌, ⊤}
+use Rattle.std.specs.Prelude.{◌≡◌, ℕ, ◌<◌, List, [], ◌∷◌, ◌++◌, length, ◌⊎◌, ⊤}
 use Rattle.std.proofs.Common.{inl, inr}
 use Rattle.std.specs.Borrow.{MutBor}
 use Rattle.std.specs.List.{fold}
+use Rattle.vt_cells.specs.Sinks.{IsStopped}
 use Rattle.vt_rows.specs.Basic.{Written, unwritten, basic_text, written_after}
 use Rattle.vt_rows.specs.Row.{RowValue}
 use Rattle.vt_rows.specs.declared.capture.BasicFormattedCaptureRange.{BasicFormattedCaptureRange}
@@ -40,6 +41,14 @@ abbrev pub IfGiven : RangeLeft → (Written → Type 0) → Type 0
 IfGiven (inl full) P = P full.0.now
 IfGiven (inr visible) P = ⊤
 
--- the state is that behind some first rows, not all of them
-abbrev pub IsBehindSome : Written → List RowValue → Written → Type 0
-IsBehindSome before rows after = (n : ℕ) × (n < length rows) × (after ≡ written_after_all before (take n rows))
+-- the sink took some first rows whole, and stopped in the text of the row behind them, which isn't empty; the state is
+-- that behind the whole rows
+pub record StopsBehind (refuses : List ℕ → List ℕ → List ℕ → Type 0) (start : List ℕ) (before : Written)
+    (rows : List RowValue) (text : List ℕ) (state : Written) : Type 0 where
+  pub whole : List RowValue
+  pub row : RowValue
+  pub left : List RowValue
+  pub parts : rows ≡ whole ++ row ∷ left
+  pub written : state ≡ written_after_all before whole
+  pub some : 0 < length (basic_text state row)
+  pub stopped : IsStopped refuses (start ++ basic_texts before whole) (basic_text state row) text

@@ -1,8 +1,9 @@
 //! The screen of a terminal.
 
-ghost use Rattle.std.specs.Prelude.{◌≡◌, ◌≢◌, ◌<◌, ◌↔◌, IfOk, IfSome, IsSome, None, OnOk, Some, false, length};
+ghost use Rattle.std.specs.Prelude.{◌≡◌, ◌≢◌, ◌<◌, ◌↔◌, IfOk, IfSome, IsSome, None, OnOk, Some, false, length, true};
 ghost use Rattle.vt_cells.specs.Attrs.{is_bold, is_dim};
 ghost use Rattle.vt_cells.specs.Refusals.{OnlyOutOfMemory};
+ghost use Rattle.vt_grid.specs.Page.{SameSize};
 ghost use Rattle.vt_rows.specs.Cells.{at};
 ghost use Rattle.vt_screen.specs.Screen.{IsColored, IsScreen, fresh_screen, visible_row};
 
@@ -10,6 +11,7 @@ mod capture;
 mod contents;
 mod controls;
 mod input;
+mod moved;
 mod pages;
 mod printing;
 mod redraw;
@@ -31,7 +33,6 @@ use vt_rows::capture::cell_of;
 /// A terminal's screen: two pages of cells, each with its cursor, of which one
 /// is active; scrollback above the main one; the attributes that new text is
 /// drawn with, and the modes that a program set.
-#[derive(Drop)]
 pub struct Screen {
     alloc: Global,
     grid: Grid,
@@ -66,6 +67,26 @@ impl Model for Screen {
 
     ghost invariant = { λ s. IsKept s.grid s.last
         (record { other = s.other; is_alternate = s.is_alternate; active = s.scrollback; idle = s.other_scrollback }) };
+}
+
+// One call wherever a screen is given up: a derived drop is taken apart field by field in each
+// caller's proof, at each of its exits.
+impl Drop for Screen {
+    fn drop(self) {
+        let Screen {
+            alloc: _,
+            grid: _,
+            attrs: _,
+            saved_attrs: _,
+            hidden: _,
+            modes: _,
+            last: _,
+            scrollback: _,
+            other: _,
+            other_scrollback: _,
+            is_alternate: _,
+        } = self;
+    }
 }
 
 impl Screen {
@@ -144,6 +165,23 @@ impl Screen {
         let size = self.grid.size();
         self.sound();
         (non_zero(size.rows), non_zero(size.cols))
+    }
+
+    /// Whether the other screen has as many rows and as many columns as this
+    /// one. [`Screen::contents_diff`], [`Screen::state_diff`] and
+    /// [`Screen::rows_diff`] ask for such a pair.
+    ///
+    /// ```text
+    /// let update = if screen.is_sized_as(&before) {
+    ///     screen.contents_diff(&before)?
+    /// } else {
+    ///     screen.contents_formatted()?
+    /// };
+    /// ```
+    pub fn is_sized_as(&self, other: &Screen) -> bool
+        ensures { result ≡ true ↔ SameSize self.now.page other.now.page }
+    {
+        self.size() == other.size()
     }
 
     /// The cell at a row and a column of what is shown, counted from 0: None

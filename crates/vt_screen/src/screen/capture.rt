@@ -4,9 +4,9 @@ ghost use Rattle.std.specs.Prelude.{◌≡◌, ◌+◌, ◌<◌, ◌≤◌, ◌�
 ghost use Rattle.std.specs.Prelude.{OnErr, OnOk, length, slice_index_or, string_bytes};
 ghost use Rattle.std.specs.List.{slice_range};
 ghost use Rattle.vt_cells.specs.Refusals.{OnlyOutOfMemory};
-ghost use Rattle.vt_rows.specs.Basic.{unwritten};
+ghost use Rattle.vt_rows.specs.Basic.{Written, unwritten};
 ghost use Rattle.vt_rows.specs.Row.{RowValue, IsRow};
-ghost use Rattle.vt_screen.specs.Capture.{IfGiven, IsBehindSome, all_rows, basic_texts};
+ghost use Rattle.vt_screen.specs.Capture.{IfGiven, StopsBehind, all_rows, basic_texts};
 ghost use Rattle.vt_screen.specs.Capture.{captured_rows, given_state, written_after_all};
 ghost use Rattle.vt_screen.specs.CaptureText.{IsCaptureText};
 ghost use Rattle.vt_screen.specs.Screen.{visible_rows};
@@ -27,11 +27,12 @@ impl Screen {
     /// The text counts on default attributes where it begins, and does not go
     /// back to them at its end.
     ///
-    /// Fails where memory for the text is refused.
+    /// Fails where memory for the text is refused; an empty text needs none.
     pub fn contents_formatted_basic(&self) -> Result<String, Error>
         ensures text { IfOk result (λ text. string_bytes text ≡ basic_texts unwritten (visible_rows self.now)) }
         ensures controls { IfOk result (λ text. IsCaptureText (string_bytes text)) }
         ensures memory { OnlyOutOfMemory result }
+        ensures some { OnErr result (0 < length (basic_texts unwritten (visible_rows self.now))) }
     {
         let mut text = String::new(self.alloc);
         match self.write_contents_formatted_basic(&mut text, BasicFormattedCaptureRange::Visible) {
@@ -43,8 +44,10 @@ impl Screen {
     /// Writes the basic text of the rows of `range`: their text and SGR, and
     /// nothing else.
     ///
-    /// An error is the sink's own; then nothing more was written, and the
-    /// caller's state is as after the last row that was written whole.
+    /// An error is the sink's own; then nothing more was written. The sink took
+    /// some first rows whole and stopped in the next one, and the caller's
+    /// state is that behind the whole rows. What the sink holds of the next one
+    /// is for it to say: a string has the pieces that it took, each as a whole.
     pub fn write_contents_formatted_basic<S: Sink>(
         &self,
         sink: &mut S,
@@ -54,8 +57,11 @@ impl Screen {
             ≡ S.text sink.old ++ basic_texts (given_state range.entry) (captured_rows range.entry self.now)) }
         ensures state { OnOk result (IfGiven range.exit
             (λ state. state ≡ written_after_all (given_state range.entry) (captured_rows range.entry self.now))) }
-        ensures err { OnErr result
-            (IfGiven range.exit (IsBehindSome (given_state range.entry) (captured_rows range.entry self.now))) }
+        ensures err { OnErr result ((state : Written)
+            × (StopsBehind S.refuses (S.text sink.old) (given_state range.entry) (captured_rows range.entry self.now)
+            (S.text sink.new) state × IfGiven range.exit (λ given. given ≡ state))) }
+        ensures some { OnErr result
+            (0 < length (basic_texts (given_state range.entry) (captured_rows range.entry self.now))) }
     {
         match range {
             BasicFormattedCaptureRange::Full(state) => self.write_all_rows(sink, state),
@@ -74,7 +80,8 @@ impl Screen {
     ) -> Result<(), S::Error>
         ensures text { OnOk result (S.text sink.new ≡ S.text sink.old ++ basic_texts state.old (all_rows self.now)) }
         ensures state { OnOk result (state.new ≡ written_after_all state.old (all_rows self.now)) }
-        ensures err { OnErr result (IsBehindSome state.old (all_rows self.now) state.new) }
+        ensures err { OnErr result
+            (StopsBehind S.refuses (S.text sink.old) state.old (all_rows self.now) (S.text sink.new) state.new) }
     {
         let end = self.scrollback.stacked_len(self.grid.rows());
         self.write_rows(sink, state, 0, end)
@@ -89,7 +96,8 @@ impl Screen {
         ensures text { OnOk result
             (S.text sink.new ≡ S.text sink.old ++ basic_texts state.old (visible_rows self.now)) }
         ensures state { OnOk result (state.new ≡ written_after_all state.old (visible_rows self.now)) }
-        ensures err { OnErr result (IsBehindSome state.old (visible_rows self.now) state.new) }
+        ensures err { OnErr result
+            (StopsBehind S.refuses (S.text sink.old) state.old (visible_rows self.now) (S.text sink.new) state.new) }
     {
         let rows = self.grid.rows();
         let end = self.scrollback.stacked_len(rows) - self.scrollback.offset();
@@ -110,7 +118,8 @@ impl Screen {
             (S.text sink.new ≡ S.text sink.old ++ basic_texts state.old (slice_range (all_rows self.now) start end)) }
         ensures state { OnOk result
             (state.new ≡ written_after_all state.old (slice_range (all_rows self.now) start end)) }
-        ensures err { OnErr result (IsBehindSome state.old (slice_range (all_rows self.now) start end) state.new) }
+        ensures err { OnErr result (StopsBehind S.refuses (S.text sink.old) state.old
+            (slice_range (all_rows self.now) start end) (S.text sink.new) state.new) }
     {
         for index in start..end {
             let row = self.scrollback.stacked_row(self.grid.rows(), index);

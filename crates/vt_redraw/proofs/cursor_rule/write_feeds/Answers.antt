@@ -8,7 +8,7 @@ pub loop-preserved : goal.loop-preserved
 loop-preserved g c =
     let l = c.loop in
     let start = g.S.Sink.text c.args.sink.now in
-    c.in_ok-write_buf.ensures
+    c.in_ok-write_buf.ensures.text
     ∙ (ap (λ text. text ++ 0x0A ∷ []) l.invariant
     ∙ (append_assoc start (bytes_of_all (replicate l.counter LineFeed)) (0x0A ∷ [])
     ∙ ap (λ bytes. start ++ bytes) (sym (feeds_more l.counter))))

@@ -15,7 +15,6 @@ returns-clause-cells c =
     let same = c.from.ensures in
     let least = c.min-kept.ensures in
     let kept : c.min-kept.result ≡ min (length v.cells.now) stop = omega arith in
-    ap (λ n. filled (take n v.cells.now) stop c.copied.result) kept
-    ∙ (ap (λ e. filled (take (min (length v.cells.now) stop) v.cells.now) stop e) c.copied.ensures
+    ap (λ n. filled (take n v.cells.now) stop v.end) kept
     ∙ (filled_taken v.cells.now v.cols stop v.end (omega arith) inside
-    ∙ ap (λ (z : RowValue). take stop z.cells) c.self.view_is))
+    ∙ ap (λ (z : RowValue). take stop z.cells) c.self.view_is)

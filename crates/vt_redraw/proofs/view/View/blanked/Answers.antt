@@ -6,5 +6,5 @@ use Rattle.vt_redraw.proofs.view.View.blanked.Goals as goal
 pub returns : goal.returns
 returns c =
     let v = c.self.inside in
-    blanked_is v.is_blank v.above.now v.rows.now.rows v.cols v.pen c.new.result v.hidden c.new.ensures
+    blanked_is v.source v.above.now v.rows.now.rows v.cols v.pen c.new.result v.hidden c.new.ensures
     ∙ ap blank_like c.self.view_is

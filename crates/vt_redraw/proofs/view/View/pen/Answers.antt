@@ -7,4 +7,4 @@ pub returns-clause-inside : goal.returns-clause-inside
 returns-clause-inside c =
     let v = c.self.inside in
     subst (λ (p : Picture). p.row < length p.rows) c.self.view_is
-    (viewed_row v.is_blank v.above.now v.rows.now.rows v.cols v.pen v.hidden c.self.invariant.0)
+    (viewed_row v.source v.above.now v.rows.now.rows v.cols v.pen v.hidden c.self.invariant.0)

@@ -1,59 +1,64 @@
-use Rattle.std.proofs.Common.{◌+◌, length, nat_eq, sym, ap, subst, ◌∙◌, arith}
-use Rattle.std.proofs.lemmas.Bool.{false≢true}
-use Rattle.vt_cells.specs.Attrs.{default_attrs}
-use Rattle.vt_rows.specs.Row.{RowValue, IsRow, blank_row}
-use Rattle.vt_rows.specs.Cells.{IsPaired}
+use Rattle.std.proofs.Common.{length, sym, ap, subst, ◌∙◌, arith}
+use Rattle.vt_rows.specs.Row.{RowValue, IsRow}
 use Rattle.vt_grid.specs.Page.{row_or}
 use Rattle.vt_redraw.specs.Picture.{Picture}
-use Rattle.vt_redraw.proofs.Filling.{resized_columns}
-use Rattle.vt_redraw.proofs.Viewing.{visible_paired, viewed_height, row_is, row_sound}
+use Rattle.vt_redraw.proofs.Viewing.{row_after, row_in_view, row_sound, viewed_height}
 use Rattle.vt_redraw.proofs.view.View.row.Goals as goal
 
-pub cut-requires-clause-paired : goal.cut-requires-clause-paired
-cut-requires-clause-paired c =
+pub row_moved-requires-clause-inside : goal.row_moved-requires-clause-inside
+row_moved-requires-clause-inside c =
     let v = c.self.inside in
     let size = ap (λ (p : Picture). length p.rows) (sym c.self.view_is)
-    ∙ viewed_height v.is_blank v.above.now v.rows.now.rows v.cols v.pen v.hidden in
+    ∙ viewed_height v.source v.above.now v.rows.now.rows v.cols v.pen v.hidden in
     let asked = c.requires in
-    let row = visible_paired v.above.now v.rows.now.rows v.cols c.args.row
-    c.self.invariant.0.scrollback c.self.invariant.0.page (omega arith) in
-    subst (λ (z : RowValue). IsPaired z.cells)
-    (sym (c.in-Some.ensures.value (blank_row default_attrs v.cols))) row.paired
+    omega arith
 
-pub returns-in-Some-clause-value : goal.returns-in-Some-clause-value
-returns-in-Some-clause-value c =
+pub returns-in-InView-clause-value : goal.returns-in-InView-clause-value
+returns-in-InView-clause-value c =
     let v = c.self.inside in
-    let size = ap (λ (p : Picture). length p.rows) (sym c.self.view_is)
-    ∙ viewed_height v.is_blank v.above.now v.rows.now.rows v.cols v.pen v.hidden in
-    let asked = c.requires in
-    row_is v.is_blank v.above.now v.rows.now.rows v.cols v.pen v.hidden (nat_eq (c.from.result + 1) c.len.result)
-    c.args.row c.in-Some.found c.cut.result c.if-self.false (omega arith)
-    (λ z. nat_eq (c.from.ensures z + 1) (c.len.ensures z))
-    (c.in-Some.ensures.value (blank_row default_attrs v.cols)) c.cut.ensures
+    row_in_view v.source v.above.now v.rows.now.rows v.cols v.pen v.hidden c.args.row
+    c.row_seen.result c.in-InView.is c.row_seen.ensures
     ∙ ap (λ (p : Picture). row_or p.width p.rows c.args.row) c.self.view_is
 
-pub returns-in-Some-clause-sound : goal.returns-in-Some-clause-sound
-returns-in-Some-clause-sound c =
+pub returns-in-InView-clause-sound : goal.returns-in-InView-clause-sound
+returns-in-InView-clause-sound c =
     let v = c.self.inside in
     let size = ap (λ (p : Picture). length p.rows) (sym c.self.view_is)
-    ∙ viewed_height v.is_blank v.above.now v.rows.now.rows v.cols v.pen v.hidden in
+    ∙ viewed_height v.source v.above.now v.rows.now.rows v.cols v.pen v.hidden in
     let asked = c.requires in
-    subst (λ (z : RowValue). IsRow c.args.self.now.width z) (sym (returns-in-Some-clause-value c))
+    subst (λ (z : RowValue). IsRow c.args.self.now.width z) (sym (returns-in-InView-clause-value c))
     (subst (λ (p : Picture). IsRow p.width (row_or p.width p.rows c.args.row)) c.self.view_is
-    (row_sound v.is_blank v.above.now v.rows.now.rows v.cols
+    (row_sound v.source v.above.now v.rows.now.rows v.cols
     v.pen v.hidden c.args.row c.self.invariant.0 (omega arith)))
 
-pub returns-in-None-clause-value : goal.returns-in-None-clause-value
-returns-in-None-clause-value c =
+pub returns-in-InView-clause-some : goal.returns-in-InView-clause-some
+returns-in-InView-clause-some c =
+    let size = (returns-in-InView-clause-sound c).columns in
+    let width = ap (λ (p : Picture). p.width) c.self.view_is in
+    let some = c.self.invariant.0.columns in
+    omega arith
+
+pub returns-in-Moved-clause-value : goal.returns-in-Moved-clause-value
+returns-in-Moved-clause-value c =
+    let v = c.self.inside in
+    row_after v.source v.above.now v.rows.now.rows v.cols v.pen v.hidden c.in-Moved.band c.args.row
+    c.row_moved.result c.in-Moved.is c.row_moved.ensures
+    ∙ ap (λ (p : Picture). row_or p.width p.rows c.args.row) c.self.view_is
+
+pub returns-in-Moved-clause-sound : goal.returns-in-Moved-clause-sound
+returns-in-Moved-clause-sound c =
     let v = c.self.inside in
     let size = ap (λ (p : Picture). length p.rows) (sym c.self.view_is)
-    ∙ viewed_height v.is_blank v.above.now v.rows.now.rows v.cols v.pen v.hidden in
+    ∙ viewed_height v.source v.above.now v.rows.now.rows v.cols v.pen v.hidden in
     let asked = c.requires in
-    absurd (false≢true (c.in-None.ensures.inside.1 (omega arith)))
+    subst (λ (z : RowValue). IsRow c.args.self.now.width z) (sym (returns-in-Moved-clause-value c))
+    (subst (λ (p : Picture). IsRow p.width (row_or p.width p.rows c.args.row)) c.self.view_is
+    (row_sound v.source v.above.now v.rows.now.rows v.cols
+    v.pen v.hidden c.args.row c.self.invariant.0 (omega arith)))
 
-pub returns-in-Some-clause-some : goal.returns-in-Some-clause-some
-returns-in-Some-clause-some c =
-    let v = c.self.inside in
-    let size = ap (λ (z : RowValue). length z.cells) c.cut.ensures ∙ resized_columns v.cols c.in-Some.found.cells in
+pub returns-in-Moved-clause-some : goal.returns-in-Moved-clause-some
+returns-in-Moved-clause-some c =
+    let size = (returns-in-Moved-clause-sound c).columns in
+    let width = ap (λ (p : Picture). p.width) c.self.view_is in
     let some = c.self.invariant.0.columns in
     omega arith

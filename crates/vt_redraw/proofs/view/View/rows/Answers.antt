@@ -7,13 +7,13 @@ pub returns-clause-value : goal.returns-clause-value
 returns-clause-value c =
     let v = c.self.inside in
     c.len.ensures
-    ∙ (sym (viewed_height v.is_blank v.above.now v.rows.now.rows v.cols v.pen v.hidden)
+    ∙ (sym (viewed_height v.source v.above.now v.rows.now.rows v.cols v.pen v.hidden)
     ∙ ap (λ (p : Picture). length p.rows) c.self.view_is)
 
 pub returns-clause-some : goal.returns-clause-some
 returns-clause-some c =
     let v = c.self.inside in
-    let size = sym (viewed_height v.is_blank v.above.now v.rows.now.rows v.cols v.pen v.hidden)
+    let size = sym (viewed_height v.source v.above.now v.rows.now.rows v.cols v.pen v.hidden)
     ∙ ap (λ (p : Picture). length p.rows) c.self.view_is in
     let row = c.self.invariant.0.row in
     omega arith

@@ -2,6 +2,7 @@
 use Rattle.std.proofs.Common.{◌-◌, ◌<◌, length, sym, ap, ◌∙◌, arith}
 use Rattle.std.specs.Prelude.{Some}
 use Rattle.std.proofs.Common.{rules}
+use Rattle.vt_cells.proofs.Packing.{attrs_fit}
 use Rattle.vt_screen.specs.Texts.{text_stepped}
 use Rattle.vt_screen.specs.contracts.screen.Screen.{the_view}
 use Rattle.vt_screen.proofs.TextSteps.{kept_text, text_stepped_is}
@@ -13,7 +14,7 @@ invariant_of-self c =
     let low : c.from.result < 0x7F = rw c.from.ensures b.1 in
     rw c.print_text.ensures
     (kept_text c.args.text.now c.self.inside.attrs c.self.inside.grid c.self.inside.last
-    c.from.result _ c.requires.printable low (search rules) c.self.invariant)
+    c.from.result _ c.requires.printable low (search (rules, attrs_fit)) c.self.invariant)
 
 pub returns : goal.returns
 returns c =

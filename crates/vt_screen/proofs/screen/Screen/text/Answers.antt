@@ -1,6 +1,7 @@
 -- The character is printed, and the callbacks hear of the row that left.
 use Rattle.std.proofs.Common.{refl, subst, rules}
 use Rattle.std.specs.List.{FoldsTo}
+use Rattle.vt_cells.proofs.Packing.{attrs_fit}
 use Rattle.vt_grid.specs.Outgoing.{printed_out}
 use Rattle.vt_grid.specs.Scrollback.{reported}
 use Rattle.vt_screen.specs.Run.{Hears}
@@ -18,9 +19,9 @@ invariant_of-self-2 g c =
     rw (c.in_ok-print_columns.ensures.page, c.in_ok-print_columns.ensures.sent.0)
     (kept_sent _ _ _ _ _ c.self.inside.grid.width
     (rows_printed_out c.args.c c.self.inside.attrs c.self.inside.grid k.sound)
-    (stable_printed_out coloring c.args.c c.self.inside.attrs c.self.inside.grid (search rules) k.colored)
+    (stable_printed_out coloring c.args.c c.self.inside.attrs c.self.inside.grid (search (rules, attrs_fit)) k.colored)
     (kept_printed c.args.c c.self.inside.attrs c.self.inside.grid c.self.inside.last _
-    _ (search rules) c.requires c.last_after-last.ensures.printable (search rules) k))
+    _ (search rules) c.requires c.last_after-last.ensures.printable (search (rules, attrs_fit)) k))
 
 pub returns-clause-done : goal.returns-clause-done
 returns-clause-done g c =

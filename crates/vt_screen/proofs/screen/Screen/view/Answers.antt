@@ -1,4 +1,5 @@
 use Rattle.std.proofs.Common.{rules, subst, ap, refl, sym, ◌∙◌}
+use Rattle.vt_cells.proofs.Packing.{attrs_fit}
 use Rattle.vt_cells.specs.Attrs.{Attrs}
 use Rattle.vt_grid.specs.Scrollback.{visible}
 use Rattle.vt_redraw.specs.Picture.{picture_over}
@@ -11,7 +12,7 @@ use Rattle.vt_screen.proofs.screen.Screen.view.Goals as goal
 
 pub returns-clause-colored : goal.returns-clause-colored
 returns-clause-colored c =
-    let fits : FitsAttrs c.attrs-attrs.result = search rules in
+    let fits : FitsAttrs c.attrs-attrs.result = search (rules, attrs_fit) in
     record {
       rows = subst (λ (s : ScreenValue). AreColored s.page.rows) c.self.view_is c.self.invariant.colored;
       above = subst (λ (s : ScreenValue). AreColored s.scrollback.rows) c.self.view_is c.self.invariant.above.colored;

@@ -2,7 +2,7 @@ use Rattle.std.proofs.Common.{◌≡◌, ◌-◌, ◌++◌, List, length, ap, �
 use Rattle.std.specs.Result.{OnErr}
 use Rattle.vt_rows.specs.Row.{RowValue}
 use Rattle.vt_grid.specs.Scrollback.{no_scrollback, visible}
-use Rattle.vt_screen.specs.Capture.{IsBehindSome, all_rows}
+use Rattle.vt_screen.specs.Capture.{StopsBehind, all_rows}
 use Rattle.vt_screen.specs.Keeping.{main_scrollback}
 use Rattle.vt_screen.specs.Screen.{visible_rows}
 use Rattle.vt_screen.proofs.Captures.{above_rows, above_offset, active_in_view, same_visible, visible_part}
@@ -27,5 +27,6 @@ returns-clause-err g c =
     (active_in_view s.is_alternate s.scrollback s.other_scrollback kept.nothing kept.above) all
     shown (omega (arith, c.stacked_len.ensures, c.offset.ensures, rows)) (omega (arith, rows)) in
     subst
-    (λ (rows : List RowValue). OnErr c.write_rows.result (IsBehindSome c.args.state.now rows c.write_rows.new.state))
+    (λ (rows : List RowValue). OnErr c.write_rows.result (StopsBehind g.S.Sink.refuses (g.S.Sink.text c.args.sink.now)
+    c.args.state.now rows (g.S.Sink.text c.write_rows.new.sink) c.write_rows.new.state))
     part c.write_rows.ensures.err

@@ -1,0 +1,453 @@
+//! A guess which rows have moved from one picture to another. No promise hangs
+//! on it: after any band has moved, the difference draws what is left.
+
+ghost use Rattle.std.specs.Prelude.{◌≡◌, ◌+◌, ◌<◌, ◌≤◌, IfSome, length};
+ghost use Rattle.vt_redraw.specs.Moved.{IsBand};
+ghost use Rattle.vt_redraw.specs.Picture.{SamePictureSize};
+
+use crate::band::Band;
+use crate::picture_row::PictureRow;
+use crate::view::View;
+use vt_cells::Attrs;
+
+/// How many rows are looked at, from the top.
+const MOST_ROWS: u16 = 256;
+
+/// How many columns from the left may change in a row that moves, such as line
+/// numbers.
+const MARGIN: u16 = 8;
+
+/// About how many bytes a move to another place in a row takes.
+const RUN: i32 = 4;
+
+/// How long a text is at least that a move may shorten.
+const LEAST_TEXT: usize = 20;
+
+/// A number for each row that is looked at.
+type Numbers = [i32; 256];
+
+/// By how many rows, and whether up.
+#[derive(Clone, Copy)]
+struct Shift {
+    count: u16,
+    up: bool,
+}
+
+/// Rows that come to stand by a shift, and about how many bytes that saves.
+#[derive(Clone, Copy)]
+struct Stretch {
+    gain: i32,
+    first: u16,
+    behind: u16,
+}
+
+/// The band that has most likely moved from `prev` to `view`, where it is worth
+/// while to move it before the rest is drawn; `text` is the difference without
+/// that. Only the first 256 rows are looked at.
+pub fn likely_band(view: &View<'_>, prev: &View<'_>, text: &str) -> Option<Band>
+    requires { SamePictureSize view.now prev.now }
+    ensures { IfSome result (λ band. IsBand (length prev.now.rows) band) }
+{
+    if text.len() < LEAST_TEXT {
+        return None;
+    }
+    let height = view.rows().min(MOST_ROWS);
+    let shift = likely_shift(view, prev, height, &shares(text, prev.pen().row))?;
+    let here = costs(view, prev, height);
+    let stretch = best_stretch(view, prev, height, &here, shift)?;
+    let band = stretch.band(shift);
+    if band.is_within(prev.rows()) {
+        Some(band)
+    } else {
+        None
+    }
+}
+
+/// How many bytes of a difference stand for each row, for a reader whose cursor
+/// is in this one: those behind a move there, up to the next move. Rows that are
+/// reached by a wrap count for the row above.
+fn shares(text: &str, row: u16) -> Numbers {
+    let mut shares = [0_i32; 256];
+    let mut place = Place {
+        row,
+        within: Within::Text,
+    };
+    for byte in text.bytes() {
+        place.read(byte);
+        let row = usize::from(place.row);
+        if row < 256 {
+            shares[row] = shares[row].saturating_add(1);
+        }
+    }
+    shares
+}
+
+/// Where a reader of a difference is, as far as its moves tell.
+#[derive(Clone, Copy)]
+struct Place {
+    row: u16,
+    within: Within,
+}
+
+/// What a byte is read in.
+#[derive(Clone, Copy)]
+enum Within {
+    /// Text.
+    Text,
+
+    /// A sequence that has begun.
+    Escape,
+
+    /// The first number of a control sequence, so far.
+    Number(u16),
+
+    /// A control sequence, behind its first number.
+    Behind(u16),
+}
+
+impl Place {
+    /// Reads a byte of the text.
+    fn read(&mut self, byte: u8) {
+        self.within = match self.within {
+            Within::Text => self.read_text(byte),
+            Within::Escape if byte == b'[' => Within::Number(0),
+            Within::Escape => Within::Text,
+            Within::Number(number) => self.read_number(byte, number),
+            Within::Behind(number) => self.read_behind(byte, number),
+        };
+    }
+
+    fn read_text(&mut self, byte: u8) -> Within {
+        if byte == b'\n' {
+            self.row = self.row.saturating_add(1);
+        }
+        if byte == 0x1b {
+            Within::Escape
+        } else {
+            Within::Text
+        }
+    }
+
+    fn read_number(&mut self, byte: u8, number: u16) -> Within {
+        if byte.is_ascii_digit() {
+            let digit = u16::from(byte.saturating_sub(b'0'));
+            return Within::Number(number.saturating_mul(10).saturating_add(digit));
+        }
+        self.read_behind(byte, number)
+    }
+
+    fn read_behind(&mut self, byte: u8, number: u16) -> Within {
+        if byte < b'@' {
+            return Within::Behind(number);
+        }
+        if byte == b'H' {
+            self.row = number.saturating_sub(1);
+        }
+        Within::Text
+    }
+}
+
+/// What each row needs over the row of `prev` at its place.
+fn costs(view: &View<'_>, prev: &View<'_>, height: u16) -> Numbers
+    requires size { SamePictureSize view.now prev.now }
+    requires inside { height ≤ length view.now.rows }
+    requires few { height ≤ 256 }
+{
+    let mut costs = [0; 256];
+    for row in 0..height {
+        costs[usize::from(row)] = cost(&view.row(row), &prev.row(row));
+    }
+    costs
+}
+
+/// About how many bytes a row needs over another one: the columns that differ,
+/// and a move to each run of them.
+fn cost(cells: &PictureRow<'_>, over: &PictureRow<'_>) -> i32 {
+    let cols = cells.cols().min(over.cols());
+    let same = cells.same_run(over, 0);
+    let first = u16::try_from(same).unwrap_or(cols);
+    let mut bytes = 0_i32;
+    let mut differed = false;
+    for col in first..cols {
+        let differs = *cells.cell(col) != *over.cell(col);
+        if differs {
+            let more = if differed { 1 } else { 1 + RUN };
+            bytes = bytes.saturating_add(more);
+        }
+        differed = differs;
+    }
+    bytes
+}
+
+/// The shift by which most of the text would come to stand.
+fn likely_shift(view: &View<'_>, prev: &View<'_>, height: u16, shares: &Numbers) -> Option<Shift>
+    requires size { SamePictureSize view.now prev.now }
+    requires inside { height ≤ length view.now.rows }
+    requires few { height ≤ 256 }
+{
+    let mut votes = [0_i32; 512];
+    for row in 0..height {
+        let weight = share(shares, view, prev, row);
+        if weight > 0 {
+            vote(&mut votes, &view.row(row), prev, row, weight, height);
+        }
+    }
+    heaviest(&votes)
+}
+
+/// The share of a row, also where the row above goes on in it.
+fn share(shares: &Numbers, view: &View<'_>, prev: &View<'_>, row: u16) -> i32
+    requires size { SamePictureSize view.now prev.now }
+    requires inside { row < length view.now.rows }
+    requires few { row < 256 }
+{
+    let own = shares[usize::from(row)];
+    if own > 0 || row == 0 || !view.row(row - 1).wrapped() {
+        return own;
+    }
+    cost(&view.row(row), &prev.row(row))
+}
+
+/// A row with text votes for each shift that would bring it where it is.
+fn vote(
+    votes: &mut [i32; 512],
+    cells: &PictureRow<'_>,
+    prev: &View<'_>,
+    row: u16,
+    weight: i32,
+    height: u16,
+)
+    requires row { row < 256 }
+    requires inside { height ≤ length prev.now.rows }
+    requires few { height ≤ 256 }
+{
+    let Some(start) = compared_from(cells) else {
+        return;
+    };
+    for from in 0..height {
+        if from != row && are_alike(cells, &prev.row(from), start) {
+            let shift = usize::from(256 + from - row);
+            votes[shift] = votes[shift].saturating_add(weight);
+        }
+    }
+}
+
+/// From which column on a row is compared with others: behind its margin, if
+/// there is text; None where it has no text.
+fn compared_from(cells: &PictureRow<'_>) -> Option<u16> {
+    let cols = cells.cols();
+    let margin = MARGIN.min(cols);
+    if has_text(cells, margin, cols) {
+        Some(margin)
+    } else if has_text(cells, 0, margin) {
+        Some(0)
+    } else {
+        None
+    }
+}
+
+/// Whether there is text in columns.
+fn has_text(cells: &PictureRow<'_>, start: u16, stop: u16) -> bool
+    requires { stop ≤ length cells.now.cells }
+{
+    for col in start..stop {
+        if cells.cell(col).has_contents() {
+            return true;
+        }
+    }
+    false
+}
+
+/// Whether two rows are the same from a column on.
+fn are_alike(cells: &PictureRow<'_>, over: &PictureRow<'_>, start: u16) -> bool {
+    let cols = cells.cols().min(over.cols());
+    let same = cells.same_run(over, start);
+    let first = start.saturating_add(u16::try_from(same).unwrap_or(cols));
+    for col in first..cols {
+        if *cells.cell(col) != *over.cell(col) {
+            return false;
+        }
+    }
+    true
+}
+
+/// The shift with the most votes; of equal ones the furthest down.
+fn heaviest(votes: &[i32; 512]) -> Option<Shift> {
+    let mut best = 0;
+    let mut shift = None;
+    for place in 0..512_u16 {
+        let weight = votes[usize::from(place)];
+        if weight > best {
+            best = weight;
+            shift = Some(Shift {
+                count: place.abs_diff(256),
+                up: place > 256,
+            });
+        }
+    }
+    shift
+}
+
+/// For the rows before each one: how much less they would need if they had been
+/// blank.
+fn savings(view: &View<'_>, height: u16, here: &Numbers) -> [i32; 257]
+    requires inside { height ≤ length view.now.rows }
+    requires few { height ≤ 256 }
+{
+    let blank = PictureRow::blank(view.cols());
+    let mut savings = [0; 257];
+    let mut sum = 0_i32;
+    for row in 0..height {
+        let fresh = cost(&view.row(row), &blank);
+        sum = sum
+            .saturating_add(here[usize::from(row)])
+            .saturating_sub(fresh);
+        savings[usize::from(row) + 1] = sum;
+    }
+    savings
+}
+
+/// What rows between two places would save.
+fn between(savings: &[i32; 257], first: u16, behind: u16) -> i32
+    requires first { first ≤ 256 }
+    requires behind { behind ≤ 256 }
+{
+    savings[usize::from(behind)].saturating_sub(savings[usize::from(first)])
+}
+
+/// The rows for which the shift saves most; of equal ones the most rows.
+fn best_stretch(
+    view: &View<'_>,
+    prev: &View<'_>,
+    height: u16,
+    here: &Numbers,
+    shift: Shift,
+) -> Option<Stretch>
+    requires size { SamePictureSize view.now prev.now }
+    requires inside { height ≤ length view.now.rows }
+    requires few { height ≤ 256 }
+{
+    let savings = savings(view, height, here);
+    let mut best = Stretch {
+        gain: 0,
+        first: 0,
+        behind: 0,
+    };
+    let mut run = Stretch {
+        gain: i32::MIN,
+        first: 0,
+        behind: 0,
+    };
+    for row in 0..height {
+        if let Some(from) = shift.source(row, height) {
+            let gain = here[usize::from(row)].saturating_sub(cost(&view.row(row), &prev.row(from)));
+            run = run.and_row(row, shift.opening(&savings, from, row), gain);
+            let whole = run.closed(shift, &savings, from, view.rows(), prev.pen().attrs);
+            if whole > 0 && whole >= best.gain {
+                best = Stretch { gain: whole, ..run };
+            }
+        }
+    }
+    if best.gain > 0 { Some(best) } else { None }
+}
+
+impl Shift {
+    /// The row that would come to stand in this one.
+    fn source(&self, row: u16, height: u16) -> Option<u16>
+        requires { row < height }
+        ensures { IfSome result (λ from. from < height) }
+    {
+        if !self.up {
+            return row.checked_sub(self.count);
+        }
+        let from = row.checked_add(self.count)?;
+        if from < height { Some(from) } else { None }
+    }
+
+    /// What the rows save that come free above a stretch which begins with this
+    /// row.
+    fn opening(&self, savings: &[i32; 257], from: u16, row: u16) -> i32
+        requires from { from ≤ 256 }
+        requires row { row ≤ 256 }
+    {
+        if self.up {
+            0
+        } else {
+            between(savings, from, row)
+        }
+    }
+}
+
+impl Stretch {
+    /// The stretch with a row more, or a new one that begins with this row.
+    fn and_row(&self, row: u16, opening: i32, gain: i32) -> Stretch
+        requires { row < 65535 }
+        ensures { result.behind ≡ row + 1 }
+    {
+        let behind = row + 1;
+        if self.gain < opening {
+            return Stretch {
+                gain: opening.saturating_add(gain),
+                first: row,
+                behind,
+            };
+        }
+        Stretch {
+            gain: self.gain.saturating_add(gain),
+            first: self.first,
+            behind,
+        }
+    }
+
+    /// What it saves as it stands, with the rows that come free below it and
+    /// without what the sequences take.
+    fn closed(
+        &self,
+        shift: Shift,
+        savings: &[i32; 257],
+        from: u16,
+        height: u16,
+        attrs: Attrs,
+    ) -> i32
+        requires from { from < 256 }
+        requires behind { self.now.behind ≤ 256 }
+    {
+        let bottom = if shift.up { from + 1 } else { self.behind };
+        let below = if shift.up {
+            between(savings, self.behind, from + 1)
+        } else {
+            0
+        };
+        self.gain
+            .saturating_add(below)
+            .saturating_sub(sequences(bottom < height, attrs))
+    }
+
+    /// The band that brings it where it is.
+    fn band(&self, shift: Shift) -> Band {
+        let Shift { count, up } = shift;
+        if up {
+            Band {
+                top: self.first,
+                bottom: self.behind.saturating_add(count),
+                count,
+                up,
+            }
+        } else {
+            Band {
+                top: self.first.saturating_sub(count),
+                bottom: self.behind,
+                count,
+                up,
+            }
+        }
+    }
+}
+
+/// About how many bytes the sequences of a move take: those at both ends where
+/// rows stay below, and a change of attributes.
+fn sequences(both: bool, attrs: Attrs) -> i32 {
+    let ends = if both { 15 } else { 6 };
+    let change = if attrs == Attrs::new() { 0 } else { 3 };
+    ends + change
+}

@@ -1,0 +1,154 @@
+//! The sequences by which a terminal moves a band of its rows.
+
+ghost use Rattle.std.specs.Prelude.{◌≡◌, ◌++◌, OnOk, decimal, length};
+ghost use Rattle.vt_cells.specs.Op.{counted};
+ghost use Rattle.vt_redraw.specs.Moved.{IsBand, band_text, down_text, lines_deleted_text};
+ghost use Rattle.vt_redraw.specs.Moved.{lines_inserted_text, moving_text, up_text};
+
+use crate::band::Band;
+use crate::pen::write_change;
+use crate::view::View;
+use itoa::Buffer;
+use vt_cells::term::{BufWrite, MoveTo};
+use vt_cells::{Attrs, Pos, Sink};
+
+/// Takes rows away from the cursor's row on; those below go up (DL). Nothing for
+/// no row.
+#[derive(Clone, Copy, Debug)]
+pub struct DeleteLines {
+    /// How many rows.
+    pub count: u16,
+}
+
+impl BufWrite for DeleteLines {
+    ghost bytes = { λ it. counted it.count 0x4D };
+
+    fn write_buf<S: Sink>(&self, sink: &mut S) -> Result<(), S::Error> {
+        match self.count {
+            0 => Ok(()),
+            1 => sink.write_str("\x1b[M"),
+            count => {
+                sink.write_str("\x1b[")?;
+                write_decimal(sink, count)?;
+                sink.write_str("M")
+            }
+        }
+    }
+}
+
+/// Brings blank rows in at the cursor's row; it and those below go down (IL).
+/// Nothing for no row.
+#[derive(Clone, Copy, Debug)]
+pub struct InsertLines {
+    /// How many rows.
+    pub count: u16,
+}
+
+impl BufWrite for InsertLines {
+    ghost bytes = { λ it. counted it.count 0x4C };
+
+    fn write_buf<S: Sink>(&self, sink: &mut S) -> Result<(), S::Error> {
+        match self.count {
+            0 => Ok(()),
+            1 => sink.write_str("\x1b[L"),
+            count => {
+                sink.write_str("\x1b[")?;
+                write_decimal(sink, count)?;
+                sink.write_str("L")
+            }
+        }
+    }
+}
+
+/// Appends a number in decimal.
+fn write_decimal<S: Sink>(sink: &mut S, number: u16) -> Result<(), S::Error>
+    ensures { OnOk result (S.text sink.new ≡ S.text sink.old ++ decimal number) }
+{
+    let mut buffer = Buffer::new();
+    sink.write_str(buffer.format(number))
+}
+
+/// Takes rows away from this row on.
+fn write_deleted<S: Sink>(sink: &mut S, row: u16, count: u16) -> Result<(), S::Error>
+    ensures { OnOk result (S.text sink.new ≡ S.text sink.old ++ lines_deleted_text row count) }
+{
+    MoveTo {
+        pos: Pos { row, col: 0 },
+    }
+    .write_buf(sink)?;
+    DeleteLines { count }.write_buf(sink)
+}
+
+/// Brings blank rows in at this row.
+fn write_inserted<S: Sink>(sink: &mut S, row: u16, count: u16) -> Result<(), S::Error>
+    ensures { OnOk result (S.text sink.new ≡ S.text sink.old ++ lines_inserted_text row count) }
+{
+    MoveTo {
+        pos: Pos { row, col: 0 },
+    }
+    .write_buf(sink)?;
+    InsertLines { count }.write_buf(sink)
+}
+
+/// Writes the sequences by which a band of a picture of so many rows goes up.
+#[tactic(auto, unfolding(crate::specs::Moved::up_text))]
+fn write_up<S: Sink>(sink: &mut S, height: u16, band: Band) -> Result<(), S::Error>
+    requires { IsBand height band }
+    ensures { OnOk result (S.text sink.new ≡ S.text sink.old ++ up_text height band) }
+{
+    let Band {
+        top,
+        bottom,
+        count,
+        up: _,
+    } = band;
+    if bottom == height {
+        return write_deleted(sink, top, count);
+    }
+    write_deleted(sink, top, count)?;
+    write_inserted(sink, bottom - count, count)
+}
+
+/// And those by which it goes down.
+#[tactic(auto, unfolding(crate::specs::Moved::down_text))]
+fn write_down<S: Sink>(sink: &mut S, height: u16, band: Band) -> Result<(), S::Error>
+    requires { IsBand height band }
+    ensures { OnOk result (S.text sink.new ≡ S.text sink.old ++ down_text height band) }
+{
+    let Band {
+        top,
+        bottom,
+        count,
+        up: _,
+    } = band;
+    if bottom == height {
+        return write_inserted(sink, top, count);
+    }
+    write_deleted(sink, bottom - count, count)?;
+    write_inserted(sink, top, count)
+}
+
+/// Writes the sequences that move a band of a picture of so many rows.
+fn write_band<S: Sink>(sink: &mut S, height: u16, band: Band) -> Result<(), S::Error>
+    requires { IsBand height band }
+    ensures { OnOk result (S.text sink.new ≡ S.text sink.old ++ band_text height band) }
+{
+    if band.up {
+        write_up(sink, height, band)
+    } else {
+        write_down(sink, height, band)
+    }
+}
+
+/// Writes what moves a terminal's rows as those of a band move. What is drawn
+/// then has default attributes.
+///
+/// An error is the sink's own, and then part of the text may have been
+/// appended.
+pub fn write_moves<S: Sink>(sink: &mut S, prev: &View<'_>, band: Band) -> Result<(), S::Error>
+    requires { IsBand (length prev.now.rows) band }
+    ensures { OnOk result (S.text sink.new ≡ S.text sink.old ++ moving_text band prev.now) }
+{
+    write_change(sink, prev.pen().attrs, Attrs::new())?;
+    write_band(sink, prev.rows(), band)
+}

@@ -1,0 +1,128 @@
+//! Differences that move rows first, where that makes them shorter.
+//!
+//! What is shown, which terminals are plain and which pictures are steady, is
+//! said beside the texts that redraw a screen.
+
+ghost use Rattle.std.specs.Prelude.{◌≡◌, ◌≤◌, ◌++◌, [], IfOk, OnOk, length, string_bytes};
+ghost use Rattle.vt_cells.specs.Op.{bytes_of_all};
+ghost use Rattle.vt_cells.specs.Refusals.{OnlyOutOfMemory};
+ghost use Rattle.vt_grid.specs.Page.{SameSize};
+ghost use Rattle.vt_redraw.specs.Moved.{IsBand, IsScrolling, moved, scrolling_text};
+ghost use Rattle.vt_redraw.specs.Redraw.{difference};
+ghost use Rattle.vt_redraw.specs.Steady.{IsSteady};
+ghost use Rattle.vt_screen.specs.Screen.{IsColored, IsScreen};
+ghost use Rattle.vt_screen.specs.Shown.{HasCursor, HasRows, IsReadBy, IsReaderOf, KeepsRest, Makes};
+ghost use Rattle.vt_screen.specs.Shown.{ShowsPlainly, shown};
+
+use crate::screen::Screen;
+use vt_cells::{Error, Sink};
+use vt_redraw::{Band, View, likely_band, write_contents_diff, write_moves};
+
+impl Screen {
+    /// A text that makes a plain terminal that shows what `prev` shows show
+    /// what this screen shows, as [`Screen::contents_diff`] does, and never a
+    /// longer one. Both screens are to be of one size.
+    ///
+    /// Where rows have scrolled, be it within a part of the screen, the text may
+    /// move them first (DL and IL), and so be much shorter. Which rows these are
+    /// is guessed, from the first 256.
+    ///
+    /// By the clauses `quiet` to `rest`, for a screen whose picture is steady,
+    /// such a terminal reads the text as that of
+    /// [`Screen::contents_formatted`], to the same end. The text is empty where
+    /// both show the same, and by `empty` only there. It may touch any row.
+    ///
+    /// Fails where memory for the text is refused.
+    ///
+    /// ```text
+    /// // three rows of four columns: from `one`, `two`, `six` to `two`, `six`
+    /// assert_eq!(screen.contents_diff_scrolling(&prev)?, "\x1b[H\x1b[M\x1b[3;1H");
+    /// ```
+    pub fn contents_diff_scrolling(&self, prev: &Screen) -> Result<String, Error>
+        requires { SameSize self.now.page prev.now.page }
+        ensures text { IfOk result (λ text. IsScrolling (shown self.now) (shown prev.now) (string_bytes text)) }
+        ensures shorter { IfOk result (λ text.
+            length (string_bytes text) ≤ length (bytes_of_all (difference (shown self.now) (shown prev.now)))) }
+        ensures quiet { IfOk result (λ text. IsSteady (shown self.now) →
+            IsReadBy (IsReaderOf (shown self.now) (shown prev.now)) (string_bytes text)) }
+        ensures shows { IfOk result (λ text. IsSteady (shown self.now) →
+            Makes (IsReaderOf (shown self.now) (shown prev.now)) (string_bytes text) (ShowsPlainly (shown self.now))) }
+        ensures rows { IfOk result (λ text. IsSteady (shown self.now) →
+            Makes (IsReaderOf (shown self.now) (shown prev.now)) (string_bytes text) (HasRows (shown self.now))) }
+        ensures cursor { IfOk result (λ text. IsSteady (shown self.now) →
+            Makes (IsReaderOf (shown self.now) (shown prev.now)) (string_bytes text) (HasCursor (shown self.now))) }
+        ensures rest { IfOk result (λ text. IsSteady (shown self.now) →
+            Makes (IsReaderOf (shown self.now) (shown prev.now)) (string_bytes text) KeepsRest) }
+        ensures empty { IfOk result
+            (λ text. IsSteady (shown self.now) → string_bytes text ≡ [] → shown self.now ≡ shown prev.now) }
+        ensures none { IfOk result (λ text. shown self.now ≡ shown prev.now → string_bytes text ≡ []) }
+        ensures memory { OnlyOutOfMemory result }
+    {
+        let text = self.contents_diff(prev)?;
+        let shorter = self.shortened(prev, text)?;
+        Ok(shorter)
+    }
+
+    /// The difference, or a shorter text that moves rows first.
+    fn shortened(&self, prev: &Screen, text: String) -> Result<String, Error>
+        requires size { SameSize self.now.page prev.now.page }
+        requires text { string_bytes text ≡ bytes_of_all (difference (shown self.now) (shown prev.now)) }
+        ensures whole { IsScreen self.now }
+        ensures colored { IsColored self.now }
+        ensures other { IsScreen prev.now }
+        ensures other_colored { IsColored prev.now }
+        ensures text { IfOk result (λ new. IsScrolling (shown self.now) (shown prev.now) (string_bytes new)) }
+        ensures shorter { IfOk result (λ new.
+            length (string_bytes new) ≤ length (bytes_of_all (difference (shown self.now) (shown prev.now)))) }
+        ensures memory { OnlyOutOfMemory result }
+    {
+        match likely_band(&self.view(), &prev.view(), text.as_str()) {
+            None => Ok(text),
+            Some(band) => self.shorter_of(prev, band, text),
+        }
+    }
+
+    /// The shorter one of the difference and the text by which this band moves
+    /// first.
+    fn shorter_of(&self, prev: &Screen, band: Band, text: String) -> Result<String, Error>
+        requires size { SameSize self.now.page prev.now.page }
+        requires band { IsBand (length (shown prev.now).rows) band }
+        requires text { string_bytes text ≡ bytes_of_all (difference (shown self.now) (shown prev.now)) }
+        ensures text { IfOk result (λ new. IsScrolling (shown self.now) (shown prev.now) (string_bytes new)) }
+        ensures shorter { IfOk result (λ new.
+            length (string_bytes new) ≤ length (bytes_of_all (difference (shown self.now) (shown prev.now)))) }
+        ensures memory { OnlyOutOfMemory result }
+    {
+        let mut moved = String::new(self.alloc);
+        match self.write_moved_diff(&mut moved, prev, band) {
+            Err(_) => Err(Error::OutOfMemory),
+            Ok(()) if moved.len() < text.len() => Ok(moved),
+            Ok(()) => Ok(text),
+        }
+    }
+
+    /// Writes the text by which a band moves, and the difference from the
+    /// picture that a terminal then shows.
+    fn write_moved_diff<S: Sink>(
+        &self,
+        sink: &mut S,
+        prev: &Screen,
+        band: Band,
+    ) -> Result<(), S::Error>
+        requires size { SameSize self.now.page prev.now.page }
+        requires band { IsBand (length (shown prev.now).rows) band }
+        ensures text { OnOk result
+            (S.text sink.new ≡ S.text sink.old ++ scrolling_text band (shown self.now) (shown prev.now)) }
+    {
+        write_moves(sink, &prev.view(), band)?;
+        write_contents_diff(sink, &self.view(), &prev.moved_view(band))
+    }
+
+    /// What a terminal shows that showed this screen, and then moved a band.
+    fn moved_view(&self, band: Band) -> View<'_>
+        requires { IsBand (length (shown self.now).rows) band }
+        ensures { result ≡ moved band (shown self.now) }
+    {
+        View::moved(&self.scrollback, &self.grid, self.hidden, band)
+    }
+}
