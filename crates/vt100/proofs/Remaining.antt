@@ -30,59 +30,54 @@ modes_parted on report (n ∷ []) xs =
     ap (λ (steps : List Step). steps ++ mode_steps on report xs) (sym (append-nil (mode_step on report n)))
 modes_parted on report (n ∷ m ∷ ns) xs = refl
 
-modes_next : (on : Bool) (report : CallValue) (groups : List (Bor (List ℕ))) (i : ℕ) (none : Bor (List ℕ)) →
-    i < length groups →
-    mode_steps on report (map (λ (group : Bor (List ℕ)). group.now) (drop i groups))
-    ≡ mode_steps on report ((get_or groups i none).now ∷ [])
-    ++ mode_steps on report (map (λ (group : Bor (List ℕ)). group.now) (drop (i + 1) groups))
-modes_next on report groups i none h =
-    ap (λ (gs : List (Bor (List ℕ))). mode_steps on report (map (λ (group : Bor (List ℕ)). group.now) gs))
-    (drop_more groups i none h)
-    ∙ modes_parted on report (get_or groups i none).now
-    (map (λ (group : Bor (List ℕ)). group.now) (drop (i + 1) groups))
+modes_next : (on : Bool) (report : CallValue) (groups : List (List ℕ)) (i : ℕ) (group : List ℕ) →
+    i < length groups → group ≡ get_or groups i [] →
+    mode_steps on report (drop i groups)
+    ≡ mode_steps on report (group ∷ []) ++ mode_steps on report (drop (i + 1) groups)
+modes_next on report groups i group h is =
+    ap (mode_steps on report) (drop_more groups i [] h)
+    ∙ ap (λ (g : List ℕ). mode_steps on report (g ∷ drop (i + 1) groups)) (sym is)
+    ∙ modes_parted on report group (drop (i + 1) groups)
 
 -- one more group of modes is done, or stopped in
 pub modes_left : {S : Type 0} (does : CallValue → S → ScreenValue → S → ScreenValue → Type 0)
     (s t u : S) (d e f : ScreenValue) (all : List Step) (on : Bool)
-    (report : CallValue) (groups : List (Bor (List ℕ))) (i : ℕ) (none : Bor (List ℕ)) →
-    i < length groups →
-    Left does s d all t e (mode_steps on report (map (λ (group : Bor (List ℕ)). group.now) (drop i groups))) →
-    Does does t e (mode_steps on report ((get_or groups i none).now ∷ [])) u f →
-    Left does s d all u f (mode_steps on report (map (λ (group : Bor (List ℕ)). group.now) (drop (i + 1) groups)))
-modes_left {S} does s t u d e f all on report groups i none h left done =
-    left_through does s t u d e f all (mode_steps on report ((get_or groups i none).now ∷ []))
-    (mode_steps on report (map (λ (group : Bor (List ℕ)). group.now) (drop (i + 1) groups)))
-    (subst (λ (steps : List Step). Left does s d all t e steps) (modes_next on report groups i none h) left) done
+    (report : CallValue) (groups : List (List ℕ)) (i : ℕ) (group : List ℕ) →
+    i < length groups → group ≡ get_or groups i [] →
+    Left does s d all t e (mode_steps on report (drop i groups)) →
+    Does does t e (mode_steps on report (group ∷ [])) u f →
+    Left does s d all u f (mode_steps on report (drop (i + 1) groups))
+modes_left {S} does s t u d e f all on report groups i group h is left done =
+    left_through does s t u d e f all (mode_steps on report (group ∷ []))
+    (mode_steps on report (drop (i + 1) groups))
+    (subst (λ (steps : List Step). Left does s d all t e steps) (modes_next on report groups i group h is) left) done
 
 pub modes_stop : {S : Type 0} (does : CallValue → S → ScreenValue → S → ScreenValue → Type 0)
     (s t u : S) (d e f : ScreenValue) (all : List Step) (on : Bool)
-    (report : CallValue) (groups : List (Bor (List ℕ))) (i : ℕ) (none : Bor (List ℕ)) →
-    i < length groups →
-    Left does s d all t e (mode_steps on report (map (λ (group : Bor (List ℕ)). group.now) (drop i groups))) →
-    Stops does t e (mode_steps on report ((get_or groups i none).now ∷ [])) u f → Stops does s d all u f
-modes_stop {S} does s t u d e f all on report groups i none h left stop =
-    left_within does s t u d e f all (mode_steps on report ((get_or groups i none).now ∷ []))
-    (mode_steps on report (map (λ (group : Bor (List ℕ)). group.now) (drop (i + 1) groups)))
-    (subst (λ (steps : List Step). Left does s d all t e steps) (modes_next on report groups i none h) left) stop
+    (report : CallValue) (groups : List (List ℕ)) (i : ℕ) (group : List ℕ) →
+    i < length groups → group ≡ get_or groups i [] →
+    Left does s d all t e (mode_steps on report (drop i groups)) →
+    Stops does t e (mode_steps on report (group ∷ [])) u f → Stops does s d all u f
+modes_stop {S} does s t u d e f all on report groups i group h is left stop =
+    left_within does s t u d e f all (mode_steps on report (group ∷ []))
+    (mode_steps on report (drop (i + 1) groups))
+    (subst (λ (steps : List Step). Left does s d all t e steps) (modes_next on report groups i group h is) left) stop
 
 -- one more group of settings is done
 pub settings_left : {S : Type 0} (does : CallValue → S → ScreenValue → S → ScreenValue → Type 0)
     (s t u : S) (d e f : ScreenValue) (all : List Step) (whole : List (List ℕ)) (wanted : Wanted)
-    (groups : List (Bor (List ℕ))) (i : ℕ) (none : Bor (List ℕ)) (read : GroupRead) →
-    i < length groups → read ≡ group_read wanted (get_or groups i none).now →
-    Rest does s d all t e (sgr_from whole wanted (map (λ (group : Bor (List ℕ)). group.now) (drop i groups))) →
+    (groups : List (List ℕ)) (i : ℕ) (read : GroupRead) →
+    i < length groups → read ≡ group_read wanted (get_or groups i []) →
+    Rest does s d all t e (sgr_from whole wanted (drop i groups)) →
     Does does t e (reading_steps whole read.reading) u f →
-    Rest does s d all u f (sgr_from whole read.wanted (map (λ (group : Bor (List ℕ)). group.now) (drop (i + 1) groups)))
-settings_left {S} does s t u d e f all whole wanted groups i none read h is rest done =
+    Rest does s d all u f (sgr_from whole read.wanted (drop (i + 1) groups))
+settings_left {S} does s t u d e f all whole wanted groups i read h is rest done =
     let left : GroupRead → List Step =
-    λ (r : GroupRead). reading_steps whole r.reading
-    ++ sgr_from whole r.wanted (map (λ (group : Bor (List ℕ)). group.now) (drop (i + 1) groups)) in
-    let next : sgr_from whole wanted (map (λ (group : Bor (List ℕ)). group.now) (drop i groups)) ≡ left read =
-    ap (λ (gs : List (Bor (List ℕ))). sgr_from whole wanted (map (λ (group : Bor (List ℕ)). group.now) gs))
-    (drop_more groups i none h)
-    ∙ ap left (sym is) in
+    λ (r : GroupRead). reading_steps whole r.reading ++ sgr_from whole r.wanted (drop (i + 1) groups) in
+    let next : sgr_from whole wanted (drop i groups) ≡ left read =
+    ap (sgr_from whole wanted) (drop_more groups i [] h) ∙ ap left (sym is) in
     rest_on does s t u d e f all (reading_steps whole read.reading)
-    (sgr_from whole read.wanted (map (λ (group : Bor (List ℕ)). group.now) (drop (i + 1) groups)))
+    (sgr_from whole read.wanted (drop (i + 1) groups))
     (subst (λ (steps : List Step). Rest does s d all t e steps) next rest) done
 
 -- ---- parts by their count

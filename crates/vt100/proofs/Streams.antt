@@ -119,6 +119,18 @@ calls_stream (Process bytes ∷ calls) scan s r e none k =
       same = rest.same ∙ ap bare (sym (screen_in_then scan r bytes more));
     }
 
+-- two parsers whose screens are the same but for scrollback
+pub ran_apart : {S : Type 0} (does : CallValue → S → ScreenValue → S → ScreenValue → Type 0) → LeavesScreen does
+    → (p q r s : Parsing S) (bytes : List ℕ) (scan : State) → StandsFor p.scanner scan → StandsFor r.scanner scan
+    → bare p.screen ≡ bare r.screen → Ran does p bytes q → Ran does r bytes s
+    → (sent_off_in scan p.screen bytes ≡ sent_off_in scan r.screen bytes) × (bare q.screen ≡ bare s.screen)
+ran_apart does leaves p q r s bytes scan stands others same ran runs = (
+  both_sent_in scan p.screen r.screen bytes same,
+  ap bare (ran_heard does leaves p q bytes scan stands ran).shown
+      ∙ (both_screen_in scan p.screen r.screen bytes same
+      ∙ ap bare (sym (ran_heard does leaves r s bytes scan others runs).shown)),
+)
+
 pub ran_keeps : {S : Type 0} (does : CallValue → S → ScreenValue → S → ScreenValue → Type 0) → LeavesScreen does
     → (p q : Parsing S) (bytes : List ℕ) (scan : State) → StandsFor p.scanner scan → Ran does p bytes q
     → IsScreen p.screen → HasWideFlags p.screen → HasNoRis scan bytes

@@ -1,5 +1,5 @@
 -- Aids of proofs, which only contracts of private functions cite.
-use Rattle.std.specs.Prelude.{◌≡◌, Bool, true, false, List, map, Option, Some, None}
+use Rattle.std.specs.Prelude.{◌≡◌, Bool, true, false, List, Option, Some, None}
 use Rattle.std.specs.List.{FoldsTo}
 use Rattle.vt_screen.specs.Calls.{CallValue, UnhandledCsi}
 use Rattle.vt_screen.specs.Screen.{ScreenValue}
@@ -21,7 +21,7 @@ Stops does old before steps new after = StopsIn (Takes does) Refuses (state old 
 -- the report of a control sequence
 abbrev pub report_of : Sequence → CallValue
 report_of sequence =
-    UnhandledCsi sequence.first sequence.second (map (λ group. group.now) sequence.groups.now) sequence.byte
+    UnhandledCsi sequence.first sequence.second sequence.parameters.now.groups sequence.byte
 
 -- a step that calls nobody, takes no memory, and scrolls no row off the page
 abbrev pub is_own : Step → Bool

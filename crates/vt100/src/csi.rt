@@ -1,6 +1,6 @@
 //! Control sequences.
 
-ghost use Rattle.std.specs.Prelude.{◌≡◌, ◌-◌, ◌<◌, IfOk, IsErr, None, Some, length, map};
+ghost use Rattle.std.specs.Prelude.{◌≡◌, ◌-◌, ◌<◌, IfOk, IsErr, None, Some, length};
 ghost use Rattle.vt_cells.specs.Refusals.{OnlyOutOfMemory};
 ghost use Rattle.vt100.specs.Keeping.{Does, MadeIf, Stops, report_of};
 ghost use Rattle.vt_screen.specs.Calls.{UnhandledCsi};
@@ -13,6 +13,7 @@ ghost use Rattle.vt_screen.specs.Steps as step;
 use crate::sequence::Sequence;
 use crate::{numbers, private_modes, sgr};
 use vt_cells::{CursorStyle, Error};
+use vt_scan::Parameters;
 use vt_screen::{Callbacks, Screen};
 
 /// Does what a control sequence says, up to a step whose memory is refused.
@@ -20,58 +21,60 @@ use vt_screen::{Callbacks, Screen};
 pub fn perform<CB: Callbacks>(
     screen: &mut Screen,
     callbacks: &mut CB,
-    groups: &[&[u16]],
+    parameters: &Parameters,
     marks: &[u8],
     byte: u8,
 ) -> Result<(), Error>
     ensures done { IfOk result (λ _. Does CB.does callbacks.old screen.old
-        (csi_steps (map (λ group. group.now) groups.now) marks.now byte (seen_of screen.old))
+        (csi_steps parameters.now.groups marks.now byte (seen_of screen.old))
         callbacks.new screen.new) }
     ensures stopped { IsErr result →
         Stops CB.does callbacks.old screen.old
-        (csi_steps (map (λ group. group.now) groups.now) marks.now byte (seen_of screen.old)) callbacks.new screen.new }
+        (csi_steps parameters.now.groups marks.now byte (seen_of screen.old)) callbacks.new screen.new }
     ensures memory { OnlyOutOfMemory result }
 {
     let Some(mark) = numbers::mark_at(marks, 0) else {
-        return plain(screen, callbacks, groups, byte);
+        return plain(screen, callbacks, parameters, byte);
     };
     let sequence = Sequence {
         first: Some(mark),
         second: numbers::mark_at(marks, 1),
-        groups,
+        parameters,
         byte,
     };
     marked(screen, callbacks, mark, sequence)
 }
 
 /// A control sequence without a marker or an intermediate.
+#[inline(always)]
 #[tactic(auto, using(crate::proofs::Dispatching::by_counts))]
 fn plain<CB: Callbacks>(
     screen: &mut Screen,
     callbacks: &mut CB,
-    groups: &[&[u16]],
+    parameters: &Parameters,
     byte: u8,
 ) -> Result<(), Error>
     ensures done { IfOk result (λ _. Does CB.does callbacks.old screen.old
-        (plain_steps (map (λ group. group.now) groups.now) byte (seen_of screen.old)) callbacks.new screen.new) }
+        (plain_steps parameters.now.groups byte (seen_of screen.old)) callbacks.new screen.new) }
     ensures stopped { IsErr result →
         Stops CB.does callbacks.old screen.old
-        (plain_steps (map (λ group. group.now) groups.now) byte (seen_of screen.old)) callbacks.new screen.new }
+        (plain_steps parameters.now.groups byte (seen_of screen.old)) callbacks.new screen.new }
     ensures memory { OnlyOutOfMemory result }
 {
-    if counted(screen, byte, numbers::number_or(1, groups, 0)) {
+    if counted(screen, byte, numbers::number_or(1, parameters, 0)) {
         return Ok(());
     }
     let sequence = Sequence {
         first: None,
         second: None,
-        groups,
+        parameters,
         byte,
     };
     scrolling(screen, callbacks, sequence)
 }
 
 /// One that may scroll rows off the page, or another one.
+#[inline(always)]
 #[tactic(auto, using(crate::proofs::Stepping::tested_growth), unfolding(vt_screen::specs::Controls::scrolling_steps))]
 fn scrolling<CB: Callbacks>(
     screen: &mut Screen,
@@ -79,17 +82,17 @@ fn scrolling<CB: Callbacks>(
     sequence: Sequence<'_>,
 ) -> Result<(), Error>
     requires { report_of sequence
-        ≡ UnhandledCsi None None (map (λ group. group.now) sequence.groups.now) sequence.byte }
+        ≡ UnhandledCsi None None sequence.parameters.now.groups sequence.byte }
     ensures done { IfOk result (λ _. Does CB.does callbacks.old screen.old
-        (scrolling_steps (map (λ group. group.now) sequence.entry.groups.now) sequence.entry.byte (seen_of screen.old))
+        (scrolling_steps sequence.entry.parameters.now.groups sequence.entry.byte (seen_of screen.old))
         callbacks.new screen.new) }
     ensures stopped { IsErr result →
         Stops CB.does callbacks.old screen.old
-        (scrolling_steps (map (λ group. group.now) sequence.entry.groups.now) sequence.entry.byte (seen_of screen.old))
+        (scrolling_steps sequence.entry.parameters.now.groups sequence.entry.byte (seen_of screen.old))
         callbacks.new screen.new }
     ensures memory { OnlyOutOfMemory result }
 {
-    let count = numbers::number_or(1, sequence.groups, 0);
+    let count = numbers::number_or(1, sequence.parameters, 0);
     match sequence.byte {
         b'S' => {
             screen.su(count, callbacks)?;
@@ -104,6 +107,7 @@ fn scrolling<CB: Callbacks>(
 }
 
 /// A control sequence with one count, at least 1; whether it is one of these.
+#[inline(always)]
 #[tactic(auto, using(crate::proofs::Stepping::tested_steps), unfolding(vt_screen::specs::Controls::counted_step))]
 fn counted(screen: &mut Screen, byte: u8, count: u16) -> bool
     requires { 0 < count }
@@ -130,47 +134,48 @@ fn counted(screen: &mut Screen, byte: u8, count: u16) -> bool
 }
 
 /// The other control sequences without a marker or an intermediate.
+#[inline(always)]
 #[tactic(auto, using(crate::proofs::Stepping::tested_steps), unfolding(vt_screen::specs::Controls::other_steps))]
 fn other<CB: Callbacks>(screen: &mut Screen, callbacks: &mut CB, sequence: Sequence<'_>)
     requires { report_of sequence
-        ≡ UnhandledCsi None None (map (λ group. group.now) sequence.groups.now) sequence.byte }
+        ≡ UnhandledCsi None None sequence.parameters.now.groups sequence.byte }
     ensures { Does CB.does callbacks.old screen.old
-        (other_steps (map (λ group. group.now) sequence.entry.groups.now) sequence.entry.byte (seen_of screen.old))
+        (other_steps sequence.entry.parameters.now.groups sequence.entry.byte (seen_of screen.old))
         callbacks.new screen.new }
 {
     match sequence.byte {
-        b'H' | b'f' => move_to(screen, sequence.groups),
+        b'H' | b'f' => move_to(screen, sequence.parameters),
         b'J' => erase_page(screen, callbacks, sequence),
         b'K' => erase_row(screen, callbacks, sequence),
         b'm' => sgr::perform(screen, callbacks, sequence),
-        b'r' => set_region(screen, sequence.groups),
+        b'r' => set_region(screen, sequence.parameters),
         b't' => window(screen, callbacks, sequence),
         _ => sequence.report(screen, callbacks),
     }
 }
 
 /// CUP, whose numbers count from 1.
-fn move_to(screen: &mut Screen, groups: &[&[u16]])
+fn move_to(screen: &mut Screen, parameters: &Parameters)
     ensures { screen.new
-        ≡ stepped (step.MoveTo (number_or 1 0 (map (λ group. group.now) groups.now) - 1)
-        (number_or 1 1 (map (λ group. group.now) groups.now) - 1))
+        ≡ stepped (step.MoveTo (number_or 1 0 parameters.now.groups - 1)
+        (number_or 1 1 parameters.now.groups - 1))
         screen.old }
 {
-    let row = numbers::number_or(1, groups, 0);
-    let col = numbers::number_or(1, groups, 1);
+    let row = numbers::number_or(1, parameters, 0);
+    let col = numbers::number_or(1, parameters, 1);
     screen.cup(row - 1, col - 1);
 }
 
 /// DECSTBM, whose numbers count from 1; without the second one, to the last row.
-fn set_region(screen: &mut Screen, groups: &[&[u16]])
+fn set_region(screen: &mut Screen, parameters: &Parameters)
     ensures { screen.new
-        ≡ stepped (step.SetRegion (number_or 1 0 (map (λ group. group.now) groups.now) - 1)
-        (number_or (length screen.old.page.rows) 1 (map (λ group. group.now) groups.now) - 1))
+        ≡ stepped (step.SetRegion (number_or 1 0 parameters.now.groups - 1)
+        (number_or (length screen.old.page.rows) 1 parameters.now.groups - 1))
         screen.old }
 {
     let (rows, _) = screen.size();
-    let top = numbers::number_or(1, groups, 0);
-    let bottom = numbers::number_or(rows.get(), groups, 1);
+    let top = numbers::number_or(1, parameters, 0);
+    let bottom = numbers::number_or(rows.get(), parameters, 1);
     screen.decstbm(top - 1, bottom - 1);
 }
 
@@ -178,10 +183,10 @@ fn set_region(screen: &mut Screen, groups: &[&[u16]])
 #[tactic(auto, using(crate::proofs::Stepping::steps_taken), unfolding(vt_screen::specs::Controls::page_erasing))]
 fn erase_page<CB: Callbacks>(screen: &mut Screen, callbacks: &mut CB, sequence: Sequence<'_>)
     ensures { Does CB.does callbacks.old screen.old
-        (page_erasing (report_of sequence.entry) (number_at 0 (map (λ group. group.now) sequence.entry.groups.now)))
+        (page_erasing (report_of sequence.entry) (number_at 0 sequence.entry.parameters.now.groups))
         callbacks.new screen.new }
 {
-    match numbers::number_at(sequence.groups, 0) {
+    match sequence.parameters.number(0) {
         0 => screen.erase_below(),
         1 => screen.erase_above(),
         2 => screen.erase_page(),
@@ -194,10 +199,10 @@ fn erase_page<CB: Callbacks>(screen: &mut Screen, callbacks: &mut CB, sequence: 
 #[tactic(auto, using(crate::proofs::Stepping::tested_steps), unfolding(vt_screen::specs::Controls::row_erasing))]
 fn erase_row<CB: Callbacks>(screen: &mut Screen, callbacks: &mut CB, sequence: Sequence<'_>)
     ensures { Does CB.does callbacks.old screen.old
-        (row_erasing (report_of sequence.entry) (number_at 0 (map (λ group. group.now) sequence.entry.groups.now)))
+        (row_erasing (report_of sequence.entry) (number_at 0 sequence.entry.parameters.now.groups))
         callbacks.new screen.new }
 {
-    match numbers::number_at(sequence.groups, 0) {
+    match sequence.parameters.number(0) {
         0 => screen.erase_rest(),
         1 => screen.erase_start(),
         2 => screen.erase_row(),
@@ -225,29 +230,29 @@ fn repeat<CB: Callbacks>(screen: &mut Screen, callbacks: &mut CB, count: u16) ->
 /// Window manipulation: a size that is asked for.
 #[tactic(auto, using(crate::proofs::Stepping::tested_steps), unfolding(vt_screen::specs::Controls::window_steps))]
 fn window<CB: Callbacks>(screen: &mut Screen, callbacks: &mut CB, sequence: Sequence<'_>)
-    requires { report_of sequence ≡ UnhandledCsi None None (map (λ group. group.now) sequence.groups.now) 0x74 }
+    requires { report_of sequence ≡ UnhandledCsi None None sequence.parameters.now.groups 0x74 }
     ensures { Does CB.does callbacks.old screen.old
-        (window_steps (map (λ group. group.now) sequence.entry.groups.now) (seen_of screen.old))
+        (window_steps sequence.entry.parameters.now.groups (seen_of screen.old))
         callbacks.new screen.new }
 {
-    if numbers::number_at(sequence.groups, 0) != 8 {
+    if sequence.parameters.number(0) != 8 {
         sequence.report(screen, callbacks);
         return;
     }
     let (rows, cols) = screen.size();
-    let rows = number_or_own(rows.get(), sequence.groups, 1);
-    let cols = number_or_own(cols.get(), sequence.groups, 2);
+    let rows = number_or_own(rows.get(), sequence.parameters, 1);
+    let cols = number_or_own(cols.get(), sequence.parameters, 2);
     callbacks.resize(screen, (rows, cols));
 }
 
 /// The first number of a group, or the screen's own where the group is missing.
-fn number_or_own(own: u16, groups: &[&[u16]], i: usize) -> u16
-    ensures { result ≡ size_or own i (map (λ group. group.now) groups.now) }
+fn number_or_own(own: u16, parameters: &Parameters, i: usize) -> u16
+    ensures { result ≡ size_or own i parameters.now.groups }
 {
-    if i >= groups.len() {
+    if i >= parameters.group_count() {
         return own;
     }
-    numbers::number_at(groups, i)
+    parameters.number(i)
 }
 
 /// A control sequence with a marker or an intermediate.
@@ -261,12 +266,12 @@ fn marked<CB: Callbacks>(
     requires { sequence.first ≡ Some mark }
     ensures done { IfOk result (λ _. Does CB.does callbacks.old screen.old
         (marked_steps mark sequence.entry.second
-        (map (λ group. group.now) sequence.entry.groups.now) sequence.entry.byte)
+        sequence.entry.parameters.now.groups sequence.entry.byte)
         callbacks.new screen.new) }
     ensures stopped { IsErr result →
         Stops CB.does callbacks.old screen.old
         (marked_steps mark sequence.entry.second
-        (map (λ group. group.now) sequence.entry.groups.now) sequence.entry.byte)
+        sequence.entry.parameters.now.groups sequence.entry.byte)
         callbacks.new screen.new }
     ensures memory { OnlyOutOfMemory result }
 {
@@ -287,11 +292,11 @@ fn private<CB: Callbacks>(
 ) -> Result<(), Error>
     requires { sequence.first ≡ Some 0x3F }
     ensures done { IfOk result (λ _. Does CB.does callbacks.old screen.old
-        (private_steps sequence.entry.second (map (λ group. group.now) sequence.entry.groups.now) sequence.entry.byte)
+        (private_steps sequence.entry.second sequence.entry.parameters.now.groups sequence.entry.byte)
         callbacks.new screen.new) }
     ensures stopped { IsErr result →
         Stops CB.does callbacks.old screen.old
-        (private_steps sequence.entry.second (map (λ group. group.now) sequence.entry.groups.now) sequence.entry.byte)
+        (private_steps sequence.entry.second sequence.entry.parameters.now.groups sequence.entry.byte)
         callbacks.new screen.new }
     ensures memory { OnlyOutOfMemory result }
 {
@@ -310,7 +315,7 @@ fn private<CB: Callbacks>(
 fn spaced<CB: Callbacks>(screen: &mut Screen, callbacks: &mut CB, sequence: Sequence<'_>)
     requires { sequence.first ≡ Some 0x20 }
     ensures { Does CB.does callbacks.old screen.old
-        (space_steps sequence.entry.second (map (λ group. group.now) sequence.entry.groups.now) sequence.entry.byte)
+        (space_steps sequence.entry.second sequence.entry.parameters.now.groups sequence.entry.byte)
         callbacks.new screen.new }
 {
     if sequence.byte != b'q' {
@@ -322,7 +327,7 @@ fn spaced<CB: Callbacks>(screen: &mut Screen, callbacks: &mut CB, sequence: Sequ
         unmarked.report(screen, callbacks);
         return;
     }
-    match style(numbers::number_at(sequence.groups, 0)) {
+    match style(sequence.parameters.number(0)) {
         Some(style) => screen.set_cursor_style(style),
         None => sequence.report(screen, callbacks),
     }

@@ -16,7 +16,8 @@ ghost use Rattle.vt_screen.specs.Chain.{CanShowOn, chain_text, last_screen};
 ghost use Rattle.vt_screen.specs.Pages.{resized};
 ghost use Rattle.vt_screen.specs.Reading.{Terminal, read, terminal};
 ghost use Rattle.vt_screen.specs.Screen.{IsScreen, ScreenValue, fresh_screen};
-ghost use Rattle.vt_screen.specs.Streamed.{AreAlike, HasNoRis, HasWideFlags, rows_told, sent_off_in, streamed_text};
+ghost use Rattle.vt_screen.specs.Streamed.{AreAlike, HasNoRis, HasWideFlags, bare, rows_told, sent_off_in};
+ghost use Rattle.vt_screen.specs.Streamed.{streamed_text};
 ghost use Rattle.vt_screen.specs.Telling.{Heard, LeavesScreen, calls_in};
 
 use vt_screen::Callbacks;
@@ -153,9 +154,10 @@ pub fn chain<CB: Callbacks>()
 /// `kept` is about one call of `process`, on any parser: the rows reported with
 /// `false`, followed by scrollback after the call, are those of scrollback
 /// before it followed by the rows that left the main page at its top, where no
-/// row of scrollback that goes on below was shorter than the screen. That these
-/// and the page depend neither on capacity nor on scrollback is
-/// `vt_screen::laws::streams`.
+/// row of scrollback that goes on below was shorter than the screen. `apart` says
+/// that those that left, and the screen after the call but for its scrollback,
+/// depend neither on capacity nor on scrollback: they are the same for two
+/// parsers whose screens are the same but for these.
 ///
 /// Premises are that each call answered Ok, that no RIS is among the bytes, and
 /// that the callbacks leave the screen alone.
@@ -170,6 +172,10 @@ pub fn one_text<CB: Callbacks>()
         FoldsTo (Heard CB.does) p.callbacks (calls_in scan p.screen bytes) q.callbacks
         × AreAlike (rows_told (calls_in scan p.screen bytes) ++ q.screen.scrollback.rows)
         (p.screen.scrollback.rows ++ sent_off_in scan p.screen bytes) }
+    ensures apart { (p q r s : Parsing CB) (bytes : List ℕ) (scan : State) → LeavesScreen CB.does →
+        StandsFor p.scanner scan → StandsFor r.scanner scan → bare p.screen ≡ bare r.screen →
+        Ran CB.does p bytes q → Ran CB.does r bytes s →
+        (sent_off_in scan p.screen bytes ≡ sent_off_in scan r.screen bytes) × (bare q.screen ≡ bare s.screen) }
     ensures text { (rows cols capacity : ℕ) (p q : Parsing CB) (calls : List ParserCall) →
         LeavesScreen CB.does → IsFreshParser rows cols capacity p → HasNoRis start (bytes_of_calls calls) →
         FoldsTo (MakesCall CB.does) p calls q → q.screen.is_alternate ≡ false →

@@ -11,7 +11,7 @@ ghost use Rattle.vt_screen.specs.Controls.{character_steps, control_steps, escap
 
 use crate::{csi, numbers, osc};
 use vt_cells::Error;
-use vt_scan::{Event, FewGroups, Scanner};
+use vt_scan::{Event, Scanner};
 use vt_screen::{Callbacks, Screen};
 
 /// Does what an event of the scanner's last byte says, up to a step whose
@@ -44,32 +44,9 @@ pub fn perform<CB: Callbacks>(
     }
 }
 
-/// A control sequence. Its table of groups is made here and not above, since
-/// that would cost time for each character.
-#[inline(never)]
-fn control_sequence<CB: Callbacks>(
-    screen: &mut Screen,
-    callbacks: &mut CB,
-    scanner: &Scanner,
-    byte: u8,
-) -> Result<(), Error>
-    ensures done { IfOk result (λ _. Performs CB.does (state callbacks.old screen.old)
-        (event_of scanner.now (Event.Csi byte)) (state callbacks.new screen.new)) }
-    ensures stopped { IsErr result →
-        Breaks CB.does (state callbacks.old screen.old)
-        (event_of scanner.now (Event.Csi byte)) (state callbacks.new screen.new) }
-    ensures memory { OnlyOutOfMemory result }
-{
-    let mut few = FewGroups::new();
-    if scanner.lend_groups(&mut few) {
-        return csi::perform(screen, callbacks, few.as_slice(), scanner.marks(), byte);
-    }
-    long_sequence(screen, callbacks, scanner, byte)
-}
-
-/// A control sequence of any number of groups.
-#[inline(never)]
-fn long_sequence<CB: Callbacks>(
+/// A control sequence.
+#[inline]
+pub fn control_sequence<CB: Callbacks>(
     screen: &mut Screen,
     callbacks: &mut CB,
     scanner: &Scanner,
@@ -85,7 +62,7 @@ fn long_sequence<CB: Callbacks>(
     csi::perform(
         screen,
         callbacks,
-        scanner.groups().as_slice(),
+        scanner.parameters(),
         scanner.marks(),
         byte,
     )
@@ -132,8 +109,13 @@ fn is_reported(character: char) -> bool
 }
 
 /// A control function of one byte.
+#[inline]
 #[tactic(auto, using(crate::proofs::Stepping::tested_growth, crate::proofs::Deciding::control_feeds))]
-fn execute<CB: Callbacks>(screen: &mut Screen, callbacks: &mut CB, byte: u8) -> Result<(), Error>
+pub fn execute<CB: Callbacks>(
+    screen: &mut Screen,
+    callbacks: &mut CB,
+    byte: u8,
+) -> Result<(), Error>
     ensures done { IfOk result
         (λ _. Does CB.does callbacks.old screen.old (control_steps byte) callbacks.new screen.new) }
     ensures stopped { IsErr result →

@@ -1,6 +1,6 @@
 //! Private modes: DECSET and DECRST.
 
-ghost use Rattle.std.specs.Prelude.{◌≡◌, ◌==◌, [], ◌∷◌, IfOk, IsErr, OnErr, OnOk, false, map};
+ghost use Rattle.std.specs.Prelude.{◌≡◌, ◌==◌, [], ◌∷◌, IfOk, IsErr, OnErr, OnOk, false};
 ghost use Rattle.vt_cells.specs.Refusals.{OnlyOutOfMemory};
 ghost use Rattle.vt100.specs.Keeping.{Does, Stops, report_of};
 ghost use Rattle.vt_screen.specs.Controls.{alternate_step, encoding_step, fresh_alternate_step};
@@ -20,16 +20,22 @@ pub fn perform<CB: Callbacks>(
     sequence: Sequence<'_>,
 ) -> Result<(), Error>
     ensures done { IfOk result (λ _. Does CB.does callbacks.old screen.old
-        (mode_steps on (report_of sequence.entry) (map (λ group. group.now) sequence.entry.groups.now))
+        (mode_steps on (report_of sequence.entry) sequence.entry.parameters.now.groups)
         callbacks.new screen.new) }
     ensures stopped { IsErr result →
         Stops CB.does callbacks.old screen.old
-        (mode_steps on (report_of sequence.entry) (map (λ group. group.now) sequence.entry.groups.now))
+        (mode_steps on (report_of sequence.entry) sequence.entry.parameters.now.groups)
         callbacks.new screen.new }
     ensures memory { OnlyOutOfMemory result }
 {
-    for group in sequence.groups {
-        perform_group(screen, callbacks, on, sequence, group)?;
+    for i in 0..sequence.parameters.group_count() {
+        perform_group(
+            screen,
+            callbacks,
+            on,
+            sequence,
+            sequence.parameters.group(i),
+        )?;
     }
     Ok(())
 }

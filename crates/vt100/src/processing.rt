@@ -7,7 +7,7 @@ ghost use Rattle.vt100.specs.Parser.{Ran, Stopped, parsing};
 ghost use Rattle.vt_scan.specs.Scanner.{ReadsItself, event_of, events_in};
 ghost use Rattle.vt_screen.specs.Run.{Breaks, Performs, StopsIn, state};
 
-use crate::perform::{perform, print};
+use crate::perform::{control_sequence, execute, perform, print};
 use vt_cells::Error;
 use vt_scan::{Event, Events, Scanner};
 use vt_screen::{Callbacks, Screen};
@@ -36,9 +36,9 @@ pub fn process<CB: Callbacks>(
 }
 
 /// Reads what comes first of these bytes: plain characters as one run, as far
-/// as the cursor's row has room for them, or what leads into a control
-/// sequence, or else one character or byte. Answers how many bytes that were,
-/// unless memory is refused.
+/// as the cursor's row has room for them, a control function of one byte, a
+/// control sequence as far as it is there, or else one character or byte.
+/// Answers how many bytes that were, unless memory is refused.
 #[inline(always)]
 fn process_some<CB: Callbacks>(
     scanner: &mut Scanner,
@@ -59,15 +59,48 @@ fn process_some<CB: Callbacks>(
     if scanner.is_plain(bytes[0]) {
         return print_some(scanner, screen, callbacks, bytes);
     }
-    let leading = scanner.lead_in(bytes);
-    if leading > 0 {
-        return Ok(leading);
+    if scanner.is_control(bytes[0]) {
+        execute(screen, callbacks, bytes[0])?;
+        return Ok(1);
+    }
+    let count = process_sequence(scanner, screen, callbacks, bytes)?;
+    if count > 0 {
+        return Ok(count);
     }
     process_one(scanner, screen, callbacks, bytes)
 }
 
+/// Reads what comes first of these bytes, as far as it leads into a control
+/// sequence or ends it, and does what that says. Answers how many bytes that
+/// were, unless memory is refused: none where they begin with something else.
+#[inline(always)]
+fn process_sequence<CB: Callbacks>(
+    scanner: &mut Scanner,
+    screen: &mut Screen,
+    callbacks: &mut CB,
+    bytes: &[u8],
+) -> Result<usize, Error>
+    ensures inside { IfOk result (λ count. count ≤ length bytes.now) }
+    ensures ran { IfOk result (λ count. Ran CB.does (parsing scanner.old screen.old callbacks.old)
+        (take count bytes.now) (parsing scanner.new screen.new callbacks.new)) }
+    ensures stopped { IsErr result →
+        Stopped CB.does (parsing scanner.old screen.old callbacks.old)
+        bytes.now (parsing scanner.new screen.new callbacks.new) }
+    ensures memory { OnlyOutOfMemory result }
+{
+    let leading = scanner.lead_in(bytes);
+    if leading == bytes.len() {
+        return Ok(leading);
+    }
+    if !scanner.final_byte(bytes[leading]) {
+        return Ok(leading);
+    }
+    control_sequence(screen, callbacks, scanner, bytes[leading])?;
+    Ok(leading + 1)
+}
+
 /// Reads what comes first of these bytes: a character of more than one byte
-/// that is all here, or else one byte. Answers how many bytes that were, unless
+/// that is all here, bytes of a string, or else one byte. Answers how many bytes that were, unless
 /// memory is refused.
 #[inline(always)]
 fn process_one<CB: Callbacks>(
@@ -89,6 +122,14 @@ fn process_one<CB: Callbacks>(
     if let Some((character, count)) = scanner.whole_character(bytes) {
         print(screen, callbacks, character)?;
         return Ok(count);
+    }
+    let skipped = scanner.skipped_len(bytes);
+    if skipped > 0 {
+        return Ok(skipped);
+    }
+    let collected = scanner.command_text(bytes)?;
+    if collected > 0 {
+        return Ok(collected);
     }
     let events = scanner.feed(bytes[0])?;
     perform_each(screen, callbacks, scanner, events)?;

@@ -2,6 +2,7 @@
 
 ghost use Rattle.vt100.specs.Keeping.{report_of};
 
+use vt_scan::Parameters;
 use vt_screen::{Callbacks, Screen};
 
 /// A control sequence: the kept marker and intermediates that are told, all
@@ -15,7 +16,7 @@ pub struct Sequence<'a> {
     pub second: Option<u8>,
 
     /// The groups of numbers.
-    pub groups: &'a [&'a [u16]],
+    pub parameters: &'a Parameters,
 
     /// The final byte.
     pub byte: u8,
@@ -23,11 +24,13 @@ pub struct Sequence<'a> {
 
 impl<'a> Sequence<'a> {
     /// Tells the callbacks that the screen doesn't know the sequence, or a
-    /// part of it.
+    /// part of it. Here alone a table of its groups is made.
+    #[inline(never)]
     pub fn report<CB: Callbacks>(self, screen: &mut Screen, callbacks: &mut CB)
         ensures { CB.does (report_of self.entry) callbacks.old screen.old callbacks.new screen.new }
     {
         let byte = char::from(self.byte);
-        callbacks.unhandled_csi(screen, self.first, self.second, self.groups, byte);
+        let groups = self.parameters.groups();
+        callbacks.unhandled_csi(screen, self.first, self.second, groups.as_slice(), byte);
     }
 }

@@ -1,7 +1,7 @@
 use Rattle.std.proofs.Common.{sym, subst, ◌∙◌}
 use Rattle.vt_scan.specs.Automaton.{start}
 use Rattle.vt_screen.specs.Streamed.{HasNoRis}
-use Rattle.vt100.proofs.Streams.{calls_heard, one_text, ran_keeps, recorded_text}
+use Rattle.vt100.proofs.Streams.{calls_heard, one_text, ran_apart, ran_keeps, recorded_text}
 use Rattle.vt100.proofs.laws.one_text.Goals as goal
 
 pub returns : goal.returns
@@ -13,6 +13,7 @@ returns g c =
           calls_heard does leaves calls p q scan stands makes in (all.shown, all.heard);
       kept =
           λ p q bytes scan leaves stands ran is wide none. ran_keeps does leaves p q bytes scan stands ran is wide none;
+      apart = λ p q r s bytes scan leaves stands others same ran runs. ran_apart does leaves p q r s bytes scan stands others same ran runs;
       text =
           λ rows cols capacity p q calls leaves fresh none makes main. one_text
           does leaves rows cols capacity p q calls fresh none makes main;

@@ -1,19 +1,19 @@
 -- One more group is done, or stopped in.
-use Rattle.std.proofs.Common.{refl}
+use Rattle.std.proofs.Common.{arith, refl}
 use Rattle.vt100.specs.Keeping.{report_of}
-use Rattle.vt100.proofs.Remaining.{modes_left, modes_stop, nothing}
+use Rattle.vt100.proofs.Remaining.{modes_left, modes_stop}
 use Rattle.vt100.proofs.private_modes.perform.Goals as goal
 
-pub loop-group-preserved : goal.loop-group-preserved
-loop-group-preserved g c =
-    modes_left g.CB.Callbacks.does c.args.callbacks.now c.loop-group.callbacks c.perform_group.new.callbacks
-    c.args.screen.now c.loop-group.screen c.perform_group.new.screen _ c.args.on (report_of c.args.sequence)
-    c.args.sequence.groups.now c.loop-group.group-index nothing
-    c.loop-group-test.true c.loop-group.invariant c.in_ok-perform_group.ensures.done
+pub loop-i-preserved : goal.loop-i-preserved
+loop-i-preserved g c =
+    modes_left g.CB.Callbacks.does c.args.callbacks.now c.loop-i.callbacks c.perform_group.new.callbacks
+    c.args.screen.now c.loop-i.screen c.perform_group.new.screen _ c.args.on (report_of c.args.sequence)
+    c.args.sequence.parameters.now.groups c.loop-i.i c.group.result.now
+    (omega arith) c.group.ensures c.loop-i.invariant c.in_ok-perform_group.ensures.done
 
 pub returns-in_err-perform_group-clause-stopped : goal.returns-in_err-perform_group-clause-stopped
 returns-in_err-perform_group-clause-stopped g c e =
-    modes_stop g.CB.Callbacks.does c.args.callbacks.now c.loop-group.callbacks c.perform_group.new.callbacks
-    c.args.screen.now c.loop-group.screen c.perform_group.new.screen _ c.args.on (report_of c.args.sequence)
-    c.args.sequence.groups.now c.loop-group.group-index nothing c.loop-group-test.true
-    c.loop-group.invariant (c.in_err-perform_group.ensures.stopped refl)
+    modes_stop g.CB.Callbacks.does c.args.callbacks.now c.loop-i.callbacks c.perform_group.new.callbacks
+    c.args.screen.now c.loop-i.screen c.perform_group.new.screen _ c.args.on (report_of c.args.sequence)
+    c.args.sequence.parameters.now.groups c.loop-i.i c.group.result.now (omega arith) c.group.ensures
+    c.loop-i.invariant (c.in_err-perform_group.ensures.stopped refl)

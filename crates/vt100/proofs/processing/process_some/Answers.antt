@@ -1,19 +1,32 @@
--- Where nothing led in, the bytes are those of one step.
-use Rattle.std.proofs.Common.{◌≡◌, ℕ, [], refl, subst, take, arith}
-use Rattle.vt100.specs.Parser.{Ran, parsing}
-use Rattle.vt100.proofs.Running.{known_ran, stopped_then}
+-- A control function of one byte; and where no sequence went on, the bytes are those of one step.
+use Rattle.std.proofs.Common.{◌≡◌, ◌+◌, List, ℕ, get_or, refl, subst, sym, take, arith}
+use Rattle.std.proofs.lemmas.List.{take_more}
+use Rattle.vt_scan.specs.declared.event.Event.TheVariants.{Executed}
+use Rattle.vt_scan.proofs.Feeding.{one_event}
+use Rattle.vt100.specs.Parser.{Ran, parsing, stage}
+use Rattle.vt100.proofs.Running.{byte_ran, ran_on, stopped_then}
 use Rattle.vt100.proofs.processing.process_some.Goals as goal
+
+pub returns-then-is_control-clause-ran : goal.returns-then-is_control-clause-ran
+returns-then-is_control-clause-ran g c =
+    let does = g.CB.Callbacks.does in
+    let held = c.args.scanner.now in
+    let bytes = c.args.bytes.now in
+    let byte = get_or bytes 0 0 in
+    let before = parsing held c.args.screen.now c.args.callbacks.now in
+    let now = parsing held c.execute.new.screen c.execute.new.callbacks in
+    subst (λ (text : List ℕ). Ran does before text now) (sym (take_more bytes 0 0 c.requires))
+    (byte_ran does before now byte (one_event (Executed byte)) (c.is_control.ensures c.if-is_control.true)
+    (stage now, c.in_ok-execute.ensures.done, refl))
 
 pub returns-clause-stopped : goal.returns-clause-stopped
 returns-clause-stopped g c e =
     let does = g.CB.Callbacks.does in
     let bytes = c.args.bytes.now in
-    let leading = c.lead_in-leading.result in
     let before = parsing c.args.scanner.now c.args.screen.now c.args.callbacks.now in
-    let led = parsing c.lead_in-leading.new.self c.args.screen.now c.args.callbacks.now in
+    let led = parsing c.process_sequence.new.scanner c.process_sequence.new.screen c.process_sequence.new.callbacks in
     let now = parsing c.process_one.new.scanner c.process_one.new.screen c.process_one.new.callbacks in
-    let zero : leading ≡ 0 = omega (arith, c.if-leading-gt0.false) in
+    let zero : c.in_ok-count.count ≡ 0 = omega (arith, c.if-count-gt0.false) in
     let ran : Ran does before (take 0 bytes) led =
-    subst (λ (n : ℕ). Ran does before (take n bytes) led) zero
-    (known_ran does before led (take leading bytes) [] c.lead_in-leading.ensures.fed refl) in
+    subst (λ (n : ℕ). Ran does before (take n bytes) led) zero c.in_ok-count.ensures.ran in
     stopped_then does before led now bytes 0 ran (c.process_one.ensures.stopped e)

@@ -1,12 +1,13 @@
 -- One more group is done.
-use Rattle.std.proofs.Common.{ℕ, List, Bor, map}
-use Rattle.vt100.proofs.Remaining.{settings_left, nothing}
+use Rattle.std.proofs.Common.{◌∙◌, ap, arith}
+use Rattle.vt_screen.specs.Sgr.{group_read}
+use Rattle.vt100.proofs.Remaining.{settings_left}
 use Rattle.vt100.proofs.sgr.perform.Goals as goal
 
-pub loop-group-preserved : goal.loop-group-preserved
-loop-group-preserved g c =
-    settings_left g.CB.Callbacks.does c.args.callbacks.now c.loop-group.callbacks c.apply.new.callbacks
-    c.args.screen.now c.loop-group.screen c.apply.new.screen _
-    (map (λ (group : Bor (List ℕ)). group.now) c.args.sequence.groups.now) c.loop-group.wanted
-    c.args.sequence.groups.now c.loop-group.group-index nothing c.read-read.result
-    c.loop-group-test.true c.read-read.ensures c.loop-group.invariant c.apply.ensures
+pub loop-i-preserved : goal.loop-i-preserved
+loop-i-preserved g c =
+    settings_left g.CB.Callbacks.does c.args.callbacks.now c.loop-i.callbacks c.apply.new.callbacks
+    c.args.screen.now c.loop-i.screen c.apply.new.screen _
+    c.args.sequence.parameters.now.groups c.loop-i.wanted
+    c.args.sequence.parameters.now.groups c.loop-i.i c.read-read.result
+    (omega arith) (c.read-read.ensures ∙ ap (group_read c.loop-i.wanted) c.group.ensures) c.loop-i.invariant c.apply.ensures
