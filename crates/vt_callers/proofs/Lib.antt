@@ -1,4 +1,5 @@
 pub mod Failing
 pub mod Remote
 pub mod Runs
+pub mod Sending
 pub mod Viewing

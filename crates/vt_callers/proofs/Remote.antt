@@ -36,7 +36,7 @@ redrawn self text answer old new quiet shows sound plain size processes =
     reads self (IsReader (shown self)) text answer old new quiet shows plain
     (record { sound = sound; plain = plain.screen; size = size }) processes
 
-same_shown : (self other : ScreenValue) → SameSize self.page other.page → SamePictureSize (shown self) (shown other)
+pub same_shown : (self other : ScreenValue) → SameSize self.page other.page → SamePictureSize (shown self) (shown other)
 same_shown self other s = record { width = s.width; height = shown_height self ∙ (s.height ∙ sym (shown_height other)) }
 
 pub differing : {S : Type 0} (self prev : ScreenValue) (text : List ℕ)

@@ -1,12 +1,14 @@
--- A fresh parser.
-use Rattle.std.proofs.Common.{◌≡◌, ℕ, ◌<◌, ◌^◌, subst}
+-- A fresh parser, and runs one after the other.
+use Rattle.std.proofs.Common.{◌≡◌, ℕ, ◌<◌, ◌^◌, List, [], ◌∷◌, ◌++◌, refl, subst}
 use Rattle.std.proofs.lemmas.List.{length-replicate}
+use Rattle.std.specs.List.{FoldsTo}
 use Rattle.vt_cells.specs.Attrs.{default_attrs}
+use Rattle.vt_rows.proofs.Folds.{folds_then}
 use Rattle.vt_rows.specs.Row.{blank_row}
 use Rattle.vt_scan.specs.Automaton.{start}
 use Rattle.vt_scan.specs.Scanner.{StandsFor}
 use Rattle.vt_screen.specs.Screen.{IsScreen, ScreenValue, fresh_screen}
-use Rattle.vt100.specs.Parser.{Parsing}
+use Rattle.vt100.specs.Parser.{Parsing, Ran, quietly}
 use Rattle.vt100.specs.Streams.{IsFreshParser}
 
 pub fresh_parser : {S : Type 0} (rows cols capacity : ℕ) (p : Parsing S) → 0 < rows → 0 < cols → IsScreen p.screen →
@@ -21,3 +23,7 @@ fresh_parser rows cols capacity p tall wide sound begun shown =
       begun = begun;
       shown = shown;
     }
+
+pub ran_more : (pieces : List (List ℕ)) (piece : List ℕ) (p q r : Parsing (Unit {0})) →
+    FoldsTo (Ran quietly) p pieces q → Ran quietly q piece r → FoldsTo (Ran quietly) p (pieces ++ (piece ∷ [])) r
+ran_more pieces piece p q r folds ran = folds_then (Ran quietly) pieces (piece ∷ []) p q r folds (r, ran, refl)

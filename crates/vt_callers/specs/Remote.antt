@@ -1,11 +1,49 @@
 -- A terminal that is kept equal to a screen.
-use Rattle.std.specs.Prelude.{◌≡◌}
-use Rattle.vt_screen.specs.Screen.{ScreenValue}
+use Rattle.std.specs.Prelude.{◌≡◌, ℕ, List, ◌∷◌, ◌++◌, true}
+use Rattle.std.specs.List.{AllByRecursion, FoldsTo}
+use Rattle.vt_cells.specs.Op.{bytes_of_all}
+use Rattle.vt_grid.specs.Page.{SameSize}
+use Rattle.vt_redraw.specs.Redraw.{difference}
+use Rattle.vt_screen.specs.Chain.{chain_text, last_screen}
+use Rattle.vt_screen.specs.Screen.{IsColored, IsScreen, ScreenValue}
 use Rattle.vt_screen.specs.Shown.{shown}
 use Rattle.vt100.specs.Parser.{Parsing}
-use Rattle.vt100.specs.Pieces.{IsPlainParser}
+use Rattle.vt100.specs.Pieces.{IsPlainParser, Processes, Processing, bytes_in}
 
 -- a plain parser that shows what a screen shows
 pub record ShowsScreen {S : Type 0} (screen : ScreenValue) (remote : Parsing S) : Type 0 where
   pub plain : IsPlainParser remote
   pub shows : shown remote.screen ≡ shown screen
+
+-- ---- aids of proofs, which private functions alone cite
+
+-- calls that answered Ok had the terminal read these bytes; it failed only if it had before
+pub record HasTaken {S : Type 0} (bytes : List ℕ) (old new : Parsing S) : Type 0 where
+  pub calls : List Processing
+  pub whole : bytes_in calls ≡ bytes
+  pub folds : FoldsTo Processes old calls new
+  pub fails : new.is_failed ≡ true → old.is_failed ≡ true
+
+-- some of a text was taken, and this is left of it
+pub record IsCut {S : Type 0} (text rest : List ℕ) (old new : Parsing S) : Type 0 where
+  pub front : List ℕ
+  pub whole : front ++ rest ≡ text
+  pub takes : HasTaken front old new
+
+-- a screen that can be sent
+pub record IsWhole (screen : ScreenValue) : Type 0 where
+  pub sound : IsScreen screen
+  pub colored : IsColored screen
+
+-- the difference of a screen from one before was taken
+pub record SendsNext {S : Type 0} (screen prev : ScreenValue) (old new : Parsing S) : Type 0 where
+  pub whole : IsWhole screen
+  pub takes : HasTaken (bytes_of_all (difference (shown screen) (shown prev))) old new
+
+-- the redraw of a screen was taken, and the differences of these behind it
+pub record HasFollowed {S : Type 0} (first : ScreenValue) (nexts : List ScreenValue) (prev : ScreenValue)
+    (old new : Parsing S) : Type 0 where
+  pub whole : AllByRecursion IsWhole (first ∷ nexts)
+  pub size : SameSize prev.page first.page
+  pub last : last_screen first nexts ≡ prev
+  pub takes : HasTaken (chain_text first nexts) old new

@@ -6,3 +6,4 @@ pub mod mirroring;
 pub mod multiplexer;
 pub mod recording;
 pub mod screen_test;
+pub mod values;

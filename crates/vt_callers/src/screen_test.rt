@@ -1,6 +1,7 @@
 //! Tests of a program's screen: what stands where after its output was read.
 
-ghost use Rattle.std.specs.Prelude.{◌≡◌, ◌↔◌, true, IfOk};
+ghost use Rattle.std.specs.Prelude.{◌≡◌, ◌↔◌, false, map, true, IfOk, OnOk};
+ghost use Rattle.vt100.specs.Parser.{Ran, pieces_joined, quietly};
 ghost use Rattle.vt_callers.specs.Spots.{HasText};
 ghost use Rattle.vt_cells.specs.Refusals.{OnlyOutOfMemory};
 ghost use Rattle.vt_scan.specs.Automaton.{start};
@@ -64,4 +65,39 @@ pub fn output_shows(
     parser.process(output)?;
     let holds = screen_shows(parser.screen(), text)?;
     Ok(holds)
+}
+
+/// Whether a terminal of this size shows this text once it has read an output that came in pieces.
+///
+/// Fails where memory is refused.
+pub fn pieces_show(
+    alloc: Global,
+    rows: NonZeroU16,
+    cols: NonZeroU16,
+    pieces: &[&[u8]],
+    text: &str,
+) -> Result<bool, Error>
+    ensures shows { IfOk result (λ is. is ≡ true ↔ contents_of (screen_in start (fresh_screen rows.value cols.value 0)
+        (pieces_joined (map (λ piece. piece.now) pieces.now))) ≡ text.now) }
+    ensures memory { OnlyOutOfMemory result }
+{
+    laws::one_text::<()>();
+    let mut parser = Parser::new(alloc, rows, cols, 0)?;
+    read_pieces(&mut parser, pieces)?;
+    let holds = screen_shows(parser.screen(), text)?;
+    Ok(holds)
+}
+
+/// Has a terminal read pieces, one after the other: that is a run over all their bytes.
+fn read_pieces(parser: &mut Parser, pieces: &[&[u8]]) -> Result<(), Error>
+    requires { parser.old.is_failed ≡ false }
+    ensures ran { OnOk result
+        (Ran quietly parser.old (pieces_joined (map (λ piece. piece.now) pieces.now)) parser.new) }
+    ensures memory { OnlyOutOfMemory result }
+{
+    laws::pieces::<()>();
+    for piece in pieces {
+        parser.process(piece)?;
+    }
+    Ok(())
 }

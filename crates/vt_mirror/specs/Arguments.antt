@@ -6,3 +6,15 @@ use Rattle.vt_show.specs.Arguments.{IsSize}
 abbrev pub AsksToMirror : List (List ℕ) → (rows cols every : ℕ) → Type 0
 AsksToMirror (first ∷ second ∷ third ∷ []) rows cols every = IsSize first rows × IsSize second cols × IsSize third every
 AsksToMirror _ rows cols every = ⊥
+
+-- words that ask for nothing
+abbrev pub AskForNothing : List (List ℕ) → Type 0
+AskForNothing words = (rows cols every : ℕ) → AsksToMirror words rows cols every → ⊥
+
+-- words that ask for a size and a number of bytes of which this holds
+pub record AskFor (words : List (List ℕ)) (Holds : (rows cols every : ℕ) → Type 0) : Type 0 where
+  pub rows : ℕ
+  pub cols : ℕ
+  pub every : ℕ
+  pub asks : AsksToMirror words rows cols every
+  pub holds : Holds rows cols every

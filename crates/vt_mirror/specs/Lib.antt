@@ -4,3 +4,5 @@ pub mod Calls
 pub mod Watching
 pub mod Arguments
 pub mod Endings
+pub mod Runs
+pub mod Keeping

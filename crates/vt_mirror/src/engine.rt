@@ -1,10 +1,16 @@
 //! From an input to the updates of one viewer.
 
-ghost use Rattle.std.specs.Io.KnownBytes.{IsAtEnd};
-ghost use Rattle.std.specs.Prelude.{◌<◌, OnOk};
+ghost use Rattle.std.specs.Io.KnownBytes.{IsAtEnd, Keeps};
+ghost use Rattle.std.specs.Prelude.{◌≡◌, ◌≢◌, ◌<◌, ◌↔◌, Err, IfErr, IfOk, None, OnOk, Some, map, string_bytes, true};
+ghost use Rattle.vt_mirror.specs.Arguments.{AskFor, AskForNothing};
+ghost use Rattle.vt_mirror.specs.Keeping.{IsBegun, ReadsAtMost, ReadsFewer, ReadsStretch, WritesUpdate};
+ghost use Rattle.vt_mirror.specs.Runs.{WritesOnWay, WritesSome, WritesToEnd};
+ghost use Rattle.vt_mirror.specs.Viewers.{is_viewer};
+ghost use Rattle.vt_screen.specs.Screen.{fresh_screen};
+ghost use Rattle.vt_show.specs.declared.faults.Fault.{Fault};
 
 use crate::mirror::Mirror;
-use crate::update::Update;
+use crate::words::asked;
 use std::alloc::Global;
 use std::io::{Read, Write};
 use std::num::NonZeroU16;
@@ -21,7 +27,10 @@ const BUFFER_SIZE: usize = 8192;
 ///
 /// Any error of a read is `Read`, an interrupted one as well; any error of
 /// writing or flushing is `Write`; and where memory is refused, the fault is
-/// `Memory`. What was written before a fault stays.
+/// `Memory`. What was written before a fault stays, and nothing more is
+/// written: after `Read` that is all that was due for what was read, and after
+/// `Memory` at most one update less. After `Write` it is not said how much of
+/// the last text was written.
 pub fn run<R: Read, W: Write>(
     alloc: Global,
     reader: &mut R,
@@ -31,6 +40,12 @@ pub fn run<R: Read, W: Write>(
     every: NonZeroU16,
 ) -> Result<(), Fault>
     ensures end { OnOk result (IsAtEnd (R.remaining reader.new)) }
+    ensures text { OnOk result (WritesToEnd (fresh_screen rows.value cols.value 0) every.value
+        (R.remaining reader.old) (R.remaining reader.new) (W.contents writer.old) (W.contents writer.new)) }
+    ensures read { result ≡ Err Fault.Read → WritesOnWay (fresh_screen rows.value cols.value 0) every.value
+        (R.remaining reader.old) (R.remaining reader.new) (W.contents writer.old) (W.contents writer.new) }
+    ensures memory { result ≡ Err Fault.Memory → WritesSome (fresh_screen rows.value cols.value 0) every.value
+        (R.remaining reader.old) (R.remaining reader.new) (W.contents writer.old) (W.contents writer.new) }
 {
     let Ok(mut mirror) = Mirror::new(alloc, rows, cols, 0) else {
         return Err(Fault::Memory);
@@ -38,16 +53,43 @@ pub fn run<R: Read, W: Write>(
     let Ok(viewer) = mirror.join() else {
         return Err(Fault::Memory);
     };
-    run_viewer(
-        &mut mirror,
-        viewer,
-        reader,
-        writer,
-        usize::from(every.get()),
-    )
+    let every = usize::from(every.get());
+    run_viewer(&mut mirror, viewer, reader, writer, every)
 }
 
-/// Reads the input to its end, and writes the viewer's updates.
+/// Does as [`run`] what the words after the program's name ask for. For words
+/// that ask for nothing (see [`arguments`](crate::arguments)) the answer is
+/// `None` in place of a fault, and nothing is read or written.
+pub fn run_words<R: Read, W: Write>(
+    alloc: Global,
+    words: &[String],
+    reader: &mut R,
+    writer: &mut W,
+) -> Result<(), Option<Fault>>
+    ensures wrong { result ≡ Err None ↔ AskForNothing (map (λ word. string_bytes word) words.now) }
+    ensures nothing { result ≡ Err None → Keeps (R.remaining reader.old) (R.remaining reader.new)
+        × Keeps (W.contents writer.old) (W.contents writer.new) }
+    ensures end { OnOk result (IsAtEnd (R.remaining reader.new)) }
+    ensures text { OnOk result (AskFor (map (λ word. string_bytes word) words.now)
+        (λ rows cols every. WritesToEnd (fresh_screen rows cols 0) every
+        (R.remaining reader.old) (R.remaining reader.new) (W.contents writer.old) (W.contents writer.new))) }
+    ensures read { result ≡ Err (Some Fault.Read) → AskFor (map (λ word. string_bytes word) words.now)
+        (λ rows cols every. WritesOnWay (fresh_screen rows cols 0) every
+        (R.remaining reader.old) (R.remaining reader.new) (W.contents writer.old) (W.contents writer.new)) }
+    ensures memory { result ≡ Err (Some Fault.Memory) → AskFor (map (λ word. string_bytes word) words.now)
+        (λ rows cols every. WritesSome (fresh_screen rows cols 0) every
+        (R.remaining reader.old) (R.remaining reader.new) (W.contents writer.old) (W.contents writer.new)) }
+{
+    let Some((rows, cols, every)) = asked(words) else {
+        return Err(None);
+    };
+    match run(alloc, reader, writer, rows, cols, every) {
+        Ok(()) => Ok(()),
+        Err(fault) => Err(Some(fault)),
+    }
+}
+
+/// Reads the input to its end, and writes the updates of a viewer that was told nothing.
 fn run_viewer<R: Read, W: Write>(
     mirror: &mut Mirror,
     viewer: u64,
@@ -55,40 +97,75 @@ fn run_viewer<R: Read, W: Write>(
     writer: &mut W,
     every: usize,
 ) -> Result<(), Fault>
-    requires { 0 < every }
+    requires some { 0 < every }
+    requires begun { IsBegun mirror.old viewer }
     ensures end { OnOk result (IsAtEnd (R.remaining reader.new)) }
+    ensures text { OnOk result (WritesToEnd mirror.old.parser.screen every
+        (R.remaining reader.old) (R.remaining reader.new) (W.contents writer.old) (W.contents writer.new)) }
+    ensures read { result ≡ Err Fault.Read → WritesOnWay mirror.old.parser.screen every
+        (R.remaining reader.old) (R.remaining reader.new) (W.contents writer.old) (W.contents writer.new) }
+    ensures memory { result ≡ Err Fault.Memory → WritesSome mirror.old.parser.screen every
+        (R.remaining reader.old) (R.remaining reader.new) (W.contents writer.old) (W.contents writer.new) }
 {
     let mut buffer = [0; BUFFER_SIZE];
-    let mut left = every;
     write_update(mirror, viewer, writer)?;
+    for _ in 0..u64::MAX {
+        let is_whole = read_stretch(mirror, reader, &mut buffer, every)?;
+        write_update(mirror, viewer, writer)?;
+        if !is_whole {
+            return Ok(());
+        }
+    }
+    Err(Fault::Read)
+}
+
+/// Has the mirror read so many bytes, or all that are left where these are fewer, and answers
+/// whether there were so many.
+fn read_stretch<R: Read>(
+    mirror: &mut Mirror,
+    reader: &mut R,
+    buffer: &mut [u8; BUFFER_SIZE],
+    every: usize,
+) -> Result<bool, Fault>
+    requires { 0 < every }
+    ensures stretch { IfOk result (λ is_whole. ReadsStretch every is_whole mirror.old mirror.new
+        (R.remaining reader.old) (R.remaining reader.new)) }
+    ensures read { result ≡ Err Fault.Read → ReadsFewer every (R.remaining reader.old) (R.remaining reader.new) }
+    ensures memory { result ≡ Err Fault.Memory → ReadsAtMost every (R.remaining reader.old) (R.remaining reader.new) }
+    ensures fault { IfErr result (λ fault. fault ≢ Fault.Write) }
+{
+    let mut left = every;
     for _ in 0..u64::MAX {
         let size = left.min(BUFFER_SIZE);
         let Ok(count) = reader.read(&mut buffer[..size]) else {
             return Err(Fault::Read);
         };
         if count == 0 {
-            write_update(mirror, viewer, writer)?;
-            return Ok(());
+            return Ok(false);
         }
         if mirror.process(&buffer[..count]).is_err() {
             return Err(Fault::Memory);
         }
         left = left.saturating_sub(count);
         if left == 0 {
-            write_update(mirror, viewer, writer)?;
-            left = every;
+            return Ok(true);
         }
     }
     Err(Fault::Read)
 }
 
 /// Writes the text of the viewer's update, and flushes it.
-fn write_update<W: Write>(mirror: &mut Mirror, viewer: u64, writer: &mut W) -> Result<(), Fault> {
-    match mirror.update(viewer) {
-        Ok(Some(Update::Diff(text) | Update::Full { text, .. })) => {
-            write_text(writer, text.as_str())
-        }
-        Ok(None) => Ok(()),
-        Err(_) => Err(Fault::Memory),
-    }
+fn write_update<W: Write>(mirror: &mut Mirror, viewer: u64, writer: &mut W) -> Result<(), Fault>
+    requires { is_viewer mirror.old.viewers viewer ≡ true }
+    ensures writes { OnOk result (WritesUpdate mirror.old viewer mirror.new (W.contents writer.old) (W.contents writer.new)) }
+    ensures memory { result ≡ Err Fault.Memory → Keeps (W.contents writer.old) (W.contents writer.new) }
+    ensures fault { IfErr result (λ fault. fault ≢ Fault.Read) }
+{
+    let Ok(answer) = mirror.update(viewer) else {
+        return Err(Fault::Memory);
+    };
+    let Some(update) = answer else {
+        return Ok(());
+    };
+    write_text(writer, update.text())
 }

@@ -1,12 +1,21 @@
-//! What holds over lists of calls, as a fact: this function does nothing, and
-//! its clauses say what is proved.
+//! What holds over lists of calls, as facts: these functions do nothing, and
+//! their clauses say what is proved.
 
-ghost use Rattle.std.specs.List.{FoldsTo};
-ghost use Rattle.std.specs.Prelude.{ℕ, List};
+ghost use Rattle.std.specs.List.{AllByRecursion, FoldsTo};
+ghost use Rattle.std.specs.Prelude.{◌≡◌, ◌∷◌, ℕ, List};
+ghost use Rattle.vt_grid.specs.Page.{SameSize};
 ghost use Rattle.vt_mirror.specs.Mirror.{MirrorValue};
+ghost use Rattle.vt_mirror.specs.Runs.{IsToldAfter, screens_to_end, text_to_end};
 ghost use Rattle.vt_mirror.specs.Viewers.{next_number};
 ghost use Rattle.vt_mirror.specs.Watching.{CountUp, Goes, IsFresh, IsNew, MirrorCall, MirrorDoes};
 ghost use Rattle.vt_mirror.specs.Watching.{ShowsSeen, Watching, numbers_given};
+ghost use Rattle.vt_redraw.specs.Steady.{IsSteady};
+ghost use Rattle.vt_scan.specs.Automaton.{start};
+ghost use Rattle.vt_screen.specs.Screen.{IsScreen, ScreenValue};
+ghost use Rattle.vt_screen.specs.Shown.{shown};
+ghost use Rattle.vt_screen.specs.Telling.{screen_in};
+ghost use Rattle.vt100.specs.Parser.{Parsing};
+ghost use Rattle.vt100.specs.Pieces.{IsFine, IsPlainParser, Processes, Processing, ShowsLast, bytes_in};
 
 use vt100::Callbacks;
 
@@ -32,4 +41,21 @@ pub fn viewers<CB: Callbacks>()
         IsFresh old.mirror → IsNew old → FoldsTo (Goes number) old calls new → ShowsSeen new }
     ensures numbers { (old new : MirrorValue) (calls : List MirrorCall) →
         FoldsTo MirrorDoes old calls new → CountUp (next_number old.viewers.last) (numbers_given calls) }
+{}
+
+/// What [`run`](crate::run) writes for an input, read in any pieces by a plain
+/// terminal of its size, leaves it plain and showing the screen after the
+/// input. Each call answers Ok; callbacks, scrollback, the other page and the
+/// modes are as before.
+///
+/// Premises are that the screen was steady at each update (see
+/// `Screen::contents_formatted`). That each of them is whole and of one size
+/// (`IsToldAfter`) is said where the run answers Ok.
+pub fn runs<CB: Callbacks>()
+    ensures { (first : ScreenValue) (every : ℕ) (input : List ℕ) (p q : Parsing CB) (calls : List Processing) →
+        IsScreen p.screen → IsPlainParser p → SameSize first.page p.screen.page →
+        AllByRecursion (IsToldAfter first) (first ∷ screens_to_end first every input) →
+        AllByRecursion (λ screen. IsSteady (shown screen)) (first ∷ screens_to_end first every input) →
+        bytes_in calls ≡ text_to_end first every input → FoldsTo Processes p calls q →
+        AllByRecursion IsFine calls × ShowsLast p (screen_in start first input) q }
 {}

@@ -11,7 +11,7 @@ mod viewers;
 mod words;
 
 pub use endings::ending;
-pub use engine::run;
+pub use engine::{run, run_words};
 pub use mirror::Mirror;
 pub use update::Update;
 pub use words::arguments;

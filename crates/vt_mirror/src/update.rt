@@ -1,5 +1,8 @@
 //! What a viewer is to read.
 
+ghost use Rattle.std.specs.Prelude.{◌≡◌};
+ghost use Rattle.vt_mirror.specs.Keeping.{text_of_update};
+
 /// What a viewer is to read next.
 #[derive(PartialEq, Eq, Debug, Drop)]
 pub enum Update {
@@ -19,4 +22,15 @@ pub enum Update {
         /// The text of the redraw.
         text: String,
     },
+}
+
+impl Update {
+    /// The text.
+    pub(crate) fn text(&self) -> &str
+        ensures { result.now ≡ text_of_update self.now }
+    {
+        match self {
+            Update::Diff(text) | Update::Full { text, .. } => text.as_str(),
+        }
+    }
 }

@@ -1,8 +1,8 @@
 //! What the words after the program's name ask for.
 
 ghost use Rattle.std.specs.Int.NonZero.{non_zero_u16_get};
-ghost use Rattle.std.specs.Prelude.{ℕ, map, IfNone, IfSome};
-ghost use Rattle.vt_mirror.specs.Arguments.{AsksToMirror};
+ghost use Rattle.std.specs.Prelude.{map, string_bytes, IfNone, IfSome};
+ghost use Rattle.vt_mirror.specs.Arguments.{AskForNothing, AsksToMirror};
 
 use std::num::NonZeroU16;
 use vt_show::size;
@@ -19,8 +19,7 @@ pub fn arguments(words: &[&str]) -> Option<(NonZeroU16, NonZeroU16, NonZeroU16)>
     ensures some { IfSome result (λ a.
         AsksToMirror (map (λ word. word.now) words.now) (non_zero_u16_get a.0)
         (non_zero_u16_get a.1) (non_zero_u16_get a.2)) }
-    ensures none { IfNone result ((rows cols every : ℕ) →
-        AsksToMirror (map (λ word. word.now) words.now) rows cols every → ⊥) }
+    ensures none { IfNone result (AskForNothing (map (λ word. word.now) words.now)) }
 {
     let [rows, cols, every] = words else {
         return None;
@@ -29,4 +28,17 @@ pub fn arguments(words: &[&str]) -> Option<(NonZeroU16, NonZeroU16, NonZeroU16)>
     let cols = size(cols)?;
     let every = size(every)?;
     Some((rows, cols, every))
+}
+
+/// What words that are owned ask for, as `arguments` reads them.
+pub(crate) fn asked(words: &[String]) -> Option<(NonZeroU16, NonZeroU16, NonZeroU16)>
+    ensures some { IfSome result (λ a.
+        AsksToMirror (map (λ word. string_bytes word) words.now) (non_zero_u16_get a.0)
+        (non_zero_u16_get a.1) (non_zero_u16_get a.2)) }
+    ensures none { IfNone result (AskForNothing (map (λ word. string_bytes word) words.now)) }
+{
+    let [rows, cols, every] = words else {
+        return None;
+    };
+    arguments(&[rows.as_str(), cols.as_str(), every.as_str()])
 }

@@ -18,3 +18,15 @@ abbrev pub AsksToShow : List (List ℕ) → ℕ → ℕ → Mode → Type 0
 AsksToShow (first ∷ second ∷ third ∷ []) rows cols mode =
     IsSize first rows × IsSize second cols × (third ≡ name_of mode)
 AsksToShow _ rows cols mode = ⊥
+
+-- words that ask for nothing
+abbrev pub AskForNothing : List (List ℕ) → Type 0
+AskForNothing words = (rows cols : ℕ) (mode : Mode) → AsksToShow words rows cols mode → ⊥
+
+-- words that ask for a size and a mode of which this holds
+pub record AskFor (words : List (List ℕ)) (Holds : ℕ → ℕ → Mode → Type 0) : Type 0 where
+  pub rows : ℕ
+  pub cols : ℕ
+  pub mode : Mode
+  pub asks : AsksToShow words rows cols mode
+  pub holds : Holds rows cols mode

@@ -2,13 +2,16 @@
 
 ghost use Rattle.std.specs.Int.NonZero.{non_zero_u16_get};
 ghost use Rattle.std.specs.Io.KnownBytes.{Appends, IsAtEnd, Keeps};
-ghost use Rattle.std.specs.Prelude.{◌≡◌, ◌≢◌, true, IfOk, IfSome, IsErr, OnErr, OnOk, Err, string_bytes};
+ghost use Rattle.std.specs.Prelude.{◌≡◌, ◌≢◌, ◌↔◌, map, true, None, Some, IfOk, IfSome, IsErr, OnErr, OnOk, Err};
+ghost use Rattle.std.specs.Prelude.{string_bytes};
 ghost use Rattle.vt100.specs.Parser.{Ran, quietly};
+ghost use Rattle.vt_show.specs.Arguments.{AskFor, AskForNothing};
 ghost use Rattle.vt_show.specs.Shown.{Writes, screen_text};
 ghost use Rattle.vt_show.specs.declared.faults.Fault.{Fault};
 
 use crate::faults::Fault;
 use crate::mode::Mode;
+use crate::words::asked;
 use std::alloc::Global;
 use std::io::{Read, Write};
 use std::num::NonZeroU16;
@@ -46,6 +49,34 @@ pub fn run<R: Read, W: Write>(
     read_all(&mut parser, reader)?;
     let text = text(parser.screen(), mode)?;
     write_text(writer, text.as_str())
+}
+
+/// Does as [`run`] what the words after the program's name ask for. For words
+/// that ask for nothing (see [`arguments`](crate::arguments)) the answer is
+/// `None` in place of a fault, and nothing is read or written.
+pub fn run_words<R: Read, W: Write>(
+    alloc: Global,
+    words: &[String],
+    reader: &mut R,
+    writer: &mut W,
+) -> Result<(), Option<Fault>>
+    ensures wrong { result ≡ Err None ↔ AskForNothing (map (λ word. string_bytes word) words.now) }
+    ensures nothing_read { result ≡ Err None → Keeps (R.remaining reader.old) (R.remaining reader.new) }
+    ensures end { OnOk result (IsAtEnd (R.remaining reader.new)) }
+    ensures text { OnOk result (IfSome (R.remaining reader.old) (λ input.
+        AskFor (map (λ word. string_bytes word) words.now)
+        (λ rows cols mode. Writes mode rows cols input (W.contents writer.old) (W.contents writer.new)))) }
+    ensures nothing { IsErr result → result ≢ Err (Some Fault.Write) →
+        Keeps (W.contents writer.old) (W.contents writer.new) }
+    ensures read_first { result ≡ Err (Some Fault.Write) → IsAtEnd (R.remaining reader.new) }
+{
+    let Some((rows, cols, mode)) = asked(words) else {
+        return Err(None);
+    };
+    match run(alloc, reader, writer, rows, cols, mode) {
+        Ok(()) => Ok(()),
+        Err(fault) => Err(Some(fault)),
+    }
 }
 
 /// Reads the input to its end into the parser; `Memory` only where the parser failed.

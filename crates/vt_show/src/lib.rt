@@ -8,7 +8,7 @@ mod faults;
 mod mode;
 mod words;
 
-pub use engine::{run, write_text};
+pub use engine::{run, run_words, write_text};
 pub use faults::{Fault, ending};
 pub use mode::Mode;
 pub use words::{arguments, given_words, size};

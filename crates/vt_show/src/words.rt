@@ -1,8 +1,8 @@
 //! The words after a program's name, and what they ask for.
 
 ghost use Rattle.std.specs.Int.NonZero.{non_zero_u16_get};
-ghost use Rattle.std.specs.Prelude.{◌≡◌, ◌==◌, ℕ, map, slice_index, IfErr, IfNone, IfSome};
-ghost use Rattle.vt_show.specs.Arguments.{AsksToShow, IsSize, name_of};
+ghost use Rattle.std.specs.Prelude.{◌≡◌, ◌==◌, ℕ, map, slice_index, string_bytes, IfErr, IfNone, IfSome};
+ghost use Rattle.vt_show.specs.Arguments.{AskForNothing, AsksToShow, IsSize, name_of};
 ghost use Rattle.vt_show.specs.declared.faults.Fault.{Fault};
 ghost use Rattle.vt_show.specs.declared.mode.Mode.{Mode};
 
@@ -43,8 +43,7 @@ pub fn given_words<R: Env + AllocGlobal>(rt: &R) -> Result<Vec<String>, Option<F
 pub fn arguments(words: &[&str]) -> Option<(NonZeroU16, NonZeroU16, Mode)>
     ensures some { IfSome result (λ a.
         AsksToShow (map (λ word. word.now) words.now) (non_zero_u16_get a.0) (non_zero_u16_get a.1) a.2) }
-    ensures none { IfNone result ((rows cols : ℕ) (mode : Mode) →
-        AsksToShow (map (λ word. word.now) words.now) rows cols mode → ⊥) }
+    ensures none { IfNone result (AskForNothing (map (λ word. word.now) words.now)) }
 {
     let [rows, cols, mode] = words else {
         return None;
@@ -53,6 +52,18 @@ pub fn arguments(words: &[&str]) -> Option<(NonZeroU16, NonZeroU16, Mode)>
     let cols = size(cols)?;
     let mode = mode_named(mode)?;
     Some((rows, cols, mode))
+}
+
+/// What words that are owned ask for, as `arguments` reads them.
+pub(crate) fn asked(words: &[String]) -> Option<(NonZeroU16, NonZeroU16, Mode)>
+    ensures some { IfSome result (λ a.
+        AsksToShow (map (λ word. string_bytes word) words.now) (non_zero_u16_get a.0) (non_zero_u16_get a.1) a.2) }
+    ensures none { IfNone result (AskForNothing (map (λ word. string_bytes word) words.now)) }
+{
+    let [rows, cols, mode] = words else {
+        return None;
+    };
+    arguments(&[rows.as_str(), cols.as_str(), mode.as_str()])
 }
 
 /// A number of rows or columns: decimal digits with a value from 1 to 65535,

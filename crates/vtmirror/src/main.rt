@@ -6,27 +6,19 @@
 use std::env::Env;
 use std::io;
 use std::process::ExitCode;
-use vt_mirror::{arguments, ending, run};
+use vt_mirror::{ending, run_words};
 use vt_show::{Fault, given_words};
 
 /// Reads standard input to its end and writes to standard output, as the
 /// arguments ask; `None` says that these are wrong.
 fn mirror<R: Env + AllocGlobal + Input + Print>(rt: &R) -> Result<(), Option<Fault>> {
     let words = given_words(rt)?;
-    let (rows, cols, every) = match words.as_slice() {
-        [rows, cols, every] => arguments(&[rows.as_str(), cols.as_str(), every.as_str()]),
-        _ => None,
-    }
-    .ok_or(None)?;
-    run(
+    run_words(
         rt.alloc(),
+        words.as_slice(),
         &mut rt.reader(),
         &mut io::writer(rt),
-        rows,
-        cols,
-        every,
     )
-    .map_err(Some)
 }
 
 fn main(rt: HostRuntime) -> ExitCode {

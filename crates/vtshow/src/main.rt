@@ -6,26 +6,18 @@
 use std::env::Env;
 use std::io;
 use std::process::ExitCode;
-use vt_show::{Fault, arguments, ending, given_words, run};
+use vt_show::{Fault, ending, given_words, run_words};
 
 /// Reads standard input to its end and writes to standard output, as the
 /// arguments ask; `None` says that these are wrong.
 fn show<R: Env + AllocGlobal + Input + Print>(rt: &R) -> Result<(), Option<Fault>> {
     let words = given_words(rt)?;
-    let (rows, cols, mode) = match words.as_slice() {
-        [rows, cols, mode] => arguments(&[rows.as_str(), cols.as_str(), mode.as_str()]),
-        _ => None,
-    }
-    .ok_or(None)?;
-    run(
+    run_words(
         rt.alloc(),
+        words.as_slice(),
         &mut rt.reader(),
         &mut io::writer(rt),
-        rows,
-        cols,
-        mode,
     )
-    .map_err(Some)
 }
 
 fn main(rt: HostRuntime) -> ExitCode {

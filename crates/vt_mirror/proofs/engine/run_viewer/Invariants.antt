@@ -1,6 +1,8 @@
--- There is a byte left to read before the next update.
-use Rattle.std.proofs.Common.{◌<◌}
+-- All updates that were due are written.
+use Rattle.vt_mirror.specs.Keeping.{IsWritten}
 use Rattle.vt_mirror.proofs.engine.run_viewer.Given as goal
 
 abbrev pub invariant-loop : goal.invariant-loop
-invariant-loop g l = 0 < l.left
+invariant-loop g l =
+    IsWritten l.fn.every l.fn.viewer l.fn.mirror l.mirror (g.R.Read.remaining l.fn.reader) (g.R.Read.remaining l.reader)
+    (g.W.Write.contents l.fn.writer) (g.W.Write.contents l.writer)

@@ -1,0 +1,7 @@
+-- The differences so far were taken.
+use Rattle.std.proofs.Common.{take}
+use Rattle.vt_callers.specs.Remote.{HasFollowed}
+use Rattle.vt_callers.proofs.multiplexer.follow.Given as goal
+
+abbrev pub invariant-loop-next : goal.invariant-loop-next
+invariant-loop-next g l = HasFollowed l.fn.first (take l.next-index l.nexts) l.prev l.fn.remote l.remote

@@ -1,0 +1,114 @@
+-- What a run has read and written, update by update.
+use Rattle.std.proofs.Common.{◌≡◌, ℕ, ◌+◌, ◌*◌, ◌/◌, ◌<◌, ◌≤◌, zero, suc, true, false, List, [], ◌∷◌, ◌++◌}
+use Rattle.std.proofs.Common.{length, map, take, Option, Some, None, refl, sym, ap, ap₂, subst, ◌∙◌, append_assoc, arith}
+use Rattle.std.proofs.KnownBytes.{Appends-trans, Consumes-kept, Consumes-nil, Consumes-trans}
+use Rattle.std.proofs.lemmas.List.{append-nil, length-append, map-append, take-append-le, take_all}
+use Rattle.std.proofs.lemmas.Nat.{div-mul-add}
+use Rattle.std.specs.Io.KnownBytes.{Appends, Consumes, IsAtEnd, Keeps}
+use Rattle.std.specs.List.{AllByRecursion}
+use Rattle.vt_cells.specs.Op.{bytes_of_all}
+use Rattle.vt_grid.specs.Page.{SameSize}
+use Rattle.vt_redraw.specs.Redraw.{difference, redraw}
+use Rattle.vt_scan.specs.Automaton.{start}
+use Rattle.vt_screen.specs.Chain.{chain_text, last_screen, texts_behind}
+use Rattle.vt_screen.specs.Screen.{ScreenValue}
+use Rattle.vt_screen.specs.Shown.{shown}
+use Rattle.vt_screen.specs.Telling.{screen_in}
+use Rattle.vt_mirror.specs.Runs.{IsToldAfter, multiples, screens_on_way, text_on_way}
+
+-- ---- which screens
+
+-- where a list grows, the screens at these places stay, up to the length before
+same_screens : (first : ScreenValue) (every count : ℕ) (input more : List ℕ) → count * every ≤ length input →
+    map (λ n. screen_in start first (take n (input ++ more))) (multiples every count)
+    ≡ map (λ n. screen_in start first (take n input)) (multiples every count)
+same_screens first every zero input more inside = refl
+same_screens first every (suc count) input more inside =
+    let here : ℕ → ScreenValue = λ n. screen_in start first (take n input) in
+    let there : ℕ → ScreenValue = λ n. screen_in start first (take n (input ++ more)) in
+    let fewer : count * every ≤ length input = omega (arith, inside) in
+    map-append there (multiples every count) (suc count * every ∷ [])
+    ∙ (ap₂ (λ (xs ys : List ScreenValue). xs ++ ys) (same_screens first every count input more fewer)
+    (ap (λ (bytes : List ℕ). screen_in start first bytes ∷ [])
+    (take-append-le (suc count * every) input more inside))
+    ∙ sym (map-append here (multiples every count) (suc count * every ∷ [])))
+
+count_is : (every count : ℕ) (input : List ℕ) → length input ≡ count * every → 0 < every → length input / every ≡ count
+count_is every count input whole some =
+    ap (λ (n : ℕ). n / every) (whole ∙ sum_zero (count * every)) ∙ div-mul-add count every 0 some where
+      sum_zero : (n : ℕ) → n ≡ n + 0
+      sum_zero n = omega arith
+
+-- fewer bytes than are read between two updates make no update due
+pub fewer_on_way : (first : ScreenValue) (every count : ℕ) (input more : List ℕ) → length input ≡ count * every →
+    length more < every → screens_on_way first every (input ++ more) ≡ screens_on_way first every input
+fewer_on_way first every count input more whole fewer =
+    let there : ℕ → ScreenValue = λ n. screen_in start first (take n (input ++ more)) in
+    let here : ℕ → ScreenValue = λ n. screen_in start first (take n input) in
+    let some : 0 < every = omega (arith, fewer) in
+    let now : length (input ++ more) / every ≡ count =
+    ap (λ (n : ℕ). n / every) (length-append input more ∙ ap (λ (n : ℕ). n + length more) whole)
+    ∙ div-mul-add count every (length more) fewer in
+    let before : length input / every ≡ count = count_is every count input whole some in
+    ap (λ (n : ℕ). map there (multiples every n)) now
+    ∙ (same_screens first every count input more (omega (arith, whole))
+    ∙ ap (λ (n : ℕ). map here (multiples every n)) (sym before))
+
+pub next_length : (every count : ℕ) (input more : List ℕ) → length input ≡ count * every → length more ≡ every →
+    length (input ++ more) ≡ suc count * every
+next_length every count input more whole much = omega (arith, length-append input more, whole, much)
+
+-- as many make one due
+pub more_on_way : (first : ScreenValue) (every count : ℕ) (input more : List ℕ) → 0 < every
+    → length input ≡ count * every → length more ≡ every
+    → screens_on_way first every (input ++ more)
+    ≡ screens_on_way first every input ++ (screen_in start first (input ++ more) ∷ [])
+more_on_way first every count input more some whole much =
+    let there : ℕ → ScreenValue = λ n. screen_in start first (take n (input ++ more)) in
+    let here : ℕ → ScreenValue = λ n. screen_in start first (take n input) in
+    let length_is : length (input ++ more) ≡ suc count * every = next_length every count input more whole much in
+    let now : length (input ++ more) / every ≡ suc count =
+    count_is every (suc count) (input ++ more) length_is some in
+    let before : length input / every ≡ count = count_is every count input whole some in
+    ap (λ (n : ℕ). map there (multiples every n)) now
+    ∙ (map-append there (multiples every count) (suc count * every ∷ [])
+    ∙ ap₂ (λ (xs ys : List ScreenValue). xs ++ ys)
+    (same_screens first every count input more (omega (arith, whole))
+    ∙ ap (λ (n : ℕ). map here (multiples every n)) (sym before))
+    (ap (λ (bytes : List ℕ). screen_in start first bytes ∷ [])
+    (take_all (suc count * every) (input ++ more) (omega (arith, length_is)))))
+
+pub none_on_way : (first : ScreenValue) (every : ℕ) → 0 < every → screens_on_way first every [] ≡ []
+none_on_way first every some =
+    ap (λ (n : ℕ). map (λ n. screen_in start first (take n [])) (multiples every n)) (count_is every 0 [] (omega arith) some)
+
+-- ---- texts and the last screen, with one more
+
+pub last_of_more : (first : ScreenValue) (nexts : List ScreenValue) (screen : ScreenValue) →
+    last_screen first (nexts ++ (screen ∷ [])) ≡ screen
+last_of_more first [] screen = refl
+last_of_more first (x ∷ xs) screen = last_of_more x xs screen
+
+behind_more : (prev : ScreenValue) (nexts : List ScreenValue) (screen : ScreenValue) →
+    texts_behind prev (nexts ++ (screen ∷ []))
+    ≡ texts_behind prev nexts ++ bytes_of_all (difference (shown screen) (shown (last_screen prev nexts)))
+behind_more prev [] screen = append-nil (bytes_of_all (difference (shown screen) (shown prev)))
+behind_more prev (x ∷ xs) screen =
+    let one = bytes_of_all (difference (shown x) (shown prev)) in
+    ap (λ (text : List ℕ). one ++ text) (behind_more x xs screen)
+    ∙ sym (append_assoc one (texts_behind x xs)
+    (bytes_of_all (difference (shown screen) (shown (last_screen x xs)))))
+
+pub text_of_more : (first : ScreenValue) (nexts : List ScreenValue) (screen : ScreenValue) →
+    chain_text first (nexts ++ (screen ∷ []))
+    ≡ chain_text first nexts ++ bytes_of_all (difference (shown screen) (shown (last_screen first nexts)))
+text_of_more first nexts screen =
+    let one = bytes_of_all (redraw (shown first)) in
+    ap (λ (text : List ℕ). one ++ text) (behind_more first nexts screen)
+    ∙ sym (append_assoc one (texts_behind first nexts)
+    (bytes_of_all (difference (shown screen) (shown (last_screen first nexts)))))
+
+pub all_of_more : (P : ScreenValue → Type 0) (screens : List ScreenValue) (screen : ScreenValue) →
+    AllByRecursion P screens → P screen → AllByRecursion P (screens ++ (screen ∷ []))
+all_of_more P [] screen all one = (one, tt)
+all_of_more P (x ∷ xs) screen all one = (all.0, all_of_more P xs screen all.1 one)

@@ -1,0 +1,357 @@
+-- A run goes on by an update, and where it stops.
+use Rattle.std.proofs.Common.{◌≡◌, ◌≢◌, ℕ, suc, ◌+◌, ◌-◌, ◌<◌, ◌≤◌, Bool, true, false, List, [], ◌∷◌, ◌++◌}
+use Rattle.std.proofs.Common.{length, take, min, Option, Some, None, Result, Ok, Err, inl, inr, refl, sym, ap, subst, ◌∙◌, arith}
+use Rattle.std.proofs.KnownBytes.{Appends-kept, Appends-trans, Consumes-kept, Consumes-nil, Consumes-trans, Keeps-refl}
+use Rattle.std.proofs.lemmas.Bool.{false≢true}
+use Rattle.std.proofs.lemmas.List.{append-nil, length-append, take-append-le}
+use Rattle.std.specs.Io.KnownBytes.{Appends, Consumes, IsAtEnd, Keeps}
+use Rattle.std.specs.List.{AllByRecursion}
+use Rattle.std.specs.Prelude.{IfOk, OnOk, is_err}
+use Rattle.vt_cells.specs.Op.{bytes_of_all}
+use Rattle.vt_cells.specs.declared.error.Error.{Error}
+use Rattle.vt_grid.specs.Page.{Page, SameSize}
+use Rattle.vt_redraw.specs.Redraw.{difference, redraw}
+use Rattle.vt_scan.specs.Automaton.{start}
+use Rattle.vt_scan.specs.Scanner.{StandsFor}
+use Rattle.vt_screen.specs.Chain.{chain_text, last_screen}
+use Rattle.vt_screen.specs.Screen.{ScreenValue}
+use Rattle.vt_screen.specs.Shown.{shown}
+use Rattle.vt_screen.specs.Telling.{screen_in}
+use Rattle.vt100.specs.Parser.{Parsing, Ran, quietly}
+use Rattle.vt100.proofs.Running.{ran_then}
+use Rattle.vt100.proofs.Sizes.{quiet_leaves}
+use Rattle.vt100.proofs.Streams.{ran_heard}
+use Rattle.vt_mirror.specs.Calls.{IsUpdate, MirrorProcesses, Tells}
+use Rattle.vt_mirror.specs.Keeping.{InStretch, IsBegun, IsWritten, ReadsAtMost, ReadsBytes, ReadsFewer, ReadsStretch}
+use Rattle.vt_mirror.specs.Keeping.{WritesUpdate, text_of_update}
+use Rattle.vt_mirror.specs.Mirror.{MirrorValue}
+use Rattle.vt_mirror.specs.Runs.{IsToldAfter, WritesBehind, WritesOnWay, WritesToEnd}
+use Rattle.vt_mirror.specs.Runs.{screens_on_way, screens_to_end, text_on_way, text_to_end}
+use Rattle.vt_mirror.specs.Viewers.{ViewersValue, is_viewer, note_of}
+use Rattle.vt_mirror.specs.declared.update.Update.{Update}
+use Rattle.vt_mirror.specs.declared.update.Update.TheVariants.{Diff, Full}
+use Rattle.vt_show.specs.declared.faults.Fault.{Fault}
+use Rattle.vt_mirror.proofs.Noted.{own_size, size_through}
+use Rattle.vt_mirror.proofs.Runs.{all_of_more, fewer_on_way, last_of_more, more_on_way, next_length, none_on_way, text_of_more}
+
+-- ---- what is read
+
+nothing_ran : (p : Parsing (Unit {0})) → Ran quietly p [] p
+nothing_ran p = λ s stands. (stands, refl)
+
+pub reads_then : (a b : List ℕ) (p q r : MirrorValue) (left at rest : Option (List ℕ)) →
+    ReadsBytes a p q left at → ReadsBytes b q r at rest → ReadsBytes (a ++ b) p r left rest
+reads_then a b p q r left at rest first second = record {
+  reads = Consumes-trans left at rest a b first.reads second.reads;
+  ran = ran_then quietly p.parser q.parser r.parser a b first.ran second.ran;
+  viewers = second.viewers ∙ first.viewers;
+  size =
+      size_through r.parser.screen.page q.parser.screen.page p.parser.screen.page second.size first.size;
+}
+
+pub stretch_begun : (every : ℕ) (mirror : MirrorValue) (left : Option (List ℕ)) →
+    0 < every → InStretch every every mirror mirror left left
+stretch_begun every mirror left some = record {
+  bytes = [];
+  reads = record {
+    reads = Consumes-nil left;
+    ran = nothing_ran mirror.parser;
+    viewers = refl;
+    size = own_size mirror.parser.screen.page;
+  };
+  some = some;
+  count = omega arith;
+}
+
+-- the first bytes of a buffer were read by the mirror
+pub processed : (count : ℕ) (buffer behind : List ℕ) (old new : MirrorValue) (answer : Result (Unit {0}) Error)
+    (left rest : Option (List ℕ)) → is_err answer ≡ false → count ≤ length buffer →
+    MirrorProcesses old (take count (buffer ++ behind)) answer new → Consumes left rest (take count buffer) →
+    ReadsBytes (take count buffer) old new left rest
+processed count buffer behind old new (Ok u) left rest fine inside p reads = record {
+  reads = reads;
+  ran =
+      subst (λ (bytes : List ℕ). Ran quietly old.parser bytes new.parser)
+      (take-append-le count buffer behind inside) p.ran;
+  viewers = p.viewers;
+  size = p.size;
+}
+processed count buffer behind old new (Err e) left rest fine inside p reads = absurd (false≢true (sym fine))
+
+pub stretch_more : (every still after : ℕ) (bytes : List ℕ) (old mid new : MirrorValue) (left at rest : Option (List ℕ))
+    → after + length bytes ≡ still → 0 < after → InStretch every still old mid left at
+    → ReadsBytes bytes mid new at rest → InStretch every after old new left rest
+stretch_more every still after bytes old mid new left at rest fewer some s reads = record {
+  bytes = s.bytes ++ bytes;
+  reads = reads_then s.bytes bytes old mid new left at rest s.reads reads;
+  some = some;
+  count = omega (arith, fewer, s.count, length-append s.bytes bytes);
+}
+
+pub stretch_whole : (every still : ℕ) (bytes : List ℕ) (old mid new : MirrorValue) (left at rest : Option (List ℕ))
+    → length bytes ≡ still → InStretch every still old mid left at → ReadsBytes bytes mid new at rest
+    → ReadsStretch every true old new left rest
+stretch_whole every still bytes old mid new left at rest all s reads = record {
+  bytes = s.bytes ++ bytes;
+  reads = reads_then s.bytes bytes old mid new left at rest s.reads reads;
+  whole = λ _. omega (arith, all, s.count, length-append s.bytes bytes);
+  fewer = λ no. absurd (false≢true (sym no));
+  end = λ no. absurd (false≢true (sym no));
+}
+
+pub stretch_ended : (every still : ℕ) (old mid : MirrorValue) (left at rest : Option (List ℕ))
+    → InStretch every still old mid left at → Consumes at rest [] → IsAtEnd rest
+    → ReadsStretch every false old mid left rest
+stretch_ended every still old mid left at rest s none end = record {
+  bytes = s.bytes;
+  reads = record {
+    reads =
+        subst (Consumes left rest) (append-nil s.bytes) (Consumes-trans left at rest s.bytes [] s.reads.reads none);
+    ran = s.reads.ran;
+    viewers = s.reads.viewers;
+    size = s.reads.size;
+  };
+  whole = λ no. absurd (false≢true no);
+  fewer = λ _. omega (arith, s.some, s.count);
+  end = λ _. end;
+}
+
+pub stretch_failed : (every still : ℕ) (old mid : MirrorValue) (left at rest : Option (List ℕ))
+    → InStretch every still old mid left at → Keeps at rest → ReadsFewer every left rest
+stretch_failed every still old mid left at rest s keeps = record {
+  bytes = s.bytes;
+  fewer = omega (arith, s.some, s.count);
+  reads = Consumes-kept left at rest s.bytes s.reads.reads keeps;
+}
+
+pub stretch_refused : (every still : ℕ) (bytes : List ℕ) (old mid : MirrorValue) (left at rest : Option (List ℕ))
+    → length bytes ≤ still → InStretch every still old mid left at → Consumes at rest bytes → ReadsAtMost every left rest
+stretch_refused every still bytes old mid left at rest few s reads = record {
+  bytes = s.bytes ++ bytes;
+  few = omega (arith, few, s.count, length-append s.bytes bytes);
+  reads = Consumes-trans left at rest s.bytes bytes s.reads.reads reads;
+}
+
+-- ---- what is written
+
+no_some : {A : Type 0} (x : A) → Some x ≡ None → ⊥
+no_some x e = cc
+
+same_some : {A : Type 0} (x y : A) → Some x ≡ Some y → x ≡ y
+same_some x y e = cc
+
+full_text : (self : ScreenValue) (noted : Option ScreenValue) (update : Update) → noted ≡ None →
+    IsUpdate self noted update → text_of_update update ≡ bytes_of_all (redraw (shown self))
+full_text self None (Full rows cols text) e is = is.is
+full_text self None (Diff text) e is = absurd is
+full_text self (Some prev) update e is = absurd (no_some prev e)
+
+diff_text : (self prev : ScreenValue) (noted : Option ScreenValue) (update : Update) → noted ≡ Some prev →
+    IsUpdate self noted update → text_of_update update ≡ bytes_of_all (difference (shown self) (shown prev))
+diff_text self prev (Some other) (Diff text) e is =
+    is.is ∙ ap (λ (s : ScreenValue). bytes_of_all (difference (shown self) (shown s))) (same_some other prev e)
+diff_text self prev (Some other) (Full rows cols text) e is = absurd is
+diff_text self prev None update e is = absurd (no_some prev (sym e))
+
+ran_shows : (p q : Parsing (Unit {0})) (bytes : List ℕ) → StandsFor p.scanner start → Ran quietly p bytes q →
+    q.screen ≡ screen_in start p.screen bytes
+ran_shows p q bytes stands ran = (ran_heard quietly quiet_leaves p q bytes start stands ran).shown
+
+pub begun_written : (every viewer : ℕ) (old new : MirrorValue) (left written grown : Option (List ℕ)) → 0 < every →
+    IsBegun old viewer → WritesUpdate old viewer new written grown →
+    IsWritten every viewer old new left left written grown
+begun_written every viewer old new left written grown some b w =
+    let t = w.tells in
+    let first = old.parser.screen in
+    let none = none_on_way first every some in
+    let size : SameSize new.parser.screen.page first.page =
+    subst (λ (p : Parsing (Unit {0})). SameSize p.screen.page first.page) (sym t.parser) (own_size first.page) in
+    record {
+      input = [];
+      count = 0;
+      length_is = omega arith;
+      reads = Consumes-nil left;
+      ran = subst (Ran quietly old.parser []) (sym t.parser) (nothing_ran old.parser);
+      size = size;
+      views = t.puts.here;
+      note = t.puts.note_here ∙ ap (λ (p : Parsing (Unit {0})). Some p.screen) (sym t.parser);
+      last = ap (last_screen first) none ∙ ap (λ (p : Parsing (Unit {0})). p.screen) (sym t.parser);
+      told = (
+        record { sound = t.whole; colored = t.colored; size = own_size first.page },
+        subst (AllByRecursion (IsToldAfter first)) (sym none) tt,
+      );
+      appends =
+          subst (Appends written grown) (full_text first (note_of old.viewers viewer) w.update b.note t.text
+          ∙ (sym (append-nil (bytes_of_all (redraw (shown first)))) ∙ ap (chain_text first) (sym none))) w.appends;
+    }
+
+-- one more screen is told of
+record OneMore (first : ScreenValue) (screens : List ScreenValue) (written grown : Option (List ℕ)) : Type 0 where
+  told : AllByRecursion (IsToldAfter first) (first ∷ screens)
+  appends : Appends written grown (chain_text first screens)
+
+one_more : (viewer : ℕ) (first : ScreenValue) (nexts : List ScreenValue) (mid read new : MirrorValue)
+    (written grown more : Option (List ℕ))
+    → last_screen first nexts ≡ mid.parser.screen → note_of read.viewers viewer ≡ Some mid.parser.screen
+    → SameSize read.parser.screen.page first.page → AllByRecursion (IsToldAfter first) (first ∷ nexts)
+    → Appends written grown (chain_text first nexts) → WritesUpdate read viewer new grown more
+    → OneMore first (nexts ++ (read.parser.screen ∷ [])) written more
+one_more viewer first nexts mid read new written grown more last note size told appends w =
+    let t = w.tells in
+    let screen = read.parser.screen in
+    let text : text_of_update w.update ≡ bytes_of_all (difference (shown screen) (shown (last_screen first nexts))) =
+    diff_text screen mid.parser.screen (note_of read.viewers viewer) w.update note t.text
+    ∙ ap (λ (s : ScreenValue). bytes_of_all (difference (shown screen) (shown s))) (sym last) in
+    record {
+      told = (
+        told.0,
+        all_of_more (IsToldAfter first) nexts screen told.1
+            (record { sound = t.whole; colored = t.colored; size = size }),
+      );
+      appends =
+          subst (Appends written more)
+          (ap (λ (bytes : List ℕ). chain_text first nexts ++ bytes) text ∙ sym (text_of_more first nexts screen))
+          (Appends-trans written grown more (chain_text first nexts) (text_of_update w.update) appends w.appends);
+    }
+
+-- the bytes up to the next update were read, and that was written
+pub written_more : (every viewer : ℕ) (old mid read new : MirrorValue) (left at rest written grown more : Option (List ℕ))
+    → 0 < every → StandsFor old.parser.scanner start → IsWritten every viewer old mid left at written grown
+    → ReadsStretch every true mid read at rest → WritesUpdate read viewer new grown more
+    → IsWritten every viewer old new left rest written more
+written_more every viewer old mid read new left at rest written grown more some stands before s w =
+    let first = old.parser.screen in
+    let t = w.tells in
+    let all = before.input ++ s.bytes in
+    let nexts = screens_on_way first every before.input in
+    let ran : Ran quietly old.parser all read.parser =
+    ran_then quietly old.parser mid.parser read.parser before.input s.bytes before.ran s.reads.ran in
+    let size : SameSize read.parser.screen.page first.page =
+    size_through read.parser.screen.page mid.parser.screen.page first.page s.reads.size before.size in
+    let screens : screens_on_way first every all ≡ nexts ++ (read.parser.screen ∷ []) =
+    more_on_way first every before.count before.input s.bytes some before.length_is (s.whole refl)
+    ∙ ap (λ (x : ScreenValue). nexts ++ (x ∷ [])) (sym (ran_shows old.parser read.parser all stands ran)) in
+    let one = one_more viewer first nexts mid read new written grown more before.last
+    (ap (λ (v : ViewersValue). note_of v viewer) s.reads.viewers ∙ before.note) size before.told before.appends w in
+    record {
+      input = all;
+      count = suc before.count;
+      length_is = next_length every before.count before.input s.bytes before.length_is (s.whole refl);
+      reads = Consumes-trans left at rest before.input s.bytes before.reads s.reads.reads;
+      ran = subst (Ran quietly old.parser all) (sym t.parser) ran;
+      size = subst (λ (p : Parsing (Unit {0})). SameSize p.screen.page first.page) (sym t.parser) size;
+      views = t.puts.here;
+      note = t.puts.note_here ∙ ap (λ (p : Parsing (Unit {0})). Some p.screen) (sym t.parser);
+      last =
+          ap (last_screen first) screens
+          ∙ (last_of_more first nexts read.parser.screen ∙ ap (λ (p : Parsing (Unit {0})). p.screen) (sym t.parser));
+      told =
+          subst (λ (xs : List ScreenValue). AllByRecursion (IsToldAfter first) (first ∷ xs)) (sym screens) one.told;
+      appends = subst (λ (xs : List ScreenValue). Appends written more (chain_text first xs)) (sym screens) one.appends;
+    }
+
+-- the rest was read, and the last update was written
+pub written_all : (every viewer : ℕ) (old mid read new : MirrorValue) (left at rest written grown more : Option (List ℕ))
+    → StandsFor old.parser.scanner start → IsWritten every viewer old mid left at written grown
+    → ReadsStretch every false mid read at rest → WritesUpdate read viewer new grown more
+    → WritesToEnd old.parser.screen every left rest written more
+written_all every viewer old mid read new left at rest written grown more stands before s w =
+    let first = old.parser.screen in
+    let all = before.input ++ s.bytes in
+    let nexts = screens_on_way first every before.input in
+    let ran : Ran quietly old.parser all read.parser =
+    ran_then quietly old.parser mid.parser read.parser before.input s.bytes before.ran s.reads.ran in
+    let screens : screens_to_end first every all ≡ nexts ++ (read.parser.screen ∷ []) =
+    ap (λ (xs : List ScreenValue). xs ++ (screen_in start first all ∷ []))
+    (fewer_on_way first every before.count before.input s.bytes before.length_is (s.fewer refl))
+    ∙ ap (λ (x : ScreenValue). nexts ++ (x ∷ [])) (sym (ran_shows old.parser read.parser all stands ran)) in
+    let one = one_more viewer first nexts mid read new written grown more before.last
+    (ap (λ (v : ViewersValue). note_of v viewer) s.reads.viewers ∙ before.note)
+    (size_through read.parser.screen.page mid.parser.screen.page first.page s.reads.size before.size)
+    before.told before.appends w in
+    record {
+      input = all;
+      reads = Consumes-trans left at rest before.input s.bytes before.reads s.reads.reads;
+      appends = subst (λ (xs : List ScreenValue). Appends written more (chain_text first xs)) (sym screens) one.appends;
+      told =
+          subst (λ (xs : List ScreenValue). AllByRecursion (IsToldAfter first) (first ∷ xs)) (sym screens) one.told;
+    }
+
+-- ---- where it stops
+
+-- after an update
+pub stops_written : (every viewer : ℕ) (old new : MirrorValue) (left rest written grown : Option (List ℕ)) →
+    IsWritten every viewer old new left rest written grown →
+    WritesOnWay old.parser.screen every left rest written grown
+stops_written every viewer old new left rest written grown w =
+    record { input = w.input; reads = w.reads; appends = w.appends }
+
+-- a read failed
+pub stops_reading : (every viewer : ℕ) (old mid : MirrorValue) (left at rest written grown : Option (List ℕ)) →
+    IsWritten every viewer old mid left at written grown → ReadsFewer every at rest →
+    WritesOnWay old.parser.screen every left rest written grown
+stops_reading every viewer old mid left at rest written grown w r = record {
+  input = w.input ++ r.bytes;
+  reads = Consumes-trans left at rest w.input r.bytes w.reads r.reads;
+  appends =
+      subst (λ (xs : List ScreenValue). Appends written grown (chain_text old.parser.screen xs))
+      (sym (fewer_on_way old.parser.screen every w.count w.input r.bytes w.length_is r.fewer)) w.appends;
+}
+
+-- memory was refused for what was read
+pub stops_refused : (every viewer : ℕ) (old mid : MirrorValue) (left at rest written grown more : Option (List ℕ)) →
+    IsWritten every viewer old mid left at written grown → ReadsAtMost every at rest → Keeps grown more →
+    WritesBehind old.parser.screen every left rest written more
+stops_refused every viewer old mid left at rest written grown more w r keeps = record {
+  input = w.input;
+  last = r.bytes;
+  few = r.few;
+  reads = Consumes-trans left at rest w.input r.bytes w.reads r.reads;
+  appends = Appends-kept written grown more (text_on_way old.parser.screen every w.input) w.appends keeps;
+}
+
+-- or for an update behind it
+pub stretch_few : (every : ℕ) (is_whole : Bool) (old new : MirrorValue) (left rest : Option (List ℕ)) →
+    ReadsStretch every is_whole old new left rest → ReadsAtMost every left rest
+stretch_few every true old new left rest s =
+    record { bytes = s.bytes; few = omega (arith, s.whole refl); reads = s.reads.reads }
+stretch_few every false old new left rest s =
+    record { bytes = s.bytes; few = omega (arith, s.fewer refl); reads = s.reads.reads }
+
+-- the viewer is one still
+pub still_views : (every viewer : ℕ) (is_whole : Bool) (old mid read : MirrorValue)
+    (left at rest written grown : Option (List ℕ))
+    → IsWritten every viewer old mid left at written grown → ReadsStretch every is_whole mid read at rest
+    → is_viewer read.viewers viewer ≡ true
+still_views every viewer is_whole old mid read left at rest written grown w s =
+    ap (λ (v : ViewersValue). is_viewer v viewer) s.reads.viewers ∙ w.views
+
+-- an update was answered, and its text was written
+pub told_written : (old : MirrorValue) (viewer : ℕ) (new : MirrorValue) (update : Update) (text : List ℕ)
+    (written grown : Option (List ℕ)) (answer : Result (Unit {0}) Fault)
+    → Tells old viewer update new → text ≡ text_of_update update → OnOk answer (Appends written grown text)
+    → OnOk answer (WritesUpdate old viewer new written grown)
+told_written old viewer new update text written grown (Ok u) tells is appends =
+    record { update = update; tells = tells; appends = subst (Appends written grown) is appends }
+told_written old viewer new update text written grown (Err fault) tells is appends = tt
+
+pub ended_written : (every viewer : ℕ) (is_whole : Bool) (old mid read new : MirrorValue)
+    (left at rest written grown more : Option (List ℕ))
+    → is_whole ≡ false → StandsFor old.parser.scanner start → IsWritten every viewer old mid left at written grown
+    → ReadsStretch every is_whole mid read at rest → WritesUpdate read viewer new grown more
+    → WritesToEnd old.parser.screen every left rest written more
+ended_written every viewer false old mid read new left at rest written grown more e stands before s w =
+    written_all every viewer old mid read new left at rest written grown more stands before s w
+ended_written every viewer true old mid read new left at rest written grown more e stands before s w =
+    absurd (false≢true (sym e))
+
+pub next_written : (every viewer : ℕ) (is_whole : Bool) (old mid read new : MirrorValue)
+    (left at rest written grown more : Option (List ℕ))
+    → is_whole ≡ true → 0 < every → StandsFor old.parser.scanner start
+    → IsWritten every viewer old mid left at written grown
+    → ReadsStretch every is_whole mid read at rest → WritesUpdate read viewer new grown more
+    → IsWritten every viewer old new left rest written more
+next_written every viewer true old mid read new left at rest written grown more e some stands before s w =
+    written_more every viewer old mid read new left at rest written grown more some stands before s w
+next_written every viewer false old mid read new left at rest written grown more e some stands before s w =
+    absurd (false≢true e)

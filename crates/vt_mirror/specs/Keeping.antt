@@ -1,0 +1,84 @@
+-- Aids of proofs, which only private functions cite.
+use Rattle.std.specs.Prelude.{◌≡◌, ℕ, ◌*◌, ◌+◌, ◌<◌, ◌≤◌, Bool, false, true, List, ◌∷◌, length, Some, None, string_bytes}
+use Rattle.std.specs.Io.KnownBytes.{Appends, Consumes, IsAtEnd}
+use Rattle.std.specs.List.{AllByRecursion}
+use Rattle.std.specs.declared.option.Option.{Option}
+use Rattle.vt_grid.specs.Page.{SameSize}
+use Rattle.vt_scan.specs.Automaton.{start}
+use Rattle.vt_scan.specs.Scanner.{StandsFor}
+use Rattle.vt_screen.specs.Chain.{last_screen}
+use Rattle.vt100.specs.Parser.{Ran, quietly}
+use Rattle.vt_mirror.specs.Calls.{Tells}
+use Rattle.vt_mirror.specs.Mirror.{MirrorValue}
+use Rattle.vt_mirror.specs.Runs.{IsToldAfter, screens_on_way, text_on_way}
+use Rattle.vt_mirror.specs.Viewers.{is_viewer, note_of}
+use Rattle.vt_mirror.specs.declared.update.Update.{Update}
+use Rattle.vt_mirror.specs.declared.update.Update.TheVariants.{Diff, Full}
+
+-- the text of an update
+abbrev pub text_of_update : Update → List ℕ
+text_of_update (Diff text) = string_bytes text
+text_of_update (Full rows cols text) = string_bytes text
+
+-- a viewer was told, and the text was written
+pub record WritesUpdate (old : MirrorValue) (viewer : ℕ) (new : MirrorValue)
+    (written grown : Option (List ℕ)) : Type 0 where
+  pub update : Update
+  pub tells : Tells old viewer update new
+  pub appends : Appends written grown (text_of_update update)
+
+-- bytes were read by the mirror; its viewers and its size are as before
+pub record ReadsBytes (bytes : List ℕ) (old new : MirrorValue) (left rest : Option (List ℕ)) : Type 0 where
+  pub reads : Consumes left rest bytes
+  pub ran : Ran quietly old.parser bytes new.parser
+  pub viewers : new.viewers ≡ old.viewers
+  pub size : SameSize new.parser.screen.page old.parser.screen.page
+
+-- so many bytes, or fewer and none is left
+pub record ReadsStretch (every : ℕ) (is_whole : Bool)
+    (old new : MirrorValue) (left rest : Option (List ℕ)) : Type 0 where
+  pub bytes : List ℕ
+  pub reads : ReadsBytes bytes old new left rest
+  pub whole : is_whole ≡ true → length bytes ≡ every
+  pub fewer : is_whole ≡ false → length bytes < every
+  pub end : is_whole ≡ false → IsAtEnd rest
+
+-- in the midst of them, with so many left to read
+pub record InStretch (every still : ℕ) (old new : MirrorValue) (left rest : Option (List ℕ)) : Type 0 where
+  pub bytes : List ℕ
+  pub reads : ReadsBytes bytes old new left rest
+  pub some : 0 < still
+  pub count : length bytes + still ≡ every
+
+-- a read failed within the bytes before the next update
+pub record ReadsFewer (every : ℕ) (left rest : Option (List ℕ)) : Type 0 where
+  pub bytes : List ℕ
+  pub fewer : length bytes < every
+  pub reads : Consumes left rest bytes
+
+-- memory was refused within them, or behind them
+pub record ReadsAtMost (every : ℕ) (left rest : Option (List ℕ)) : Type 0 where
+  pub bytes : List ℕ
+  pub few : length bytes ≤ every
+  pub reads : Consumes left rest bytes
+
+-- before the first update of a viewer of a mirror that has read nothing
+pub record IsBegun (mirror : MirrorValue) (viewer : ℕ) : Type 0 where
+  pub scanner : StandsFor mirror.parser.scanner start
+  pub views : is_viewer mirror.viewers viewer ≡ true
+  pub note : note_of mirror.viewers viewer ≡ None
+
+-- after an update, with all that was due written; what was read is so many times the bytes between two updates
+pub record IsWritten (every viewer : ℕ) (old new : MirrorValue) (left rest written grown : Option (List ℕ)) : Type 0 where
+  pub input : List ℕ
+  pub count : ℕ
+  pub length_is : length input ≡ count * every
+  pub reads : Consumes left rest input
+  pub ran : Ran quietly old.parser input new.parser
+  pub size : SameSize new.parser.screen.page old.parser.screen.page
+  pub views : is_viewer new.viewers viewer ≡ true
+  pub note : note_of new.viewers viewer ≡ Some new.parser.screen
+  pub last : last_screen old.parser.screen (screens_on_way old.parser.screen every input) ≡ new.parser.screen
+  pub told : AllByRecursion (IsToldAfter old.parser.screen)
+      (old.parser.screen ∷ screens_on_way old.parser.screen every input)
+  pub appends : Appends written grown (text_on_way old.parser.screen every input)

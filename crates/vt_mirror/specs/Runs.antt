@@ -1,0 +1,70 @@
+-- What a run over an input writes for its one viewer: the text of an update at the start, one after each so many bytes,
+-- and one at the end.
+use Rattle.std.specs.Prelude.{ℕ, zero, suc, ◌*◌, ◌/◌, ◌≤◌, ◌⊎◌, List, [], ◌∷◌, ◌++◌, length, map, take}
+use Rattle.std.specs.Io.KnownBytes.{Appends, Consumes, Keeps}
+use Rattle.std.specs.List.{AllByRecursion}
+use Rattle.std.specs.declared.option.Option.{Option}
+use Rattle.vt_grid.specs.Page.{SameSize}
+use Rattle.vt_scan.specs.Automaton.{start}
+use Rattle.vt_screen.specs.Chain.{chain_text}
+use Rattle.vt_screen.specs.Screen.{IsColored, IsScreen, ScreenValue}
+use Rattle.vt_screen.specs.Telling.{screen_in}
+
+-- ---- which screens the viewer is told of, after the first one
+
+-- a number, twice that, and so on: so many multiples
+abbrev pub multiples : (number count : ℕ) → List ℕ
+multiples number zero = []
+multiples number (suc count) = multiples number count ++ (suc count * number ∷ [])
+
+-- the screens after each so many bytes of an input
+abbrev pub screens_on_way : (first : ScreenValue) (every : ℕ) → List ℕ → List ScreenValue
+screens_on_way first every input =
+    map (λ n. screen_in start first (take n input)) (multiples every (length input / every))
+
+-- and the one at its end
+abbrev pub screens_to_end : (first : ScreenValue) (every : ℕ) → List ℕ → List ScreenValue
+screens_to_end first every input = screens_on_way first every input ++ (screen_in start first input ∷ [])
+
+-- each is whole, and has the first one's size
+pub record IsToldAfter (first screen : ScreenValue) : Type 0 where
+  pub sound : IsScreen screen
+  pub colored : IsColored screen
+  pub size : SameSize screen.page first.page
+
+-- ---- their texts: the redraw of the first one, and the difference of each next one
+
+abbrev pub text_on_way : (first : ScreenValue) (every : ℕ) → List ℕ → List ℕ
+text_on_way first every input = chain_text first (screens_on_way first every input)
+
+abbrev pub text_to_end : (first : ScreenValue) (every : ℕ) → List ℕ → List ℕ
+text_to_end first every input = chain_text first (screens_to_end first every input)
+
+-- ---- what was read, and what was written for it
+
+-- for an input that was read to its end
+pub record WritesToEnd (first : ScreenValue) (every : ℕ) (left rest written grown : Option (List ℕ)) : Type 0 where
+  pub input : List ℕ
+  pub reads : Consumes left rest input
+  pub appends : Appends written grown (text_to_end first every input)
+  pub told : AllByRecursion (IsToldAfter first) (first ∷ screens_to_end first every input)
+
+-- for bytes behind which a read failed: all updates that were due
+pub record WritesOnWay (first : ScreenValue) (every : ℕ) (left rest written grown : Option (List ℕ)) : Type 0 where
+  pub input : List ℕ
+  pub reads : Consumes left rest input
+  pub appends : Appends written grown (text_on_way first every input)
+
+-- for bytes at whose end memory was refused: all updates but that for the last bytes, at most as many as are read between
+-- two updates
+pub record WritesBehind (first : ScreenValue) (every : ℕ) (left rest written grown : Option (List ℕ)) : Type 0 where
+  pub input : List ℕ
+  pub last : List ℕ
+  pub few : length last ≤ every
+  pub reads : Consumes left rest (input ++ last)
+  pub appends : Appends written grown (text_on_way first every input)
+
+-- memory was refused, before the first update or later
+abbrev pub WritesSome : (first : ScreenValue) (every : ℕ) → (left rest written grown : Option (List ℕ)) → Type 0
+WritesSome first every left rest written grown =
+    (Keeps left rest × Keeps written grown) ⊎ WritesBehind first every left rest written grown
