@@ -20,18 +20,13 @@ const USAGE: &str = "usage: example_cast <RECORDING";
 fn play(alloc: Global, recording: &str) -> Result<Player> {
     let (first, events) = recording.split_once('\n').unwrap_or((recording, ""));
     let mut player = begin(alloc, first).context("line 1")?;
-    play_events(alloc, &mut player, events)?;
-    Ok(player)
-}
-
-/// Plays all events, and then tells the viewer of the last ones.
-fn play_events(alloc: Global, player: &mut Player, events: &str) -> Result<()> {
     let mut number = 2u64;
     for line in events.lines() {
-        play_line(alloc, player, line).context(format_args!("line {number}"))?;
+        play_line(alloc, &mut player, line).context(format_args!("line {number}"))?;
         number = number.saturating_add(1);
     }
-    player.update()
+    player.update()?;
+    Ok(player)
 }
 
 fn begin(alloc: Global, line: &str) -> Result<Player> {
@@ -48,11 +43,6 @@ fn play_line(alloc: Global, player: &mut Player, line: &str) -> Result<()> {
 fn run<R: AllocGlobal + Input + Print>(rt: &R) -> Result<()> {
     let recording = io::read_to_string(rt.alloc(), rt.reader()).context("reading the recording")?;
     let player = play(rt.alloc(), recording.as_str())?;
-    tell(rt, &player)
-}
-
-/// Writes what playing took, and what the viewer sees.
-fn tell<R: AllocGlobal + Print>(rt: &R, player: &Player) -> Result<()> {
     println!(rt; "{}\n", player.tally())?;
     for row in &player.rows(rt.alloc())? {
         println!(rt; "{row}")?;

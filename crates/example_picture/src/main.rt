@@ -35,11 +35,7 @@ fn draw<R: AllocGlobal + Input + Print>(rt: &R, rows: NonZeroU16, cols: NonZeroU
     let mut bytes = Vec::new(rt.alloc());
     rt.reader().read_to_end(&mut bytes)?;
     let mut parser = Parser::new(rt.alloc(), rows, cols, 0)?;
-    draw_on(rt, &mut parser, bytes.as_slice())
-}
-
-fn draw_on<R: AllocGlobal + Print>(rt: &R, parser: &mut Parser, bytes: &[u8]) -> Result<()> {
-    parser.process(bytes)?;
+    parser.process(bytes.as_slice())?;
     let picture = drawing::svg(rt.alloc(), parser.screen())?;
     rt.print(picture.as_str())?;
     Ok(())

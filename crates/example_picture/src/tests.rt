@@ -1,7 +1,6 @@
 //! What is drawn of small screens, worked out by hand.
 
 use crate::drawing::svg;
-use std::alloc::Global;
 use std::num::NonZeroU16;
 use std::test::Fail;
 use vt100::Parser;
@@ -53,40 +52,15 @@ const DRAWN: [(&str, &str); 8] = [
 
 #[test]
 fn draws(rt: HostRuntime) -> Result<(), Fail> {
-    for (written, drawn) in &DRAWN {
-        expect_drawn(rt.alloc(), written, drawn)?;
-    }
-    Ok(())
-}
-
-fn expect_drawn(alloc: Global, written: &str, drawn: &str) -> Result<(), Fail> {
     let rows = NonZeroU16::new(1).ok_or("no size")?;
     let cols = NonZeroU16::new(6).ok_or("no size")?;
-    let mut parser = Parser::new(alloc, rows, cols, 0)?;
-    expect_drawn_by(alloc, &mut parser, written, drawn)
-}
-
-fn expect_drawn_by(
-    alloc: Global,
-    parser: &mut Parser,
-    written: &str,
-    drawn: &str,
-) -> Result<(), Fail> {
-    parser.process(written.as_bytes())?;
-    let picture = svg(alloc, parser.screen())?;
-    expect_group(picture.as_str(), drawn)
-}
-
-/// Fails where something else stands between the two tags of the group.
-fn expect_group(picture: &str, drawn: &str) -> Result<(), Fail> {
-    let (_, group) = picture.split_once("crispEdges\">\n").ok_or("no group")?;
-    let (inside, _) = group.split_once("</g>").ok_or("no end of the group")?;
-    expect_text(inside, drawn)
-}
-
-fn expect_text(found: &str, wanted: &str) -> Result<(), Fail> {
-    if found != wanted {
-        return Err(Fail::new(format_args!("{found} and not {wanted}")));
+    for (written, drawn) in &DRAWN {
+        let mut parser = Parser::new(rt.alloc(), rows, cols, 0)?;
+        parser.process(written.as_bytes())?;
+        let picture = svg(rt.alloc(), parser.screen())?;
+        let (_, group) = picture.split_once("crispEdges\">\n").ok_or("no group")?;
+        let (inside, _) = group.split_once("</g>").ok_or("no end of the group")?;
+        assert_eq!(rt; inside, *drawn);
     }
     Ok(())
 }

@@ -16,7 +16,6 @@ use std::alloc::Global;
 use std::env;
 use std::num::NonZeroU16;
 use std::process::ExitCode;
-use std::rt::Env;
 use vt100::{Parser, Screen};
 
 /// How many cases held, and how many didn't.
@@ -36,15 +35,6 @@ fn terminal(alloc: Global, case: &Case) -> Result<Parser> {
 /// Tests a case, prints how that went, and counts it.
 fn test_case<R: AllocGlobal + Print>(rt: &R, case: &Case, tally: &mut Tally) -> Result<()> {
     let mut parser = terminal(rt.alloc(), case)?;
-    test_on(rt, case, &mut parser, tally)
-}
-
-fn test_on<R: AllocGlobal + Print>(
-    rt: &R,
-    case: &Case,
-    parser: &mut Parser,
-    tally: &mut Tally,
-) -> Result<()> {
     parser.process(case.output.as_bytes())?;
     judge(rt, case, parser.screen(), tally)
 }
@@ -64,17 +54,7 @@ fn judge<R: AllocGlobal + Print>(
     tally.failed = tally.failed.saturating_add(1);
     println!(rt; "failed {}", case.name)?;
     let mut expected = terminal(rt.alloc(), case)?;
-    tell(rt, case, &mut expected, seen)
-}
-
-/// Prints what a case expects, drawn on a terminal of its size, beside what was seen.
-fn tell<R: AllocGlobal + Print>(
-    rt: &R,
-    case: &Case,
-    expected: &mut Parser,
-    seen: &Screen,
-) -> Result<()> {
-    picture::draw(rt.alloc(), expected, case)?;
+    picture::draw(rt.alloc(), &mut expected, case)?;
     picture::print_both(rt, expected.screen(), seen)?;
     check::print_misses(rt, seen, case)
 }
@@ -96,32 +76,22 @@ fn read_words(words: &[String]) -> Option<bool> {
     }
 }
 
-/// Tests what was asked for, and answers whether each case held.
-fn run<R: AllocGlobal + Print>(rt: &R, is_demo: bool) -> Result<bool> {
+fn main(rt: HostRuntime) -> Result<ExitCode> {
+    let words: Vec<String> = env::args(&rt)?.skip(1).collect(rt.alloc())?;
+    let Some(is_demo) = read_words(words.as_slice()) else {
+        eprintln!(rt; "usage: example_screen_test [demo]")?;
+        return Ok(ExitCode::from(2));
+    };
     let mut tally = Tally {
         passed: 0,
         failed: 0,
     };
-    test_all(rt, &CASES, &mut tally)?;
+    test_all(&rt, &CASES, &mut tally)?;
     if is_demo {
-        test_all(rt, &WRONG, &mut tally)?;
+        test_all(&rt, &WRONG, &mut tally)?;
     }
     println!(rt; "{} passed, {} failed", tally.passed, tally.failed)?;
-    Ok(tally.failed == 0)
-}
-
-/// Whether the words after the program's name ask for the wrong cases, too; `None` for wrong words.
-fn asked<R: AllocGlobal + Env>(rt: &R) -> Result<Option<bool>> {
-    let words: Vec<String> = env::args(rt)?.skip(1).collect(rt.alloc())?;
-    Ok(read_words(words.as_slice()))
-}
-
-fn main(rt: HostRuntime) -> Result<ExitCode> {
-    let Some(is_demo) = asked(&rt)? else {
-        eprintln!(rt; "usage: example_screen_test [demo]")?;
-        return Ok(ExitCode::from(2));
-    };
-    Ok(if run(&rt, is_demo)? {
+    Ok(if tally.failed == 0 {
         ExitCode::SUCCESS
     } else {
         ExitCode::FAILURE

@@ -5,16 +5,22 @@
 //! first half of FILE, keeps a copy of the screen, reads the rest, and then makes its call of the
 //! screen TIMES times. Prints the call, how often it was made, and how many bytes were read or
 //! written by it, of a copy how many rows.
+//!
+//! `vt_bench lengths ROWS COLS CAPACITY EVERY FILE` prints two sums of bytes, of `contents_diff` and of
+//! `contents_diff_scrolling`: one difference after each EVERY bytes of FILE and one at its end, each
+//! from the screen of the one before, the first one from a fresh screen.
 #![tactic(auto)]
 
+mod lengths;
 mod work;
 
 use anyhow::{Context, Result, bail};
+use lengths::{Lengths, Reading};
 use std::alloc::Global;
 use std::num::NonZeroU16;
 use std::rt::{Env, Files};
 use std::{env, fs};
-use vt100::{Parser, Screen};
+use vt100::Parser;
 use work::Work;
 
 /// How many bytes a parser is given at a time.
@@ -36,14 +42,18 @@ fn main(rt: HostRuntime) -> Result<()> {
 
 fn run<R: AllocGlobal + Env + Files + Print>(rt: &R) -> Result<()> {
     let words: Vec<String> = env::args(rt)?.skip(1).collect(rt.alloc())?;
-    measure(rt, words.as_slice())
-}
-
-/// Measures what these words ask for.
-fn measure<R: AllocGlobal + Files + Print>(rt: &R, words: &[String]) -> Result<()> {
-    let [what, rows, cols, capacity, times, file] = words else {
+    let [what, rows, cols, capacity, times, file] = words.as_slice() else {
         bail!("usage: vt_bench WHAT ROWS COLS CAPACITY TIMES FILE");
     };
+    if what.as_str() == "lengths" {
+        let reading = Reading {
+            rows: rows.parse::<NonZeroU16>()?,
+            cols: cols.parse::<NonZeroU16>()?,
+            capacity: capacity.parse::<usize>()?,
+            every: times.parse::<usize>()?,
+        };
+        return show_lengths(rt, reading, file.as_str());
+    }
     let task = Task {
         work: Work::named(what.as_str()).context("no call of this name")?,
         rows: rows.parse::<NonZeroU16>()?,
@@ -54,6 +64,18 @@ fn measure<R: AllocGlobal + Files + Print>(rt: &R, words: &[String]) -> Result<(
     let bytes = fs::read(rt, file.as_str())?;
     let count = measured(rt.alloc(), task, bytes.as_slice())?;
     println!(rt; "{what}: {times} times, {count}")?;
+    Ok(())
+}
+
+/// Prints the lengths of differences on the way through a file.
+fn show_lengths<R: AllocGlobal + Files + Print>(
+    rt: &R,
+    reading: Reading,
+    file: &str,
+) -> Result<()> {
+    let bytes = fs::read(rt, file)?;
+    let Lengths { plain, scrolling } = reading.lengths(rt.alloc(), bytes.as_slice())?;
+    println!(rt; "{plain} {scrolling}")?;
     Ok(())
 }
 
@@ -89,14 +111,10 @@ fn process(parser: &mut Parser, bytes: &[u8]) -> Result<()> {
 fn call_often(parser: &mut Parser, task: Task, first: &[u8], rest: &[u8]) -> Result<usize> {
     process(parser, first)?;
     let prev = parser.screen().clone()?;
-    process_and_call(parser, &prev, task, rest)
-}
-
-fn process_and_call(parser: &mut Parser, prev: &Screen, task: Task, rest: &[u8]) -> Result<usize> {
     process(parser, rest)?;
     let mut count = 0usize;
     for _ in 0..task.times {
-        count = count.saturating_add(task.work.call(parser.screen(), prev)?);
+        count = count.saturating_add(task.work.call(parser.screen(), &prev)?);
     }
     Ok(count)
 }

@@ -14,6 +14,9 @@ pub enum Work {
     /// What differs from the earlier screen is written.
     Diff,
 
+    /// What differs from the earlier screen is written, with rows that move.
+    Scrolling,
+
     /// What differs from the screen itself is written.
     Same,
 
@@ -34,6 +37,7 @@ impl Work {
             "process" => Some(Work::Process),
             "formatted" => Some(Work::Formatted),
             "diff" => Some(Work::Diff),
+            "scrolling" => Some(Work::Scrolling),
             "same" => Some(Work::Same),
             "contents" => Some(Work::Contents),
             "basic" => Some(Work::Basic),
@@ -48,6 +52,7 @@ impl Work {
             Work::Process => Ok(0),
             Work::Formatted => Ok(screen.contents_formatted()?.len()),
             Work::Diff => difference(screen, prev),
+            Work::Scrolling => scrolling_difference(screen, prev),
             Work::Same => difference(screen, screen),
             Work::Contents => Ok(screen.contents()?.len()),
             Work::Basic => Ok(screen.contents_formatted_basic()?.len()),
@@ -62,10 +67,17 @@ fn rows_of_copy(screen: &Screen) -> Result<usize, Error> {
 }
 
 fn difference(screen: &Screen, prev: &Screen) -> Result<usize, Error> {
+    if !screen.is_sized_as(prev) {
+        return Ok(0);
+    }
+    Ok(screen.contents_diff(prev)?.len())
+}
+
+fn scrolling_difference(screen: &Screen, prev: &Screen) -> Result<usize, Error> {
     let (rows, cols) = screen.size();
     let (prev_rows, prev_cols) = prev.size();
     if rows.get() != prev_rows.get() || cols.get() != prev_cols.get() {
         return Ok(0);
     }
-    Ok(screen.contents_diff(prev)?.len())
+    Ok(screen.contents_diff_scrolling(prev)?.len())
 }

@@ -3,8 +3,7 @@
 use crate::told::difference;
 use anyhow::Result;
 use std::alloc::Global;
-use vt_notes::Notes;
-use vt100::{Parser, Screen};
+use vt100::Screen;
 
 /// Whether a fresh parser that reads the redraw of a screen, and one that reads the redraw of the screen
 /// before it and then the difference, has the cells, flags and cursor of the screen, gives the same
@@ -30,10 +29,6 @@ pub fn is_drawn(alloc: Global, screen: &Screen, prev: &Screen) -> Result<bool> {
 fn is_drawn_by(alloc: Global, screen: &Screen, pieces: &[&[u8]], redraw: &str) -> Result<bool> {
     let (rows, cols) = screen.size();
     let parser = vt_notes::read(alloc, rows, cols, pieces)?;
-    shows(&parser, screen, redraw)
-}
-
-fn shows(parser: &Parser<Notes>, screen: &Screen, redraw: &str) -> Result<bool> {
     let again = parser.screen().contents_formatted()?;
     let is_quiet = parser.callbacks().calls().is_empty();
     Ok(is_quiet && again.as_str() == redraw && has_same_picture(parser.screen(), screen))

@@ -78,36 +78,14 @@ fn is_drawn_at_every_place<R: AllocGlobal + Print>(rt: &R, case: &Case<'_>) -> R
 /// The first place where the bytes, ended there, leave a screen whose texts do not draw it again.
 fn place_not_drawn(alloc: Global, case: &Case<'_>) -> Result<Option<usize>> {
     let mut parser = fed(alloc, case, &[])?;
-    place_not_drawn_by(alloc, &mut parser, case.bytes.as_slice())
-}
-
-fn place_not_drawn_by(
-    alloc: Global,
-    parser: &mut Parser<Notes>,
-    bytes: &[u8],
-) -> Result<Option<usize>> {
-    for (place, byte) in bytes.chunks(1).enumerate() {
-        if !is_drawn_after(alloc, parser, byte)? {
+    for (place, byte) in case.bytes.chunks(1).enumerate() {
+        let prev = parser.screen().clone()?;
+        parser.process(byte)?;
+        if !cut::is_drawn(alloc, parser.screen(), &prev)? {
             return Ok(Some(place));
         }
     }
     Ok(None)
-}
-
-/// Whether the texts of the screen after one more byte draw it again.
-fn is_drawn_after(alloc: Global, parser: &mut Parser<Notes>, byte: &[u8]) -> Result<bool> {
-    let prev = parser.screen().clone()?;
-    is_drawn_from(alloc, parser, &prev, byte)
-}
-
-fn is_drawn_from(
-    alloc: Global,
-    parser: &mut Parser<Notes>,
-    prev: &Screen,
-    byte: &[u8],
-) -> Result<bool> {
-    parser.process(byte)?;
-    cut::is_drawn(alloc, parser.screen(), prev)
 }
 
 /// The first place where the bytes, cut there, give something else.
@@ -121,14 +99,9 @@ fn differing_cut(alloc: Global, case: &Case<'_>) -> Result<Option<usize>> {
     Ok(None)
 }
 
-/// Whether these pieces give the lines of the case.
+/// Whether a fresh parser that reads these pieces shows and calls what the case says.
 fn is_shown(alloc: Global, case: &Case<'_>, pieces: &[&[u8]]) -> Result<bool> {
     let parser = fed(alloc, case, pieces)?;
-    shows(alloc, &parser, case)
-}
-
-/// Whether a parser shows and called what the case says.
-fn shows(alloc: Global, parser: &Parser<Notes>, case: &Case<'_>) -> Result<bool> {
     let others = other_lines(alloc, parser.screen(), parser.callbacks())?;
     let is_same = others.as_str() == case.others.as_str();
     Ok(is_same && is_picture(alloc, parser.screen(), case)?)
@@ -143,26 +116,9 @@ fn is_picture(alloc: Global, screen: &Screen, case: &Case<'_>) -> Result<bool> {
 /// The line of the first text that the screen after all bytes doesn't give.
 fn differing_text<'a>(alloc: Global, case: &Case<'a>) -> Result<Option<&'a str>> {
     let prev = screen_before(alloc, case)?;
-    differing_text_from(alloc, case, &prev)
-}
-
-fn differing_text_from<'a>(
-    alloc: Global,
-    case: &Case<'a>,
-    prev: &Screen,
-) -> Result<Option<&'a str>> {
     let parser = fed(alloc, case, &[case.bytes.as_slice()])?;
-    differing_line(alloc, parser.screen(), prev, case.texts.as_slice())
-}
-
-fn differing_line<'a>(
-    alloc: Global,
-    screen: &Screen,
-    prev: &Screen,
-    texts: &[&'a str],
-) -> Result<Option<&'a str>> {
-    for line in texts {
-        if !is_told(alloc, screen, prev, line)? {
+    for line in &case.texts {
+        if !is_told(alloc, parser.screen(), &prev, line)? {
             return Ok(Some(line));
         }
     }
@@ -174,71 +130,39 @@ fn screen_before(alloc: Global, case: &Case<'_>) -> Result<Screen> {
     let before = case.bytes.get(..case.before);
     let before = before.context("fewer bytes than come before a difference")?;
     let parser = fed(alloc, case, &[before])?;
-    copied(&parser)
-}
-
-fn copied(parser: &Parser<Notes>) -> Result<Screen> {
     Ok(parser.screen().clone()?)
 }
 
 /// Whether a fresh parser that reads the redraw has the cells, flags and cursor of the case, gives the
 /// same redraw, and calls nothing.
 fn is_redrawn(alloc: Global, case: &Case<'_>) -> Result<bool> {
-    let redraw = redraw_after(alloc, case, case.bytes.as_slice())?;
-    let parser = fed(alloc, case, &[redraw.as_bytes()])?;
-    is_drawn(alloc, &parser, case, redraw.as_str())
-}
-
-fn is_drawn(alloc: Global, parser: &Parser<Notes>, case: &Case<'_>, redraw: &str) -> Result<bool> {
-    let again = parser.screen().contents_formatted()?;
-    let is_quiet = parser.callbacks().calls().is_empty();
-    Ok(is_quiet && again.as_str() == redraw && is_picture(alloc, parser.screen(), case)?)
+    let parser = fed(alloc, case, &[case.bytes.as_slice()])?;
+    let redraw = parser.screen().contents_formatted()?;
+    is_drawn_by(alloc, case, &[redraw.as_bytes()], redraw.as_str())
 }
 
 /// Whether a fresh parser that shows the screen of before and reads the difference has the cells, flags
 /// and cursor of the case, gives the same redraw, and calls nothing.
 fn is_updated(alloc: Global, case: &Case<'_>) -> Result<bool> {
     let prev = screen_before(alloc, case)?;
-    is_updated_from(alloc, case, &prev)
-}
-
-fn is_updated_from(alloc: Global, case: &Case<'_>, prev: &Screen) -> Result<bool> {
-    let update = update_from(alloc, case, prev)?;
-    let redraw = redraw_after(alloc, case, case.bytes.as_slice())?;
-    is_update(alloc, case, prev, update.as_str(), redraw.as_str())
-}
-
-/// The difference between the screen after all bytes and this one.
-fn update_from(alloc: Global, case: &Case<'_>, prev: &Screen) -> Result<String> {
     let parser = fed(alloc, case, &[case.bytes.as_slice()])?;
-    difference(parser.screen(), prev)
-}
-
-fn is_update(
-    alloc: Global,
-    case: &Case<'_>,
-    prev: &Screen,
-    update: &str,
-    redraw: &str,
-) -> Result<bool> {
     let begun = prev.contents_formatted()?;
-    let parser = fed(alloc, case, &[begun.as_bytes(), update.as_bytes()])?;
-    is_drawn(alloc, &parser, case, redraw)
+    let update = difference(parser.screen(), &prev)?;
+    let redraw = parser.screen().contents_formatted()?;
+    let texts = [begun.as_bytes(), update.as_bytes()];
+    is_drawn_by(alloc, case, &texts, redraw.as_str())
 }
 
-/// The redraw of a fresh parser of the size of a case, after these bytes.
-fn redraw_after(alloc: Global, case: &Case<'_>, bytes: &[u8]) -> Result<String> {
-    let parser = fed(alloc, case, &[bytes])?;
-    redraw_of(&parser)
+/// Whether a fresh parser that reads these texts has the cells, flags and cursor of the case, gives this
+/// redraw, and calls nothing.
+fn is_drawn_by(alloc: Global, case: &Case<'_>, texts: &[&[u8]], redraw: &str) -> Result<bool> {
+    let parser = fed(alloc, case, texts)?;
+    let again = parser.screen().contents_formatted()?;
+    let is_quiet = parser.callbacks().calls().is_empty();
+    Ok(is_quiet && again.as_str() == redraw && is_picture(alloc, parser.screen(), case)?)
 }
 
-fn redraw_of(parser: &Parser<Notes>) -> Result<String> {
-    Ok(parser.screen().contents_formatted()?)
-}
-
-/// A fresh parser of the size of a case, after these pieces. It stands in a box, so that a function that
-/// holds one is proved soon: where a box is given up, the parser's parts are no steps of its own.
-fn fed(alloc: Global, case: &Case<'_>, pieces: &[&[u8]]) -> Result<Box<Parser<Notes>>> {
-    let parser = vt_notes::read(alloc, case.rows, case.cols, pieces)?;
-    Ok(Box::new(alloc, parser)?)
+/// A fresh parser of the size of a case, after these pieces.
+fn fed(alloc: Global, case: &Case<'_>, pieces: &[&[u8]]) -> Result<Parser<Notes>> {
+    Ok(vt_notes::read(alloc, case.rows, case.cols, pieces)?)
 }

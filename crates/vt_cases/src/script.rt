@@ -32,38 +32,21 @@ pub fn replay<R: AllocGlobal + Print>(rt: &R, script: Script<'_>) -> Result<bool
         script.capacity,
         notes,
     )?;
-    replay_steps(rt, script, &mut parser)
-}
-
-fn replay_steps<R: AllocGlobal + Print>(
-    rt: &R,
-    script: Script<'_>,
-    parser: &mut Parser<Notes>,
-) -> Result<bool> {
+    // The screen of the step that looked at the parser last.
     let mut prev = parser.screen().clone()?;
-    replay_from(rt, script, parser, &mut prev)
-}
-
-/// `prev` is the screen of the step that looked at the parser last.
-fn replay_from<R: AllocGlobal + Print>(
-    rt: &R,
-    script: Script<'_>,
-    parser: &mut Parser<Notes>,
-    prev: &mut Screen,
-) -> Result<bool> {
     let mut same = true;
     let steps = script.lines.strip_prefix("> ").unwrap_or(script.lines);
     for (i, step) in steps.split("\n> ").enumerate() {
         let (call, lines) = step.split_once('\n').unwrap_or((step, ""));
         if call != "expect" {
-            take_step(rt.alloc(), parser, call)?;
+            take_step(rt.alloc(), &mut parser, call)?;
             continue;
         }
-        if let Some(word) = differing_word(rt.alloc(), parser, prev, lines)? {
+        if let Some(word) = differing_word(rt.alloc(), &parser, &prev, lines)? {
             println!(rt; "differs: {} (step {i}: {word})", script.name)?;
             same = false;
         }
-        *prev = parser.screen().clone()?;
+        prev = parser.screen().clone()?;
     }
     Ok(same)
 }
@@ -86,7 +69,10 @@ fn take_step(alloc: Global, parser: &mut Parser<Notes>, call: &str) -> Result<()
             parser.screen_mut().clear_scrollback();
             Ok(())
         }
-        "clone" => go_on_with_copy(parser),
+        "clone" => {
+            *parser.screen_mut() = parser.screen().clone()?;
+            Ok(())
+        }
         "clear_events" => {
             *parser.callbacks_mut() = Notes::new(alloc);
             Ok(())
@@ -98,12 +84,6 @@ fn take_step(alloc: Global, parser: &mut Parser<Notes>, call: &str) -> Result<()
 fn process(alloc: Global, parser: &mut Parser<Notes>, digits: &str) -> Result<()> {
     let bytes = bytes_of(alloc, digits)?;
     Ok(parser.process(bytes.as_slice())?)
-}
-
-fn go_on_with_copy(parser: &mut Parser<Notes>) -> Result<()> {
-    let copy = parser.screen().clone()?;
-    *parser.screen_mut() = copy;
-    Ok(())
 }
 
 fn size_of(words: &str) -> Result<(NonZeroU16, NonZeroU16)> {

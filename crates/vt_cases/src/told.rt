@@ -45,9 +45,7 @@ fn text_of(screen: &Screen, prev: &Screen, word: &str) -> Result<String> {
 
 /// What differs from another screen, which has to be of the same size.
 pub fn difference(screen: &Screen, prev: &Screen) -> Result<String> {
-    let (rows, cols) = screen.size();
-    let (prev_rows, prev_cols) = prev.size();
-    if rows.get() != prev_rows.get() || cols.get() != prev_cols.get() {
+    if !screen.is_sized_as(prev) {
         bail!("a difference from a screen of another size");
     }
     Ok(screen.contents_diff(prev)?)
@@ -77,11 +75,10 @@ fn are_rows_formatted(alloc: Global, screen: &Screen, line: &str) -> Result<bool
 /// And for those that draw them on the rows of another screen of the same size.
 fn are_rows_changed(alloc: Global, screen: &Screen, prev: &Screen, line: &str) -> Result<bool> {
     let (start, width, words) = range_of(line)?;
-    let (rows, cols) = screen.size();
-    let (prev_rows, prev_cols) = prev.size();
-    if rows.get() != prev_rows.get() || cols.get() != prev_cols.get() {
+    if !screen.is_sized_as(prev) {
         bail!("rows that differ from those of another size");
     }
+    let (_, cols) = screen.size();
     if start >= cols.get() {
         bail!("a range that begins past the columns");
     }

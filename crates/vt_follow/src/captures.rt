@@ -35,10 +35,6 @@ fn captured(
 ) -> Result<String> {
     let recorder = Recorder::new(alloc);
     let mut parser = Parser::new_with_callbacks(alloc, rows, cols, capacity, recorder)?;
-    capture(alloc, &mut parser, bytes)
-}
-
-fn capture(alloc: Global, parser: &mut Parser<Recorder>, bytes: &[u8]) -> Result<String> {
     parser.process(bytes)?;
     parser.process(END)?;
     let (screen, recorder) = parser.screen_and_callbacks_mut();

@@ -3,7 +3,7 @@
 use crate::pace::Pace;
 use crate::picture::{Part, differing, have_same_cells, have_same_flags};
 use crate::tally::Tally;
-use anyhow::{Context, Result};
+use anyhow::{Result, bail};
 use std::alloc::Global;
 use std::num::NonZeroU16;
 use vt_notes::Notes;
@@ -19,7 +19,8 @@ const MAIN: &[u8] =
 /// Enters the alternate page, and draws there in other attributes.
 const ALTERNATE: &[u8] = b"\x1b[?1049h\x1b[1;4;33;44malternate \xe4\xb8\xad\x1b[200b\x1b[?25l";
 
-/// Has one terminal read these bytes, and another one follow it at this pace.
+/// Has one terminal read these bytes, and another one follow it at this pace. The follower reads on its
+/// alternate page, and its main page and scrollback are looked at in the end.
 pub fn follow(
     alloc: Global,
     (rows, cols): (NonZeroU16, NonZeroU16),
@@ -27,39 +28,14 @@ pub fn follow(
     bytes: &[u8],
 ) -> Result<Tally> {
     let mut leader = Parser::new(alloc, rows, cols, 0)?;
-    follow_leader(alloc, &mut leader, pace, bytes)
-}
-
-fn follow_leader(alloc: Global, leader: &mut Parser, pace: Pace, bytes: &[u8]) -> Result<Tally> {
-    let (rows, cols) = leader.screen().size();
     let notes = Notes::new(alloc);
     let mut follower = Parser::new_with_callbacks(alloc, rows, cols, KEPT, notes)?;
-    follow_all(leader, &mut follower, pace, bytes)
-}
-
-fn follow_all(
-    leader: &mut Parser,
-    follower: &mut Parser<Notes>,
-    pace: Pace,
-    bytes: &[u8],
-) -> Result<Tally> {
     follower.process(MAIN)?;
     let mut before = follower.screen().clone()?;
-    follow_aside(leader, follower, &mut before, pace, bytes)
-}
-
-/// Lets the follower read on its alternate page, and looks at its main page and scrollback at the end.
-fn follow_aside(
-    leader: &mut Parser,
-    follower: &mut Parser<Notes>,
-    before: &mut Screen,
-    pace: Pace,
-    bytes: &[u8],
-) -> Result<Tally> {
     follower.process(ALTERNATE)?;
-    let mut tally = follow_each(leader, follower, pace, bytes)?;
+    let mut tally = follow_each(&mut leader, &mut follower, pace, bytes)?;
     follower.process(b"\x1b[?1049l")?;
-    if tally.differs.is_none() && !has_kept(follower.screen_mut(), before)? {
+    if tally.differs.is_none() && !has_kept(follower.screen_mut(), &mut before)? {
         tally.differs = Some(Part::Rest);
     }
     Ok(tally)
@@ -101,26 +77,15 @@ fn redraw(leader: &Screen, follower: &mut Parser<Notes>) -> Result<()> {
 /// Has the leader read these bytes and the follower the difference, and answers how long that is.
 fn update(leader: &mut Parser, follower: &mut Parser<Notes>, piece: &[u8]) -> Result<usize> {
     let prev = leader.screen().clone()?;
-    update_from(&prev, leader, follower, piece)
-}
-
-fn update_from(
-    prev: &Screen,
-    leader: &mut Parser,
-    follower: &mut Parser<Notes>,
-    piece: &[u8],
-) -> Result<usize> {
     leader.process(piece)?;
-    let text = difference(leader.screen(), prev)?;
+    let text = difference(leader.screen(), &prev)?;
     follower.process(text.as_bytes())?;
     Ok(text.len())
 }
 
 fn difference(screen: &Screen, prev: &Screen) -> Result<String> {
-    let (rows, cols) = screen.size();
-    let (other_rows, other_cols) = prev.size();
-    if rows.get() != other_rows.get() || cols.get() != other_cols.get() {
-        return None.context("a leader of another size");
+    if !screen.is_sized_as(prev) {
+        bail!("a leader of another size");
     }
     Ok(screen.contents_diff(prev)?)
 }

@@ -55,11 +55,12 @@ struct Hall {
     viewers: Vec<Viewer>,
 }
 
-/// Has a mirror read these bytes, and its viewers follow it.
+/// Has a mirror read these bytes piece by piece, with visits of its viewers between them, and updates all
+/// of these at the end.
 pub fn follow(
     alloc: Global,
     (rows, cols): (NonZeroU16, NonZeroU16),
-    pace: Pace,
+    mut pace: Pace,
     bytes: &[u8],
 ) -> Result<Visits> {
     let mut hall = Hall {
@@ -67,11 +68,6 @@ pub fn follow(
         leader: Parser::new(alloc, rows, cols, 0)?,
         viewers: Vec::new(alloc),
     };
-    follow_all(alloc, &mut hall, pace, bytes)
-}
-
-/// Reads piece by piece, with visits between them, and updates all viewers at the end.
-fn follow_all(alloc: Global, hall: &mut Hall, mut pace: Pace, bytes: &[u8]) -> Result<Visits> {
     let mut visits = Visits::default();
     let mut rest = bytes;
     for _ in 0..bytes.len() {
@@ -193,5 +189,5 @@ fn read_update(terminal: &mut Parser, update: Option<Update>) -> Result<()> {
 }
 
 fn are_same(one: &Screen, other: &Screen) -> bool {
-    one.size() == other.size() && differing(one, other).is_none()
+    one.is_sized_as(other) && differing(one, other).is_none()
 }

@@ -153,9 +153,11 @@ struct Refusing {
 impl Sink for Refusing {
     type Error = Error;
 
-    ghost use Rattle.std.specs.Prelude.{string_bytes};
+    ghost use Rattle.std.specs.Prelude.{◌≡◌, string_bytes};
 
     ghost text = { λ s. string_bytes s.text };
+
+    ghost refuses = { λ before _ after. after ≡ before };
 
     fn write_str(&mut self, s: &str) -> Result<(), Error> {
         match self.pieces_left {

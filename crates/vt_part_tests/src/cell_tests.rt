@@ -1,6 +1,7 @@
 //! Cells: texts, marks, equality and attributes.
 
 use std::test::Fail;
+use vt_cells::runs::same_run;
 use vt_cells::{Attrs, Cell, Color, Intensity, columns};
 
 /// The cell in which a character and the marks after it come to stand.
@@ -21,18 +22,32 @@ fn cell_of_text(text: &str) -> Cell {
     cell
 }
 
-/// A letter with the nine marks that it takes, and with twelve.
-const NINE: &str = "e\u{301}\u{301}\u{301}\u{301}\u{301}\u{301}\u{301}\u{301}\u{301}";
+/// A letter with twelve marks, which are all kept.
+const TWELVE: &str = "e\u{301}\u{301}\u{301}\u{301}\u{301}\u{301}\u{301}\u{301}\u{301}\u{301}\
+     \u{301}\u{301}";
 
-const TWELVE: &str =
-    "e\u{301}\u{301}\u{301}\u{301}\u{301}\u{301}\u{301}\u{301}\u{301}\u{301}\u{301}\u{301}";
+/// A letter with twenty, and with the thirteen of them that it takes.
+const TWENTY: &str = "e\u{301}\u{301}\u{301}\u{301}\u{301}\u{301}\u{301}\u{301}\u{301}\u{301}\
+     \u{301}\u{301}\u{301}\u{301}\u{301}\u{301}\u{301}\u{301}\u{301}\u{301}";
+
+const THIRTEEN: &str = "e\u{301}\u{301}\u{301}\u{301}\u{301}\u{301}\u{301}\u{301}\u{301}\u{301}\
+     \u{301}\u{301}\u{301}";
+
+/// A wide glyph with twenty, and with the twelve that it takes.
+const WIDE_TWENTY: &str = "中\u{301}\u{301}\u{301}\u{301}\u{301}\u{301}\u{301}\u{301}\u{301}\u{301}\
+     \u{301}\u{301}\u{301}\u{301}\u{301}\u{301}\u{301}\u{301}\u{301}\u{301}";
+
+const WIDE_TWELVE: &str = "中\u{301}\u{301}\u{301}\u{301}\u{301}\u{301}\u{301}\u{301}\u{301}\u{301}\
+     \u{301}\u{301}";
 
 /// A text, what the cell holds of it, whether the cell is wide, and whether its text is.
-const KEPT: [(&str, &str, bool, bool); 8] = [
+const KEPT: [(&str, &str, bool, bool); 10] = [
     ("", "", false, false),
     ("a", "a", false, false),
     ("e\u{301}", "e\u{301}", false, false),
-    (TWELVE, NINE, false, false),
+    (TWELVE, TWELVE, false, false),
+    (TWENTY, THIRTEEN, false, false),
+    (WIDE_TWENTY, WIDE_TWELVE, true, true),
     ("\u{301}", " \u{301}", false, false),
     ("中", "中", true, true),
     ("\u{2764}", "\u{2764}", false, false),
@@ -54,7 +69,7 @@ fn keeps_a_character_and_its_marks(rt: HostRuntime) {
             "at {text}"
         );
     }
-    assert_eq!(rt; NINE.len(), 19);
+    assert!(rt; TWELVE.len() == 25 && THIRTEEN.len() == 27 && WIDE_TWELVE.len() == 27);
 }
 
 /// A heart that asks for the look of an emoji, and so is of either width.
@@ -76,7 +91,7 @@ fn compares_text_width_flags_and_attributes(rt: HostRuntime) {
     bold.set_intensity(Intensity::Bold);
     let mut red = Attrs::new();
     red.set_fgcolor(Color::Idx(1));
-    let mut shorter = cell_of_text("e\u{301}");
+    let mut shorter = cell_of_text("e\u{301}\u{301}\u{301}\u{301}");
     shorter.clear(Attrs::new());
     for (cell, other, same) in &[
         (Cell::new(), Cell::blank(Attrs::new()), true),
@@ -87,6 +102,13 @@ fn compares_text_width_flags_and_attributes(rt: HostRuntime) {
         (cell_of_text("e"), cell_of_text("e"), true),
         (cell_of_text("e"), cell_of_text("e\u{301}"), false),
         (cell_of_text("e"), cell_of_text("f"), false),
+        (cell_of_text(TWELVE), cell_of_text(TWELVE), true),
+        (cell_of_text(TWELVE), cell_of_text(TWENTY), false),
+        (
+            cell_of_text("e\u{301}\u{301}\u{301}\u{301}"),
+            cell_of_text("e\u{301}\u{301}\u{301}\u{302}"),
+            false,
+        ),
         (heart(true), heart(true), true),
         (heart(true), heart(false), false),
         (Cell::blank(bold), Cell::blank(bold), true),
@@ -113,6 +135,20 @@ fn is_cloned_whole(rt: HostRuntime) -> Result<(), Fail> {
         assert!(rt; cell.clone()? == *cell);
     }
     Ok(())
+}
+
+#[test]
+fn runs_of_the_same_cells_are_found(rt: HostRuntime) {
+    let e = cell_of_text("e");
+    let row = [e, e, e, e, e, e, e, e, e];
+    let mut other = row;
+    assert_eq!(rt; same_run(&row, &other), 8);
+    assert_eq!(rt; same_run(&[e, e, e, e, e, e, e], &other), 4);
+    assert_eq!(rt; same_run(&row, &[e, e, e]), 0);
+    other[7] = cell_of_text("f");
+    assert_eq!(rt; same_run(&row, &other), 4);
+    other[3] = Cell::space(Attrs::new());
+    assert_eq!(rt; same_run(&row, &other), 0);
 }
 
 #[test]

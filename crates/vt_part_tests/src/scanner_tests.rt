@@ -14,7 +14,7 @@ fn write_bytes(text: &mut String, bytes: &[u8]) -> Result<(), Fail> {
 }
 
 fn write_groups(text: &mut String, scanner: &Scanner) -> Result<(), Fail> {
-    let groups = scanner.groups();
+    let groups = scanner.parameters().groups();
     for group in groups.as_slice() {
         text.push('[')?;
         for number in *group {
@@ -152,7 +152,7 @@ fn after_sgr(rt: &impl Abort, alloc: Global, bytes: &[u8]) -> Result<Scanner, Fa
 
 /// Aborts where a scanner doesn't hold 32 groups, the last one of this number alone.
 fn expect_groups(rt: &impl Abort, scanner: &Scanner, last: u16) {
-    let groups = scanner.groups();
+    let groups = scanner.parameters().groups();
     assert_eq!(rt; groups.as_slice().len(), 32);
     assert_eq!(rt; groups.as_slice().last(), Some(&&[last][..]));
 }
@@ -178,5 +178,36 @@ fn keeps_what_fits(rt: HostRuntime) -> Result<(), Fail> {
         text.as_str(),
         "osc <a><b><c><d><e><f><g><h><i><j><k><l><m><n><o><p>,"
     );
+    Ok(())
+}
+
+#[test]
+fn lends_numbers(rt: HostRuntime) -> Result<(), Fail> {
+    let scanner = after_sgr(&rt, rt.alloc(), b"\x1B[7;8:9;m")?;
+    let parameters = scanner.parameters();
+    assert_eq!(rt; parameters.group_count(), 3);
+    assert_eq!(rt; parameters.group(1), &[8, 9][..]);
+    for (group, number) in [(0, 7), (1, 8), (2, 0), (3, 0)] {
+        assert_eq!(rt; parameters.number(group), number, "group {group}");
+    }
+    Ok(())
+}
+
+/// Bytes that are read many at once end where what they belong to ends.
+#[test]
+fn reads_runs(rt: HostRuntime) -> Result<(), Fail> {
+    let mut scanner = Scanner::new(rt.alloc());
+    assert_eq!(rt; scanner.lead_in(b"\x1B[1;22mA"), 6);
+    assert!(rt; !scanner.final_byte(b' '));
+    assert!(rt; scanner.final_byte(b'm'));
+    assert_eq!(rt; scanner.parameters().number(1), 22);
+    assert!(rt; scanner.is_control(b'\r') && !scanner.is_control(0x1B));
+    let mut text = String::new(rt.alloc());
+    feed_all(&mut text, &mut scanner, b"\x1BP")?;
+    assert_eq!(rt; scanner.skipped_len(b"a\x9C\r;\x1B\\"), 4);
+    feed_all(&mut text, &mut scanner, b"\x1B\\\x1B]")?;
+    assert_eq!(rt; scanner.command_text(b"2;\xC3\xA4\x07")?, 4);
+    feed_all(&mut text, &mut scanner, b"\x07")?;
+    assert_eq!(rt; text.as_str(), "esc \\,osc <2><\u{C3}\u{A4}>,");
     Ok(())
 }

@@ -15,10 +15,7 @@ fn terminal(alloc: Global, rows_and_cols: (u16, u16)) -> Result<Parser, Fail> {
 
 /// The screen of two rows and four columns after this text.
 fn screen_after(alloc: Global, text: &str) -> Result<Screen, Fail> {
-    copy_after(&mut terminal(alloc, (2, 4))?, text)
-}
-
-fn copy_after(terminal: &mut Parser, text: &str) -> Result<Screen, Fail> {
+    let mut terminal = terminal(alloc, (2, 4))?;
     terminal.process(text.as_bytes())?;
     Ok(terminal.screen().clone()?)
 }
@@ -80,17 +77,20 @@ fn join_late(
     expect_shown(terminal, (2, 4), text, cursor)
 }
 
+/// One terminal joins twice, each time as a viewer of its own.
 #[test]
 fn shows_a_late_viewer_what_came_before(rt: HostRuntime) -> Result<(), Fail> {
     let (rows, cols) = size((2, 4))?;
     let mut mirror = Mirror::new(rt.alloc(), rows, cols, 0)?;
-    join_both(&mut mirror, &mut terminal(rt.alloc(), (1, 9))?)
-}
-
-/// Has one terminal join twice, each time as a viewer of its own.
-fn join_both(mirror: &mut Mirror, terminal: &mut Parser) -> Result<(), Fail> {
-    join_late(mirror, "a\r\nb\r\nc", terminal, 0, ("b\nc", (1, 1)))?;
-    join_late(mirror, "\x1b[Hx", terminal, 1, ("x\nc", (0, 1)))
+    let mut terminal = terminal(rt.alloc(), (1, 9))?;
+    join_late(
+        &mut mirror,
+        "a\r\nb\r\nc",
+        &mut terminal,
+        0,
+        ("b\nc", (1, 1)),
+    )?;
+    join_late(&mut mirror, "\x1b[Hx", &mut terminal, 1, ("x\nc", (0, 1)))
 }
 
 /// An update of so many rows and columns.
@@ -102,19 +102,17 @@ fn full(alloc: Global, rows: u16, cols: u16) -> Result<Update, Fail> {
 #[test]
 fn takes_no_update_without_a_row_or_a_column(rt: HostRuntime) -> Result<(), Fail> {
     let mut terminal = terminal(rt.alloc(), (1, 9))?;
-    take_each(rt.alloc(), &mut terminal)
-}
-
-fn take_each(alloc: Global, terminal: &mut Parser) -> Result<(), Fail> {
     for (rows, cols) in [(0, 4), (2, 0)] {
-        let answer = mirroring::take_update(terminal, &full(alloc, rows, cols)?);
-        if answer != Err(Error::Failed) {
-            return Err(Fail::new(format_args!("{rows} rows and {cols} columns: {answer:?}")));
-        }
+        let answer = mirroring::take_update(&mut terminal, &full(rt.alloc(), rows, cols)?);
+        assert_eq!(rt;
+            answer,
+            Err(Error::Failed),
+            "{rows} rows and {cols} columns"
+        );
     }
-    expect_shown(terminal, (1, 9), "", (0, 0))?;
-    mirroring::take_update(terminal, &full(alloc, 2, 4)?)?;
-    expect_shown(terminal, (2, 4), "x", (0, 1))
+    expect_shown(&terminal, (1, 9), "", (0, 0))?;
+    mirroring::take_update(&mut terminal, &full(rt.alloc(), 2, 4)?)?;
+    expect_shown(&terminal, (2, 4), "x", (0, 1))
 }
 
 /// A size, what is read in it, and the text of all that was shown.
@@ -174,23 +172,20 @@ const ROWS: [(u16, &str, bool); 5] = [
 
 #[test]
 fn tells_what_stands_where(rt: HostRuntime) -> Result<(), Fail> {
-    expect_tested(&screen_after(rt.alloc(), "a\u{4e2d}")?)
-}
-
-fn expect_tested(screen: &Screen) -> Result<(), Fail> {
+    let screen = screen_after(rt.alloc(), "a\u{4e2d}")?;
     for (row, column, text, wanted) in &CELLS {
-        if screen_test::cell_shows(screen, *row, *column, text) != *wanted {
-            return Err(Fail::new(format_args!("not {wanted}: {text:?} at {row}, {column}")));
-        }
+        let found = screen_test::cell_shows(&screen, *row, *column, text);
+        assert_eq!(rt; found, *wanted, "{text:?} at {row}, {column}");
     }
     for (row, text, wanted) in &ROWS {
-        if screen_test::row_shows(screen, *row, text)? != *wanted {
-            return Err(Fail::new(format_args!("not {wanted}: {text:?} in row {row}")));
-        }
+        assert_eq!(rt;
+            screen_test::row_shows(&screen, *row, text)?,
+            *wanted,
+            "{text:?} in row {row}"
+        );
     }
-    if !screen_test::screen_shows(screen, "a\u{4e2d}")? || screen_test::screen_shows(screen, "a")? {
-        return Err(Fail::new("another screen"));
-    }
+    assert!(rt; screen_test::screen_shows(&screen, "a\u{4e2d}")?);
+    assert!(rt; !screen_test::screen_shows(&screen, "a")?);
     Ok(())
 }
 

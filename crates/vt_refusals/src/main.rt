@@ -75,29 +75,22 @@ fn run_scenes<R: AllocGlobal + Print>(rt: &R) -> io::Result<()> {
         run(rt, scene)?;
     }
     mirrors::run(rt)?;
-    users::run_recorder(rt)
+    users::run_recorder(rt)?;
+    users::run_mirror(rt)
 }
 
 /// Makes a parser, and then its calls.
 fn run<R: AllocGlobal + Print>(rt: &R, scene: &Scene) -> io::Result<()> {
     println!(rt; "-- {}", scene.name)?;
-    match new_parser(rt.alloc(), scene.size, scene.scrollback) {
-        Ok(mut parser) => make_steps(rt, &mut parser, scene),
-        Err(_) => println!(rt; "new: refused"),
-    }
-}
-
-fn make_steps<R: AllocGlobal + Print>(
-    rt: &R,
-    parser: &mut Parser<Tally>,
-    scene: &Scene,
-) -> io::Result<()> {
-    println!(rt; "new: ok; {}", Shown(parser))?;
+    let Ok(mut parser) = new_parser(rt.alloc(), scene.size, scene.scrollback) else {
+        return println!(rt; "new: refused");
+    };
+    println!(rt; "new: ok; {}", Shown(&parser))?;
     for (number, step) in scene.steps.iter().enumerate() {
-        let answer = step.make(rt.alloc(), parser);
-        print!(rt; "{step}: {answer}; {}", Shown(parser))?;
+        let answer = step.make(rt.alloc(), &mut parser);
+        print!(rt; "{step}: {answer}; {}", Shown(&parser))?;
         if answer.is_refusal() {
-            tell(rt, standing::of_scene(rt.alloc(), scene, number, parser))?;
+            tell(rt, standing::of_scene(rt.alloc(), scene, number, &parser))?;
         }
         println!(rt)?;
     }
@@ -107,10 +100,19 @@ fn make_steps<R: AllocGlobal + Print>(
 /// Makes two parsers of two rows, each with room for one row in scrollback, and then their calls.
 fn run_pair<R: AllocGlobal + Print>(rt: &R, name: &str, acts: &[Act]) -> io::Result<()> {
     println!(rt; "-- {name}")?;
-    match new_pair(rt.alloc()) {
-        Ok(mut pair) => make_acts(rt, &mut pair, acts),
-        Err(name) => println!(rt; "{name} new: refused"),
+    let mut pair = match new_pair(rt.alloc()) {
+        Ok(pair) => pair,
+        Err(name) => return println!(rt; "{name} new: refused"),
+    };
+    for (number, act) in acts.iter().enumerate() {
+        let answer = pair.make(rt.alloc(), *act);
+        print!(rt; "{act}: {answer}; {}", Shown(pair.changed_by(*act)))?;
+        if answer.is_refusal() {
+            tell(rt, standing::of_pair(rt.alloc(), acts, number, &pair))?;
+        }
+        println!(rt)?;
     }
+    Ok(())
 }
 
 /// Two parsers, or the name of the one that was refused.
@@ -122,18 +124,6 @@ fn new_pair(alloc: Global) -> Result<Pair, &'static str> {
         Ok(second) => Ok(Pair { first, second }),
         Err(_) => Err("second"),
     }
-}
-
-fn make_acts<R: AllocGlobal + Print>(rt: &R, pair: &mut Pair, acts: &[Act]) -> io::Result<()> {
-    for (number, act) in acts.iter().enumerate() {
-        let answer = pair.make(rt.alloc(), *act);
-        print!(rt; "{act}: {answer}; {}", Shown(pair.changed_by(*act)))?;
-        if answer.is_refusal() {
-            tell(rt, standing::of_pair(rt.alloc(), acts, number, pair))?;
-        }
-        println!(rt)?;
-    }
-    Ok(())
 }
 
 /// Prints what stands.

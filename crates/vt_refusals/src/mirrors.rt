@@ -77,16 +77,12 @@ const CALLS: [Call; 21] = [
 pub fn run<R: AllocGlobal + Print>(rt: &R) -> io::Result<()> {
     println!(rt; "-- a mirror and its viewers")?;
     let (rows, cols) = step::size((2, 4));
-    match Mirror::new(rt.alloc(), rows, cols, 1) {
-        Ok(mut mirror) => make_calls(rt, &mut mirror),
-        Err(_) => println!(rt; "new: refused"),
-    }
-}
-
-fn make_calls<R: AllocGlobal + Print>(rt: &R, mirror: &mut Mirror) -> io::Result<()> {
+    let Ok(mut mirror) = Mirror::new(rt.alloc(), rows, cols, 1) else {
+        return println!(rt; "new: refused");
+    };
     println!(rt; "new: ok")?;
     for call in &CALLS {
-        let answer = call.make(mirror);
+        let answer = call.make(&mut mirror);
         println!(rt; "{call}: {answer}")?;
     }
     Ok(())

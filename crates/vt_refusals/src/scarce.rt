@@ -62,20 +62,17 @@ const TAKING: [Step; 13] = [
 /// memory; and makes the calls that take memory once more, with memory.
 pub fn run<R: AllocGlobal + Print>(rt: &R) -> io::Result<()> {
     let (rows, cols) = size((2, 4));
-    match Parser::new_with_callbacks(rt.alloc(), rows, cols, 0, Tally::default()) {
-        Ok(mut parser) => run_with(rt, &mut parser),
-        Err(_) => println!(rt; "new: refused"),
-    }
-}
-
-fn run_with<R: AllocGlobal + Print>(rt: &R, parser: &mut Parser<Tally>) -> io::Result<()> {
-    make_all(rt, parser, &[Step::Process(b"\x1b[?47h\x1b[?47l")])?;
+    let parser = Parser::new_with_callbacks(rt.alloc(), rows, cols, 0, Tally::default());
+    let Ok(mut parser) = parser else {
+        return println!(rt; "new: refused");
+    };
+    make_all(rt, &mut parser, &[Step::Process(b"\x1b[?47h\x1b[?47l")])?;
     match String::with_capacity(rt.alloc(), 256) {
-        Ok(mut text) => run_scarce(rt, parser, &mut text)?,
+        Ok(mut text) => run_scarce(rt, &mut parser, &mut text)?,
         Err(_) => println!(rt; "a text: refused")?,
     }
     println!(rt; "-- with memory")?;
-    make_all(rt, parser, &TAKING)
+    make_all(rt, &mut parser, &TAKING)
 }
 
 fn run_scarce<R: AllocGlobal + Print>(

@@ -59,22 +59,12 @@ pub fn of_scene(
     parser: &Parser<Tally>,
 ) -> Result<Standing, Error> {
     let mut control = new_parser(alloc, scene.size, scene.scrollback)?;
-    of_steps(alloc, scene.steps, number, &mut control, parser)
-}
-
-fn of_steps(
-    alloc: Global,
-    steps: &[Step],
-    number: usize,
-    control: &mut Parser<Tally>,
-    parser: &Parser<Tally>,
-) -> Result<Standing, Error> {
-    for step in steps.iter().take(number) {
-        let _ = step.make(alloc, control);
+    for step in scene.steps.iter().take(number) {
+        let _ = step.make(alloc, &mut control);
     }
-    match steps.get(number) {
-        Some(Step::Process(bytes)) => of_reading(alloc, bytes, control, parser),
-        _ => of_call(alloc, control, parser),
+    match scene.steps.get(number) {
+        Some(Step::Process(bytes)) => of_reading(alloc, bytes, &mut control, parser),
+        _ => of_call(alloc, &control, parser),
     }
 }
 
@@ -147,19 +137,9 @@ fn of_bytes(
 
 /// What stands after the act of this number was refused to a pair that has done those before it.
 pub fn of_pair(alloc: Global, acts: &[Act], number: usize, pair: &Pair) -> Result<Standing, Error> {
-    match new_pair(alloc) {
-        Ok(mut control) => of_acts(alloc, acts, number, &mut control, pair),
-        Err(_) => Err(Error::OutOfMemory),
-    }
-}
-
-fn of_acts(
-    alloc: Global,
-    acts: &[Act],
-    number: usize,
-    control: &mut Pair,
-    pair: &Pair,
-) -> Result<Standing, Error> {
+    let Ok(mut control) = new_pair(alloc) else {
+        return Err(Error::OutOfMemory);
+    };
     for act in acts.iter().take(number) {
         let _ = control.make(alloc, *act);
     }

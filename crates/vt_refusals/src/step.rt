@@ -162,9 +162,7 @@ pub enum Change {
 impl Change {
     /// The answer of this call, for screens of one size.
     pub fn make(self, screen: &Screen, prev: &Screen) -> Answer {
-        let (rows, cols) = screen.size();
-        let (other_rows, other_cols) = prev.size();
-        if rows.get() != other_rows.get() || cols.get() != other_cols.get() {
+        if !screen.is_sized_as(prev) {
             return Answer::TwoSizes;
         }
         match self {
@@ -172,6 +170,7 @@ impl Change {
             Change::State => told(screen.state_diff(prev)),
             Change::Modes => told(screen.input_mode_diff(prev)),
             Change::Rows => {
+                let (_rows, _cols) = screen.size();
                 let mut rows = screen.rows_diff(prev, 0, u16::MAX);
                 Answer::Rows(Items {
                     first: rows.next(),

@@ -1,10 +1,8 @@
 //! Growths of what stands on a parser, and of one in the default size.
 
 use crate::step;
-use std::alloc::Global;
 use std::io;
 use std::io::Write;
-use std::num::NonZeroU16;
 use vt_notes::{Notes, Recorder};
 use vt_show::{Fault, Mode};
 use vt100::{Error, Parser};
@@ -12,28 +10,22 @@ use vt100::{Error, Parser};
 /// A parser of the default size.
 pub fn run_default<R: AllocGlobal + Print>(rt: &R) -> io::Result<()> {
     println!(rt; "-- a parser of the default size")?;
-    match default_size(rt.alloc()) {
-        Ok((rows, cols)) => println!(rt; "default: ok; {rows} rows, {cols} columns"),
+    match Parser::default(rt.alloc()) {
+        Ok(parser) => {
+            let (rows, cols) = parser.screen().size();
+            println!(rt; "default: ok; {rows} rows, {cols} columns")
+        }
         Err(_) => println!(rt; "default: refused"),
     }
-}
-
-fn default_size(alloc: Global) -> Result<(NonZeroU16, NonZeroU16), Error> {
-    let parser = Parser::default(alloc)?;
-    Ok(parser.screen().size())
 }
 
 /// A parser as a writer; a title is collected in memory.
 pub fn run_writer<R: AllocGlobal + Print>(rt: &R) -> io::Result<()> {
     println!(rt; "-- a parser as a writer")?;
     let (rows, cols) = step::size((1, 4));
-    match Parser::new(rt.alloc(), rows, cols, 0) {
-        Ok(mut parser) => write_each(rt, &mut parser),
-        Err(_) => println!(rt; "new: refused"),
-    }
-}
-
-fn write_each<R: AllocGlobal + Print>(rt: &R, parser: &mut Parser) -> io::Result<()> {
+    let Ok(mut parser) = Parser::new(rt.alloc(), rows, cols, 0) else {
+        return println!(rt; "new: refused");
+    };
     for bytes in [b"\x1b]2;t\x07", b"abcdef"] {
         match parser.write(bytes).map_err(|error| error.kind()) {
             Ok(count) => println!(rt; "write: {count} bytes")?,
@@ -50,13 +42,9 @@ pub fn run_notes<R: AllocGlobal + Print>(rt: &R) -> io::Result<()> {
     println!(rt; "-- calls that are noted")?;
     let (rows, cols) = step::size((1, 4));
     let notes = Notes::new(rt.alloc());
-    match Parser::new_with_callbacks(rt.alloc(), rows, cols, 0, notes) {
-        Ok(mut parser) => process_each(rt, &mut parser),
-        Err(_) => println!(rt; "new: refused"),
-    }
-}
-
-fn process_each<R: AllocGlobal + Print>(rt: &R, parser: &mut Parser<Notes>) -> io::Result<()> {
+    let Ok(mut parser) = Parser::new_with_callbacks(rt.alloc(), rows, cols, 0, notes) else {
+        return println!(rt; "new: refused");
+    };
     for bytes in [b"\x07".as_slice(), b"\x1b]2;t\x07", b"a\r\n"] {
         let answer = word(parser.process(bytes));
         let notes = parser.callbacks();
@@ -84,13 +72,9 @@ pub fn run_recorder<R: AllocGlobal + Print>(rt: &R) -> io::Result<()> {
     println!(rt; "-- a capture that is written as rows leave")?;
     let (rows, cols) = step::size((1, 8));
     let recorder = Recorder::new(rt.alloc());
-    match Parser::new_with_callbacks(rt.alloc(), rows, cols, 0, recorder) {
-        Ok(mut parser) => record_each(rt, &mut parser),
-        Err(_) => println!(rt; "new: refused"),
-    }
-}
-
-fn record_each<R: AllocGlobal + Print>(rt: &R, parser: &mut Parser<Recorder>) -> io::Result<()> {
+    let Ok(mut parser) = Parser::new_with_callbacks(rt.alloc(), rows, cols, 0, recorder) else {
+        return println!(rt; "new: refused");
+    };
     for bytes in [b"a\r\n".as_slice(), b"abcdefgh\r\n", b"ijklmnop"] {
         let answer = word(parser.process(bytes));
         println!(rt; "process {}: {answer}", bytes.escape_ascii())?;
@@ -124,18 +108,40 @@ pub fn run_show<R: AllocGlobal + Print>(rt: &R) -> io::Result<()> {
     let (rows, cols) = step::size((1, 4));
     let mut written = Counted(0);
     let input = b"x\x1b]2;t\x07";
-    let answer = match vt_show::run(
+    let answer = ending(vt_show::run(
         rt.alloc(),
         &mut input.as_slice(),
         &mut written,
         rows,
         cols,
         Mode::Formatted,
-    ) {
+    ));
+    println!(rt; "run: {answer}; {} bytes", written.0)
+}
+
+/// From an input to updates: one at the start, one after four bytes, and one at the end.
+pub fn run_mirror<R: AllocGlobal + Print>(rt: &R) -> io::Result<()> {
+    println!(rt; "-- from an input to updates")?;
+    let (rows, every) = step::size((1, 4));
+    let mut written = Counted(0);
+    let input = b"x\x1b]2;t\x07";
+    let answer = ending(vt_mirror::run(
+        rt.alloc(),
+        &mut input.as_slice(),
+        &mut written,
+        rows,
+        every,
+        every,
+    ));
+    println!(rt; "run: {answer}; {} bytes", written.0)
+}
+
+/// The word for how a run ended.
+fn ending(answer: Result<(), Fault>) -> &'static str {
+    match answer {
         Ok(()) => "ok",
         Err(Fault::Memory) => "memory",
         Err(Fault::Read) => "read",
         Err(Fault::Write) => "write",
-    };
-    println!(rt; "run: {answer}; {} bytes", written.0)
+    }
 }

@@ -68,15 +68,6 @@ fn write_probed(
     probe: &[u8],
 ) -> Result<(), Error> {
     let mut parser = with_copy(alloc, screen)?;
-    read_and_write(text, &mut parser, page, probe)
-}
-
-fn read_and_write(
-    text: &mut String,
-    parser: &mut Parser,
-    page: &[u8],
-    probe: &[u8],
-) -> Result<(), Error> {
     parser.process(page)?;
     parser.process(probe)?;
     write_shown(text, parser.screen())
@@ -99,13 +90,9 @@ fn push(text: &mut String, piece: &str) -> Result<(), Error> {
 /// What is shown with each number of rows of scrollback in view.
 fn write_views(alloc: Global, text: &mut String, screen: &Screen) -> Result<(), Error> {
     let mut parser = with_copy(alloc, screen)?;
-    write_each_view(text, parser.screen_mut())
-}
-
-fn write_each_view(text: &mut String, screen: &mut Screen) -> Result<(), Error> {
     for rows in 0..screen.scrollback_len().saturating_add(1) {
-        screen.set_scrollback(rows)?;
-        write_shown(text, screen)?;
+        parser.screen_mut().set_scrollback(rows)?;
+        write_shown(text, parser.screen())?;
     }
     Ok(())
 }
@@ -113,11 +100,7 @@ fn write_each_view(text: &mut String, screen: &mut Screen) -> Result<(), Error> 
 /// What the main page is with more rows.
 fn write_resized(alloc: Global, text: &mut String, screen: &Screen) -> Result<(), Error> {
     let mut parser = with_copy(alloc, screen)?;
-    resize_and_write(text, &mut parser)
-}
-
-fn resize_and_write(text: &mut String, parser: &mut Parser) -> Result<(), Error> {
-    let (rows, cols) = parser.screen().size();
+    let (rows, cols) = screen.size();
     let rows = rows.saturating_add(MORE_ROWS);
     parser.set_size(rows, cols)?;
     parser.process(b"\x1b[?47l")?;
@@ -127,13 +110,8 @@ fn resize_and_write(text: &mut String, parser: &mut Parser) -> Result<(), Error>
 /// A parser that goes on from a copy of a screen.
 fn with_copy(alloc: Global, screen: &Screen) -> Result<Parser, Error> {
     let mut parser = Parser::new(alloc, NonZeroU16::MIN, NonZeroU16::MIN, 0)?;
-    copy_into(&mut parser, screen)?;
-    Ok(parser)
-}
-
-fn copy_into(parser: &mut Parser, screen: &Screen) -> Result<(), Error> {
     *parser.screen_mut() = screen.clone()?;
-    Ok(())
+    Ok(parser)
 }
 
 /// Whether two parsers have screens that are alike in all, and callbacks that counted the same.

@@ -69,7 +69,7 @@ impl fmt::Display for Part {
 /// What two screens have not in common. Cells are compared to the end of each row that is shown, also
 /// past the columns of the screen.
 pub fn differing(one: &Screen, other: &Screen) -> Option<Part> {
-    if one.size() != other.size() {
+    if !one.is_sized_as(other) {
         return Some(Part::Size);
     }
     if counts(one) != counts(other) {

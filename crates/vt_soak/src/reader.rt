@@ -5,7 +5,7 @@ use crate::part::{Part, have_same_modes};
 use crate::pieces::feed;
 use crate::shown::shows;
 use crate::tally::Tally;
-use anyhow::{Context, Result};
+use anyhow::{Result, bail};
 use vt100::{Parser, Screen};
 
 /// Has a terminal read what differs between this screen and the one before it, in cells and modes, and
@@ -64,14 +64,12 @@ pub fn read_modes(
 
 /// Whether the terminal and both screens have one size, and it shows the one before.
 fn is_at(reader: &Screen, screen: &Screen, prev: &Screen) -> bool {
-    reader.size() == screen.size() && prev.size() == screen.size() && shows(reader, prev)
+    reader.is_sized_as(screen) && prev.is_sized_as(screen) && shows(reader, prev)
 }
 
 fn difference(screen: &Screen, prev: &Screen) -> Result<String> {
-    let (rows, cols) = screen.size();
-    let (other_rows, other_cols) = prev.size();
-    if rows.get() != other_rows.get() || cols.get() != other_cols.get() {
-        return None.context("screens of two sizes");
+    if !screen.is_sized_as(prev) {
+        bail!("screens of two sizes");
     }
     Ok(screen.contents_diff(prev)?)
 }

@@ -19,70 +19,21 @@ const CAPACITIES: [usize; 6] = [0, 1, 3, 20, 1000, usize::MAX];
 /// All rows of scrollback are compared once in so many steps.
 const WHOLE: u32 = 16;
 
+/// The terminals of a round, and the bytes that two of them read last.
+#[derive(Drop)]
+struct Round {
+    one: Terminal,
+    other: Terminal,
+    mirror: Parser,
+    painter: Parser,
+    bytes: Vec<u8>,
+}
+
 /// Makes all terminals, and takes so many steps, or those up to one after which something differs.
 pub fn run(alloc: Global, dice: &mut Dice, tally: &mut Tally, steps: u64) -> Result<()> {
-    let (rows, cols) = size(dice);
-    let capacity = dice.pick(&CAPACITIES).unwrap_or(0);
-    let mut one = Parser::new_with_callbacks(alloc, rows, cols, capacity, Digest::default())?;
-    run_one(alloc, dice, tally, steps, &mut one)
-}
-
-fn run_one(
-    alloc: Global,
-    dice: &mut Dice,
-    tally: &mut Tally,
-    steps: u64,
-    one: &mut Terminal,
-) -> Result<()> {
-    let (rows, cols) = one.screen().size();
-    let capacity = one.screen().scrollback_capacity();
-    let mut other = Parser::new_with_callbacks(alloc, rows, cols, capacity, Digest::default())?;
-    run_both(alloc, dice, tally, steps, one, &mut other)
-}
-
-fn run_both(
-    alloc: Global,
-    dice: &mut Dice,
-    tally: &mut Tally,
-    steps: u64,
-    one: &mut Terminal,
-    other: &mut Terminal,
-) -> Result<()> {
-    let (rows, cols) = size(dice);
-    let mut mirror = Parser::new(alloc, rows, cols, 0)?;
-    run_mirrored(alloc, dice, tally, steps, one, other, &mut mirror)
-}
-
-fn run_mirrored(
-    alloc: Global,
-    dice: &mut Dice,
-    tally: &mut Tally,
-    steps: u64,
-    one: &mut Terminal,
-    other: &mut Terminal,
-    mirror: &mut Parser,
-) -> Result<()> {
-    if dice.is_one_in(2) {
-        mirror.process(b"\x1b[?1049h")?;
-    }
-    let (rows, cols) = size(dice);
-    let mut painter = Parser::new(alloc, rows, cols, 0)?;
-    run_steps(alloc, dice, tally, steps, one, other, mirror, &mut painter)
-}
-
-fn run_steps(
-    alloc: Global,
-    dice: &mut Dice,
-    tally: &mut Tally,
-    steps: u64,
-    one: &mut Terminal,
-    other: &mut Terminal,
-    mirror: &mut Parser,
-    painter: &mut Parser,
-) -> Result<()> {
-    let mut bytes = Vec::new(alloc);
+    let mut round = Round::new(alloc, dice)?;
     for _ in 0..steps {
-        tally.differs = step(alloc, dice, tally, &mut bytes, one, other, mirror, painter)?;
+        tally.differs = round.step(alloc, dice, tally)?;
         if tally.differs.is_some() {
             break;
         }
@@ -90,40 +41,40 @@ fn run_steps(
     Ok(())
 }
 
-/// One step, and what differs after it.
-fn step(
-    alloc: Global,
-    dice: &mut Dice,
-    tally: &mut Tally,
-    bytes: &mut Vec<u8>,
-    one: &mut Terminal,
-    other: &mut Terminal,
-    mirror: &mut Parser,
-    painter: &mut Parser,
-) -> Result<Option<Part>> {
-    let prev = one.screen().clone()?;
-    step_from(
-        &prev, alloc, dice, tally, bytes, one, other, mirror, painter,
-    )
-}
-
-fn step_from(
-    prev: &Screen,
-    alloc: Global,
-    dice: &mut Dice,
-    tally: &mut Tally,
-    bytes: &mut Vec<u8>,
-    one: &mut Terminal,
-    other: &mut Terminal,
-    mirror: &mut Parser,
-    painter: &mut Parser,
-) -> Result<Option<Part>> {
-    take_step(dice, tally, bytes, one, other)?;
-    let found = twins_part(alloc, dice, one, other)?;
-    if found.is_some() {
-        return Ok(found);
+impl Round {
+    /// Two fresh terminals that are alike, a third one, which may be on its alternate page, and a fourth.
+    fn new(alloc: Global, dice: &mut Dice) -> Result<Round> {
+        let (rows, cols) = size(dice);
+        let capacity = dice.pick(&CAPACITIES).unwrap_or(0);
+        let one = Parser::new_with_callbacks(alloc, rows, cols, capacity, Digest::default())?;
+        let other = Parser::new_with_callbacks(alloc, rows, cols, capacity, Digest::default())?;
+        let (rows, cols) = size(dice);
+        let mut mirror = Parser::new(alloc, rows, cols, 0)?;
+        if dice.is_one_in(2) {
+            mirror.process(b"\x1b[?1049h")?;
+        }
+        let (rows, cols) = size(dice);
+        let painter = Parser::new(alloc, rows, cols, 0)?;
+        Ok(Round {
+            one,
+            other,
+            mirror,
+            painter,
+            bytes: Vec::new(alloc),
+        })
     }
-    readers_part(dice, tally, mirror, painter, one.screen(), prev)
+
+    /// One step, and what differs after it.
+    fn step(&mut self, alloc: Global, dice: &mut Dice, tally: &mut Tally) -> Result<Option<Part>> {
+        let prev = self.one.screen().clone()?;
+        take_step(dice, tally, &mut self.bytes, &mut self.one, &mut self.other)?;
+        let found = twins_part(alloc, dice, &self.one, &self.other)?;
+        if found.is_some() {
+            return Ok(found);
+        }
+        let (mirror, painter) = (&mut self.mirror, &mut self.painter);
+        readers_part(dice, tally, mirror, painter, self.one.screen(), &prev)
+    }
 }
 
 /// What differs in two terminals that read the same, or in one of them from what every screen has.

@@ -9,7 +9,7 @@ use vt100::{Cell, Color, Screen};
 /// front of a last column that isn't blank, and never in the last row.
 pub fn shows(reader: &Screen, screen: &Screen) -> bool {
     let (rows, _cols) = screen.size();
-    if reader.size() != screen.size() || reader.scrollback() != 0 {
+    if !reader.is_sized_as(screen) || reader.scrollback() != 0 {
         return false;
     }
     for row in 0..rows.get() {

@@ -52,11 +52,11 @@ fn sound_length(screen: &Screen, row: u16) -> Option<u16> {
     None
 }
 
-/// A glyph has a text of 21 bytes at most, and a right half has none.
+/// A glyph has a text of 29 bytes at most, and a right half has none.
 fn is_sound_cell(cell: &Cell) -> bool {
     let length = cell.contents().len();
     let is_right_half = cell.is_wide_continuation();
-    length <= 21
+    length <= 29
         && cell.has_contents() == (length > 0)
         && !(is_right_half && (cell.is_wide() || length > 0))
         && !(cell.is_wide() && length == 0)

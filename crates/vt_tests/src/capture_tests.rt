@@ -5,7 +5,7 @@ use crate::plain_tests::expect_text;
 use crate::seen::read_keeping;
 use crate::steps::Step::{self, Bytes, Resize, Text, View};
 use crate::steps::{Pieces, feed, size_of, taken};
-use std::alloc::{AllocError, Global};
+use std::alloc::Global;
 use std::process::Abort;
 use std::test::Fail;
 use vt_notes::Recorder;
@@ -109,18 +109,8 @@ fn expect_streamed(
     let (rows, cols) = size_of(size)?;
     let recorder = Recorder::new(alloc);
     let mut parser = Parser::new_with_callbacks(alloc, rows, cols, capacity, recorder)?;
-    expect_capture(&mut parser, text, pieces, wanted)
-}
-
-fn expect_capture(
-    parser: &mut Parser<Recorder>,
-    text: &str,
-    pieces: Pieces,
-    wanted: &str,
-) -> Result<(), Fail> {
-    feed(parser, text.as_bytes(), pieces)?;
+    feed(&mut parser, text.as_bytes(), pieces)?;
     let (screen, recorder) = parser.screen_and_callbacks_mut();
-    let capacity = screen.scrollback_capacity();
     recorder.capture(screen)?;
     let found = recorder.text();
     if found != wanted {
@@ -143,30 +133,16 @@ const READ: [((u16, u16), &str, &[&str], &str); 4] = [
 #[test]
 fn reads_captures(rt: HostRuntime) -> Result<(), Fail> {
     for (size, text, wanted, plain) in &READ {
-        let capture = captured(rt.alloc(), *size, text)?;
+        let parser = read_keeping(rt.alloc(), *size, 0, &[text.as_bytes()])?;
+        let capture = parser.screen().contents_formatted_basic()?;
         expect_rows(&rt, capture.as_str(), size.1, wanted);
-        expect_text(joined(rt.alloc(), capture.as_str())?, plain)?;
+        let mut joined = String::new(rt.alloc());
+        for piece in basic_formatted_to_plain(capture.as_str()) {
+            joined.push_str(piece)?;
+        }
+        assert_eq!(rt; joined.as_str(), *plain);
     }
     Ok(())
-}
-
-/// The capture of a screen of this size that has read this text.
-fn captured(alloc: Global, size: (u16, u16), text: &str) -> Result<String, Fail> {
-    let parser = read_keeping(alloc, size, 0, &[text.as_bytes()])?;
-    capture_of(parser.screen())
-}
-
-fn capture_of(screen: &Screen) -> Result<String, Fail> {
-    Ok(screen.contents_formatted_basic()?)
-}
-
-/// The pieces of a capture, joined.
-fn joined(alloc: Global, capture: &str) -> Result<String, AllocError> {
-    let mut text = String::new(alloc);
-    for piece in basic_formatted_to_plain(capture) {
-        text.push_str(piece)?;
-    }
-    Ok(text)
 }
 
 fn expect_rows<A: Abort>(rt: &A, capture: &str, width: u16, wanted: &[&str]) {
@@ -188,9 +164,11 @@ struct Limited {
 impl Sink for Limited {
     type Error = Error;
 
-    ghost use Rattle.std.specs.Prelude.{string_bytes};
+    ghost use Rattle.std.specs.Prelude.{◌≡◌, string_bytes};
 
     ghost text = { λ s. string_bytes s.text };
+
+    ghost refuses = { λ before _ after. after ≡ before };
 
     fn write_str(&mut self, s: &str) -> Result<(), Error> {
         let Some(left) = self.left.checked_sub(s.len()) else {
@@ -198,6 +176,50 @@ impl Sink for Limited {
         };
         self.left = left;
         self.text.write_str(s)
+    }
+}
+
+/// Keeps what fits into some bytes in all, and refuses what doesn't.
+#[derive(Drop)]
+struct Filled {
+    bytes: Vec<u8>,
+    left: usize,
+}
+
+impl Sink for Filled {
+    type Error = Error;
+
+    ghost use Rattle.std.specs.Prelude.{◌≡◌, ◌++◌, ℕ, take};
+
+    ghost text = { λ s. s.bytes.items };
+
+    ghost refuses = { λ before piece after. (n : ℕ) × (after ≡ before ++ take n piece) };
+
+    fn write_str(&mut self, s: &str) -> Result<(), Error> {
+        let len = s.len().min(self.left);
+        self.bytes.extend_from_slice(&s.as_bytes()[..len])?;
+        self.left -= len;
+        if len < s.len() {
+            return Err(Error::OutOfMemory);
+        }
+        Ok(())
+    }
+}
+
+/// What a sink that keeps what fits into so many bytes has then, where that is not all.
+fn fitting(
+    alloc: Global,
+    screen: &Screen,
+    range: BasicFormattedCaptureRange<'_>,
+    left: usize,
+) -> Result<Vec<u8>, Fail> {
+    let mut sink = Filled {
+        bytes: Vec::new(alloc),
+        left,
+    };
+    match screen.write_contents_formatted_basic(&mut sink, range) {
+        Ok(()) => Err(Fail::new("a sink that takes all")),
+        Err(_) => Ok(sink.bytes),
     }
 }
 
@@ -221,49 +243,57 @@ fn refused(
 #[test]
 fn goes_on_behind_the_last_whole_row(rt: HostRuntime) -> Result<(), Fail> {
     let parser = read_keeping(rt.alloc(), (3, 2), 0, &[b"a\r\nb"])?;
-    expect_rest(rt.alloc(), parser.screen())
-}
-
-fn expect_rest(alloc: Global, screen: &Screen) -> Result<(), Fail> {
     let mut state = BasicFormattedCaptureState::new();
     let range = BasicFormattedCaptureRange::Full(&mut state);
-    expect_text(refused(alloc, screen, range, 1)?, "a")?;
-    expect_text(all_rows(alloc, screen, &mut state)?, "\na\nb\n")
+    expect_text(refused(rt.alloc(), parser.screen(), range, 1)?, "a")?;
+    let rest = all_rows(rt.alloc(), parser.screen(), &mut state)?;
+    expect_text(rest, "\na\nb\n")
 }
 
-/// What is read by a screen of two rows that keeps one in scrollback, and its captures then: of all
-/// rows, and of those that are shown.
-const PARTLY_TAKEN: (&[u8], &str, &str) = (
-    b"\x1b[1mab\x1b[mc\r\n\x1b[32md\r\ne",
-    "\x1b[1mab\x1b[mc\n\x1b[32md\ne",
-    "\x1b[32md\ne",
-);
+/// How many bytes a sink has that keeps what fits, what it has then, and what all rows are to a
+/// string after it.
+const FILLED: [(usize, &str, &str); 4] = [
+    (0, "", "a\nb\n"),
+    (1, "a", "\na\nb\n"),
+    (2, "a\n", "\na\nb\n"),
+    (3, "a\nb", "\na\nb\n"),
+];
 
 #[test]
-fn writes_a_beginning_where_refused(rt: HostRuntime) -> Result<(), Fail> {
-    let parser = read_keeping(rt.alloc(), (2, 3), 10, &[PARTLY_TAKEN.0])?;
-    expect_beginnings(rt.alloc(), parser.screen())
-}
-
-fn expect_beginnings(alloc: Global, screen: &Screen) -> Result<(), Fail> {
-    let (_, full, visible) = PARTLY_TAKEN;
-    expect_captures(alloc, screen, visible, full)?;
-    for left in 0..full.len() {
+fn goes_on_behind_the_last_whole_row_of_what_fits(rt: HostRuntime) -> Result<(), Fail> {
+    let parser = read_keeping(rt.alloc(), (3, 2), 0, &[b"a\r\nb"])?;
+    for (left, taken, rest) in &FILLED {
         let mut state = BasicFormattedCaptureState::new();
         let range = BasicFormattedCaptureRange::Full(&mut state);
-        expect_beginning(refused(alloc, screen, range, left)?, full)?;
-    }
-    for left in 0..visible.len() {
-        let range = BasicFormattedCaptureRange::Visible;
-        expect_beginning(refused(alloc, screen, range, left)?, visible)?;
+        let bytes = fitting(rt.alloc(), parser.screen(), range, *left)?;
+        assert_eq!(rt; bytes.as_slice(), taken.as_bytes());
+        expect_text(all_rows(rt.alloc(), parser.screen(), &mut state)?, rest)?;
     }
     Ok(())
 }
 
-fn expect_beginning(text: String, whole: &str) -> Result<(), Fail> {
-    if whole.starts_with(text.as_str()) {
-        Ok(())
-    } else {
-        Err(Fail::new(format_args!("{text:?} begins otherwise than {whole:?}")))
+#[test]
+fn writes_a_beginning_where_refused(rt: HostRuntime) -> Result<(), Fail> {
+    let written = b"\x1b[1mab\x1b[mc\r\n\x1b[32md\r\ne";
+    let parser = read_keeping(rt.alloc(), (2, 3), 10, &[written])?;
+    let (full, visible) = ("\x1b[1mab\x1b[mc\n\x1b[32md\ne", "\x1b[32md\ne");
+    expect_captures(rt.alloc(), parser.screen(), visible, full)?;
+    for left in 0..full.len() {
+        let mut state = BasicFormattedCaptureState::new();
+        let range = BasicFormattedCaptureRange::Full(&mut state);
+        let text = refused(rt.alloc(), parser.screen(), range, left)?;
+        assert!(rt;
+            full.starts_with(text.as_str()),
+            "with room for {left} bytes"
+        );
     }
+    for left in 0..visible.len() {
+        let range = BasicFormattedCaptureRange::Visible;
+        let text = refused(rt.alloc(), parser.screen(), range, left)?;
+        assert!(rt;
+            visible.starts_with(text.as_str()),
+            "with room for {left} bytes"
+        );
+    }
+    Ok(())
 }

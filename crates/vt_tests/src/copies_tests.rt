@@ -1,6 +1,6 @@
 //! Copies of screens: alike, and each going its own way.
 
-use crate::seen::{Terminal, read_keeping, shown};
+use crate::seen::{read_keeping, shown};
 use crate::steps::Step::{Text, View};
 use crate::steps::{Pieces, Step, taken};
 use std::alloc::Global;
@@ -53,7 +53,7 @@ fn expect_alike_in_view(alloc: Global, one: &mut Screen, other: &mut Screen) -> 
 }
 
 /// A parser with a copy of this screen.
-fn with_copy(alloc: Global, screen: &Screen) -> Result<Terminal, Fail> {
+fn with_copy(alloc: Global, screen: &Screen) -> Result<Parser<Notes>, Fail> {
     let mut parser = read_keeping(alloc, (1, 1), 0, &[])?;
     *parser.screen_mut() = screen.clone()?;
     Ok(parser)
@@ -93,24 +93,8 @@ const CLONED: [((u16, u16), usize, &[Step]); 12] = [
 /// What a screen reads after it was copied, or its copy.
 const MORE: &[u8] = b"x\x1b[2b\x1b[?47hyz\x1b8q\x1b[?47l\r\nu\r\nv\r\nw\x1b[Hs\x1b8\x1b[7mt";
 
-/// Fails where a copy of this parser's screen isn't like it, now and after it went on by itself.
-fn expect_copy(alloc: Global, parser: &mut Parser<Notes>) -> Result<(), Fail> {
-    let mut other = with_copy(alloc, parser.screen())?;
-    expect_like(alloc, parser, &mut other)
-}
-
-fn expect_like(
-    alloc: Global,
-    parser: &mut Parser<Notes>,
-    other: &mut Parser<Notes>,
-) -> Result<(), Fail> {
-    expect_alike(alloc, parser.screen(), other.screen())?;
-    expect_own_way(alloc, parser, other)?;
-    parser.process(MORE)?;
-    expect_alike_in_view(alloc, parser.screen_mut(), other.screen_mut())
-}
-
-/// Fails where these steps lead to a screen that isn't copied well.
+/// Fails where these steps lead to a screen whose copy isn't like it, now or after it went on by
+/// itself.
 fn expect_copied(
     alloc: Global,
     size: (u16, u16),
@@ -118,7 +102,11 @@ fn expect_copied(
     steps: &[Step],
 ) -> Result<(), Fail> {
     let mut parser = taken(alloc, size, capacity, steps, Pieces::Single)?;
-    expect_copy(alloc, &mut parser)
+    let mut other = with_copy(alloc, parser.screen())?;
+    expect_alike(alloc, parser.screen(), other.screen())?;
+    expect_own_way(alloc, &parser, &mut other)?;
+    parser.process(MORE)?;
+    expect_alike_in_view(alloc, parser.screen_mut(), other.screen_mut())
 }
 
 #[test]

@@ -31,33 +31,15 @@ fn expect_step_read_back(
 ) -> Result<(), Fail> {
     for byte in step.bytes().chunks(1) {
         let prev = parser.screen().clone()?;
-        expect_byte_read_back(alloc, parser, &prev, byte)?;
+        parser.process(byte)?;
+        expect_screen_read_back(alloc, parser.screen(), &prev)?;
     }
     if step.bytes().is_empty() {
         let prev = parser.screen().clone()?;
-        expect_call_read_back(alloc, parser, &prev, step)?;
+        step.take(parser, Pieces::Single)?;
+        expect_screen_read_back(alloc, parser.screen(), &prev)?;
     }
     Ok(())
-}
-
-fn expect_byte_read_back(
-    alloc: Global,
-    parser: &mut Parser<Notes>,
-    prev: &Screen,
-    byte: &[u8],
-) -> Result<(), Fail> {
-    parser.process(byte)?;
-    expect_screen_read_back(alloc, parser.screen(), prev)
-}
-
-fn expect_call_read_back(
-    alloc: Global,
-    parser: &mut Parser<Notes>,
-    prev: &Screen,
-    step: Step,
-) -> Result<(), Fail> {
-    step.take(parser, Pieces::Single)?;
-    expect_screen_read_back(alloc, parser.screen(), prev)
 }
 
 fn expect_screen_read_back(alloc: Global, screen: &Screen, prev: &Screen) -> Result<(), Fail> {

@@ -88,30 +88,15 @@ pub(crate) fn expect_at_each_cut(
     expect_read_back_at_each_byte(alloc, example.0, example.1, example.3)
 }
 
-fn expect(alloc: Global, change: Change, example: &Example, pieces: Pieces) -> Result<(), Fail> {
-    let (size, capacity, prev, _steps, _wanted) = example;
-    let parser = taken(alloc, *size, *capacity, prev, pieces)?;
-    expect_from(alloc, change, parser.screen(), example, pieces)
-}
-
-fn expect_from(
+fn expect(
     alloc: Global,
     change: Change,
-    prev: &Screen,
-    (size, capacity, _prev, steps, wanted): &Example,
+    (size, capacity, before, steps, wanted): &Example,
     pieces: Pieces,
 ) -> Result<(), Fail> {
+    let prev = taken(alloc, *size, *capacity, before, pieces)?;
     let parser = taken(alloc, *size, *capacity, steps, pieces)?;
-    expect_change(alloc, change, prev, parser.screen(), wanted)
-}
-
-fn expect_change(
-    alloc: Global,
-    change: Change,
-    prev: &Screen,
-    screen: &Screen,
-    wanted: &str,
-) -> Result<(), Fail> {
+    let (prev, screen) = (prev.screen(), parser.screen());
     let text = change.text(screen, prev)?;
     expect_text(text.as_str(), wanted)?;
     change.expect_read(alloc, screen, prev, wanted)?;
@@ -173,12 +158,8 @@ const ALONE: [((u16, u16), usize, &[Step]); 9] = [
 fn no_screen_differs_from_itself(rt: HostRuntime) -> Result<(), Fail> {
     for (size, capacity, steps) in &ALONE {
         let parser = taken(rt.alloc(), *size, *capacity, steps, Pieces::Single)?;
-        expect_none(parser.screen())?;
+        expect_none_from_itself(Change::Picture, parser.screen())?;
+        expect_none_from_itself(Change::State, parser.screen())?;
     }
     Ok(())
-}
-
-fn expect_none(screen: &Screen) -> Result<(), Fail> {
-    expect_none_from_itself(Change::Picture, screen)?;
-    expect_none_from_itself(Change::State, screen)
 }

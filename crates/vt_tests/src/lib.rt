@@ -1,5 +1,6 @@
 //! Tests of the terminal through its public surface: worked examples, each also with its bytes cut
-//! at every place.
+//! at every place, and callbacks that write each function themselves or change the screen that they
+//! are lent.
 #![tactic(auto)]
 
 #[cfg(test)]
@@ -7,7 +8,15 @@ mod calls_tests;
 #[cfg(test)]
 mod capture_tests;
 #[cfg(test)]
+mod changing;
+#[cfg(test)]
+mod changing_tests;
+#[cfg(test)]
 mod copies_tests;
+#[cfg(test)]
+mod counter;
+#[cfg(test)]
+mod counter_tests;
 #[cfg(test)]
 mod cuts;
 #[cfg(test)]
@@ -18,6 +27,8 @@ mod lending_tests;
 mod limits_tests;
 #[cfg(test)]
 mod modes_tests;
+#[cfg(test)]
+mod moved_tests;
 #[cfg(test)]
 mod notes_tests;
 #[cfg(test)]

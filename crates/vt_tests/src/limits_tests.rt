@@ -2,10 +2,8 @@
 
 use crate::seen::{expect_at_each_cut, read, read_keeping};
 use crate::steps::Step::{self, Resize, ResizeParser, Text, View};
-use std::process::Abort;
 use std::test::Fail;
 use vt_notes::Note;
-use vt100::Screen;
 
 /// The greatest numbers of rows that scrollback can be told to keep. For none of them there is memory.
 const CAPACITIES: [usize; 4] = [
@@ -45,13 +43,9 @@ fn keeps_many_rows(rt: HostRuntime) -> Result<(), Fail> {
         text.push_str("x\r\n")?;
     }
     let parser = read_keeping(rt.alloc(), (1, 4), usize::MAX, &[text.as_bytes()])?;
-    expect_many_rows(&rt, parser.screen());
+    assert_eq!(rt; parser.screen().scrollback_len(), 5000);
+    assert_eq!(rt; parser.screen().scrollback_capacity(), usize::MAX);
     Ok(())
-}
-
-fn expect_many_rows(rt: &impl Abort, screen: &Screen) {
-    assert_eq!(rt; screen.scrollback_len(), 5000);
-    assert_eq!(rt; screen.scrollback_capacity(), usize::MAX);
 }
 
 #[test]

@@ -2,7 +2,6 @@
 
 use crate::seen::{Example, expect_at_each_cut, expect_each, read_keeping, shown};
 use crate::steps::Step::{Resize, Text, View};
-use std::alloc::Global;
 use std::test::Fail;
 
 /// Modes after a text, on a screen of two rows and four columns.
@@ -62,16 +61,11 @@ fn sets_modes_at_every_cut(rt: HostRuntime) -> Result<(), Fail> {
 #[test]
 fn ris_takes_back_each_mode(rt: HostRuntime) -> Result<(), Fail> {
     for (text, _) in &MODES {
-        let found = shown_after(rt.alloc(), &[text.as_bytes(), b"\x1bc"])?;
+        let parser = read_keeping(rt.alloc(), (2, 4), 0, &[text.as_bytes(), b"\x1bc"])?;
+        let found = shown(rt.alloc(), parser.screen())?;
         assert_eq!(rt; found.as_str(), "@0,0\n", "after {text:?}");
     }
     Ok(())
-}
-
-/// What a screen shows after these pieces.
-fn shown_after(alloc: Global, pieces: &[&[u8]]) -> Result<String, Fail> {
-    let parser = read_keeping(alloc, (2, 4), 0, pieces)?;
-    shown(alloc, parser.screen())
 }
 
 /// Texts that end in RIS, or go on after it.

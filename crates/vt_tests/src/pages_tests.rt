@@ -4,10 +4,7 @@ use crate::copies_tests::counts;
 use crate::seen::{Example, expect_each, read_keeping};
 use crate::steps::Step::{GiveUp, Resize, Text, View};
 use crate::steps::{Pieces, Step};
-use std::process::Abort;
 use std::test::Fail;
-use vt_notes::Notes;
-use vt100::Parser;
 
 #[rattlefmt::skip]
 const PAGES: [Example; 41] = [
@@ -96,12 +93,8 @@ const COUNTED: [(Step, (usize, usize, usize)); 5] = [
 #[test]
 fn counts_rows_of_the_main_page_alone(rt: HostRuntime) -> Result<(), Fail> {
     let mut parser = read_keeping(rt.alloc(), (2, 4), 10, &[b"a\r\nb\r\nc"])?;
-    expect_counts(&rt, &mut parser)
-}
-
-fn expect_counts(rt: &impl Abort, parser: &mut Parser<Notes>) -> Result<(), Fail> {
     for (step, wanted) in &COUNTED {
-        step.take(parser, Pieces::Single)?;
+        step.take(&mut parser, Pieces::Single)?;
         assert!(rt; counts(parser.screen()) == *wanted, "after {step:?}");
     }
     Ok(())

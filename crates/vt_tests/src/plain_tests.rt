@@ -5,7 +5,6 @@ use crate::seen::read_keeping;
 use crate::steps::Step::{self, Resize, ResizeParser, Text, View};
 use crate::steps::{Pieces, longest, taken};
 use std::alloc::Global;
-use std::process::Abort;
 use std::test::Fail;
 use vt100::{Error, Screen};
 
@@ -150,10 +149,7 @@ fn longer_rows_of_scrollback(rt: HostRuntime) -> Result<(), Fail> {
 
 fn expect_longer(alloc: Global, pieces: Pieces) -> Result<(), Fail> {
     let parser = taken(alloc, (2, 6), 10, &LONGER, pieces)?;
-    expect_longer_texts(parser.screen())
-}
-
-fn expect_longer_texts(screen: &Screen) -> Result<(), Fail> {
+    let screen = parser.screen();
     expect_text(range(screen, (0, 2), (1, 9))?, "c\nghi")?;
     expect_text(range(screen, (0, 2), (0, 9))?, "cdef")?;
     expect_rows(screen, 0, 9, &["abcdef", "ghi"])
@@ -176,30 +172,24 @@ fn expect_rows(screen: &Screen, start: u16, width: u16, wanted: &[&str]) -> Resu
 #[test]
 fn rows(rt: HostRuntime) -> Result<(), Fail> {
     for most in 0..=5 {
-        expect_rows_after(rt.alloc(), Pieces::Two(most))?;
+        let parser = taken(rt.alloc(), (2, 4), 0, &[Text("abcdx")], Pieces::Two(most))?;
+        let screen = parser.screen();
+        expect_rows(screen, 0, 4, &["abcd", "x"])?;
+        expect_rows(screen, 1, 2, &["bc", ""])?;
+        expect_rows(screen, 65535, 65535, &["", ""])?;
+        let texts: Result<Vec<String>, Error> = screen.rows(1, 2).try_collect(rt.alloc());
+        expect_texts(texts?, &["bc", ""])?;
     }
     Ok(())
 }
 
-fn expect_rows_after(alloc: Global, pieces: Pieces) -> Result<(), Fail> {
-    let parser = taken(alloc, (2, 4), 0, &[Text("abcdx")], pieces)?;
-    expect_all_rows(alloc, parser.screen())
-}
-
-fn expect_all_rows(alloc: Global, screen: &Screen) -> Result<(), Fail> {
-    expect_rows(screen, 0, 4, &["abcd", "x"])?;
-    expect_rows(screen, 1, 2, &["bc", ""])?;
-    expect_rows(screen, 65535, 65535, &["", ""])?;
-    let texts: Result<Vec<String>, Error> = screen.rows(1, 2).try_collect(alloc);
-    expect_joined(texts?, "bc")
-}
-
-fn expect_joined(texts: Vec<String>, wanted: &str) -> Result<(), Fail> {
-    if texts.len() != 2 {
-        return Err(Fail::new("not two rows"));
+/// Fails where these texts are others, or fewer or more.
+pub(crate) fn expect_texts(texts: Vec<String>, wanted: &[&str]) -> Result<(), Fail> {
+    if texts.len() != wanted.len() {
+        return Err(Fail::new("more texts, or fewer"));
     }
-    for (text, word) in texts.iter().zip([wanted, ""]) {
-        if text.as_str() != word {
+    for (text, word) in texts.iter().zip(wanted.iter()) {
+        if text.as_str() != *word {
             return Err(Fail::new(format_args!("{text:?} and not {word:?}")));
         }
     }
@@ -209,13 +199,9 @@ fn expect_joined(texts: Vec<String>, wanted: &str) -> Result<(), Fail> {
 #[test]
 fn rows_end_for_good(rt: HostRuntime) -> Result<(), Fail> {
     let parser = read_keeping(rt.alloc(), (1, 4), 0, &[b"ab"])?;
-    expect_one_row(&rt, parser.screen());
-    Ok(())
-}
-
-fn expect_one_row(rt: &impl Abort, screen: &Screen) {
-    let mut rows = screen.rows(0, 4);
+    let mut rows = parser.screen().rows(0, 4);
     assert!(rt; rows.next().is_some());
     assert!(rt; rows.next().is_none());
     assert!(rt; rows.next().is_none());
+    Ok(())
 }

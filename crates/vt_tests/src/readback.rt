@@ -5,8 +5,7 @@ use crate::seen::read_keeping;
 use crate::steps::{Pieces, feed};
 use std::alloc::Global;
 use std::test::Fail;
-use vt_notes::Notes;
-use vt100::{Error, Parser, Screen};
+use vt100::{Error, Screen};
 
 /// Makes a terminal draw wide glyphs in colour on all of it, keep rows in scrollback, hide its cursor
 /// and draw with other attributes than the default ones; turns on the keypad's application mode, that
@@ -112,6 +111,9 @@ pub(crate) enum Change {
     /// `contents_diff`.
     Picture,
 
+    /// `contents_diff_scrolling`.
+    Scrolling,
+
     /// `state_diff`.
     State,
 
@@ -129,6 +131,7 @@ impl Change {
         }
         let text = match self {
             Change::Picture => screen.contents_diff(prev),
+            Change::Scrolling => screen.contents_diff_scrolling(prev),
             Change::State => screen.state_diff(prev),
             Change::Modes => screen.input_mode_diff(prev),
         };
@@ -156,14 +159,16 @@ impl Change {
     /// What a terminal has in common with the screen then; all else is as before.
     fn taken(self) -> &'static [Part] {
         match self {
-            Change::Picture => &PICTURE,
+            Change::Picture | Change::Scrolling => &PICTURE,
             Change::State => &PARTS,
             Change::Modes => &[Part::Modes],
         }
     }
 }
 
-/// Has a busy terminal read a text and then, in pieces, another one, and looks at it.
+/// Has a busy terminal read a text and then, in pieces, another one. Fails where that one calls a
+/// function, or where the terminal then differs from the screen in one of these parts, or from what
+/// it was before in another one, scrollback among them.
 fn expect_taken(
     alloc: Global,
     screen: &Screen,
@@ -173,42 +178,14 @@ fn expect_taken(
 ) -> Result<(), Fail> {
     let (rows, cols) = screen.size();
     let mut reader = read_keeping(alloc, (rows.get(), cols.get()), 100, &[BUSY, before])?;
-    expect_reads(&mut reader, text, pieces, parts, screen)
-}
-
-fn expect_reads(
-    reader: &mut Parser<Notes>,
-    text: &[u8],
-    pieces: Pieces,
-    parts: &[Part],
-    screen: &Screen,
-) -> Result<(), Fail> {
     let mut before = reader.screen().clone()?;
-    expect_quiet(reader, text, pieces)?;
-    expect_changed(reader.screen_mut(), &mut before, screen, parts, text)
-}
-
-/// Has a terminal read a text in pieces; fails where that calls a function.
-fn expect_quiet(reader: &mut Parser<Notes>, text: &[u8], pieces: Pieces) -> Result<(), Fail> {
     let calls = reader.callbacks().calls().len();
-    feed(reader, text, pieces)?;
+    feed(&mut reader, text, pieces)?;
     if reader.callbacks().calls().len() != calls {
         return Err(Fail::new(format_args!("{} calls a function", text.escape_ascii())));
     }
-    Ok(())
-}
-
-/// Fails where a terminal differs from the screen in one of these parts, or in another one, scrollback
-/// among them, from what it was before.
-fn expect_changed(
-    reader: &mut Screen,
-    before: &mut Screen,
-    screen: &Screen,
-    parts: &[Part],
-    text: &[u8],
-) -> Result<(), Fail> {
-    expect_parts(reader, screen, before, parts, text)?;
-    expect_same_scrollback(reader, before, text)
+    expect_parts(reader.screen(), screen, &before, parts, text)?;
+    expect_same_scrollback(reader.screen_mut(), &mut before, text)
 }
 
 /// Fails where a terminal differs from the screen in one of these parts, or in another one from what it

@@ -124,12 +124,8 @@ pub(crate) fn expect_read_back(
     (size, capacity, steps, _asked, _text): &Example,
 ) -> Result<(), Fail> {
     let parser = taken(alloc, *size, *capacity, steps, Pieces::Single)?;
-    expect_each_read(alloc, parser.screen())
-}
-
-fn expect_each_read(alloc: Global, screen: &Screen) -> Result<(), Fail> {
     for asked in &ASKED {
-        asked.expect_read(alloc, screen)?;
+        asked.expect_read(alloc, parser.screen())?;
     }
     Ok(())
 }
@@ -184,37 +180,19 @@ const IN_REGION: [InRegion; 5] = [
     ("", ["0:a @0,1\n", "0:a @0,1\n", "1:z @2,1\nscroll 62 0\n"]),
 ];
 
-/// Fails where a terminal in one of these regions shows something else, its bytes whole or one by one.
-fn expect_each_redrawn(alloc: Global, screen: &Screen) -> Result<(), Fail> {
-    for example in &IN_REGION {
-        expect_redrawn(alloc, screen, example, Pieces::Two(usize::MAX))?;
-        expect_redrawn(alloc, screen, example, Pieces::Single)?;
-    }
-    Ok(())
-}
-
+/// Fails where a terminal in one of these regions shows something else.
 fn expect_redrawn(
     alloc: Global,
     screen: &Screen,
-    (before, wanted): &InRegion,
+    (before, [redrawn, reset, at_ends]): &InRegion,
     pieces: Pieces,
 ) -> Result<(), Fail> {
     let mut reader = read(alloc, (3, 2), &[before.as_bytes()])?;
-    expect_each_seen(alloc, screen, &mut reader, pieces, wanted)
-}
-
-fn expect_each_seen(
-    alloc: Global,
-    screen: &Screen,
-    reader: &mut Parser<Notes>,
-    pieces: Pieces,
-    [redrawn, reset, at_ends]: &[&str; 3],
-) -> Result<(), Fail> {
     let text = screen.contents_formatted()?;
-    expect_seen(alloc, reader, text.as_bytes(), pieces, redrawn)?;
+    expect_seen(alloc, &mut reader, text.as_bytes(), pieces, redrawn)?;
     let text = screen.contents_formatted_reset()?;
-    expect_seen(alloc, reader, text.as_bytes(), pieces, reset)?;
-    expect_seen(alloc, reader, AT_ENDS, pieces, at_ends)
+    expect_seen(alloc, &mut reader, text.as_bytes(), pieces, reset)?;
+    expect_seen(alloc, &mut reader, AT_ENDS, pieces, at_ends)
 }
 
 /// Fails where something else is seen once these bytes are read.
@@ -232,7 +210,12 @@ fn expect_seen(
 #[test]
 fn redraws_in_any_region(rt: HostRuntime) -> Result<(), Fail> {
     let parser = read(rt.alloc(), (3, 2), &[b"a"])?;
-    expect_each_redrawn(rt.alloc(), parser.screen())
+    for example in &IN_REGION {
+        for pieces in [Pieces::Two(usize::MAX), Pieces::Single] {
+            expect_redrawn(rt.alloc(), parser.screen(), example, pieces)?;
+        }
+    }
+    Ok(())
 }
 
 /// Each redraw of a screen begins with whether its cursor is shown, and clears the screen.
@@ -256,21 +239,11 @@ const WHOLE: [((u16, u16), &str, &str); 10] = [
     ((2, 4), "\x1b[41m\x1b[1;4H", "\x1b[?25h\x1b[m\x1b[H\x1b[J\x1b[3C\x1b[41m"),
 ];
 
-/// The redraw of a screen of this size that has read this text.
-fn redrawn(alloc: Global, size: (u16, u16), text: &str) -> Result<String, Fail> {
-    let parser = read(alloc, size, &[text.as_bytes()])?;
-    redraw_of(parser.screen())
-}
-
-fn redraw_of(screen: &Screen) -> Result<String, Fail> {
-    Ok(screen.contents_formatted()?)
-}
-
 #[test]
 fn whole_redraws(rt: HostRuntime) -> Result<(), Fail> {
     for (size, text, wanted) in &WHOLE {
-        let redraw = redrawn(rt.alloc(), *size, text)?;
-        assert_eq!(rt; redraw.as_str(), *wanted);
+        let parser = read(rt.alloc(), *size, &[text.as_bytes()])?;
+        assert_eq!(rt; parser.screen().contents_formatted()?.as_str(), *wanted);
     }
     Ok(())
 }

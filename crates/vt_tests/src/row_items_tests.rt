@@ -2,25 +2,18 @@
 
 use crate::cuts::expect_read_back_at_each_byte;
 use crate::picture::have_same_cells;
+use crate::plain_tests::expect_texts;
 use crate::seen::read_keeping;
 use crate::steps::Step::Text;
 use crate::steps::{Pieces, taken};
 use std::alloc::Global;
-use std::process::Abort;
 use std::test::Fail;
 use vt_notes::Notes;
 use vt100::{Error, Parser, Screen};
 
 /// A size, a text, a first column and how many columns, and the texts of the rows there.
-type Formatted = (
-    (u16, u16),
-    &'static str,
-    (u16, u16),
-    &'static [&'static str],
-);
-
 #[rattlefmt::skip]
-const FORMATTED: [Formatted; 9] = [
+const FORMATTED: [((u16, u16), &str, (u16, u16), &[&str]); 9] = [
     ((2, 4), "abcdx", (0, 4), &["abcd", "x"]),
     ((2, 4), "abcdx", (1, 2), &["bc", ""]),
     ((1, 4), "\x1b[31mabcd", (1, 2), &["\x1b[31mbc"]),
@@ -52,24 +45,16 @@ const CHANGED: [((u16, u16), &str, &str, (u16, u16), &[&str]); 9] = [
 
 #[test]
 fn rows_formatted(rt: HostRuntime) -> Result<(), Fail> {
-    for example in &FORMATTED {
-        let (size, text, ..) = example;
+    for (size, text, range, wanted) in &FORMATTED {
         for most in 0..=text.len() {
-            expect_formatted(rt.alloc(), example, Pieces::Two(most))?;
+            let parser = taken(rt.alloc(), *size, 0, &[Text(*text)], Pieces::Two(most))?;
+            expect_texts(formatted(rt.alloc(), parser.screen(), *range)?, *wanted)?;
         }
         expect_read_back_at_each_byte(rt.alloc(), *size, 0, &[Text(*text)])?;
-        expect_formatted(rt.alloc(), example, Pieces::Single)?;
+        let parser = taken(rt.alloc(), *size, 0, &[Text(*text)], Pieces::Single)?;
+        expect_texts(formatted(rt.alloc(), parser.screen(), *range)?, *wanted)?;
     }
     Ok(())
-}
-
-fn expect_formatted(
-    alloc: Global,
-    (size, text, range, wanted): &Formatted,
-    pieces: Pieces,
-) -> Result<(), Fail> {
-    let parser = taken(alloc, *size, 0, &[Text(*text)], pieces)?;
-    expect_texts(formatted(alloc, parser.screen(), *range)?, wanted)
 }
 
 #[test]
@@ -78,35 +63,13 @@ fn rows_diff(rt: HostRuntime) -> Result<(), Fail> {
         expect_read_back_at_each_byte(rt.alloc(), *size, 0, &[Text(*was)])?;
         expect_read_back_at_each_byte(rt.alloc(), *size, 0, &[Text(*text)])?;
         let prev = taken(rt.alloc(), *size, 0, &[Text(*was)], Pieces::Single)?;
-        expect_changes(rt.alloc(), prev.screen(), *size, *text, *range, *wanted)?;
+        for most in 0..=text.len() {
+            let parser = taken(rt.alloc(), *size, 0, &[Text(*text)], Pieces::Two(most))?;
+            let texts = changed(rt.alloc(), parser.screen(), prev.screen(), *range)?;
+            expect_texts(texts, *wanted)?;
+        }
     }
     Ok(())
-}
-
-/// Fails where what a text changes is told by other texts, wherever it is cut.
-fn expect_changes(
-    alloc: Global,
-    prev: &Screen,
-    size: (u16, u16),
-    text: &'static str,
-    range: (u16, u16),
-    wanted: &[&str],
-) -> Result<(), Fail> {
-    for most in 0..=text.len() {
-        let parser = taken(alloc, size, 0, &[Text(text)], Pieces::Two(most))?;
-        expect_change(alloc, parser.screen(), prev, range, wanted)?;
-    }
-    Ok(())
-}
-
-fn expect_change(
-    alloc: Global,
-    screen: &Screen,
-    prev: &Screen,
-    range: (u16, u16),
-    wanted: &[&str],
-) -> Result<(), Fail> {
-    expect_texts(changed(alloc, screen, prev, range)?, wanted)
 }
 
 /// All texts of rows in a range, which has to begin at a column.
@@ -139,18 +102,6 @@ fn changed(
     Ok(texts?)
 }
 
-fn expect_texts(texts: Vec<String>, wanted: &[&str]) -> Result<(), Fail> {
-    if texts.len() != wanted.len() {
-        return Err(Fail::new("more texts, or fewer"));
-    }
-    for (text, word) in texts.iter().zip(wanted.iter()) {
-        if text.as_str() != *word {
-            return Err(Fail::new(format_args!("{text:?} and not {word:?}")));
-        }
-    }
-    Ok(())
-}
-
 /// Rows that go on, wide glyphs and colours, and another screen of the same size.
 const ONE: &[u8] = b"ab\xe4\xb8\xadcd\x1b[31mxy\x1b[4;2H\x1b[44m\x1b[K";
 
@@ -159,98 +110,50 @@ const OTHER: &[u8] = b"\x1b[32mfgh\xe4\xb8\xadij\x1b[1mklm\xe4\xb8\xadnopqr";
 #[test]
 fn rows_are_read(rt: HostRuntime) -> Result<(), Fail> {
     let shown = read_keeping(rt.alloc(), (4, 6), 0, &[ONE])?;
-    expect_rows_read(rt.alloc(), shown.screen())
-}
-
-fn expect_rows_read(alloc: Global, shown: &Screen) -> Result<(), Fail> {
-    expect_read(alloc, shown, b"", formatted(alloc, shown, (0, 6))?)
+    let mut reader = read_keeping(rt.alloc(), (4, 6), 0, &[])?;
+    let texts = formatted(rt.alloc(), shown.screen(), (0, 6))?;
+    read_rows(rt.alloc(), &mut reader, texts)?;
+    assert!(rt; have_same_cells(reader.screen(), shown.screen(), 4));
+    Ok(())
 }
 
 #[test]
 fn changed_rows_are_read(rt: HostRuntime) -> Result<(), Fail> {
     let shown = read_keeping(rt.alloc(), (4, 6), 0, &[ONE])?;
-    expect_change_read(rt.alloc(), shown.screen())
-}
-
-fn expect_change_read(alloc: Global, shown: &Screen) -> Result<(), Fail> {
-    let prev = read_keeping(alloc, (4, 6), 0, &[OTHER])?;
-    expect_change_read_from(alloc, shown, prev.screen())
-}
-
-fn expect_change_read_from(alloc: Global, shown: &Screen, prev: &Screen) -> Result<(), Fail> {
-    expect_read(alloc, shown, OTHER, changed(alloc, shown, prev, (0, 6))?)
-}
-
-/// Fails where a terminal that has read these bytes, and then the texts of rows, has other cells.
-fn expect_read(
-    alloc: Global,
-    shown: &Screen,
-    bytes: &[u8],
-    texts: Vec<String>,
-) -> Result<(), Fail> {
-    let mut reader = read_keeping(alloc, (4, 6), 0, &[bytes])?;
-    read_rows(alloc, &mut reader, texts)?;
-    if have_same_cells(reader.screen(), shown, 4) {
-        Ok(())
-    } else {
-        Err(Fail::new("other cells"))
-    }
-}
-
-fn read_rows(alloc: Global, reader: &mut Parser<Notes>, texts: Vec<String>) -> Result<(), Fail> {
-    for (row, text) in (1..=4).zip(texts) {
-        read_at(alloc, reader, row, text.as_str())?;
-    }
+    let prev = read_keeping(rt.alloc(), (4, 6), 0, &[OTHER])?;
+    let mut reader = read_keeping(rt.alloc(), (4, 6), 0, &[OTHER])?;
+    let texts = changed(rt.alloc(), shown.screen(), prev.screen(), (0, 6))?;
+    read_rows(rt.alloc(), &mut reader, texts)?;
+    assert!(rt; have_same_cells(reader.screen(), shown.screen(), 4));
     Ok(())
 }
 
-/// Has a terminal read the text of a row, from the first column on and in default attributes.
-fn read_at(alloc: Global, reader: &mut Parser<Notes>, row: u16, text: &str) -> Result<(), Fail> {
-    let mut bytes = String::new(alloc);
-    write!(bytes, "\x1b[{row}H\x1b[m{text}")?;
-    reader.process(bytes.as_bytes())?;
+/// Has a terminal read the texts of rows, each from the first column on and in default attributes.
+fn read_rows(alloc: Global, reader: &mut Parser<Notes>, texts: Vec<String>) -> Result<(), Fail> {
+    for (row, text) in (1..=4).zip(texts) {
+        let mut bytes = String::new(alloc);
+        write!(bytes, "\x1b[{row}H\x1b[m{text}")?;
+        reader.process(bytes.as_bytes())?;
+    }
     Ok(())
 }
 
 #[test]
 fn rows_come_in_turn(rt: HostRuntime) -> Result<(), Fail> {
     let parser = read_keeping(rt.alloc(), (2, 4), 0, &[b"ab\r\n\x1b[1mcd"])?;
-    expect_in_turn(parser.screen())
-}
-
-fn expect_in_turn(screen: &Screen) -> Result<(), Fail> {
-    let (_rows, cols) = screen.size();
-    if cols.get() == 0 {
-        return Err(Fail::new("no columns"));
-    }
-    let mut rows = screen.rows_formatted(0, 4);
+    let mut rows = parser.screen().rows_formatted(0, 4);
     for wanted in ["ab", "\x1b[1mcd"] {
-        let Some(text) = rows.next() else {
-            return Err(Fail::new("fewer texts"));
-        };
-        if text?.as_str() != wanted {
-            return Err(Fail::new("other texts"));
-        }
+        let text = rows.next().ok_or("fewer texts")?;
+        assert_eq!(rt; text?.as_str(), wanted);
     }
-    match rows.next() {
-        None => Ok(()),
-        Some(_) => Err(Fail::new("more texts")),
-    }
+    assert!(rt; rows.next().is_none());
+    Ok(())
 }
 
 #[test]
 fn texts_end_for_good(rt: HostRuntime) -> Result<(), Fail> {
     let parser = read_keeping(rt.alloc(), (1, 4), 0, &[b"ab"])?;
-    expect_one_text(&rt, parser.screen())
-}
-
-/// Fails where a row is followed by another one, also where it is asked for twice.
-fn expect_one_text(rt: &impl Abort, screen: &Screen) -> Result<(), Fail> {
-    let (_rows, cols) = screen.size();
-    if cols.get() == 0 {
-        return Err(Fail::new("no columns"));
-    }
-    let mut rows = screen.rows_formatted(0, 4);
+    let mut rows = parser.screen().rows_formatted(0, 4);
     assert!(rt; rows.next().is_some());
     assert!(rt; rows.next().is_none());
     assert!(rt; rows.next().is_none());

@@ -3,10 +3,8 @@
 use crate::seen::{Example, expect, expect_at_each_cut, expect_each, read_keeping};
 use crate::steps::Step::{GiveUp, Resize, Text, View};
 use crate::steps::{Pieces, taken};
-use std::process::Abort;
 use std::test::Fail;
 use vt_notes::Note;
-use vt100::Screen;
 
 #[rattlefmt::skip]
 const SHOWN: [((u16, u16), usize, &str, &str); 44] = [
@@ -142,23 +140,16 @@ fn looks_back_at_every_cut(rt: HostRuntime) -> Result<(), Fail> {
 fn gives_up_scrollback_in_silence(rt: HostRuntime) -> Result<(), Fail> {
     let steps = [Text("a\r\nb\r\nc\r\nd"), View(2), GiveUp];
     let parser = taken(rt.alloc(), (2, 1), 3, &steps, Pieces::Two(0))?;
-    expect_empty_scrollback(&rt, parser.screen());
+    assert_eq!(rt; parser.screen().scrollback_len(), 0);
+    assert_eq!(rt; parser.screen().scrollback_capacity(), 3);
     expect(rt.alloc(), &parser, &steps, "0:c 1:d @1,1\n")
-}
-
-fn expect_empty_scrollback(rt: &impl Abort, screen: &Screen) {
-    assert_eq!(rt; screen.scrollback_len(), 0);
-    assert_eq!(rt; screen.scrollback_capacity(), 3);
 }
 
 #[test]
 fn has_cells_to_the_end_of_each_row(rt: HostRuntime) -> Result<(), Fail> {
     let steps = [Text("abcdef\r\nghi\r\nj"), Resize(2, 3), View(1)];
     let parser = taken(rt.alloc(), (2, 6), 10, &steps, Pieces::Two(0))?;
-    expect_cells(&rt, parser.screen())
-}
-
-fn expect_cells(rt: &impl Abort, screen: &Screen) -> Result<(), Fail> {
+    let screen = parser.screen();
     let last = screen.cell(0, 5).ok_or("no cell")?;
     assert_eq!(rt; last.contents(), "f");
     for (row, col) in [(0, 6), (1, 3), (2, 0)] {
@@ -171,14 +162,11 @@ fn expect_cells(rt: &impl Abort, screen: &Screen) -> Result<(), Fail> {
 #[test]
 fn notes_rows_that_leave(rt: HostRuntime) -> Result<(), Fail> {
     let parser = read_keeping(rt.alloc(), (2, 2), 0, &[b"abcde\r\n"])?;
-    expect_wrapped_rows(&rt, parser.callbacks().calls());
-    Ok(())
-}
-
-fn expect_wrapped_rows(rt: &impl Abort, calls: &[Note]) {
+    let calls = parser.callbacks().calls();
     assert!(rt; calls.len() == 2);
     assert!(rt; is_wrapped_row(&calls[0], "ab"));
     assert!(rt; is_wrapped_row(&calls[1], "cd"));
+    Ok(())
 }
 
 /// Whether this is the note of a row of two columns of the main page, with this text, that goes on in the next one.

@@ -5,13 +5,7 @@ use crate::steps::{Pieces, Step, longest, size_of, taken};
 use std::alloc::{AllocError, Global};
 use std::test::Fail;
 use vt_notes::Notes;
-use vt100::{
-    Cell, Color, CursorStyle, Error, MouseProtocolEncoding, MouseProtocolMode, Parser, Screen,
-};
-
-/// A parser that has read something. It stands in a box, so that a test that holds one is proved soon:
-/// where a box is given up, the parser's parts are no steps of the test's own.
-pub(crate) type Terminal = Box<Parser<Notes>>;
+use vt100::{Cell, Color, CursorStyle, MouseProtocolEncoding, MouseProtocolMode, Parser, Screen};
 
 /// A fresh parser's size, how many rows its scrollback keeps, what is done, and what is seen then.
 pub(crate) type Example = ((u16, u16), usize, &'static [Step], &'static str);
@@ -98,7 +92,11 @@ pub(crate) fn shown(alloc: Global, screen: &Screen) -> Result<String, Fail> {
 }
 
 /// A fresh parser of this size after these pieces.
-pub(crate) fn read(alloc: Global, size: (u16, u16), pieces: &[&[u8]]) -> Result<Terminal, Fail> {
+pub(crate) fn read(
+    alloc: Global,
+    size: (u16, u16),
+    pieces: &[&[u8]],
+) -> Result<Parser<Notes>, Fail> {
     read_keeping(alloc, size, 0, pieces)
 }
 
@@ -108,23 +106,13 @@ pub(crate) fn read_keeping(
     size: (u16, u16),
     capacity: usize,
     pieces: &[&[u8]],
-) -> Result<Terminal, Fail> {
-    let mut parser = fresh(alloc, size, capacity)?;
-    process_each(&mut parser, pieces)?;
-    Ok(parser)
-}
-
-fn fresh(alloc: Global, size: (u16, u16), capacity: usize) -> Result<Terminal, Fail> {
+) -> Result<Parser<Notes>, Fail> {
     let (rows, cols) = size_of(size)?;
-    let parser = Parser::new_with_callbacks(alloc, rows, cols, capacity, Notes::new(alloc))?;
-    Ok(Box::new(alloc, parser)?)
-}
-
-fn process_each(parser: &mut Parser<Notes>, pieces: &[&[u8]]) -> Result<(), Error> {
+    let mut parser = Parser::new_with_callbacks(alloc, rows, cols, capacity, Notes::new(alloc))?;
     for piece in pieces {
         parser.process(piece)?;
     }
-    Ok(())
+    Ok(parser)
 }
 
 fn write_row(text: &mut String, screen: &Screen, row: u16) -> Result<(), AllocError> {

@@ -8,7 +8,6 @@ use crate::steps::Step::{Text, View};
 use crate::{difference_tests, redraw_tests};
 use std::alloc::Global;
 use std::test::Fail;
-use vt100::Screen;
 
 #[rattlefmt::skip]
 const STATES: [redraw_tests::Example; 8] = [
@@ -131,21 +130,13 @@ const SETTINGS: [&[&str]; 3] = [
 
 /// Fails where a terminal doesn't follow from one setting to another, by any text of what differs.
 fn expect_followed(alloc: Global, was: &str, new: &str) -> Result<(), Fail> {
-    let parser = read_keeping(alloc, (1, 2), 0, &[was.as_bytes()])?;
-    expect_followed_from(alloc, parser.screen(), new)
-}
-
-fn expect_followed_from(alloc: Global, prev: &Screen, new: &str) -> Result<(), Fail> {
+    let prev = read_keeping(alloc, (1, 2), 0, &[was.as_bytes()])?;
     let parser = read_keeping(alloc, (1, 2), 0, &[new.as_bytes()])?;
     for change in &[Change::State, Change::Modes] {
-        expect_read(alloc, *change, parser.screen(), prev)?;
+        let text = change.text(parser.screen(), prev.screen())?;
+        change.expect_read(alloc, parser.screen(), prev.screen(), text.as_str())?;
     }
     Ok(())
-}
-
-fn expect_read(alloc: Global, change: Change, screen: &Screen, prev: &Screen) -> Result<(), Fail> {
-    let text = change.text(screen, prev)?;
-    change.expect_read(alloc, screen, prev, text.as_str())
 }
 
 #[test]

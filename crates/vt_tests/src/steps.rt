@@ -1,6 +1,6 @@
 //! What is done to a parser, as values.
 
-use crate::seen::{Terminal, read_keeping};
+use crate::seen::read_keeping;
 use std::alloc::Global;
 use std::num::NonZeroU16;
 use std::test::Fail;
@@ -79,17 +79,12 @@ pub(crate) fn taken(
     capacity: usize,
     steps: &[Step],
     pieces: Pieces,
-) -> Result<Terminal, Fail> {
+) -> Result<Parser<Notes>, Fail> {
     let mut parser = read_keeping(alloc, size, capacity, &[])?;
-    take_each(&mut parser, steps, pieces)?;
-    Ok(parser)
-}
-
-fn take_each(parser: &mut Parser<Notes>, steps: &[Step], pieces: Pieces) -> Result<(), Fail> {
     for step in steps {
-        step.take(parser, pieces)?;
+        step.take(&mut parser, pieces)?;
     }
-    Ok(())
+    Ok(parser)
 }
 
 /// The length of the longest text among these steps.

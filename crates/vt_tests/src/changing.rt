@@ -1,7 +1,7 @@
 //! Callbacks that change the screen that they are lent, each with its relation.
 
 ghost use Rattle.std.specs.Prelude.{◌≡◌, IfOk};
-ghost use Rattle.vt_callback_tests.specs.Changing.{Becomes, Exchanges, LooksBack, Resizes};
+ghost use Rattle.vt_tests.specs.Changing.{Becomes, Exchanges, LooksBack, Resizes};
 ghost use Rattle.vt_screen.specs.Pages.{resized};
 ghost use Rattle.vt_screen.specs.Screen.{scrolled_back};
 ghost use Rattle.vt100.specs.Parser.{Ran};
@@ -49,7 +49,7 @@ impl Resizer {
 }
 
 impl Callbacks for Resizer {
-    ghost use Rattle.vt_callback_tests.specs.Changing.{Resizes};
+    ghost use Rattle.vt_tests.specs.Changing.{Resizes};
 
     ghost does = { Resizes };
 
@@ -92,7 +92,7 @@ impl Exchanger {
 }
 
 impl Callbacks for Exchanger {
-    ghost use Rattle.vt_callback_tests.specs.Changing.{Exchanges};
+    ghost use Rattle.vt_tests.specs.Changing.{Exchanges};
 
     ghost does = { Exchanges };
 
@@ -140,7 +140,7 @@ impl Viewer {
 }
 
 impl Callbacks for Viewer {
-    ghost use Rattle.vt_callback_tests.specs.Changing.{LooksBack};
+    ghost use Rattle.vt_tests.specs.Changing.{LooksBack};
 
     ghost does = { LooksBack };
 

@@ -2,7 +2,7 @@
 
 use crate::counter::Counter;
 use crate::counter::Function::{self, *};
-use crate::seen::size_of;
+use crate::steps::size_of;
 use std::alloc::Global;
 use std::test::Fail;
 use vt100::Parser;
@@ -27,10 +27,6 @@ const CALLED: [(&[u8], Function); 12] = [
 fn expect_one_call(alloc: Global, bytes: &[u8], function: Function) -> Result<(), Fail> {
     let (rows, cols) = size_of((24, 80))?;
     let mut parser = Parser::new_with_callbacks(alloc, rows, cols, 0, Counter::default())?;
-    expect_call(&mut parser, bytes, function)
-}
-
-fn expect_call(parser: &mut Parser<Counter>, bytes: &[u8], function: Function) -> Result<(), Fail> {
     parser.process(bytes)?;
     let counter = parser.callbacks();
     for (i, count) in counter.counts().iter().enumerate() {

@@ -1,0 +1,23 @@
+//! Reads a text as a terminal does, and writes it for another one.
+#![tactic(auto)]
+
+use std::num::NonZeroU16;
+use vt100::{Error, Parser};
+
+fn main(rt: HostRuntime) -> Result<(), Error> {
+    let (rows, cols) = (NonZeroU16::new(24).unwrap(), NonZeroU16::new(80).unwrap());
+    let mut parser = Parser::new(rt.alloc(), rows, cols, 0)?;
+    parser.process(b"this text is \x1b[31mRED\x1b[m")?;
+    let before = parser.screen().clone()?;
+    let _ = println!(rt; "{}", before.contents_formatted()?);
+    parser.process(b"\x1b[3D\x1b[32mGREEN")?;
+    let screen = parser.screen();
+    let update = if screen.is_sized_as(&before) {
+        screen.contents_diff(&before)?
+    } else {
+        screen.contents_formatted()?
+    };
+    let _ = println!(rt; "{update}");
+    let _ = println!(rt; "{}", screen.contents()?);
+    Ok(())
+}
