@@ -6,6 +6,7 @@ pub mod Cells
 pub mod Encoding
 pub mod Four
 pub mod Glyphs
+pub mod Ideographs
 pub mod KeptCells
 pub mod Packing
 pub mod Same

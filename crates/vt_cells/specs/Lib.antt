@@ -4,6 +4,7 @@ pub mod Cell
 pub mod CellEq
 pub mod CellKeeping
 pub mod ChangeKeeping
+pub mod ErrorKinds
 pub mod ErrorText
 pub mod Glyph
 pub mod InputModes

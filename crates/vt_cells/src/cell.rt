@@ -100,12 +100,27 @@ impl Cell {
         }
     }
 
+    /// A glyph of one byte of printable ASCII.
+    #[inline(always)]
+    pub fn ascii(byte: u8, attrs: Attrs) -> Self
+        requires low { 0x20 ≤ byte }
+        requires high { byte < 0x7F }
+        ensures { result ≡ glyph (encode_utf8 byte) false attrs }
+    {
+        let mut contents = [0; TEXT_ROOM];
+        let len = push_byte(&mut contents, 0, byte);
+        Cell {
+            head: Head::text(len, false, attrs),
+            contents,
+        }
+    }
+
     /// The glyph of a space.
     #[inline]
     pub fn space(attrs: Attrs) -> Self
         ensures { result ≡ glyph (0x20 ∷ []) false attrs }
     {
-        Cell::glyph(' ', false, attrs)
+        Cell::ascii(b' ', attrs)
     }
 
     /// Makes the cell a blank with these attributes.

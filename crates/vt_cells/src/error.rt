@@ -1,7 +1,7 @@
 //! What a call can refuse.
 
 use std::alloc::AllocError;
-use std::fmt;
+use std::{fmt, io};
 
 /// Why a call was refused.
 #[derive(Clone, Copy, PartialEq, Eq, Debug)]
@@ -25,6 +25,23 @@ impl From<AllocError> for Error {
 
     fn from(_refused: AllocError) -> Error {
         Error::OutOfMemory
+    }
+}
+
+/// For `?` where input and output are handled: of the kind `OutOfMemory` for a refused growth, and
+/// of the kind `Other` for the others.
+impl From<Error> for io::Error {
+    ghost use Rattle.std.specs.IoError.{error_kind};
+    ghost use Rattle.std.specs.Prelude.{◌≡◌};
+    ghost use Rattle.vt_cells.specs.ErrorKinds.{kind_of};
+
+    ghost from_gives = { λ refused error. error_kind error ≡ kind_of refused };
+
+    fn from(error: Error) -> io::Error {
+        io::Error::from(match error {
+            Error::OutOfMemory => io::ErrorKind::OutOfMemory,
+            Error::Failed | Error::NoNumber => io::ErrorKind::Other,
+        })
     }
 }
 

@@ -1,6 +1,6 @@
 //! How many columns a character takes on the screen.
 
-ghost use Rattle.std.specs.Prelude.{◌≡◌};
+ghost use Rattle.std.specs.Prelude.{◌≡◌, IsTrue, Some};
 ghost use Rattle.vt_cells.specs.Glyph.{columns_of};
 
 use unicode_width::UnicodeWidthChar;
@@ -17,8 +17,23 @@ pub fn columns(c: char) -> Option<u8>
     if code >= 0x20 && code < 0x7F {
         return Some(1);
     }
+    if is_ideograph(code) {
+        return Some(2);
+    }
     match c.width() {
         Some(width) => Some(width.min(2) as u8),
         None => if code < 0x100 { None } else { Some(1) },
     }
+}
+
+/// Whether this is in one of the blocks whose characters all take two columns:
+/// the letters of Hiragana and Katakana, the ideographs with the enclosed and
+/// squared ones before them and the syllables of Yi behind them, and the
+/// syllables of Hangul. There are others that take two.
+#[inline]
+#[tactic(auto, using(crate::proofs::Ideographs::blocks_wide))]
+fn is_ideograph(code: u32) -> bool
+    ensures { IsTrue result → columns_of code ≡ Some 2 }
+{
+    matches!(code, 0x3041..=0x3096 | 0x309B..=0x30FF | 0x3250..=0xA48C | 0xAC00..=0xD7A3)
 }
