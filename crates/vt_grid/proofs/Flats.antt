@@ -379,3 +379,35 @@ fresh_flat rows width flat c l w = (
   subst (λ (x : ℕ × (List CellValue × List Line)). IsTable x.0 x.1.0 x.1.1)
       (λ z. (sym w z, (sym c z, sym l z))) (IsTable-in_order width rows default_attrs),
 )
+
+-- all rows were made blank
+pub all_blanked : (attrs : Attrs) (flat edited : Flat) → IsFlat flat →
+    edited.cells.items ≡ blanks attrs (length flat.cells.items) → edited.width ≡ flat.width →
+    length edited.lines.items ≡ length flat.lines.items →
+    ((k : ℕ) → k < length flat.lines.items →
+    line_at edited.lines.items k ≡ record (line_at flat.lines.items k) { wrapped = false }) →
+    (rows_of edited ≡ replicate (length (rows_of flat)) (blank_row attrs flat.width)) × IsFlat edited
+all_blanked attrs flat edited t cells w l f =
+    let lines = flat.lines.items in
+    let now = edited.lines.items in
+    let n = length lines in
+    let width = flat.width in
+    let d = blank_row attrs width in
+    let made : edited.cells.items ≡ blanks attrs (n * width) = cells ∙ ap (blanks attrs) t.filled in
+    let rows : rows_in width (blanks attrs (n * width)) now ≡ replicate n d =
+    rows_in_by width (blanks attrs (n * width)) now (replicate n d) d (length-replicate n d ∙ sym l) (λ k h.
+    let i : k < n = omega (arith, l) in
+    ap (row_in width (blanks attrs (n * width))) (f k i)
+    ∙ (ap (λ (xs : List CellValue). record { cells = xs; wrapped = false })
+    (cells_at-blanks width n (line_at lines k).place attrs (t.inside k i))
+    ∙ sym (get_or-replicate n k d d i))) in
+    let size : length edited.cells.items ≡ length flat.cells.items =
+    ap length cells ∙ length-replicate (length flat.cells.items) (blank attrs) in
+    let table : IsTable width edited.cells.items now =
+    IsTable-moved width (λ k. k) edited.cells.items lines now l (λ k i. i) (λ j k i m e. e)
+    (λ k i. ap (λ (x : Line). x.place) (f k i))
+    (IsTable-cells width flat.cells.items edited.cells.items lines size t) in (
+      (λ z. rows_in (w z) (made z) now)
+          ∙ (rows ∙ ap (λ (m : ℕ). replicate m d) (sym (rows_counted width flat.cells.items lines))),
+      subst (λ (m : ℕ). IsTable m edited.cells.items now) (sym w) table,
+    )

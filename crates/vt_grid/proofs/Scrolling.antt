@@ -228,6 +228,22 @@ turned_is h w gone above rows theoretical f c o n e t =
     (kept_is gone above rows theoretical above.offset stacks t offset)
     (nothing_grows (length rows - above.offset) h w rows (omega arith))
 
+-- where there is room for the row
+pub added_is : (h w : ℕ) (gone : List RowValue) (above : Scrollback) (rows : List RowValue) (theoretical : ℕ) →
+    length above.rows < above.capacity → above.offset ≡ 0 → length gone ≡ 1 →
+    rows ≡ above.rows ++ map trimmed_row gone → theoretical ≡ min (above.theoretical + length gone) greatest →
+    record { rows = rows; capacity = above.capacity; theoretical = theoretical; offset = above.offset }
+    ≡ pushed h w gone above
+added_is h w gone above rows theoretical f o n e t =
+    let none : 0 ≡ length (stacked gone above) - above.capacity = omega (arith, length-stacked gone above) in
+    let stacks : rows ≡ last_of above.capacity (stacked gone above) =
+    e ∙ ap (λ (m : ℕ). drop m (stacked gone above)) none in
+    let offset : above.offset ≡ (if above.offset == 0 then 0 else min (above.offset + length gone) (length rows)) =
+    grind (arith, o) in
+    pushed_is h w gone above rows rows theoretical above.offset (omega arith)
+    (kept_is gone above rows theoretical above.offset stacks t offset)
+    (nothing_grows (length rows - above.offset) h w rows (omega arith))
+
 pub turned_reports : (gone : List RowValue) (above : Scrollback) → length above.rows ≡ above.capacity →
     0 < above.capacity → length gone ≡ 1 → reported gone above ≡ take 1 above.rows
 turned_reports gone above f c n =

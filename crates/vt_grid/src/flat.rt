@@ -8,6 +8,7 @@ ghost use Rattle.vt_cells.specs.Attrs.{default_attrs};
 ghost use Rattle.vt_cells.specs.Refusals.{OnlyOutOfMemory};
 ghost use Rattle.vt_rows.specs.Cells.{blanks, ends_blank};
 ghost use Rattle.vt_rows.specs.Keeping.{turn_source};
+ghost use Rattle.vt_grid.specs.Flat.{line_at};
 
 use crate::size::Size;
 use std::alloc::Global;
@@ -33,7 +34,7 @@ pub struct Flat {
 }
 
 impl Flat {
-    ghost use Rattle.vt_grid.specs.Flat.{IsFlat, cells_at, in_order, line_at, rows_of};
+    ghost use Rattle.vt_grid.specs.Flat.{IsFlat, cells_at, in_order, rows_of};
     ghost use Rattle.vt_grid.specs.Page.{row_or};
 
     /// Rows of default blanks, each at the place of its number.
@@ -146,6 +147,18 @@ impl Flat {
         self.wrap(row, false);
     }
 
+    /// Makes all rows blank, so that none goes on.
+    pub fn blank_all(&mut self, attrs: Attrs)
+        ensures cells { self.new.cells.items ≡ blanks attrs (length self.old.cells.items) }
+        ensures width { self.new.width ≡ self.old.width }
+        ensures len { length self.new.lines.items ≡ length self.old.lines.items }
+        ensures lines { (k : ℕ) → k < length self.old.lines.items →
+            line_at self.new.lines.items k ≡ record (line_at self.old.lines.items k) { wrapped = false } }
+    {
+        cells::clear(&mut self.cells, attrs);
+        end_all(&mut self.lines);
+    }
+
     /// The table of rows that lie in their order.
     fn lines_in_order(alloc: Global, rows: u16) -> Result<Vec<Line>, Error>
         ensures ok { IfOk result (λ lines. lines.items ≡ in_order rows) }
@@ -159,5 +172,16 @@ impl Flat {
             });
         }
         Ok(lines)
+    }
+}
+
+/// Says that no row goes on.
+fn end_all(lines: &mut [Line])
+    ensures len { length lines.new ≡ length lines.old }
+    ensures by_index { (k : ℕ) → k < length lines.old →
+        line_at lines.new k ≡ record (line_at lines.old k) { wrapped = false } }
+{
+    for k in 0..lines.len() {
+        lines[k].wrapped = false;
     }
 }

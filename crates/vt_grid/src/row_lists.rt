@@ -57,6 +57,24 @@ pub fn copied_rows(rows: &VecDeque<Row>, alloc: Global) -> Result<VecDeque<Row>,
     Ok(copies)
 }
 
+/// Puts a copy of the first row of a page below other rows, without the default
+/// blanks at its end.
+///
+/// Fails where memory for it is refused, and then nothing has changed.
+pub fn push_copy(alloc: Global, rows: &mut VecDeque<Row>, page: &Sheet) -> Result<(), Error>
+    requires inside { 0 < length page.now.rows }
+    requires sound { All (IsRow page.now.width) page.now.rows }
+    ensures rows { OnOk result (rows.new.items ≡ rows.old.items ++ map trimmed_row (take 1 page.now.rows)) }
+    ensures err { OnErr result (rows.new.items ≡ rows.old.items) }
+    ensures memory { OnlyOutOfMemory result }
+{
+    let row = page.row(0);
+    let copy = Row::trimmed_copy(alloc, row.cells(), row.wrapped())?;
+    rows.reserve(1)?;
+    rows.push_back_reserved(copy);
+    Ok(())
+}
+
 /// Hands the oldest of rows on, and puts a copy of the first row of a page below
 /// the others, without the default blanks at its end, in the memory of that one.
 ///

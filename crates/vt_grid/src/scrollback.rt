@@ -10,14 +10,14 @@ ghost use Rattle.vt_cells.specs.Attrs.{default_attrs};
 ghost use Rattle.vt_cells.specs.Refusals.{OnlyOutOfMemory};
 ghost use Rattle.vt_rows.specs.Row.{RowValue, IsRow, blank_row, resized_row};
 ghost use Rattle.vt_grid.specs.Resize.{out_of_view, taken_back};
-ghost use Rattle.vt_grid.specs.Scrollback.{IsScrollback, Sends, TakesMemory, TurnsOver, ViewTakesMemory};
+ghost use Rattle.vt_grid.specs.Scrollback.{IsScrollback, Sends, TakesMemory, ViewTakesMemory};
 ghost use Rattle.vt_grid.specs.Scrollback.{before_last, cleared, grown_row, kept_after, last_of};
 ghost use Rattle.vt_grid.specs.Scrollback.{narrow_rows, no_scrollback, viewed, visible};
 ghost use Rattle.vt_grid.specs.Spare.{AreSpare, grown_from, in_view, window_from};
 
-use crate::row_lists::{
-    blank_rows, copied_rows, report_all, report_trimmed, trimmed_rows, turn_over,
-};
+mod one;
+
+use crate::row_lists::{blank_rows, copied_rows, report_all, report_trimmed, trimmed_rows};
 use crate::sheet::Sheet;
 use crate::size::Size;
 use std::alloc::Global;
@@ -150,8 +150,8 @@ impl Scrollback {
             self.pass(page, count, leaving);
             return Ok(());
         }
-        if count == 1 && self.offset == 0 && self.rows.len() == self.capacity {
-            return self.turn_over(page, leaving);
+        if count == 1 && self.offset == 0 {
+            return self.push_one(page, leaving);
         }
         self.keep(page, count, size, leaving)
     }
@@ -220,25 +220,6 @@ impl Scrollback {
     {
         report_trimmed(page, count, leaving);
         self.theoretical = self.theoretical.saturating_add(count);
-    }
-
-    /// Takes over the first row of a page in the memory of the oldest one, which
-    /// is reported, where none is in view and no more can be kept; see `push`.
-    fn turn_over<L: Leaving>(&mut self, page: &Sheet, leaving: &mut L) -> Result<(), Error>
-        requires full { length self.old.rows ≡ self.old.capacity }
-        requires some { 0 < self.old.capacity }
-        requires hidden { self.old.offset ≡ 0 }
-        requires inside { 0 < length page.now.rows }
-        requires sound { All (IsRow page.now.width) page.now.rows }
-        ensures sent { OnOk result ((height width : ℕ) →
-            Sends L.leaves height width (take 1 page.now.rows) self.old leaving.old self.new leaving.new) }
-        ensures err { OnErr result ((self.new ≡ self.old) × (leaving.new ≡ leaving.old)) }
-        ensures grows { IsErr result → TurnsOver (take 1 page.now.rows) self.old → ⊥ }
-        ensures memory { OnlyOutOfMemory result }
-    {
-        turn_over(&mut self.rows, page, leaving)?;
-        self.theoretical = self.theoretical.saturating_add(1);
-        Ok(())
     }
 
     /// Takes over rows that leave, where some are kept; see `push`.

@@ -376,8 +376,7 @@ impl Sheet {
         ensures { self.new
             ≡ record self.old { rows = replicate (length self.old.rows) (blank_row attrs self.old.width) } }
     {
-        let end = self.len();
-        self.clear_rows(0, end, attrs);
+        self.flat.blank_all(attrs);
     }
 
     /// Makes the rows above a row blank.

@@ -1,17 +1,18 @@
 -- A row without the default blanks at its end.
 use Rattle.std.proofs.Common.{◌≡◌, ℕ, zero, suc, ◌+◌, ◌-◌, ◌<◌, ◌≤◌, Bool, true, false, List}
-use Rattle.std.proofs.Common.{[], ◌∷◌, length, take, refl, sym, ap, subst, ◌∙◌, arith}
+use Rattle.std.proofs.Common.{[], ◌∷◌, length, take, refl, sym, ap, subst, inl, inr, ◌∙◌, arith}
 use Rattle.std.specs.Prelude.{All, if◌then◌else◌}
-use Rattle.std.specs.List.{list_all}
-use Rattle.std.proofs.lemmas.Bool.{cond_both, and_parts, false_from_ne_true}
+use Rattle.std.specs.List.{list_all, slice_range}
+use Rattle.std.proofs.lemmas.Bool.{cases_lt, cond_both, and_parts, false_from_ne_true}
 use Rattle.std.proofs.lemmas.List.{take_all}
 use Rattle.std.proofs.lemmas.List.Elements.{All-nil, All-cons, All-head, All-tail}
+use Rattle.std.proofs.lemmas.Simd.{get_or-chunk}
 use Rattle.vt_cells.specs.Attrs.{default_attrs, same_attrs}
 use Rattle.vt_cells.specs.Cell.{CellValue, blank, glyph, right_half, default_blank, is_wide}
 use Rattle.vt_cells.specs.Cell.{is_blank, is_right_half, is_default_blank, attrs_of, IsCell}
 use Rattle.vt_cells.proofs.Same.{attrs_of-same, same_attrs-itself}
-use Rattle.vt_rows.specs.Cells.{at, IsPaired, ends_blank}
-use Rattle.vt_rows.proofs.Columns.{at-past}
+use Rattle.vt_rows.specs.Cells.{at, IsPaired, blanks, ends_blank}
+use Rattle.vt_rows.proofs.Columns.{at-blanks, at-past, blanks_is}
 use Rattle.vt_rows.specs.Row.{RowValue, IsRow, trimmed, trimmed_row}
 
 pub default_is : (x : CellValue) → is_blank x ≡ true → same_attrs (attrs_of x) default_attrs ≡ is_default_blank x
@@ -110,3 +111,28 @@ IsRow-trimmed_row width row r = record {
       (sym (trimmed-none row.cells (r.flagged h))) (r.flagged h);
   sound = All-trimmed row.cells r.sound;
 }
+
+-- four default blanks, one by one
+pub four_blanks : (cells : List CellValue) → length cells ≡ 4 → at cells 0 ≡ default_blank → at cells 1 ≡ default_blank →
+    at cells 2 ≡ default_blank → at cells 3 ≡ default_blank → cells ≡ blanks default_attrs 4
+four_blanks cells l a b c d = blanks_is default_attrs 4 cells l each
+  where
+    each : (k : ℕ) → k < 4 → at cells k ≡ default_blank
+    each zero lt = a
+    each (suc zero) lt = b
+    each (suc (suc zero)) lt = c
+    each (suc (suc (suc zero))) lt = d
+    each (suc (suc (suc (suc k)))) lt = absurd (omega arith)
+
+-- default blanks from `i` on, where eight stand before those that are known
+pub eight_more : (cells : List CellValue) (i : ℕ) → slice_range cells i (i + 8) ≡ blanks default_attrs 8 →
+    ((k : ℕ) → i + 8 ≤ k → at cells k ≡ default_blank) → (k : ℕ) → i ≤ k → at cells k ≡ default_blank
+eight_more cells i eight behind k le =
+    elim (cases_lt k (i + 8)) [
+      | inl low ↦
+          let there : i + (k - i) ≡ k = omega arith in
+          let part = get_or-chunk i (i + 8 - i) cells (k - i) default_blank (omega arith) in
+          ap (λ (j : ℕ). at cells j) (sym there)
+          ∙ (sym part ∙ (ap (λ (xs : List CellValue). at xs (k - i)) eight ∙ at-blanks 8 (k - i)))
+      | inr high ↦ behind k high
+    ]

@@ -6,6 +6,7 @@
 
 ghost use Rattle.std.specs.Prelude.{◌≡◌, ◌≢◌, ◌<◌, ◌≤◌, ◌+◌, ◌-◌, ◌&&◌, ◌∷◌, [], All};
 ghost use Rattle.std.specs.Prelude.{Some, encode_utf8, false, true, length, not};
+ghost use Rattle.vt_cells.specs.Attrs.{default_attrs};
 ghost use Rattle.vt_cells.specs.Cell.{IsCell, attrs_of, blank, glyph, is_blank};
 ghost use Rattle.vt_cells.specs.Cell.{is_right_half, is_wide, text_of, widened};
 ghost use Rattle.vt_cells.specs.Glyph.{columns_of};
@@ -16,6 +17,10 @@ ghost use Rattle.vt_rows.specs.Texts.{IsPrintableAscii, glyphs_of, put_text};
 
 use std::mem;
 use vt_cells::{Attrs, Cell};
+
+/// How many default blanks are made at a time: so few that the C library sets
+/// them by vector instructions.
+const RUN: usize = 40;
 
 /// Puts a narrow glyph at a column.
 ///
@@ -70,8 +75,7 @@ fn write_text(cells: &mut [Cell], text: &[u8], attrs: Attrs)
 {
     let count = cells.len().min(text.len());
     for k in 0..count {
-        let cell = &mut cells[k];
-        cell.set_glyph(char::from(text[k]), false, attrs);
+        cells[k] = Cell::ascii(text[k], attrs);
     }
 }
 
@@ -176,7 +180,35 @@ pub fn narrow(cells: &mut [Cell], column: usize, attrs: Attrs)
 }
 
 /// Makes all columns blank.
+#[inline]
 pub fn clear(cells: &mut [Cell], attrs: Attrs)
+    ensures { cells.new ≡ blanks attrs (length cells.old) }
+{
+    if attrs.is_same(&Attrs::new()) {
+        clear_default(cells);
+    } else {
+        clear_each(cells, attrs);
+    }
+}
+
+/// Makes all columns default blanks, many at a time. Within a caller the
+/// compiler would make one great piece of them.
+#[inline(never)]
+fn clear_default(cells: &mut [Cell])
+    ensures { cells.new ≡ blanks default_attrs (length cells.old) }
+{
+    let len = cells.len();
+    let mut done = 0;
+    while len - done >= RUN {
+        cells[done..done + RUN].copy_from_slice(&[Cell::new(); RUN]);
+        done += RUN;
+    }
+    clear_each(&mut cells[done..len], Attrs::new());
+}
+
+/// Makes all columns blank, one by one.
+#[inline]
+fn clear_each(cells: &mut [Cell], attrs: Attrs)
     ensures { cells.new ≡ blanks attrs (length cells.old) }
 {
     for cell in cells.iter_mut() {

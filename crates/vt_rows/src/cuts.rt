@@ -1,6 +1,6 @@
 //! Rows made shorter or longer.
 
-ghost use Rattle.std.specs.Prelude.{◌≡◌, ◌≤◌, length, take};
+ghost use Rattle.std.specs.Prelude.{◌≡◌, ◌≤◌, IsTrue, length, take};
 ghost use Rattle.vt_cells.specs.Attrs.{default_attrs};
 ghost use Rattle.vt_cells.specs.Cell.{is_default_blank};
 ghost use Rattle.vt_rows.specs.Cells.{IsPaired, blanks, resized};
@@ -16,10 +16,32 @@ pub fn trimmed_len(cells: &[Cell]) -> usize
     ensures value { take result cells.now ≡ trimmed cells.now }
 {
     let mut len = cells.len();
+    while len >= 8 && eight_default(&cells[len - 8..len]) {
+        len -= 8;
+    }
     while len > 0 && is_default(&cells[len - 1]) {
         len -= 1;
     }
     len
+}
+
+/// Whether eight cells are default blanks. All are looked at, without a branch
+/// between them.
+#[inline(always)]
+fn eight_default(cells: &[Cell]) -> bool
+    requires { length cells.now ≡ 8 }
+    ensures { IsTrue result → cells.now ≡ blanks default_attrs 8 }
+{
+    four_default(&cells[..4]) & four_default(&cells[4..])
+}
+
+/// Whether four cells are default blanks.
+#[inline(always)]
+fn four_default(cells: &[Cell]) -> bool
+    requires { length cells.now ≡ 4 }
+    ensures { IsTrue result → cells.now ≡ blanks default_attrs 4 }
+{
+    is_default(&cells[0]) & is_default(&cells[1]) & is_default(&cells[2]) & is_default(&cells[3])
 }
 
 /// Copies the cells of one row into another, a blank one of any width, as far

@@ -8,3 +8,9 @@ invariant-loop-len l = (l.len ≤ length l.cells) × ((k : ℕ) → l.len ≤ k 
 
 abbrev pub decreases-loop-len : goal.decreases-loop-len
 decreases-loop-len l = l.len
+
+abbrev pub invariant-loop-len-2 : goal.invariant-loop-len-2
+invariant-loop-len-2 l = (l.len ≤ length l.cells) × ((k : ℕ) → l.len ≤ k → at l.cells k ≡ default_blank)
+
+abbrev pub decreases-loop-len-2 : goal.decreases-loop-len-2
+decreases-loop-len-2 l = l.len

@@ -1,12 +1,20 @@
-use Rattle.std.proofs.Common.{◌≡◌, ◌-◌, length, replicate, ◌∙◌, arith}
+use Rattle.std.proofs.Common.{length, replicate, ap, ◌∙◌}
 use Rattle.vt_rows.specs.Row.{blank_row}
-use Rattle.vt_grid.proofs.Turns.{blank_from}
+use Rattle.vt_grid.specs.Sheet.{SheetValue}
+use Rattle.vt_grid.proofs.Flats.{all_blanked}
 use Rattle.vt_grid.proofs.sheet.Sheet.clear_all.Goals as goal
+
+pub invariant_of-self : goal.invariant_of-self
+invariant_of-self c =
+    (all_blanked c.args.attrs c.self.inside.flat c.blank_all.new.self c.self.invariant c.blank_all.ensures.cells
+    c.blank_all.ensures.width c.blank_all.ensures.len c.blank_all.ensures.lines).1
 
 pub returns : goal.returns
 returns c =
-    let own = c.args.self.now in
-    let whole : length own.rows - 0 ≡ length own.rows = omega arith in
-    blank_from 0 c.len-end.result c.args.attrs own c.clear_rows.new.self (omega arith)
-    c.len-end.ensures c.clear_rows.ensures.len c.clear_rows.ensures.width c.clear_rows.ensures.by_index
-    ∙ (λ z. record { rows = replicate (whole z) (blank_row c.args.attrs own.width); width = own.width })
+    let all = all_blanked c.args.attrs c.self.inside.flat c.blank_all.new.self c.self.invariant
+    c.blank_all.ensures.cells c.blank_all.ensures.width c.blank_all.ensures.len c.blank_all.ensures.lines in
+    (λ z. record { rows = all.0 z; width = c.blank_all.ensures.width z })
+    ∙ ap (λ (s : SheetValue). record {
+      rows = replicate (length s.rows) (blank_row c.args.attrs s.width);
+      width = s.width;
+    }) c.self.view_is

@@ -1,0 +1,71 @@
+//! One row that leaves, where none is in view: no list is made for it.
+
+ghost use Rattle.std.specs.Prelude.{◌≡◌, ◌<◌, ℕ, All, IsErr, OnErr, OnOk, length, take};
+ghost use Rattle.vt_cells.specs.Refusals.{OnlyOutOfMemory};
+ghost use Rattle.vt_rows.specs.Row.{IsRow};
+ghost use Rattle.vt_grid.specs.Scrollback.{Sends, TurnsOver, pushed};
+
+use super::Scrollback;
+use crate::row_lists::{push_copy, turn_over};
+use crate::sheet::Sheet;
+use vt_cells::Error;
+use vt_rows::Leaving;
+
+impl Scrollback {
+    /// Takes over the first row of a page, where none is in view; see `push`.
+    pub(super) fn push_one<L: Leaving>(
+        &mut self,
+        page: &Sheet,
+        leaving: &mut L,
+    ) -> Result<(), Error>
+        requires some { 0 < self.old.capacity }
+        requires hidden { self.old.offset ≡ 0 }
+        requires inside { 0 < length page.now.rows }
+        requires sound { All (IsRow page.now.width) page.now.rows }
+        ensures sent { OnOk result ((height width : ℕ) →
+            Sends L.leaves height width (take 1 page.now.rows) self.old leaving.old self.new leaving.new) }
+        ensures err { OnErr result ((self.new ≡ self.old) × (leaving.new ≡ leaving.old)) }
+        ensures grows { IsErr result → TurnsOver (take 1 page.now.rows) self.old → ⊥ }
+        ensures memory { OnlyOutOfMemory result }
+    {
+        if self.rows.len() == self.capacity {
+            return self.turn_over(page, leaving);
+        }
+        self.add(page)
+    }
+
+    /// Takes over the first row of a page, where there is room for it.
+    fn add(&mut self, page: &Sheet) -> Result<(), Error>
+        requires room { length self.old.rows < self.old.capacity }
+        requires hidden { self.old.offset ≡ 0 }
+        requires inside { 0 < length page.now.rows }
+        requires sound { All (IsRow page.now.width) page.now.rows }
+        ensures added { OnOk result ((height width : ℕ) →
+            self.new ≡ pushed height width (take 1 page.now.rows) self.old) }
+        ensures err { OnErr result (self.new ≡ self.old) }
+        ensures memory { OnlyOutOfMemory result }
+    {
+        push_copy(self.alloc, &mut self.rows, page)?;
+        self.theoretical = self.theoretical.saturating_add(1);
+        Ok(())
+    }
+
+    /// Takes over the first row of a page in the memory of the oldest one, which
+    /// is reported, where none is in view and no more can be kept; see `push`.
+    fn turn_over<L: Leaving>(&mut self, page: &Sheet, leaving: &mut L) -> Result<(), Error>
+        requires full { length self.old.rows ≡ self.old.capacity }
+        requires some { 0 < self.old.capacity }
+        requires hidden { self.old.offset ≡ 0 }
+        requires inside { 0 < length page.now.rows }
+        requires sound { All (IsRow page.now.width) page.now.rows }
+        ensures sent { OnOk result ((height width : ℕ) →
+            Sends L.leaves height width (take 1 page.now.rows) self.old leaving.old self.new leaving.new) }
+        ensures err { OnErr result ((self.new ≡ self.old) × (leaving.new ≡ leaving.old)) }
+        ensures grows { IsErr result → TurnsOver (take 1 page.now.rows) self.old → ⊥ }
+        ensures memory { OnlyOutOfMemory result }
+    {
+        turn_over(&mut self.rows, page, leaving)?;
+        self.theoretical = self.theoretical.saturating_add(1);
+        Ok(())
+    }
+}
