@@ -1,5 +1,5 @@
 -- Lines deleted and inserted on a plain page move a band of its rows.
-use Rattle.std.proofs.Common.{◌≡◌, ℕ, ◌+◌, ◌-◌, ◌<◌, ◌≤◌, ◌==◌, Bool, true, false, List, length, inl, inr, refl, sym}
+use Rattle.std.proofs.Common.{◌≡◌, ℕ, ◌+◌, ◌-◌, ◌<◌, ◌==◌, Bool, true, false, List, length, inl, inr, refl, sym}
 use Rattle.std.proofs.Common.{ap, ◌∙◌, arith}
 use Rattle.std.specs.Prelude.{◌&&◌, nat_le, nat_lt, min, if◌then◌else◌}
 use Rattle.std.proofs.lemmas.Bool.{cases_lt}
@@ -9,11 +9,10 @@ use Rattle.vt_cells.specs.Attrs.{default_attrs}
 use Rattle.vt_rows.specs.Row.{RowValue, blank_row}
 use Rattle.vt_grid.specs.Page.{Page, IsPlainPage, row_or, moved_rows, rows_up, up_source}
 use Rattle.vt_grid.specs.Moves.{moved_to, target_row}
-use Rattle.vt_grid.specs.Regions.{in_region}
 use Rattle.vt_grid.specs.Shifts.{down_source, lines_deleted, lines_inserted, rows_down}
 use Rattle.vt_grid.proofs.Pages.{length-moved_rows, row_or-moved_rows}
 use Rattle.vt_grid.proofs.Shifting.{length-rows_down}
-use Rattle.vt_redraw.specs.Moved.{IsBand, band_source, last_moved, rows_moved}
+use Rattle.vt_redraw.specs.Moved.{IsBand, band_source, rows_moved}
 use Rattle.vt_redraw.specs.declared.band.Band.{Band}
 use Rattle.vt_redraw.proofs.Moving.{length-rows_moved, row_or-rows_moved, row_or-unflagged, unflagged_if}
 

@@ -1,5 +1,5 @@
 -- A row's item, drawn on a canvas that awaits it, changes the row in its range, and at most its flag besides.
-use Rattle.std.proofs.Common.{◌≡◌, ℕ, ◌+◌, ◌<◌, ◌≤◌, ◌==◌, ◌&&◌, Bool, true, false, not, List, [], ◌∷◌, ◌++◌}
+use Rattle.std.proofs.Common.{◌≡◌, ℕ, ◌+◌, ◌<◌, ◌≤◌, ◌==◌, ◌&&◌, Bool, true, false, List, [], ◌∷◌, ◌++◌}
 use Rattle.std.proofs.Common.{length, take, drop, Some, refl, sym, ap, ◌∙◌, subst, append_assoc, arith}
 use Rattle.std.specs.Prelude.{All, slice_index_or, slice_set}
 use Rattle.std.specs.List.{AllByRecursion}
@@ -19,7 +19,7 @@ use Rattle.vt_grid.proofs.Drawing.{Draws}
 use Rattle.vt_redraw.specs.Items.{range_written, is_whole, item_of_difference, item_of_redraw, linked_item, with_range}
 use Rattle.vt_redraw.specs.Items.{CutsNone, AwaitsItem, changed_row, formatted_row, row_drawn, going_on}
 use Rattle.vt_redraw.specs.Picture.{Picture, IsPicture}
-use Rattle.vt_redraw.specs.Script.{Scripted, nothing, after, pen_at}
+use Rattle.vt_redraw.specs.Script.{Scripted, pen_at}
 use Rattle.vt_redraw.specs.Steady.{IsSteady, IsSteadyCell}
 use Rattle.vt_redraw.specs.declared.pen.Pen.{Pen}
 use Rattle.vt_redraw.proofs.Difference.{row_stands, picture_prints}

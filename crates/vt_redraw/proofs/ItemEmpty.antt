@@ -1,7 +1,7 @@
 -- A whole row's item of a difference is empty where the rows are the same, and only there.
-use Rattle.std.proofs.Common.{◌≡◌, ℕ, zero, suc, ◌+◌, ◌-◌, ◌<◌, ◌≤◌, ◌==◌, ◌&&◌, ◌↔◌, Bool, true, false, not, List}
-use Rattle.std.proofs.Common.{[], ◌∷◌, ◌++◌, length, take, drop, refl, sym, ap, ◌∙◌, subst, append-nil, arith}
-use Rattle.std.specs.Prelude.{All, if◌then◌else◌}
+use Rattle.std.proofs.Common.{◌≡◌, ℕ, zero, suc, ◌+◌, ◌-◌, ◌<◌, ◌&&◌, ◌↔◌, Bool, true, false, not, List}
+use Rattle.std.proofs.Common.{[], ◌∷◌, ◌++◌, length, take, drop, refl, sym, ap, ◌∙◌, subst, arith}
+use Rattle.std.specs.Prelude.{if◌then◌else◌}
 use Rattle.std.specs.List.{AllByRecursion}
 use Rattle.std.proofs.lemmas.Bool.Decides.{nat_tests}
 use Rattle.std.proofs.lemmas.List.Elements.{recursion_from_All}
@@ -15,10 +15,9 @@ use Rattle.vt_rows.specs.Row.{RowValue, IsRow}
 use Rattle.vt_grid.specs.Page.{row_or}
 use Rattle.vt_redraw.specs.Items.{in_range, begun, begun_over, range_written, is_whole, item_of_difference}
 use Rattle.vt_redraw.specs.Picture.{Picture, IsPicture, SamePictureSize}
-use Rattle.vt_cells.specs.Glyph.{first_columns}
 use Rattle.vt_redraw.specs.Script.{Scripted, nothing, after, pen_at, going, changing, doing, blank_run}
 use Rattle.vt_redraw.specs.Script.{erase_run, flag_past, flag_behind, cells_written, last_column}
-use Rattle.vt_redraw.specs.Script.{last_glyph, is_at, behind, going_behind, broken, breaking}
+use Rattle.vt_redraw.specs.Script.{last_glyph, is_at, behind, going_behind, broken}
 use Rattle.vt_redraw.specs.declared.pen.Pen.{Pen}
 use Rattle.vt_redraw.proofs.Edits.{glyph_cells}
 use Rattle.vt_redraw.proofs.Flags.{ends, ends_is}

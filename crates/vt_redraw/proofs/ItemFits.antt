@@ -1,16 +1,14 @@
 -- Each operation of a row's item has numbers and texts that read back.
-use Rattle.std.proofs.Common.{◌≡◌, ℕ, zero, suc, ◌+◌, ◌-◌, ◌<◌, ◌≤◌, ◌^◌, ◌&&◌, Bool, true, false}
+use Rattle.std.proofs.Common.{◌≡◌, ℕ, zero, suc, ◌-◌, ◌<◌, ◌≤◌, ◌^◌, ◌&&◌, Bool, false}
 use Rattle.std.proofs.Common.{not, List, [], ◌∷◌, ◌++◌, length, take, drop, refl, arith}
-use Rattle.std.specs.Prelude.{All}
 use Rattle.std.specs.List.{AllByRecursion}
 use Rattle.std.proofs.lemmas.Bool.{cond_both}
 use Rattle.std.proofs.lemmas.List.{length-take, length-drop}
-use Rattle.std.proofs.lemmas.List.Elements.{recursion_from_All}
 use Rattle.vt_cells.specs.Attrs.{default_attrs}
-use Rattle.vt_cells.specs.Cell.{CellValue, blank, glyph, right_half, default_blank}
+use Rattle.vt_cells.specs.Cell.{CellValue, blank, glyph, right_half}
 use Rattle.vt_cells.specs.Op.{FitsAttrs}
 use Rattle.vt_rows.specs.Cells.{blanks}
-use Rattle.vt_rows.specs.Row.{RowValue, IsRow}
+use Rattle.vt_rows.specs.Row.{RowValue}
 use Rattle.vt_grid.specs.Page.{row_or}
 use Rattle.vt_redraw.specs.Fits.{Fits}
 use Rattle.vt_redraw.specs.Items.{in_range, begun, begun_over, range_written, is_whole}

@@ -24,6 +24,7 @@ pub mod Difference
 pub mod Nothing
 pub mod Clear
 pub mod Redrawing
+pub mod Refusals
 pub mod Fitting
 pub mod CursorAlone
 pub mod RangeDraws

@@ -24,7 +24,7 @@ joined_bytes t0 t1 t2 xs ys e f =
     ∙ (append_assoc t0 (bytes_of_all xs) (bytes_of_all ys)
     ∙ ap (λ (z : List ℕ). t0 ++ z) (sym (flat_map-append bytes_of xs ys))))
 
-from_settled : (r k : ℕ) (pen : Pen) (flag : Bool) (xs ys : List CellValue) →
+pub from_settled : (r k : ℕ) (pen : Pen) (flag : Bool) (xs ys : List CellValue) →
     cells_from r k pen flag xs ys ≡ cells_written r 0 pen flag k xs ys
 from_settled r k pen flag xs ys =
     sym (settled_passed r 0 pen flag k xs ys
@@ -60,12 +60,12 @@ rows_from_here width r rows h = drop_more rows r (blank_row default_attrs width)
 first_row : (width : ℕ) (rows : List RowValue) → 0 < length rows → rows ≡ row_or width rows 0 ∷ drop 1 rows
 first_row width rows h = rows_from_here width 0 rows h
 
-pub top_leads : (width : ℕ) (pen p1 : Pen) (on : Bool) (xs ys : List RowValue) (t0 t1 : List ℕ) →
+first_leads : (width : ℕ) (pen p1 : Pen) (on : Bool) (xs ys : List RowValue) (t0 t1 : List ℕ) →
     0 < length xs → length xs ≡ length ys →
     Writes t0 t1 p1 on (row_written 0 0 pen (row_or width ys 0).wrapped (row_or width xs 0) (row_or width ys 0).cells) →
     Leads t1 (rows_under 0 width p1 on xs ys) t0 (rows_written pen xs ys)
 unfolding rows_written
-top_leads width pen p1 on xs ys t0 t1 some same h =
+first_leads width pen p1 on xs ys t0 t1 some same h =
     let x = row_or width xs 0 in
     let y = row_or width ys 0 in
     let row = row_written 0 0 pen y.wrapped x y.cells in
@@ -74,6 +74,16 @@ top_leads width pen p1 on xs ys t0 t1 some same h =
     ∙ (ap (λ (zs : List RowValue). rows_written pen (x ∷ drop 1 xs) zs) (first_row width ys (omega arith))
     ∙ (ap (λ (p : Pen). after row.ops (rows_below 0 p x row.flag (drop 1 xs) (drop 1 ys))) (sym h.stands)
     ∙ ap (λ (b : Bool). after row.ops (rows_below 0 p1 x b (drop 1 xs) (drop 1 ys))) (sym h.goes_on))))
+
+pub top_leads : (width : ℕ) (pen p1 : Pen) (on : Bool) (xs ys : List RowValue) (x y : RowValue) (t0 t1 : List ℕ) →
+    0 < length xs → length xs ≡ length ys → x ≡ row_or width xs 0 → y ≡ row_or width ys 0 →
+    Writes t0 t1 p1 on (row_written 0 0 pen y.wrapped x y.cells) →
+    Leads t1 (rows_under 0 width p1 on xs ys) t0 (rows_written pen xs ys)
+top_leads width pen p1 on xs ys x y t0 t1 some same ex ey h =
+    let top = row_or width xs 0 in
+    first_leads width pen p1 on xs ys t0 t1 some same
+    (subst (λ (z : RowValue). Writes t0 t1 p1 on (row_written 0 0 pen z.wrapped top z.cells)) ey
+    (subst (λ (z : RowValue). Writes t0 t1 p1 on (row_written 0 0 pen y.wrapped z y.cells)) ex h))
 
 pub below_leads : (width r : ℕ) (pen p1 p2 : Pen) (on next : Bool) (link : Link)
     (xs ys : List RowValue) (above x y : RowValue) (t0 t1 t2 : List ℕ) →

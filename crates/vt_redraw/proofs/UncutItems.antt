@@ -12,7 +12,7 @@ use Rattle.vt_grid.specs.Page.{row_or}
 use Rattle.vt_redraw.specs.Items.{range_written, is_whole, item_of_difference, linked_item, CutsNone}
 use Rattle.vt_redraw.specs.Picture.{Picture, IsPicture}
 use Rattle.vt_cells.specs.Glyph.{first_columns}
-use Rattle.vt_redraw.specs.Script.{Scripted, nothing, after, pen_at, blank_run, doing, erase_run, flag_past}
+use Rattle.vt_redraw.specs.Script.{Scripted, after, pen_at, blank_run, doing, erase_run, flag_past}
 use Rattle.vt_redraw.specs.Script.{flag_behind, cells_written, first_written, broken, going_behind}
 use Rattle.vt_redraw.specs.declared.pen.Pen.{Pen}
 use Rattle.vt_redraw.proofs.Halves.{Paired, paired_of}

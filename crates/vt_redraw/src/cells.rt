@@ -8,6 +8,7 @@ ghost use Rattle.vt_cells.specs.PieceKeeping.{gathered};
 ghost use Rattle.vt_rows.specs.Cells.{at};
 ghost use Rattle.vt_redraw.specs.Keeping.{IsRange, Leads, Passes, cells_from};
 ghost use Rattle.vt_cells.specs.Glyph.{first_columns};
+ghost use Rattle.vt_redraw.specs.Refusals.{RefusedOnlyIfSome};
 ghost use Rattle.vt_redraw.specs.Script.{doing, erase_run, flag_behind, flag_past, pen_at};
 
 use crate::pen::Pen;
@@ -23,6 +24,17 @@ pub fn columns(cell: &Cell) -> u16
     if cell.is_wide() { 2 } else { 1 }
 }
 
+/// Writes a text. No sink is asked to take an empty one.
+pub fn write_text<S: Sink>(sink: &mut S, text: &str) -> Result<(), S::Error>
+    ensures text { OnOk result (S.text sink.new ≡ S.text sink.old ++ text.now) }
+    ensures some { RefusedOnlyIfSome result text.now }
+{
+    if text.is_empty() {
+        return Ok(());
+    }
+    sink.write_str(text)
+}
+
 /// Writes a glyph at a position; where the pen is then is left to the caller.
 #[inline]
 pub fn print_at<S: Sink>(sink: &mut S, pen: &mut Pen, pos: Pos, cell: &Cell) -> Result<(), S::Error>
@@ -30,10 +42,12 @@ pub fn print_at<S: Sink>(sink: &mut S, pen: &mut Pen, pos: Pos, cell: &Cell) -> 
         ≡ S.text sink.old
         ++ bytes_of_all (doing pen.old pos.row pos.col (attrs_of cell.now) (Print (text_of cell.now)))) }
     ensures pen { OnOk result (pen.new ≡ pen_at pos.row pos.col (attrs_of cell.now)) }
+    ensures some { RefusedOnlyIfSome result
+        (bytes_of_all (doing pen.old pos.row pos.col (attrs_of cell.now) (Print (text_of cell.now)))) }
 {
     pen.move_to(sink, pos)?;
     pen.change_attrs(sink, cell.attrs())?;
-    sink.write_str(cell.contents())
+    write_text(sink, cell.contents())
 }
 
 /// Gathers a glyph at a position; where the pen is then is left to the caller.
@@ -49,6 +63,9 @@ fn gather_at<S: Sink>(
         ≡ gathered (S.text sink.old) piece.old
         ++ bytes_of_all (doing pen.old pos.row pos.col (attrs_of cell.now) (Print (text_of cell.now)))) }
     ensures pen { OnOk result (pen.new ≡ pen_at pos.row pos.col (attrs_of cell.now)) }
+    ensures grows { OnOk result (length (S.text sink.old) ≤ length (S.text sink.new)) }
+    ensures some { RefusedOnlyIfSome result (piece.old
+        ++ bytes_of_all (doing pen.old pos.row pos.col (attrs_of cell.now) (Print (text_of cell.now)))) }
 {
     pen.move_behind(sink, piece, pos)?;
     pen.draw_as(sink, piece, cell)?;
@@ -70,6 +87,9 @@ fn gather_glyph<S: Sink>(
         ++ bytes_of_all (doing pen.old pos.row pos.col (attrs_of cell.now) (Print (text_of cell.now)))) }
     ensures pen { OnOk result
         (pen.new ≡ pen_at pos.row (pos.col + first_columns (is_wide cell.now)) (attrs_of cell.now)) }
+    ensures grows { OnOk result (length (S.text sink.old) ≤ length (S.text sink.new)) }
+    ensures some { RefusedOnlyIfSome result (piece.old
+        ++ bytes_of_all (doing pen.old pos.row pos.col (attrs_of cell.now) (Print (text_of cell.now)))) }
 {
     gather_at(sink, piece, pen, pos, cell)?;
     pen.col = pos.col + columns(cell);
@@ -85,7 +105,9 @@ fn write_erase<S: Sink>(
     over: &PictureRow<'_>,
 ) -> Result<(), S::Error>
     requires { end ≤ length over.now.cells }
-    ensures { OnOk result (S.text sink.new ≡ S.text sink.old ++ bytes_of (erase_run count (drop end over.now.cells))) }
+    ensures text { OnOk result
+        (S.text sink.new ≡ S.text sink.old ++ bytes_of (erase_run count (drop end over.now.cells))) }
+    ensures some { RefusedOnlyIfSome result (bytes_of (erase_run count (drop end over.now.cells))) }
 {
     if end == over.cols() {
         ClearRowForward.write_buf(sink)
@@ -110,6 +132,8 @@ pub fn write_run<S: Sink>(
         ++ bytes_of_all
         (doing pen.old pos.row pos.col attrs (erase_run count (drop (pos.col + count) over.now.cells)))) }
     ensures pen { OnOk result (pen.new ≡ pen_at pos.row pos.col attrs) }
+    ensures some { RefusedOnlyIfSome result (bytes_of_all
+        (doing pen.old pos.row pos.col attrs (erase_run count (drop (pos.col + count) over.now.cells)))) }
 {
     pen.move_to(sink, pos)?;
     pen.change_attrs(sink, attrs)?;
@@ -135,6 +159,9 @@ fn write_run_behind<S: Sink>(
         ++ bytes_of_all
         (doing pen.old pos.row pos.col attrs (erase_run count (drop (pos.col + count) over.now.cells)))) }
     ensures pen { OnOk result (pen.new ≡ pen_at pos.row pos.col attrs) }
+    ensures grows { OnOk result (length (S.text sink.old) ≤ length (S.text sink.new)) }
+    ensures some { RefusedOnlyIfSome result (piece.old ++ bytes_of_all
+        (doing pen.old pos.row pos.col attrs (erase_run count (drop (pos.col + count) over.now.cells)))) }
 {
     piece.flush(sink)?;
     write_run(sink, pen, pos, attrs, count, over)
@@ -247,6 +274,9 @@ fn write_next<S: Sink>(
         (cells_from pos.row pos.col pen.old flag.old cells.now.cells over.now.cells)) }
     ensures some { IfOk result (λ n. 0 < n) }
     ensures inside { IfOk result (λ n. pos.col + n ≤ length over.now.cells) }
+    ensures grows { OnOk result (length (S.text sink.old) ≤ length (S.text sink.new)) }
+    ensures refused { RefusedOnlyIfSome result (piece.old ++ bytes_of_all
+        (cells_from pos.row pos.col pen.old flag.old cells.now.cells over.now.cells).ops) }
 {
     let cell = cells.cell(pos.col);
     if !cell.is_blank() {
@@ -262,9 +292,8 @@ fn write_next<S: Sink>(
     Ok(count)
 }
 
-/// Writes what the cells of a row need from a column on. Glyphs that follow one
-/// another are gathered, and written together.
-#[tactic(auto, using(vt_cells::proofs::Pieces::nothing_gathered))]
+/// Writes what the cells of a row need from a column on; where all of them
+/// stand already, that is found out without more.
 pub fn write_cells<S: Sink>(
     sink: &mut S,
     pen: &mut Pen,
@@ -281,6 +310,38 @@ pub fn write_cells<S: Sink>(
         (pen.new ≡ (cells_from pos.row pos.col pen.old flag.old cells.now.cells over.now.cells).pen) }
     ensures flag { OnOk result
         (flag.new ≡ (cells_from pos.row pos.col pen.old flag.old cells.now.cells over.now.cells).flag) }
+    ensures some { RefusedOnlyIfSome result (bytes_of_all
+        (cells_from pos.row pos.col pen.old flag.old cells.now.cells over.now.cells).ops) }
+{
+    let Pos { row, col } = pos;
+    let first = next_other(cells, over, col);
+    if first >= cells.cols() {
+        return Ok(());
+    }
+    write_others(sink, pen, flag, Pos { row, col: first }, cells, over)
+}
+
+/// The same for cells of which some need something. Glyphs that follow one
+/// another are gathered, and written together.
+#[tactic(auto, using(vt_cells::proofs::Pieces::nothing_gathered))]
+fn write_others<S: Sink>(
+    sink: &mut S,
+    pen: &mut Pen,
+    flag: &mut bool,
+    pos: Pos,
+    cells: &PictureRow<'_>,
+    over: &PictureRow<'_>,
+) -> Result<(), S::Error>
+    requires range { IsRange cells.now.cells over.now.cells }
+    ensures text { OnOk result (S.text sink.new
+        ≡ S.text sink.old
+        ++ bytes_of_all (cells_from pos.row pos.col pen.old flag.old cells.now.cells over.now.cells).ops) }
+    ensures pen { OnOk result
+        (pen.new ≡ (cells_from pos.row pos.col pen.old flag.old cells.now.cells over.now.cells).pen) }
+    ensures flag { OnOk result
+        (flag.new ≡ (cells_from pos.row pos.col pen.old flag.old cells.now.cells over.now.cells).flag) }
+    ensures some { RefusedOnlyIfSome result (bytes_of_all
+        (cells_from pos.row pos.col pen.old flag.old cells.now.cells over.now.cells).ops) }
 {
     let cols = cells.cols().min(over.cols());
     let mut piece = Piece::new();

@@ -8,6 +8,7 @@ ghost use Rattle.vt_cells.specs.Op.{bytes_of_all};
 ghost use Rattle.vt_cells.specs.Op as op;
 ghost use Rattle.vt_rows.specs.Cells.{at};
 ghost use Rattle.vt_grid.specs.Page.{row_or};
+ghost use Rattle.vt_redraw.specs.Refusals.{RefusedOnlyIfSome};
 ghost use Rattle.vt_redraw.specs.Redraw.{blank_passed, cursor_written, nearest, over_blank};
 ghost use Rattle.vt_redraw.specs.Redraw.{cursor_alone, pending_alone, pending_at, under_last};
 
@@ -35,7 +36,8 @@ pub fn nearest(view: &View<'_>, row: u16) -> Option<u16>
 
 /// Writes a number of line feeds.
 pub fn write_feeds<S: Sink>(sink: &mut S, count: u16) -> Result<(), S::Error>
-    ensures { OnOk result (S.text sink.new ≡ S.text sink.old ++ bytes_of_all (replicate count op.LineFeed)) }
+    ensures text { OnOk result (S.text sink.new ≡ S.text sink.old ++ bytes_of_all (replicate count op.LineFeed)) }
+    ensures some { RefusedOnlyIfSome result (bytes_of_all (replicate count op.LineFeed)) }
 {
     for _ in 0..count {
         LineFeed.write_buf(sink)?;
@@ -69,9 +71,11 @@ fn write_under_last<S: Sink>(
 ) -> Result<(), S::Error>
     requires above { found ≤ row }
     requires inside { row < length view.now.rows }
-    ensures { OnOk result (S.text sink.new
+    ensures text { OnOk result (S.text sink.new
         ≡ S.text sink.old
         ++ bytes_of_all (under_last pen found row (row_or view.now.width view.now.rows found).cells)) }
+    ensures some { RefusedOnlyIfSome result
+        (bytes_of_all (under_last pen found row (row_or view.now.width view.now.rows found).cells)) }
 {
     let mut last = pen;
     write_last(sink, &mut last, found, &view.row(found))?;
@@ -88,9 +92,11 @@ fn write_over_blank<S: Sink>(
     row: u16,
 ) -> Result<(), S::Error>
     requires { row < length view.now.rows }
-    ensures { OnOk result (S.text sink.new
+    ensures text { OnOk result (S.text sink.new
         ≡ S.text sink.old
         ++ bytes_of_all (over_blank pen row view.now.width
+        (attrs_of (at (row_or view.now.width view.now.rows row).cells (view.now.width - 1))))) }
+    ensures some { RefusedOnlyIfSome result (bytes_of_all (over_blank pen row view.now.width
         (attrs_of (at (row_or view.now.width view.now.rows row).cells (view.now.width - 1))))) }
 {
     let col = view.cols() - 1;
@@ -103,9 +109,11 @@ fn write_over_blank<S: Sink>(
 /// Has a wrap pending at the end of row `row`.
 fn write_pending<S: Sink>(sink: &mut S, pen: Pen, view: &View<'_>, row: u16) -> Result<(), S::Error>
     requires { row < length view.now.rows }
-    ensures { OnOk result (S.text sink.new
+    ensures text { OnOk result (S.text sink.new
         ≡ S.text sink.old
         ++ bytes_of_all (pending_at (nearest view.now.width view.now.rows row) pen view.now.width view.now.rows row)) }
+    ensures some { RefusedOnlyIfSome result (bytes_of_all
+        (pending_at (nearest view.now.width view.now.rows row) pen view.now.width view.now.rows row)) }
 {
     match nearest(view, row) {
         Some(found) => write_under_last(sink, pen, view, found, row),
@@ -116,9 +124,11 @@ fn write_pending<S: Sink>(sink: &mut S, pen: Pen, view: &View<'_>, row: u16) -> 
 /// Brings the cursor to where the picture has it; the pen's attributes stay.
 #[tactic(auto, unfolding(crate::specs::Redraw::cursor_written))]
 pub fn write_cursor<S: Sink>(sink: &mut S, pen: Pen, view: &View<'_>) -> Result<(), S::Error>
-    ensures { OnOk result (S.text sink.new
+    ensures text { OnOk result (S.text sink.new
         ≡ S.text sink.old
         ++ bytes_of_all (cursor_written pen view.now.width view.now.rows view.now.row view.now.column)) }
+    ensures some { RefusedOnlyIfSome result
+        (bytes_of_all (cursor_written pen view.now.width view.now.rows view.now.row view.now.column)) }
 {
     let Pen { row, col, .. } = view.pen();
     if pen.is_at(row, col) {

@@ -1,7 +1,7 @@
 //! A guess which rows have moved from one picture to another. No promise hangs
 //! on it: after any band has moved, the difference draws what is left.
 
-ghost use Rattle.std.specs.Prelude.{◌≡◌, ◌+◌, ◌<◌, ◌≤◌, IfSome, length};
+ghost use Rattle.std.specs.Prelude.{◌≡◌, ◌+◌, ◌<◌, ◌≤◌, IfSome, IsSome, length};
 ghost use Rattle.vt_redraw.specs.Moved.{IsBand};
 ghost use Rattle.vt_redraw.specs.Picture.{SamePictureSize};
 
@@ -46,7 +46,8 @@ struct Stretch {
 /// that. Only the first 256 rows are looked at.
 pub fn likely_band(view: &View<'_>, prev: &View<'_>, text: &str) -> Option<Band>
     requires { SamePictureSize view.now prev.now }
-    ensures { IfSome result (λ band. IsBand (length prev.now.rows) band) }
+    ensures band { IfSome result (λ band. IsBand (length prev.now.rows) band) }
+    ensures text { IsSome result → 0 < length text.now }
 {
     if text.len() < LEAST_TEXT {
         return None;

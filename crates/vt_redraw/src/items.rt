@@ -13,6 +13,7 @@ ghost use Rattle.vt_redraw.specs.Items.{begun, begun_over, is_linked, is_whole, 
 ghost use Rattle.vt_redraw.specs.Items.{item_of_redraw, linked_item, range_written};
 ghost use Rattle.vt_redraw.specs.Keeping.{IsRange, Leads, cells_from, mark_of};
 ghost use Rattle.vt_redraw.specs.Picture.{SamePictureSize};
+ghost use Rattle.vt_redraw.specs.Refusals.{RefusedOnlyIfSome};
 ghost use Rattle.vt_redraw.specs.Script.{after, broken, cells_written, pen_at};
 
 use crate::cells::{flag_past, write_cells, write_run};
@@ -34,10 +35,14 @@ fn write_begin<S: Sink>(
     over: &PictureRow<'_>,
 ) -> Result<u16, S::Error>
     requires range { IsRange cells.now.cells over.now.cells }
-    ensures { IfOk result (λ col. Leads (S.text sink.new)
+    ensures leads { IfOk result (λ col. Leads (S.text sink.new)
         (cells_from pos.row col pen.new flag.new cells.now.cells over.now.cells) (S.text sink.old)
         (cells_written pos.row pos.col pen.old flag.old 0 (begun (drop pos.col cells.now.cells))
         (begun_over (drop pos.col cells.now.cells) (drop pos.col over.now.cells)))) }
+    ensures grows { IfOk result (λ _. length (S.text sink.old) ≤ length (S.text sink.new)) }
+    ensures some { RefusedOnlyIfSome result (bytes_of_all
+        (cells_written pos.row pos.col pen.old flag.old 0 (begun (drop pos.col cells.now.cells))
+        (begun_over (drop pos.col cells.now.cells) (drop pos.col over.now.cells))).ops) }
 {
     let Pos { row: _, col } = pos;
     if col >= cells.cols().min(over.cols()) {
@@ -77,6 +82,9 @@ fn write_range<S: Sink>(
     ensures flag { OnOk result (flag.new
         ≡ (cells_written pos.row pos.col pen.old flag.old 0 (begun (drop pos.col cells.now.cells))
         (begun_over (drop pos.col cells.now.cells) (drop pos.col over.now.cells))).flag) }
+    ensures some { RefusedOnlyIfSome result (bytes_of_all
+        (cells_written pos.row pos.col pen.old flag.old 0 (begun (drop pos.col cells.now.cells))
+        (begun_over (drop pos.col cells.now.cells) (drop pos.col over.now.cells))).ops) }
 {
     let row = pos.row;
     let col = write_begin(sink, pen, flag, pos, cells, over)?;
@@ -94,8 +102,10 @@ fn write_mark<S: Sink>(
 ) -> Result<(), S::Error>
     requires some { 0 < length cells.now.cells }
     requires paired { IsPaired cells.now.cells }
-    ensures { OnOk result (S.text sink.new
+    ensures text { OnOk result (S.text sink.new
         ≡ S.text sink.old ++ bytes_of_all (mark_of row pen.old flag cells.now.wrapped cells.now.cells)) }
+    ensures some { RefusedOnlyIfSome result
+        (bytes_of_all (mark_of row pen.old flag cells.now.wrapped cells.now.cells)) }
 {
     if flag {
         return Ok(());
@@ -117,9 +127,13 @@ fn write_end<S: Sink>(
 ) -> Result<(), S::Error>
     requires some { 0 < length cells.now.cells }
     requires paired { IsPaired cells.now.cells }
-    ensures { OnOk result (S.text sink.new
+    ensures text { OnOk result (S.text sink.new
         ≡ S.text sink.old
         ++ bytes_of_all ((broken row pen.old flag cells.now.wrapped cells.now.cells).ops
+        ++ mark_of row (broken row pen.old flag cells.now.wrapped cells.now.cells).pen
+        (broken row pen.old flag cells.now.wrapped cells.now.cells).flag cells.now.wrapped cells.now.cells)) }
+    ensures some { RefusedOnlyIfSome result
+        (bytes_of_all ((broken row pen.old flag cells.now.wrapped cells.now.cells).ops
         ++ mark_of row (broken row pen.old flag cells.now.wrapped cells.now.cells).pen
         (broken row pen.old flag cells.now.wrapped cells.now.cells).flag cells.now.wrapped cells.now.cells)) }
 {
@@ -146,9 +160,11 @@ pub fn write_row_diff<S: Sink>(
     requires inside { row < length view.now.rows }
     requires order { start ≤ stop }
     requires stop { stop ≤ view.now.width }
-    ensures { OnOk result (S.text sink.new
+    ensures text { OnOk result (S.text sink.new
         ≡ S.text sink.old
         ++ bytes_of_all (item_of_difference row start stop
+        (row_or view.now.width view.now.rows row) (row_or view.now.width prev.now.rows row)).ops) }
+    ensures some { RefusedOnlyIfSome result (bytes_of_all (item_of_difference row start stop
         (row_or view.now.width view.now.rows row) (row_or view.now.width prev.now.rows row)).ops) }
 {
     let cells = view.row(row);
@@ -179,7 +195,9 @@ fn is_whole(start: u16, stop: u16, cells: &PictureRow<'_>) -> bool
 fn write_linked<S: Sink>(sink: &mut S, row: u16, cells: &PictureRow<'_>) -> Result<(), S::Error>
     requires some { 0 < length cells.now.cells }
     requires paired { IsPaired cells.now.cells }
-    ensures { OnOk result (S.text sink.new ≡ S.text sink.old ++ bytes_of_all (linked_item row cells.now.cells).ops) }
+    ensures text { OnOk result
+        (S.text sink.new ≡ S.text sink.old ++ bytes_of_all (linked_item row cells.now.cells).ops) }
+    ensures some { RefusedOnlyIfSome result (bytes_of_all (linked_item row cells.now.cells).ops) }
 {
     let over = PictureRow::blank(cells.cols());
     let mut pen = Pen {
@@ -206,9 +224,11 @@ fn write_over_blanks<S: Sink>(
     requires order { pos.col ≤ stop }
     requires stop { stop ≤ length cells.now.cells }
     requires paired { IsPaired cells.now.cells }
-    ensures { OnOk result (S.text sink.new
+    ensures text { OnOk result (S.text sink.new
         ≡ S.text sink.old
         ++ bytes_of_all (range_written pos.row pos.col stop false
+        cells.now.cells (blanks default_attrs (length cells.now.cells))).ops) }
+    ensures some { RefusedOnlyIfSome result (bytes_of_all (range_written pos.row pos.col stop false
         cells.now.cells (blanks default_attrs (length cells.now.cells))).ops) }
 {
     let over = PictureRow::blank(cells.cols());
@@ -253,9 +273,12 @@ pub fn write_row_formatted<S: Sink>(
     requires inside { row < length view.now.rows }
     requires order { start ≤ stop }
     requires stop { stop ≤ view.now.width }
-    ensures { OnOk result (S.text sink.new
+    ensures text { OnOk result (S.text sink.new
         ≡ S.text sink.old
         ++ bytes_of_all (item_of_redraw row start stop (is_linked view.now.width view.now.rows row)
+        (row_or view.now.width view.now.rows row)).ops) }
+    ensures some { RefusedOnlyIfSome result
+        (bytes_of_all (item_of_redraw row start stop (is_linked view.now.width view.now.rows row)
         (row_or view.now.width view.now.rows row)).ops) }
 {
     let cells = view.row(row);

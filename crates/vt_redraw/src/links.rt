@@ -6,9 +6,10 @@ ghost use Rattle.vt_cells.specs.Op.{bytes_of_all};
 ghost use Rattle.vt_rows.specs.Cells.{IsPaired, at};
 ghost use Rattle.vt_redraw.specs.Keeping.{Links, Writes};
 ghost use Rattle.vt_redraw.specs.Redraw.{link_of};
+ghost use Rattle.vt_redraw.specs.Refusals.{RefusedOnlyIfSome};
 ghost use Rattle.vt_redraw.specs.Script.{broken, first_written, going_behind, is_at, starts_other};
 
-use crate::cells::{columns, flag_behind, print_at};
+use crate::cells::{columns, flag_behind, print_at, write_text};
 use crate::pen::Pen;
 use crate::picture_row::PictureRow;
 use vt_cells::term::{Backspace, BufWrite, EraseChar};
@@ -38,6 +39,7 @@ pub fn write_last<S: Sink>(
     ensures text { OnOk result
         (S.text sink.new ≡ S.text sink.old ++ bytes_of_all (going_behind row pen.old cells.now.cells).ops) }
     ensures pen { OnOk result (pen.new ≡ (going_behind row pen.old cells.now.cells).pen) }
+    ensures some { RefusedOnlyIfSome result (bytes_of_all (going_behind row pen.old cells.now.cells).ops) }
 {
     if pen.is_at(row, cells.cols()) {
         return Ok(());
@@ -63,8 +65,10 @@ fn write_first_blank<S: Sink>(
     requires same { length cells.now.cells ≡ length over.now.cells }
     requires first { cell.now ≡ at cells.now.cells 0 }
     requires blank { is_blank cell.now ≡ true }
-    ensures { IfOk result (λ link. Links (S.text sink.old) (S.text sink.new) pen.new
+    ensures links { IfOk result (λ link. Links (S.text sink.old) (S.text sink.new) pen.new
         link (first_written row pen.old flag cells.now.cells over.now.cells)) }
+    ensures some { RefusedOnlyIfSome result
+        (bytes_of_all (first_written row pen.old flag cells.now.cells over.now.cells).ops) }
 {
     pen.change_attrs(sink, cell.attrs())?;
     sink.write_str(" ")?;
@@ -101,11 +105,13 @@ fn write_first_glyph<S: Sink>(
     requires first { cell.now ≡ at cells.now.cells 0 }
     requires glyph { is_blank cell.now ≡ false }
     requires begin { is_right_half cell.now ≡ false }
-    ensures { IfOk result (λ link. Links (S.text sink.old) (S.text sink.new) pen.new
+    ensures links { IfOk result (λ link. Links (S.text sink.old) (S.text sink.new) pen.new
         link (first_written row pen.old flag cells.now.cells over.now.cells)) }
+    ensures some { RefusedOnlyIfSome result
+        (bytes_of_all (first_written row pen.old flag cells.now.cells over.now.cells).ops) }
 {
     pen.change_attrs(sink, cell.attrs())?;
-    sink.write_str(cell.contents())?;
+    write_text(sink, cell.contents())?;
     let settled = columns(cell);
     pen.row = row;
     pen.col = settled;
@@ -127,8 +133,10 @@ pub fn write_first<S: Sink>(
     requires some { 0 < length cells.now.cells }
     requires same { length cells.now.cells ≡ length over.now.cells }
     requires paired { IsPaired cells.now.cells }
-    ensures { IfOk result (λ link. Links (S.text sink.old) (S.text sink.new) pen.new
+    ensures links { IfOk result (λ link. Links (S.text sink.old) (S.text sink.new) pen.new
         link (first_written row pen.old flag cells.now.cells over.now.cells)) }
+    ensures some { RefusedOnlyIfSome result
+        (bytes_of_all (first_written row pen.old flag cells.now.cells over.now.cells).ops) }
 {
     let cell = cells.cell(0);
     if cell.is_blank() {
@@ -185,8 +193,10 @@ pub fn write_link<S: Sink>(
     requires some { 0 < length cells.now.cells }
     requires same { length cells.now.cells ≡ length over.now.cells }
     requires paired { IsPaired cells.now.cells }
-    ensures { IfOk result (λ link. Links (S.text sink.old) (S.text sink.new)
+    ensures links { IfOk result (λ link. Links (S.text sink.old) (S.text sink.new)
         pen.new link (link_of row pen.old above.now on cells.now over.now)) }
+    ensures some { RefusedOnlyIfSome result
+        (bytes_of_all (link_of row pen.old above.now on cells.now over.now).ops) }
 {
     let flag = over.wrapped();
     if !above.wrapped() {
@@ -212,8 +222,10 @@ pub fn write_break<S: Sink>(
 ) -> Result<bool, S::Error>
     requires some { 0 < length cells.now.cells }
     requires paired { IsPaired cells.now.cells }
-    ensures { IfOk result (λ on. Writes (S.text sink.old) (S.text sink.new)
+    ensures writes { IfOk result (λ on. Writes (S.text sink.old) (S.text sink.new)
         pen.new on (broken row pen.old flag cells.now.wrapped cells.now.cells)) }
+    ensures some { RefusedOnlyIfSome result
+        (bytes_of_all (broken row pen.old flag cells.now.wrapped cells.now.cells).ops) }
 {
     if !flag {
         return Ok(flag);
@@ -226,7 +238,7 @@ pub fn write_break<S: Sink>(
     pen.move_to(sink, Pos { row, col })?;
     EraseChar { count: 1 }.write_buf(sink)?;
     pen.change_attrs(sink, cell.attrs())?;
-    sink.write_str(cell.contents())?;
+    write_text(sink, cell.contents())?;
     pen.col = cells.cols();
     Ok(false)
 }

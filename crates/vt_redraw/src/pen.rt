@@ -1,10 +1,11 @@
 //! The writer's view of the terminal that reads a redraw.
 
-ghost use Rattle.std.specs.Prelude.{◌≡◌, ◌++◌, OnOk};
+ghost use Rattle.std.specs.Prelude.{◌≡◌, ◌≤◌, ◌++◌, OnOk, length};
 ghost use Rattle.vt_cells.specs.Attrs.{default_attrs};
 ghost use Rattle.vt_cells.specs.Cell.{attrs_of};
 ghost use Rattle.vt_cells.specs.Op.{bytes_of_all};
 ghost use Rattle.vt_cells.specs.PieceKeeping.{gathered};
+ghost use Rattle.vt_redraw.specs.Refusals.{RefusedOnlyIfSome};
 ghost use Rattle.vt_redraw.specs.Script.{changing, going, is_at, pen_at};
 
 use vt_cells::term::{BufWrite, ChangeAttrs, MoveFromTo};
@@ -51,6 +52,7 @@ impl Pen {
     pub fn move_to<S: Sink>(&mut self, sink: &mut S, to: Pos) -> Result<(), S::Error>
         ensures text { OnOk result (S.text sink.new ≡ S.text sink.old ++ bytes_of_all (going self.old to.row to.col)) }
         ensures pen { OnOk result (self.new ≡ pen_at to.row to.col self.old.attrs) }
+        ensures some { RefusedOnlyIfSome result (bytes_of_all (going self.old to.row to.col)) }
     {
         if self.is_at(to.row, to.col) {
             return Ok(());
@@ -64,6 +66,7 @@ impl Pen {
     fn jump<S: Sink>(&mut self, sink: &mut S, to: Pos) -> Result<(), S::Error>
         ensures text { OnOk result (S.text sink.new ≡ S.text sink.old ++ bytes_of_all (going self.old to.row to.col)) }
         ensures pen { OnOk result (self.new ≡ pen_at to.row to.col self.old.attrs) }
+        ensures some { RefusedOnlyIfSome result (bytes_of_all (going self.old to.row to.col)) }
     {
         let from = Pos {
             row: self.row,
@@ -80,6 +83,7 @@ impl Pen {
     pub fn change_attrs<S: Sink>(&mut self, sink: &mut S, new: Attrs) -> Result<(), S::Error>
         ensures text { OnOk result (S.text sink.new ≡ S.text sink.old ++ bytes_of_all (changing self.old.attrs new)) }
         ensures pen { OnOk result (self.new ≡ pen_at self.old.row self.old.col new) }
+        ensures some { RefusedOnlyIfSome result (bytes_of_all (changing self.old.attrs new)) }
     {
         if self.attrs.is_same(&new) {
             return Ok(());
@@ -100,6 +104,8 @@ impl Pen {
         ensures text { OnOk result (gathered (S.text sink.new) piece.new
             ≡ gathered (S.text sink.old) piece.old ++ bytes_of_all (going self.old to.row to.col)) }
         ensures pen { OnOk result (self.new ≡ pen_at to.row to.col self.old.attrs) }
+        ensures grows { OnOk result (length (S.text sink.old) ≤ length (S.text sink.new)) }
+        ensures some { RefusedOnlyIfSome result (piece.old ++ bytes_of_all (going self.old to.row to.col)) }
     {
         if self.is_at(to.row, to.col) {
             return Ok(());
@@ -119,6 +125,8 @@ impl Pen {
         ensures text { OnOk result (gathered (S.text sink.new) piece.new
             ≡ gathered (S.text sink.old) piece.old ++ bytes_of_all (going self.old to.row to.col)) }
         ensures pen { OnOk result (self.new ≡ pen_at to.row to.col self.old.attrs) }
+        ensures grows { OnOk result (length (S.text sink.old) ≤ length (S.text sink.new)) }
+        ensures some { RefusedOnlyIfSome result (piece.old ++ bytes_of_all (going self.old to.row to.col)) }
     {
         piece.flush(sink)?;
         self.jump(sink, to)
@@ -135,6 +143,8 @@ impl Pen {
         ensures text { OnOk result (gathered (S.text sink.new) piece.new
             ≡ gathered (S.text sink.old) piece.old ++ bytes_of_all (changing self.old.attrs (attrs_of cell.now))) }
         ensures pen { OnOk result (self.new ≡ pen_at self.old.row self.old.col (attrs_of cell.now)) }
+        ensures grows { OnOk result (length (S.text sink.old) ≤ length (S.text sink.new)) }
+        ensures some { RefusedOnlyIfSome result (bytes_of_all (changing self.old.attrs (attrs_of cell.now))) }
     {
         if cell.has_attrs(&self.attrs) {
             return Ok(());
@@ -155,8 +165,10 @@ fn add_change<S: Sink>(
     was: Attrs,
     new: Attrs,
 ) -> Result<(), S::Error>
-    ensures { OnOk result (gathered (S.text sink.new) piece.new
+    ensures text { OnOk result (gathered (S.text sink.new) piece.new
         ≡ gathered (S.text sink.old) piece.old ++ bytes_of_all (changing was new)) }
+    ensures grows { OnOk result (length (S.text sink.old) ≤ length (S.text sink.new)) }
+    ensures some { RefusedOnlyIfSome result (bytes_of_all (changing was new)) }
 {
     ChangeAttrs { was, new }.add(sink, piece)
 }
@@ -165,7 +177,8 @@ fn add_change<S: Sink>(
 #[inline(never)]
 #[tactic(auto, using(crate::proofs::Writing::change_written))]
 pub fn write_change<S: Sink>(sink: &mut S, was: Attrs, new: Attrs) -> Result<(), S::Error>
-    ensures { OnOk result (S.text sink.new ≡ S.text sink.old ++ bytes_of_all (changing was new)) }
+    ensures text { OnOk result (S.text sink.new ≡ S.text sink.old ++ bytes_of_all (changing was new)) }
+    ensures some { RefusedOnlyIfSome result (bytes_of_all (changing was new)) }
 {
     ChangeAttrs { was, new }.write_buf(sink)
 }

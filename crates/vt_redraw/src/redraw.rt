@@ -3,6 +3,7 @@
 ghost use Rattle.std.specs.Prelude.{◌≡◌, ◌++◌, OnOk};
 ghost use Rattle.vt_cells.specs.Op.{bytes_of_all};
 ghost use Rattle.vt_redraw.specs.Picture.{SamePictureSize};
+ghost use Rattle.vt_redraw.specs.Refusals.{RefusedOnlyIfSome};
 ghost use Rattle.vt_redraw.specs.Redraw.{cursor_state, difference, hiding, redraw};
 
 use crate::cursor_rule::write_cursor_alone;
@@ -42,7 +43,8 @@ pub fn write_contents_diff<S: Sink>(
     prev: &View<'_>,
 ) -> Result<(), S::Error>
     requires { SamePictureSize view.now prev.now }
-    ensures { OnOk result (S.text sink.new ≡ S.text sink.old ++ bytes_of_all (difference view.now prev.now)) }
+    ensures text { OnOk result (S.text sink.new ≡ S.text sink.old ++ bytes_of_all (difference view.now prev.now)) }
+    ensures some { RefusedOnlyIfSome result (bytes_of_all (difference view.now prev.now)) }
 {
     write_hiding(sink, view, prev)?;
     write_script(sink, view, prev)
@@ -50,7 +52,8 @@ pub fn write_contents_diff<S: Sink>(
 
 /// Writes whether the cursor is hidden, where that differs.
 fn write_hiding<S: Sink>(sink: &mut S, view: &View<'_>, prev: &View<'_>) -> Result<(), S::Error>
-    ensures { OnOk result (S.text sink.new ≡ S.text sink.old ++ bytes_of_all (hiding view.now prev.now)) }
+    ensures text { OnOk result (S.text sink.new ≡ S.text sink.old ++ bytes_of_all (hiding view.now prev.now)) }
+    ensures some { RefusedOnlyIfSome result (bytes_of_all (hiding view.now prev.now)) }
 {
     let state = view.hidden();
     if state == prev.hidden() {

@@ -1,11 +1,12 @@
 //! The rows of a picture, from the top, and the whole script.
 
-ghost use Rattle.std.specs.Prelude.{◌≡◌, ◌++◌, ◌+◌, ◌<◌, IfOk, OnOk, length};
+ghost use Rattle.std.specs.Prelude.{◌≡◌, ◌++◌, ◌+◌, ◌<◌, ◌≤◌, IfOk, OnOk, length};
 ghost use Rattle.vt_cells.specs.Op.{bytes_of_all};
 ghost use Rattle.vt_rows.specs.Cells.{IsPaired};
 ghost use Rattle.vt_grid.specs.Page.{row_or};
 ghost use Rattle.vt_redraw.specs.Keeping.{Leads, Writes, rows_under};
 ghost use Rattle.vt_redraw.specs.Picture.{SamePictureSize};
+ghost use Rattle.vt_redraw.specs.Refusals.{RefusedOnlyIfSome};
 ghost use Rattle.vt_redraw.specs.Redraw.{row_written, rows_written, script};
 
 use crate::cells::write_cells;
@@ -30,8 +31,10 @@ fn write_row<S: Sink>(
     requires some { 0 < length cells.now.cells }
     requires same { length cells.now.cells ≡ length over.now.cells }
     requires paired { IsPaired cells.now.cells }
-    ensures { IfOk result (λ on. Writes (S.text sink.old) (S.text sink.new) pen.new on
+    ensures writes { IfOk result (λ on. Writes (S.text sink.old) (S.text sink.new) pen.new on
         (row_written row link.settled pen.old link.flag cells.now over.now.cells)) }
+    ensures some { RefusedOnlyIfSome result
+        (bytes_of_all (row_written row link.settled pen.old link.flag cells.now over.now.cells).ops) }
 {
     let mut flag = link.flag;
     let pos = Pos {
@@ -47,48 +50,23 @@ fn write_row<S: Sink>(
 fn write_top<S: Sink>(
     sink: &mut S,
     pen: &mut Pen,
-    view: &View<'_>,
-    prev: &View<'_>,
+    cells: &PictureRow<'_>,
+    over: &PictureRow<'_>,
 ) -> Result<bool, S::Error>
-    requires size { SamePictureSize view.now prev.now }
-    requires some { 0 < length view.now.rows }
-    ensures { IfOk result (λ on. Writes (S.text sink.old) (S.text sink.new) pen.new on
-        (row_written 0 0 pen.old (row_or view.now.width prev.now.rows 0).wrapped
-        (row_or view.now.width view.now.rows 0) (row_or view.now.width prev.now.rows 0).cells)) }
+    requires some { 0 < length cells.now.cells }
+    requires same { length cells.now.cells ≡ length over.now.cells }
+    requires paired { IsPaired cells.now.cells }
+    ensures writes { IfOk result (λ on. Writes (S.text sink.old) (S.text sink.new) pen.new on
+        (row_written 0 0 pen.old over.now.wrapped cells.now over.now.cells)) }
+    ensures some { RefusedOnlyIfSome result
+        (bytes_of_all (row_written 0 0 pen.old over.now.wrapped cells.now over.now.cells).ops) }
 {
-    let cells = view.row(0);
-    let over = prev.row(0);
     let link = Link {
         flag: over.wrapped(),
         settled: 0,
     };
-    let on = write_row(sink, pen, 0, link, &cells, &over)?;
+    let on = write_row(sink, pen, 0, link, cells, over)?;
     Ok(on)
-}
-
-/// Writes the row below row `row`, of which the reader's goes on below or not.
-fn write_below<S: Sink>(
-    sink: &mut S,
-    pen: &mut Pen,
-    row: u16,
-    on: bool,
-    view: &View<'_>,
-    prev: &View<'_>,
-) -> Result<bool, S::Error>
-    requires size { SamePictureSize view.now prev.now }
-    requires inside { row + 1 < length view.now.rows }
-    requires short { row + 1 < 65536 }
-    ensures { IfOk result (λ next. Leads (S.text sink.new)
-        (rows_under (row + 1) view.now.width pen.new next view.now.rows prev.now.rows)
-        (S.text sink.old) (rows_under row view.now.width pen.old on view.now.rows prev.now.rows)) }
-{
-    let above = view.row(row);
-    let below = row + 1;
-    let cells = view.row(below);
-    let over = prev.row(below);
-    let link = write_link(sink, pen, row, &above, on, &cells, &over)?;
-    let next = write_row(sink, pen, below, link, &cells, &over)?;
-    Ok(next)
 }
 
 /// Writes all rows.
@@ -102,13 +80,20 @@ fn write_rows<S: Sink>(
     ensures text { OnOk result
         (S.text sink.new ≡ S.text sink.old ++ bytes_of_all (rows_written pen.old view.now.rows prev.now.rows).ops) }
     ensures pen { OnOk result (pen.new ≡ (rows_written pen.old view.now.rows prev.now.rows).pen) }
+    ensures some { RefusedOnlyIfSome result (bytes_of_all (rows_written pen.old view.now.rows prev.now.rows).ops) }
 {
     let last = view.rows() - 1;
-    let mut on = write_top(sink, pen, view, prev)?;
+    let mut above = view.row(0);
+    let mut on = write_top(sink, pen, &above, &prev.row(0))?;
     let mut row = 0;
     while row < last {
-        on = write_below(sink, pen, row, on, view, prev)?;
-        row += 1;
+        let below = row + 1;
+        let cells = view.row(below);
+        let over = prev.row(below);
+        let link = write_link(sink, pen, row, &above, on, &cells, &over)?;
+        on = write_row(sink, pen, below, link, &cells, &over)?;
+        above = cells;
+        row = below;
     }
     Ok(())
 }
@@ -118,7 +103,8 @@ fn write_rows<S: Sink>(
 #[tactic(auto, unfolding(crate::specs::Redraw::script))]
 pub fn write_script<S: Sink>(sink: &mut S, view: &View<'_>, prev: &View<'_>) -> Result<(), S::Error>
     requires size { SamePictureSize view.now prev.now }
-    ensures { OnOk result (S.text sink.new ≡ S.text sink.old ++ bytes_of_all (script view.now prev.now)) }
+    ensures text { OnOk result (S.text sink.new ≡ S.text sink.old ++ bytes_of_all (script view.now prev.now)) }
+    ensures some { RefusedOnlyIfSome result (bytes_of_all (script view.now prev.now)) }
 {
     let mut pen = prev.pen();
     write_rows(sink, &mut pen, view, prev)?;

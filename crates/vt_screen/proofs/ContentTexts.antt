@@ -69,6 +69,21 @@ parts_done f r past h =
     let n : past - r ≡ 0 = omega arith in
     ap (λ (m : ℕ). flat_map f (range_with_len r m)) n
 
+-- a text isn't empty if a part of it isn't
+pub part_some : (old now part rest whole : List ℕ) → now ++ (part ++ rest) ≡ old ++ whole → length old ≤ length now →
+    0 < length part → 0 < length whole
+part_some old now part rest whole e le some =
+    let wrote = length-append now (part ++ rest) in
+    let more = length-append part rest in
+    let all = length-append old whole in
+    let same : length (now ++ (part ++ rest)) ≡ length (old ++ whole) = ap (λ (xs : List ℕ). length xs) e in
+    omega arith
+
+-- an empty text isn't refused
+pub none_refused : (text : List ℕ) → text ≡ [] → 0 < length text → ⊥
+none_refused text e some =
+    let none : length text ≡ 0 = ap (λ (xs : List ℕ). length xs) e in omega arith
+
 -- ---- without line ends
 
 line_end_dropped : (text : List ℕ) → without_line_ends (text ++ 0x0A ∷ []) ≡ without_line_ends text

@@ -2,11 +2,14 @@
 use Rattle.std.specs.Prelude.{◌≡◌, ℕ, List, [], ◌∷◌, Option, None, Some, Result, String, IfErr, IfOk, string_bytes}
 use Rattle.vt_cells.specs.declared.error.Error.{Error}
 use Rattle.vt_cells.specs.declared.error.Error.TheVariants.{OutOfMemory}
+use Rattle.vt_redraw.specs.Refusals.{RefusedOnlyIfSome}
 
--- the next text is given, or refused for want of memory, and the others are left; or none is left, now and later
+-- the next text is given, or refused for want of memory, if it isn't empty, and the others are left; or none is left,
+-- now and later
 module _ {S A : Type 0} (left : S → List (List ℕ)) where
   abbrev pub GivesText : S → Option (Result (String A) Error) → S → Type 0
   GivesText old None new = (left old ≡ []) × (left new ≡ [])
   GivesText old (Some item) new =
       (text : List ℕ) × (left old ≡ text ∷ left new)
       × IfOk item (λ string. string_bytes string ≡ text) × IfErr item (λ error. error ≡ OutOfMemory)
+      × RefusedOnlyIfSome item text

@@ -6,6 +6,7 @@ ghost use Rattle.std.specs.Prelude.{[], IsTrue, IsFalse, slice_index, string_len
 ghost use Rattle.std.specs.List.{flat_map, range_with_len};
 ghost use Rattle.vt_cells.specs.Refusals.{OnlyOutOfMemory};
 ghost use Rattle.vt_rows.specs.Plain.{plain_text};
+ghost use Rattle.vt_redraw.specs.Refusals.{RefusedOnlyIfSome};
 ghost use Rattle.vt_screen.specs.Contents.{between_of, contents_of, gap_line, line_end, lines_of};
 ghost use Rattle.vt_screen.specs.Contents.{part_of, row_texts, rows_left, without_line_ends};
 ghost use Rattle.vt_screen.specs.Screen.{visible_row, visible_rows};
@@ -51,7 +52,7 @@ impl Screen {
     /// Rows that aren't shown have no text, and neither has a range whose end
     /// is before its start. Only the last row is read past the columns of the
     /// screen, where it is a longer one of scrollback. Fails where memory for
-    /// the text is refused.
+    /// the text is refused; an empty text needs none.
     pub fn contents_between(
         &self,
         start_row: u16,
@@ -63,6 +64,7 @@ impl Screen {
         ensures text { IfOk result
             (λ text. string_bytes text ≡ between_of start_row start_col end_row end_col self.now) }
         ensures memory { OnlyOutOfMemory result }
+        ensures some { RefusedOnlyIfSome result (between_of start_row start_col end_row end_col self.now) }
     {
         let mut text = String::new(self.alloc);
         let start = Pos {
@@ -113,6 +115,8 @@ impl Screen {
         ensures text { IfSome result
             (λ item. IfOk item (λ text. string_bytes text ≡ plain_text start stop (visible_row self.now row).cells)) }
         ensures memory { IfSome result (λ item. IfErr item (λ error. error ≡ Error.OutOfMemory)) }
+        ensures some { IfSome result
+            (λ item. RefusedOnlyIfSome item (plain_text start stop (visible_row self.now row).cells)) }
     {
         let found = self.visible_row(row)?;
         Some(text_of(self.alloc, &found, start, stop))
@@ -140,8 +144,9 @@ impl Screen {
     /// shown.
     #[tactic(auto, using(crate::proofs::ContentTexts::parts_more, crate::proofs::ContentTexts::parts_done))]
     fn write_between<S: Sink>(&self, sink: &mut S, start: Pos, end: Pos) -> Result<(), S::Error>
-        ensures { OnOk result
+        ensures text { OnOk result
             (S.text sink.new ≡ S.text sink.old ++ between_of start.row start.col end.row end.col self.now) }
+        ensures some { RefusedOnlyIfSome result (between_of start.row start.col end.row end.col self.now) }
     {
         let size = self.grid.size();
         let past = past_row(end.row, size.rows);
@@ -161,8 +166,9 @@ impl Screen {
         end: Pos,
     ) -> Result<(), S::Error>
         requires { row < length self.now.page.rows }
-        ensures { OnOk result
+        ensures text { OnOk result
             (S.text sink.new ≡ S.text sink.old ++ part_of start.row start.col end.row end.col self.now row) }
+        ensures some { RefusedOnlyIfSome result (part_of start.row start.col end.row end.col self.now row) }
     {
         let cols = self.grid.size().cols;
         let Some(found) = self.visible_row(row) else {
@@ -193,6 +199,7 @@ fn past_row(row: u16, rows: u16) -> u16
 fn text_of(alloc: Global, row: &RowContents<'_>, start: usize, stop: usize) -> Result<String, Error>
     ensures text { IfOk result (λ text. string_bytes text ≡ plain_text start stop row.now.cells) }
     ensures memory { OnlyOutOfMemory result }
+    ensures some { RefusedOnlyIfSome result (plain_text start stop row.now.cells) }
 {
     let mut text = String::new(alloc);
     match plain::write_contents(&mut text, row.cells(), start, stop) {
@@ -235,7 +242,8 @@ fn write_gap_line<S: Sink>(
 
 /// Writes a line end, unless the row's text goes on in the row below.
 fn write_line_end<S: Sink>(sink: &mut S, row: &RowContents<'_>) -> Result<(), S::Error>
-    ensures { OnOk result (S.text sink.new ≡ S.text sink.old ++ line_end row.now) }
+    ensures text { OnOk result (S.text sink.new ≡ S.text sink.old ++ line_end row.now) }
+    ensures some { RefusedOnlyIfSome result (line_end row.now) }
 {
     if row.wrapped() {
         Ok(())
@@ -250,7 +258,9 @@ fn write_end_unless<S: Sink>(
     is_last: bool,
     row: &RowContents<'_>,
 ) -> Result<(), S::Error>
-    ensures { OnOk result (S.text sink.new ≡ S.text sink.old ++ (if is_last then [] else line_end row.now)) }
+    ensures text { OnOk result
+        (S.text sink.new ≡ S.text sink.old ++ (if is_last then [] else line_end row.now)) }
+    ensures some { RefusedOnlyIfSome result (if is_last then [] else line_end row.now) }
 {
     if is_last {
         Ok(())

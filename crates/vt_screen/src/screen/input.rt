@@ -1,8 +1,9 @@
 //! Texts that set a terminal's input modes.
 
-ghost use Rattle.std.specs.Prelude.{◌≡◌, ◌++◌, [], IfOk, OnOk, string_bytes};
+ghost use Rattle.std.specs.Prelude.{◌≡◌, ◌++◌, [], IfOk, IsOk, OnOk, string_bytes};
 ghost use Rattle.vt_cells.specs.InputModes.{application_cursor_text, bracketed_paste_text, keypad_text};
 ghost use Rattle.vt_cells.specs.Refusals.{OnlyOutOfMemory};
+ghost use Rattle.vt_redraw.specs.Refusals.{RefusedOnlyIfSome};
 ghost use Rattle.vt_screen.specs.InputTexts.{input_change, input_text, mouse_and_style_text, where_changed};
 ghost use Rattle.vt_screen.specs.States.{HasDefaultMouseAndStyle, SetsModes};
 
@@ -50,7 +51,7 @@ impl Screen {
     /// By `sets`, such a terminal, if it is in the midst of no sequence, has
     /// these modes then, and changes nothing else; by `empty` and `none` the
     /// text is empty exactly where both screens have the same modes. Fails
-    /// where memory for the text is refused.
+    /// where memory for the text is refused, and by `never` not there.
     pub fn input_mode_diff(&self, prev: &Screen) -> Result<String, Error>
         ensures text { IfOk result (λ text. string_bytes text ≡ input_change prev.now.modes self.now.modes) }
         ensures sets { IfOk result
@@ -58,6 +59,8 @@ impl Screen {
         ensures empty { IfOk result (λ text. string_bytes text ≡ [] → self.now.modes ≡ prev.now.modes) }
         ensures none { IfOk result (λ text. self.now.modes ≡ prev.now.modes → string_bytes text ≡ []) }
         ensures memory { OnlyOutOfMemory result }
+        ensures some { RefusedOnlyIfSome result (input_change prev.now.modes self.now.modes) }
+        ensures never { self.now.modes ≡ prev.now.modes → IsOk result }
     {
         let mut text = String::new(self.alloc);
         match self.write_input_mode_diff(&mut text, prev) {
@@ -86,7 +89,9 @@ impl Screen {
         sink: &mut S,
         prev: &Screen,
     ) -> Result<(), S::Error>
-        ensures { OnOk result (S.text sink.new ≡ S.text sink.old ++ input_change prev.now.modes self.now.modes) }
+        ensures text { OnOk result
+            (S.text sink.new ≡ S.text sink.old ++ input_change prev.now.modes self.now.modes) }
+        ensures some { RefusedOnlyIfSome result (input_change prev.now.modes self.now.modes) }
     {
         let (was, new) = (prev.modes, self.modes);
         write_keypad(sink, was.application_keypad, new.application_keypad)?;
@@ -98,7 +103,8 @@ impl Screen {
 
 /// Writes mouse mode, mouse encoding and cursor style where they differ.
 fn write_mouse_and_style<S: Sink>(sink: &mut S, was: Modes, new: Modes) -> Result<(), S::Error>
-    ensures { OnOk result (S.text sink.new ≡ S.text sink.old ++ mouse_and_style_text was new) }
+    ensures text { OnOk result (S.text sink.new ≡ S.text sink.old ++ mouse_and_style_text was new) }
+    ensures some { RefusedOnlyIfSome result (mouse_and_style_text was new) }
 {
     let mouse_mode = MouseProtocolMode {
         was: was.mouse_mode,
@@ -119,7 +125,8 @@ fn write_mouse_and_style<S: Sink>(sink: &mut S, was: Modes, new: Modes) -> Resul
 
 /// Writes the keypad's mode if it differs.
 fn write_keypad<S: Sink>(sink: &mut S, was: bool, new: bool) -> Result<(), S::Error>
-    ensures { OnOk result (S.text sink.new ≡ S.text sink.old ++ where_changed was new (keypad_text new)) }
+    ensures text { OnOk result (S.text sink.new ≡ S.text sink.old ++ where_changed was new (keypad_text new)) }
+    ensures some { RefusedOnlyIfSome result (where_changed was new (keypad_text new)) }
 {
     if was == new {
         return Ok(());
@@ -129,7 +136,9 @@ fn write_keypad<S: Sink>(sink: &mut S, was: bool, new: bool) -> Result<(), S::Er
 
 /// Writes the cursor keys' mode if it differs.
 fn write_cursor_keys<S: Sink>(sink: &mut S, was: bool, new: bool) -> Result<(), S::Error>
-    ensures { OnOk result (S.text sink.new ≡ S.text sink.old ++ where_changed was new (application_cursor_text new)) }
+    ensures text { OnOk result
+        (S.text sink.new ≡ S.text sink.old ++ where_changed was new (application_cursor_text new)) }
+    ensures some { RefusedOnlyIfSome result (where_changed was new (application_cursor_text new)) }
 {
     if was == new {
         return Ok(());
@@ -139,7 +148,8 @@ fn write_cursor_keys<S: Sink>(sink: &mut S, was: bool, new: bool) -> Result<(), 
 
 /// Writes whether pasted text comes between brackets if that differs.
 fn write_paste<S: Sink>(sink: &mut S, was: bool, new: bool) -> Result<(), S::Error>
-    ensures { OnOk result (S.text sink.new ≡ S.text sink.old ++ where_changed was new (bracketed_paste_text new)) }
+    ensures text { OnOk result (S.text sink.new ≡ S.text sink.old ++ where_changed was new (bracketed_paste_text new)) }
+    ensures some { RefusedOnlyIfSome result (where_changed was new (bracketed_paste_text new)) }
 {
     if was == new {
         return Ok(());

@@ -3,12 +3,13 @@
 //! What is shown, which terminals are plain and which pictures are steady, is
 //! said beside the texts that redraw a screen.
 
-ghost use Rattle.std.specs.Prelude.{◌≡◌, ◌≤◌, ◌++◌, [], IfOk, OnOk, length, string_bytes};
+ghost use Rattle.std.specs.Prelude.{◌≡◌, ◌≤◌, ◌++◌, [], IfOk, IsOk, OnOk, length, string_bytes};
 ghost use Rattle.vt_cells.specs.Op.{bytes_of_all};
 ghost use Rattle.vt_cells.specs.Refusals.{OnlyOutOfMemory};
 ghost use Rattle.vt_grid.specs.Page.{SameSize};
 ghost use Rattle.vt_redraw.specs.Moved.{IsBand, IsScrolling, moved, scrolling_text};
 ghost use Rattle.vt_redraw.specs.Redraw.{difference};
+ghost use Rattle.vt_redraw.specs.Refusals.{RefusedOnlyIfSome};
 ghost use Rattle.vt_redraw.specs.Steady.{IsSteady};
 ghost use Rattle.vt_screen.specs.Screen.{IsColored, IsScreen};
 ghost use Rattle.vt_screen.specs.Shown.{HasCursor, HasRows, IsReadBy, IsReaderOf, KeepsRest, Makes};
@@ -32,7 +33,8 @@ impl Screen {
     /// [`Screen::contents_formatted`], to the same end. The text is empty where
     /// both show the same, and by `empty` only there. It may touch any row.
     ///
-    /// Fails where memory for the text is refused.
+    /// Fails where memory for the text is refused, and by `never` not where both
+    /// screens show the same.
     ///
     /// ```text
     /// // three rows of four columns: from `one`, `two`, `six` to `two`, `six`
@@ -57,6 +59,8 @@ impl Screen {
             (λ text. IsSteady (shown self.now) → string_bytes text ≡ [] → shown self.now ≡ shown prev.now) }
         ensures none { IfOk result (λ text. shown self.now ≡ shown prev.now → string_bytes text ≡ []) }
         ensures memory { OnlyOutOfMemory result }
+        ensures some { RefusedOnlyIfSome result (bytes_of_all (difference (shown self.now) (shown prev.now))) }
+        ensures never { shown self.now ≡ shown prev.now → IsOk result }
     {
         let text = self.contents_diff(prev)?;
         let shorter = self.shortened(prev, text)?;
@@ -75,6 +79,7 @@ impl Screen {
         ensures shorter { IfOk result (λ new.
             length (string_bytes new) ≤ length (bytes_of_all (difference (shown self.now) (shown prev.now)))) }
         ensures memory { OnlyOutOfMemory result }
+        ensures some { RefusedOnlyIfSome result (bytes_of_all (difference (shown self.now) (shown prev.now))) }
     {
         match likely_band(&self.view(), &prev.view(), text.as_str()) {
             None => Ok(text),

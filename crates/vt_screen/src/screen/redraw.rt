@@ -11,13 +11,14 @@
 //! just itself. All without U+FE0F are, and U+2764 U+FE0F on two columns or
 //! more.
 
-ghost use Rattle.std.specs.Prelude.{◌≡◌, ◌++◌, [], IfOk, OnOk, string_bytes};
+ghost use Rattle.std.specs.Prelude.{◌≡◌, ◌++◌, [], IfOk, IsOk, OnOk, string_bytes};
 ghost use Rattle.vt_cells.specs.Op.{bytes_of_all};
 ghost use Rattle.vt_cells.specs.Refusals.{OnlyOutOfMemory};
 ghost use Rattle.vt_grid.specs.Page.{SameSize};
 ghost use Rattle.vt_redraw.specs.Locality.{IsLocal, MayPlace};
 ghost use Rattle.vt_redraw.specs.Picture.{SamePictureSize};
 ghost use Rattle.vt_redraw.specs.Redraw.{cursor_state, difference, redraw};
+ghost use Rattle.vt_redraw.specs.Refusals.{RefusedOnlyIfSome};
 ghost use Rattle.vt_redraw.specs.Steady.{IsSteady};
 ghost use Rattle.vt_screen.specs.AnyRegion.{IsReaderInAnyRegion, KeepsRestButRegion, reset_text};
 ghost use Rattle.vt_screen.specs.Screen.{IsColored, IsScreen, ScreenValue};
@@ -141,7 +142,8 @@ impl Screen {
     /// there that stand alike in both screens only one in the first column and
     /// one in the last; and, to make a pending wrap, the end of one row.
     ///
-    /// Fails where memory for the text is refused.
+    /// Fails where memory for the text is refused. An empty text needs none: by
+    /// `never` this does not fail where both screens show the same.
     ///
     /// ```text
     /// // from a fresh screen to one that read `a`
@@ -168,6 +170,8 @@ impl Screen {
             TouchesOnly (IsReaderOf (shown self.now) (shown prev.now))
             (string_bytes text) (IsLocal (shown self.now) (shown prev.now))) }
         ensures memory { OnlyOutOfMemory result }
+        ensures some { RefusedOnlyIfSome result (bytes_of_all (difference (shown self.now) (shown prev.now))) }
+        ensures never { shown self.now ≡ shown prev.now → IsOk result }
     {
         let mut text = String::new(self.alloc);
         match self.write_contents_diff(&mut text, prev) {
@@ -258,6 +262,7 @@ impl Screen {
         ensures other_colored { IsColored prev.now }
         ensures text { OnOk result
             (S.text sink.new ≡ S.text sink.old ++ bytes_of_all (difference (shown self.now) (shown prev.now))) }
+        ensures some { RefusedOnlyIfSome result (bytes_of_all (difference (shown self.now) (shown prev.now))) }
     {
         write_contents_diff(sink, &self.view(), &prev.view())
     }

@@ -5,6 +5,7 @@ ghost use Rattle.vt_cells.specs.Refusals.{OnlyOutOfMemory};
 ghost use Rattle.vt_grid.specs.Page.{SameSize};
 ghost use Rattle.vt_redraw.specs.Items.{CutsNone};
 ghost use Rattle.vt_redraw.specs.Locality.{row_of_picture};
+ghost use Rattle.vt_redraw.specs.Refusals.{RefusedOnlyIfSome};
 ghost use Rattle.vt_redraw.specs.Steady.{IsSteady};
 ghost use Rattle.vt_screen.specs.RowsShown.{EachLinked, EachUncut, HasLinked, HasRange, IsBlankReader};
 ghost use Rattle.vt_screen.specs.RowsShown.{IsOff, IsRowReader, IsWholeRow, IsWrapReader, Turns, changed_text};
@@ -137,6 +138,7 @@ impl Screen {
         requires stop { stop ≤ self.now.page.width }
         ensures text { IfOk result (λ text. string_bytes text ≡ formatted_text start stop (shown self.now) row) }
         ensures memory { OnlyOutOfMemory result }
+        ensures some { RefusedOnlyIfSome result (formatted_text start stop (shown self.now) row) }
     {
         let mut text = String::new(self.alloc);
         match self.write_row_formatted(&mut text, row, start, stop) {
@@ -161,6 +163,7 @@ impl Screen {
         ensures text { IfOk result
             (λ text. string_bytes text ≡ changed_text start stop (shown self.now) (shown prev.now) row) }
         ensures memory { OnlyOutOfMemory result }
+        ensures some { RefusedOnlyIfSome result (changed_text start stop (shown self.now) (shown prev.now) row) }
     {
         let mut text = String::new(self.alloc);
         match self.write_row_diff(&mut text, prev, row, start, stop) {
@@ -180,7 +183,9 @@ impl Screen {
         requires inside { row < length self.now.page.rows }
         requires order { start ≤ stop }
         requires stop { stop ≤ self.now.page.width }
-        ensures { OnOk result (S.text sink.new ≡ S.text sink.old ++ formatted_text start stop (shown self.now) row) }
+        ensures text { OnOk result
+            (S.text sink.new ≡ S.text sink.old ++ formatted_text start stop (shown self.now) row) }
+        ensures some { RefusedOnlyIfSome result (formatted_text start stop (shown self.now) row) }
     {
         write_row_formatted(sink, &self.view(), row, start, stop)
     }
@@ -198,8 +203,9 @@ impl Screen {
         requires inside { row < length self.now.page.rows }
         requires order { start ≤ stop }
         requires stop { stop ≤ self.now.page.width }
-        ensures { OnOk result
+        ensures text { OnOk result
             (S.text sink.new ≡ S.text sink.old ++ changed_text start stop (shown self.now) (shown prev.now) row) }
+        ensures some { RefusedOnlyIfSome result (changed_text start stop (shown self.now) (shown prev.now) row) }
     {
         write_row_diff(sink, &self.view(), &prev.view(), row, start, stop)
     }

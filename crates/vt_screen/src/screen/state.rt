@@ -3,9 +3,10 @@
 //! What is shown, which terminals are plain and which pictures are steady, is
 //! said beside the texts that redraw a screen.
 
-ghost use Rattle.std.specs.Prelude.{◌≡◌, ◌++◌, [], IfOk, OnOk, string_bytes};
+ghost use Rattle.std.specs.Prelude.{◌≡◌, ◌++◌, [], IfOk, IsOk, OnOk, string_bytes};
 ghost use Rattle.vt_cells.specs.Refusals.{OnlyOutOfMemory};
 ghost use Rattle.vt_grid.specs.Page.{SameSize};
+ghost use Rattle.vt_redraw.specs.Refusals.{RefusedOnlyIfSome};
 ghost use Rattle.vt_redraw.specs.Steady.{IsSteady};
 ghost use Rattle.vt_screen.specs.Screen.{IsColored, IsScreen};
 ghost use Rattle.vt_screen.specs.Shown.{HasCursor, HasRows, IsReadBy, KeepsRestButModes, Makes, ShowsPlainly, shown};
@@ -70,7 +71,8 @@ impl Screen {
     /// to the same end. The text is empty where both show the same and have the
     /// same modes, and by `empty` only there.
     ///
-    /// Fails where memory for the text is refused.
+    /// Fails where memory for the text is refused. An empty text needs none: by
+    /// `never` this does not fail where the text is empty so.
     ///
     /// ```text
     /// // from a fresh screen to one that read `a`, and then DECKPAM
@@ -96,6 +98,8 @@ impl Screen {
         ensures none { IfOk result
             (λ text. shown self.now ≡ shown prev.now → self.now.modes ≡ prev.now.modes → string_bytes text ≡ []) }
         ensures memory { OnlyOutOfMemory result }
+        ensures some { RefusedOnlyIfSome result (state_change prev.now self.now) }
+        ensures never { shown self.now ≡ shown prev.now → self.now.modes ≡ prev.now.modes → IsOk result }
     {
         let mut text = String::new(self.alloc);
         match self.write_state_diff(&mut text, prev) {
@@ -122,6 +126,7 @@ impl Screen {
         ensures other { IsScreen prev.now }
         ensures other_colored { IsColored prev.now }
         ensures text { OnOk result (S.text sink.new ≡ S.text sink.old ++ state_change prev.now self.now) }
+        ensures some { RefusedOnlyIfSome result (state_change prev.now self.now) }
     {
         self.write_contents_diff(sink, prev)?;
         self.write_input_mode_diff(sink, prev)

@@ -1,61 +1,52 @@
-use Rattle.std.proofs.Common.{◌∙◌, ◌+◌, rules, sym, ap, arith}
-use Rattle.vt_cells.specs.PieceKeeping.{gathered}
+use Rattle.std.proofs.Common.{◌≡◌, ◌++◌, ◌∙◌, ap, sym, append-nil, arith}
+use Rattle.vt_cells.specs.Op.{bytes_of_all}
 use Rattle.vt_redraw.specs.Keeping.{cells_from}
-use Rattle.vt_redraw.proofs.CellSteps.{leads_then, leads_text, passes_cell, passes_leads, passes_then, cells_end}
+use Rattle.vt_redraw.specs.Script.{Scripted, nothing}
+use Rattle.vt_redraw.proofs.CellSteps.{cells_end}
 use Rattle.vt_redraw.proofs.cells.write_cells.Goals as goal
 
-pub loop-col-preserved-then-stands : goal.loop-col-preserved-then-stands
-loop-col-preserved-then-stands g c =
-    let l = c.loop-col in
-    let text = g.S.Sink.text in
+pub returns-then-first-cols-clause-text : goal.returns-then-first-cols-clause-text
+returns-then-first-cols-clause-text g c =
+    let row = c.args.pos.row in
+    let first = c.next_other-first.result in
+    let pen = c.args.pen.now in
+    let flag = c.args.flag.now in
     let xs = c.args.cells.now.cells in
     let ys = c.args.over.now.cells in
-    let row = c.args.pos.row in
-    let now = gathered (text l.sink) l.piece in
-    let next = c.next_other-col.result in
-    leads_then (text c.args.sink.now) now now (cells_from row c.args.pos.col c.args.pen.now c.args.flag.now xs ys)
-    (cells_from row l.col l.pen l.flag xs ys) (cells_from row next l.pen l.flag xs ys)
-    l.invariant (passes_leads l.col next row l.pen l.flag xs ys now
-    (passes_then l.col (l.col + 1) next xs ys
-    (passes_cell l.col xs ys (search rules) c.requires.range (search rules)) c.next_other-col.ensures.passed))
+    let text = g.S.Sink.text c.args.sink.now in
+    let size = c.cols.ensures in
+    let past = c.if-first-cols.true in
+    let none : cells_from row c.args.pos.col pen flag xs ys ≡ nothing pen flag =
+    c.next_other-first.ensures.passed.same row pen flag
+    ∙ cells_end row first pen flag xs ys (omega (arith, size, past)) in
+    sym (append-nil text) ∙ ap (λ (w : Scripted). text ++ bytes_of_all w.ops) (sym none)
 
-pub returns-clause-text : goal.returns-clause-text
-returns-clause-text g c =
-    let l = c.loop-col in
-    let text = g.S.Sink.text in
+pub returns-then-first-cols-clause-pen : goal.returns-then-first-cols-clause-pen
+returns-then-first-cols-clause-pen g c =
+    let row = c.args.pos.row in
+    let first = c.next_other-first.result in
+    let pen = c.args.pen.now in
+    let flag = c.args.flag.now in
     let xs = c.args.cells.now.cells in
     let ys = c.args.over.now.cells in
+    let size = c.cols.ensures in
+    let past = c.if-first-cols.true in
+    let none : cells_from row c.args.pos.col pen flag xs ys ≡ nothing pen flag =
+    c.next_other-first.ensures.passed.same row pen flag
+    ∙ cells_end row first pen flag xs ys (omega (arith, size, past)) in
+    ap (λ (w : Scripted). w.pen) (sym none)
+
+pub returns-then-first-cols-clause-flag : goal.returns-then-first-cols-clause-flag
+returns-then-first-cols-clause-flag g c =
     let row = c.args.pos.row in
+    let first = c.next_other-first.result in
+    let pen = c.args.pen.now in
+    let flag = c.args.flag.now in
+    let xs = c.args.cells.now.cells in
+    let ys = c.args.over.now.cells in
     let size = c.cols.ensures in
-    let over = c.cols-2.ensures in
-    let less = c.min-cols.ensures in
-    let inside = c.requires.range.inside in
-    let past = c.loop-col-test.false in
-    c.in_ok-flush.ensures.text
-    ∙ leads_text (gathered (text l.sink) l.piece) (text c.args.sink.now) (cells_from row l.col l.pen l.flag xs ys)
-    (cells_from row c.args.pos.col c.args.pen.now c.args.flag.now xs ys) l.pen
-    l.flag (cells_end row l.col l.pen l.flag xs ys (omega arith)) l.invariant
-
-pub returns-clause-pen : goal.returns-clause-pen
-returns-clause-pen g c =
-    let l = c.loop-col in
-    let size = c.cols.ensures in
-    let over = c.cols-2.ensures in
-    let less = c.min-cols.ensures in
-    let inside = c.requires.range.inside in
-    let past = c.loop-col-test.false in
-    ap (λ w. w.pen)
-    (sym (cells_end c.args.pos.row l.col l.pen l.flag c.args.cells.now.cells c.args.over.now.cells (omega arith)))
-    ∙ l.invariant.pen
-
-pub returns-clause-flag : goal.returns-clause-flag
-returns-clause-flag g c =
-    let l = c.loop-col in
-    let size = c.cols.ensures in
-    let over = c.cols-2.ensures in
-    let less = c.min-cols.ensures in
-    let inside = c.requires.range.inside in
-    let past = c.loop-col-test.false in
-    ap (λ w. w.flag)
-    (sym (cells_end c.args.pos.row l.col l.pen l.flag c.args.cells.now.cells c.args.over.now.cells (omega arith)))
-    ∙ l.invariant.flag
+    let past = c.if-first-cols.true in
+    let none : cells_from row c.args.pos.col pen flag xs ys ≡ nothing pen flag =
+    c.next_other-first.ensures.passed.same row pen flag
+    ∙ cells_end row first pen flag xs ys (omega (arith, size, past)) in
+    ap (λ (w : Scripted). w.flag) (sym none)

@@ -3,10 +3,15 @@ use Rattle.vt_cells.specs.Op.{bytes_of_all}
 use Rattle.vt_redraw.specs.Script.{doing, erase_run, pen_at, blank_run}
 use Rattle.vt_cells.specs.Cell.{is_right_half}
 use Rattle.vt_redraw.proofs.CellSteps.{half_stands, half_erased}
+use Rattle.std.proofs.Common.{[], ◌<◌, length, subst}
+use Rattle.vt_cells.proofs.Sinks.{on_err}
+use Rattle.vt_cells.specs.Attrs.{default_attrs, Attrs}
+use Rattle.vt_redraw.specs.Script.{flag_past}
+use Rattle.vt_redraw.proofs.Refusals.{start_some}
 use Rattle.vt_redraw.proofs.items.write_begin.Goals as goal
 
-pub returns-then-is_wide_continuation : goal.returns-then-is_wide_continuation
-returns-then-is_wide_continuation g c =
+pub returns-then-is_wide_continuation-clause-leads : goal.returns-then-is_wide_continuation-clause-leads
+returns-then-is_wide_continuation-clause-leads g c =
     let xs = c.args.cells.now.cells in
     let ys = c.args.over.now.cells in
     let col = c.args.pos.col in
@@ -19,8 +24,8 @@ returns-then-is_wide_continuation g c =
     (ap is_right_half (sym c.cell.ensures) ∙ (sym c.is_wide_continuation.ensures ∙ c.if-not-is_wide_continuation.false))
     (ap is_right_half (sym c.cell-2.ensures) ∙ (sym c.is_wide_continuation-2.ensures ∙ c.if-is_wide_continuation.true))
 
-pub returns : goal.returns
-returns g c =
+pub returns-clause-leads : goal.returns-clause-leads
+returns-clause-leads g c =
     let xs = c.args.cells.now.cells in
     let ys = c.args.over.now.cells in
     let col = c.args.pos.col in
@@ -40,3 +45,26 @@ returns g c =
     ++ bytes_of_all (doing c.args.pen.now c.args.pos.row col a (erase_run (n + 1) (drop (col + (n + 1)) ys))))
     c.new-attrs.ensures)
     (c.in_ok-write_run.ensures.pen ∙ ap (λ a. pen_at c.args.pos.row col a) c.new-attrs.ensures) c.flag_past.ensures
+
+pub returns-in_err-write_run-clause-some : goal.returns-in_err-write_run-clause-some
+returns-in_err-write_run-clause-some g c =
+    let xs = c.args.cells.now.cells in
+    let ys = c.args.over.now.cells in
+    let row = c.args.pos.row in
+    let col = c.args.pos.col in
+    let least = c.min.ensures in
+    let one = c.cols.ensures in
+    let two = c.cols-2.ensures in
+    let before = c.if-col-min.false in
+    let n = c.run-count.result in
+    let bytes = λ (a : Attrs).
+    bytes_of_all (doing c.args.pen.now row col a (erase_run (n + 1) (drop (col + (n + 1)) ys))) in
+    on_err c.from_residual.result
+    (start_some (bytes default_attrs) _ _
+    (half_erased row col n (n + 1) c.args.pen.now (pen_at row col default_attrs) c.args.flag.now
+    (flag_past c.args.flag.now (drop (col + (n + 1)) ys)) xs ys [] (bytes default_attrs) (omega arith)
+    c.requires.range.inside
+    (ap is_right_half (sym c.cell.ensures) ∙ (sym c.is_wide_continuation.ensures ∙ c.if-not-is_wide_continuation.false))
+    (ap is_right_half (sym c.cell-2.ensures) ∙ (sym c.is_wide_continuation-2.ensures ∙ c.if-is_wide_continuation.false))
+    (c.run-count.ensures.value ∙ ap (λ a. blank_run a (drop (col + 1) xs)) c.new-attrs.ensures) refl refl refl refl)
+    (subst (λ (a : Attrs). 0 < length (bytes a)) c.new-attrs.ensures c.in_err-write_run.ensures.some))

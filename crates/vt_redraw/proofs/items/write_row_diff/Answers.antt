@@ -9,6 +9,12 @@ use Rattle.vt_redraw.specs.Items.{begun, begun_over, item_of_difference, range_w
 use Rattle.vt_redraw.specs.Keeping.{IsRange}
 use Rattle.vt_redraw.specs.Script.{Scripted, cells_written, pen_at}
 use Rattle.vt_redraw.proofs.ItemSteps.{range_taken, range_wrote, part_item, whole_item}
+use Rattle.std.proofs.Common.{◌<◌, length, refl}
+use Rattle.std.proofs.lemmas.Result.{on_err_weaker}
+use Rattle.vt_cells.proofs.Sinks.{on_err}
+use Rattle.vt_redraw.specs.Keeping.{mark_of}
+use Rattle.vt_redraw.specs.Script.{broken}
+use Rattle.vt_redraw.proofs.Refusals.{range_some, text_behind_some}
 use Rattle.vt_redraw.proofs.items.write_row_diff.Goals as goal
 
 pub write_range-requires : goal.write_range-requires
@@ -23,8 +29,8 @@ write_range-requires g c =
           c.args.stop (omega arith) c.row-cells.ensures.sound.paired);
     }
 
-pub returns-then-not-is_whole : goal.returns-then-not-is_whole
-returns-then-not-is_whole g c =
+pub returns-then-not-is_whole-clause-text : goal.returns-then-not-is_whole-clause-text
+returns-then-not-is_whole-clause-text g c =
     let text = g.S.Sink.text in
     let x = c.row-cells.result in
     let y = c.row-over.result in
@@ -48,8 +54,8 @@ returns-then-not-is_whole g c =
     ++ bytes_of_all (item_of_difference r start stop (row_or c.args.view.now.width c.args.view.now.rows r) z).ops)
     (c.row-over.ensures.value ∙ ap (λ n. row_or n c.args.prev.now.rows r) (sym c.requires.size.width)))
 
-pub returns : goal.returns
-returns g c =
+pub returns-clause-text : goal.returns-clause-text
+returns-clause-text g c =
     let text = g.S.Sink.text in
     let x = c.row-cells.result in
     let y = c.row-over.result in
@@ -74,4 +80,58 @@ returns g c =
     ∙ ap (λ (z : RowValue). text c.args.sink.now
     ++ bytes_of_all (item_of_difference r start stop (row_or c.args.view.now.width c.args.view.now.rows r) z).ops)
     (c.row-over.ensures.value ∙ ap (λ n. row_or n c.args.prev.now.rows r) (sym c.requires.size.width))))
-    c.write_end.ensures
+    c.write_end.ensures.text
+
+pub returns-in_err-write_range-clause-some : goal.returns-in_err-write_range-clause-some
+returns-in_err-write_range-clause-some g c =
+    let x = c.row-cells.result in
+    let y = c.row-over.result in
+    let r = c.args.row in
+    let start = c.args.start in
+    let stop = c.args.stop in
+    let cut = c.up_to.result.cells in
+    on_err c.from_residual.result
+    (subst (λ (z : RowValue). 0
+    < length (bytes_of_all
+    (item_of_difference r start stop (row_or c.args.view.now.width c.args.view.now.rows r) z).ops))
+    (c.row-over.ensures.value ∙ ap (λ n. row_or n c.args.prev.now.rows r) (sym c.requires.size.width))
+    (subst (λ (z : RowValue). 0 < length (bytes_of_all (item_of_difference r start stop z y).ops))
+    c.row-cells.ensures.value
+    (range_some r start stop x y _
+    (range_wrote r start stop (pen_at r start c.new.result) c.wrapped-flag.result cut x.cells y.cells c.requires.order
+    c.up_to.ensures.cells (ap (λ (a : Attrs). pen_at r start a) c.new.ensures)
+    ∙ ap (λ b. range_written r start stop b x.cells y.cells) c.wrapped-flag.ensures)
+    c.in_err-write_range.ensures.some)))
+
+pub returns-clause-some : goal.returns-clause-some
+returns-clause-some g c =
+    let text = g.S.Sink.text in
+    let x = c.row-cells.result in
+    let y = c.row-over.result in
+    let r = c.args.row in
+    let start = c.args.start in
+    let stop = c.args.stop in
+    let pen = pen_at r start c.new.result in
+    let flag = c.wrapped-flag.result in
+    let cut = c.up_to.result.cells in
+    let mid = text c.write_range.new.sink in
+    let broke = broken r c.write_range.new.pen c.write_range.new.flag x.wrapped x.cells in
+    let more = bytes_of_all (broke.ops ++ mark_of r broke.pen broke.flag x.wrapped x.cells) in
+    let w : Scripted =
+    cells_written r start pen flag 0 (begun (drop start cut)) (begun_over (drop start cut) (drop start y.cells)) in
+    let e : w ≡ range_written r start stop y.wrapped x.cells y.cells =
+    range_wrote r start stop pen flag cut x.cells y.cells c.requires.order
+    c.up_to.ensures.cells (ap (λ (a : Attrs). pen_at r start a) c.new.ensures)
+    ∙ ap (λ b. range_written r start stop b x.cells y.cells) c.wrapped-flag.ensures in
+    on_err_weaker c.write_end.result
+    (λ some. subst (λ (z : RowValue). 0
+    < length (bytes_of_all
+    (item_of_difference r start stop (row_or c.args.view.now.width c.args.view.now.rows r) z).ops))
+    (c.row-over.ensures.value ∙ ap (λ n. row_or n c.args.prev.now.rows r) (sym c.requires.size.width))
+    (subst (λ (z : RowValue). 0 < length (bytes_of_all (item_of_difference r start stop z y).ops))
+    c.row-cells.ensures.value
+    (text_behind_some (text c.args.sink.now) (bytes_of_all w.ops) mid more _ c.in_ok-write_range.ensures.text
+    (whole_item r start stop x y w c.write_range.new.pen c.write_range.new.flag (text c.args.sink.now) mid (mid ++ more)
+    (sym c.is_whole.ensures ∙ c.if-not-is_whole.false) e c.in_ok-write_range.ensures.text
+    c.in_ok-write_range.ensures.pen c.in_ok-write_range.ensures.flag refl) some)))
+    c.write_end.ensures.some

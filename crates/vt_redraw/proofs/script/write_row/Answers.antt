@@ -1,10 +1,35 @@
 use Rattle.vt_redraw.proofs.RowSteps.{row_writes}
+use Rattle.std.proofs.Common.{◌++◌}
+use Rattle.vt_cells.proofs.Sinks.{on_err}
+use Rattle.vt_cells.specs.Op.{bytes_of_all}
+use Rattle.vt_redraw.specs.Script.{broken}
+use Rattle.vt_redraw.proofs.Refusals.{row_some, text_behind_some, wrote_all}
 use Rattle.vt_redraw.proofs.script.write_row.Goals as goal
 
-pub returns : goal.returns
-returns g c =
+pub returns-clause-writes : goal.returns-clause-writes
+returns-clause-writes g c =
     let text = g.S.Sink.text in
     row_writes c.args.row c.args.link.settled c.args.pen.now c.write_cells.new.pen c.write_break.new.pen
     c.args.link.flag c.write_cells.new.flag c.in_ok-on.on c.args.cells.now c.args.over.now.cells
     (text c.args.sink.now) (text c.write_cells.new.sink) (text c.write_break.new.sink) c.in_ok-write_cells.ensures.text
-    c.in_ok-write_cells.ensures.pen c.in_ok-write_cells.ensures.flag c.in_ok-on.ensures
+    c.in_ok-write_cells.ensures.pen c.in_ok-write_cells.ensures.flag c.in_ok-on.ensures.writes
+
+pub returns-in_err-write_cells-clause-some : goal.returns-in_err-write_cells-clause-some
+returns-in_err-write_cells-clause-some g c =
+    on_err c.from_residual.result
+    (row_some c.args.row c.args.link.settled c.args.pen.now c.args.link.flag c.args.cells.now c.args.over.now.cells
+    c.in_err-write_cells.ensures.some)
+
+pub returns-in_err-on-clause-some : goal.returns-in_err-on-clause-some
+returns-in_err-on-clause-some g c =
+    let text = g.S.Sink.text in
+    let x = c.args.cells.now in
+    let mid = text c.write_cells.new.sink in
+    let break = broken c.args.row c.write_cells.new.pen c.write_cells.new.flag x.wrapped x.cells in
+    on_err c.from_residual-in_err-on.result
+    (text_behind_some (text c.args.sink.now) _ mid (bytes_of_all break.ops) _ c.in_ok-write_cells.ensures.text
+    (row_writes c.args.row c.args.link.settled c.args.pen.now c.write_cells.new.pen break.pen
+    c.args.link.flag c.write_cells.new.flag break.flag x c.args.over.now.cells
+    (text c.args.sink.now) mid (mid ++ bytes_of_all break.ops) c.in_ok-write_cells.ensures.text
+    c.in_ok-write_cells.ensures.pen c.in_ok-write_cells.ensures.flag (wrote_all mid break)).bytes
+    c.in_err-on.ensures.some)

@@ -1,12 +1,9 @@
-use Rattle.std.proofs.Common.{◌≡◌, ◌+◌, ◌==◌, ◌<◌, ⊎_elim, length, sym, ap, subst, ◌∙◌, arith}
-use Rattle.std.specs.Prelude.{◌||◌, All}
+use Rattle.std.proofs.Common.{◌<◌, ⊎_elim, length, sym, ◌∙◌, arith}
 use Rattle.std.proofs.lemmas.Bool.{false≢true, cases_lt}
 use Rattle.std.proofs.lemmas.List.Elements.{All-get_or}
 use Rattle.vt_cells.specs.Attrs.{default_attrs}
-use Rattle.vt_rows.specs.Cells.{IsPaired}
-use Rattle.vt_rows.specs.Row.{RowValue, IsRow, blank_row}
+use Rattle.vt_rows.specs.Row.{IsRow, blank_row}
 use Rattle.vt_grid.specs.Scrollback.{visible}
-use Rattle.vt_redraw.specs.Keeping.{cut_row}
 use Rattle.vt_redraw.proofs.Viewing.{row_past, seen_is, visible_length}
 use Rattle.vt_redraw.proofs.view.row_seen.Goals as goal
 

@@ -6,6 +6,7 @@ use Rattle.vt_screen.proofs.Became.{difference_redraws}
 use Rattle.vt_screen.proofs.Telling.{difference_none, difference_tells}
 use Rattle.vt_screen.proofs.TouchedTexts.{difference_touches}
 use Rattle.vt_screen.proofs.Viewing.{same_shown}
+use Rattle.vt_screen.proofs.ContentTexts.{none_refused}
 use Rattle.vt_screen.proofs.screen.Screen.contents_diff.Goals as goal
 
 pub returns-in-Ok-clause-quiet : goal.returns-in-Ok-clause-quiet
@@ -78,3 +79,7 @@ returns-in-Ok-clause-touches c steady =
     let size = same_shown c.args.self.now c.args.prev.now c.requires in
     difference_touches c.args.self.now c.args.prev.now (string_bytes c.write_contents_diff.new.sink) told
     c.in-Ok.ensures.whole c.in-Ok.ensures.colored steady c.in-Ok.ensures.other c.in-Ok.ensures.other_colored size
+
+pub returns-in-Err-clause-never : goal.returns-in-Err-clause-never
+returns-in-Err-clause-never c same =
+    absurd (none_refused _ (difference_none (shown c.args.self.now) (shown c.args.prev.now) same) c.in-Err.ensures.some)

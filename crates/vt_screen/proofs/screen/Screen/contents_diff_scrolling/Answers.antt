@@ -1,6 +1,9 @@
 use Rattle.std.proofs.Common.{string_bytes}
 use Rattle.vt_screen.proofs.MovedRead.{scrolling_redraws, scrolling_tells}
 use Rattle.vt_screen.proofs.Viewing.{same_shown}
+use Rattle.vt_screen.specs.Shown.{shown}
+use Rattle.vt_screen.proofs.ContentTexts.{none_refused}
+use Rattle.vt_screen.proofs.Telling.{difference_none}
 use Rattle.vt_screen.proofs.screen.Screen.contents_diff_scrolling.Goals as goal
 
 pub returns-clause-quiet : goal.returns-clause-quiet
@@ -80,3 +83,13 @@ returns-clause-empty c steady empty =
       other_colored = is.other_colored;
       size = same_shown c.args.self.now c.args.prev.now c.requires;
     }) is.text empty
+
+pub returns-in_err-text-clause-never : goal.returns-in_err-text-clause-never
+returns-in_err-text-clause-never c same =
+    absurd (none_refused _ (difference_none (shown c.args.self.now) (shown c.args.prev.now) same)
+    c.in_err-text.ensures.some)
+
+pub returns-in_err-shorter-clause-never : goal.returns-in_err-shorter-clause-never
+returns-in_err-shorter-clause-never c same =
+    absurd (none_refused _ (difference_none (shown c.args.self.now) (shown c.args.prev.now) same)
+    c.in_err-shorter.ensures.some)

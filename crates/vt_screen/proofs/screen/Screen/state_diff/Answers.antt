@@ -2,6 +2,7 @@ use Rattle.std.proofs.Common.{◌≡◌, ℕ, List, ◌++◌, string_bytes, ap, 
 use Rattle.vt_screen.specs.States.{state_change}
 use Rattle.vt_screen.proofs.StateRead.{change_gives, state_none, state_tells}
 use Rattle.vt_screen.proofs.Viewing.{same_shown}
+use Rattle.vt_screen.proofs.ContentTexts.{none_refused}
 use Rattle.vt_screen.proofs.screen.Screen.state_diff.Goals as goal
 
 pub returns-in-Ok-clause-quiet : goal.returns-in-Ok-clause-quiet
@@ -73,3 +74,7 @@ returns-in-Ok-clause-none c same same_modes =
     let told : string_bytes c.write_state_diff.new.sink ≡ bytes =
     c.in-Ok.ensures.text ∙ ap (λ (before : List ℕ). before ++ bytes) c.new-text.ensures.bytes in
     told ∙ state_none c.args.self.now c.args.prev.now same same_modes
+
+pub returns-in-Err-clause-never : goal.returns-in-Err-clause-never
+returns-in-Err-clause-never c same same_modes =
+    absurd (none_refused _ (state_none c.args.self.now c.args.prev.now same same_modes) c.in-Err.ensures.some)

@@ -1,4 +1,4 @@
-use Rattle.std.proofs.Common.{◌≡◌, ◌++◌, ◌-◌}
+use Rattle.std.proofs.Common.{◌≡◌, ◌≤◌, ◌++◌, ◌-◌, length}
 use Rattle.std.specs.List.{flat_map, range_with_len}
 use Rattle.vt_screen.specs.Contents.{between_of, part_of}
 use Rattle.vt_screen.proofs.screen.Screen.write_between.Given as goal
@@ -6,6 +6,7 @@ use Rattle.vt_screen.proofs.screen.Screen.write_between.Given as goal
 -- what was written, and then the parts of the rows that are left, is the whole text
 abbrev pub invariant-loop-row : goal.invariant-loop-row
 invariant-loop-row g l =
-    g.S.Sink.text l.sink
+    (g.S.Sink.text l.sink
     ++ flat_map (part_of l.start.row l.start.col l.end.row l.end.col l.self) (range_with_len l.row (l.past - l.row))
-    ≡ g.S.Sink.text l.fn.sink ++ between_of l.start.row l.start.col l.end.row l.end.col l.self
+    ≡ g.S.Sink.text l.fn.sink ++ between_of l.start.row l.start.col l.end.row l.end.col l.self)
+    × (length (g.S.Sink.text l.fn.sink) ≤ length (g.S.Sink.text l.sink))

@@ -13,4 +13,5 @@ returns-clause-steps c =
       sym c.self.view_is ∙ texts_more text it.row (length it.screen.now.page.rows) (omega arith),
       c.row_diff.ensures.text,
       c.row_diff.ensures.memory,
+      c.row_diff.ensures.some,
     )

@@ -1,13 +1,14 @@
-use Rattle.std.proofs.Common.{◌-◌}
+use Rattle.std.proofs.Common.{◌-◌, ◌≤◌, length}
 use Rattle.vt_cells.specs.PieceKeeping.{gathered}
 use Rattle.vt_redraw.specs.Keeping.{Leads, cells_from}
-use Rattle.vt_redraw.proofs.cells.write_cells.Given as goal
+use Rattle.vt_redraw.proofs.cells.write_others.Given as goal
 
 abbrev pub invariant-loop-col : goal.invariant-loop-col
 invariant-loop-col g l =
     Leads (gathered (g.S.Sink.text l.sink) l.piece)
     (cells_from l.pos.row l.col l.pen l.flag l.cells.cells l.over.cells) (g.S.Sink.text l.initial.sink)
     (cells_from l.pos.row l.pos.col l.initial.pen l.initial.flag l.cells.cells l.over.cells)
+    × (length (g.S.Sink.text l.initial.sink) ≤ length (g.S.Sink.text l.sink))
 
 abbrev pub decreases-loop-col : goal.decreases-loop-col
 decreases-loop-col g l = l.cols - l.col

@@ -1,0 +1,187 @@
+-- Texts that a sink may refuse: a text is not empty if a part of it isn't.
+use Rattle.std.proofs.Common.{◌≡◌, ℕ, ◌-◌, ◌<◌, ◌≤◌, Bool, true, false, List, [], ◌∷◌, ◌++◌}
+use Rattle.std.proofs.Common.{length, refl, sym, subst, ap, arith}
+use Rattle.std.proofs.Common.{append-nil, append_assoc, length-append, replicate, ◌∙◌}
+use Rattle.std.proofs.lemmas.List.Concat.{flat_map-append}
+use Rattle.vt_cells.proofs.Sinks.{some_among}
+use Rattle.vt_cells.specs.Op.{Op, LineFeed, bytes_of, bytes_of_all}
+use Rattle.vt_cells.specs.PieceKeeping.{gathered}
+use Rattle.vt_cells.specs.Cell.{CellValue}
+use Rattle.vt_rows.specs.Row.{RowValue}
+use Rattle.vt_redraw.specs.Items.{is_whole, item_of_difference, range_written}
+use Rattle.vt_redraw.specs.Keeping.{Leads, Links, Writes, cells_from, mark_of}
+use Rattle.vt_redraw.specs.Redraw.{row_written, under_last}
+use Rattle.vt_redraw.specs.Script.{Linked, Scripted, broken, cells_written, changing, going_behind}
+use Rattle.vt_redraw.specs.declared.links.Link.{Link}
+use Rattle.vt_redraw.specs.declared.pen.Pen.{Pen}
+use Rattle.vt_redraw.proofs.ItemSteps.{part_item, whole_item}
+use Rattle.vt_redraw.proofs.RowSteps.{from_settled}
+
+-- ---- two texts
+
+pub some_first : (xs ys : List ℕ) → 0 < length xs → 0 < length (xs ++ ys)
+some_first xs ys some = let size = length-append xs ys in omega arith
+
+pub some_behind : (xs ys : List ℕ) → 0 < length ys → 0 < length (xs ++ ys)
+some_behind xs ys some = let size = length-append xs ys in omega arith
+
+-- ---- two lists of operations
+
+pub ops_first : (xs ys : List Op) → 0 < length (bytes_of_all xs) → 0 < length (bytes_of_all (xs ++ ys))
+ops_first xs ys some =
+    subst (λ (z : List ℕ). 0 < length z) (sym (flat_map-append bytes_of xs ys))
+    (some_first (bytes_of_all xs) (bytes_of_all ys) some)
+
+pub ops_behind : (xs ys : List Op) → 0 < length (bytes_of_all ys) → 0 < length (bytes_of_all (xs ++ ys))
+ops_behind xs ys some =
+    subst (λ (z : List ℕ). 0 < length z) (sym (flat_map-append bytes_of xs ys))
+    (some_behind (bytes_of_all xs) (bytes_of_all ys) some)
+
+-- ---- what is behind a text that was written or gathered
+
+pub grown : (before more after : List ℕ) → after ≡ before ++ more → length before ≤ length after
+grown before more after e =
+    let size = length-append before more in
+    let same : length after ≡ length (before ++ more) = ap (λ (xs : List ℕ). length xs) e in
+    omega arith
+
+pub grown_gathered : (before piece after : List ℕ) → after ≡ gathered before piece → length before ≤ length after
+unfolding gathered
+grown_gathered before piece after e = grown before piece after e
+
+-- what was still to be written isn't empty, so the whole isn't
+pub leads_some : (old mid piece : List ℕ) (rest whole : Scripted) → Leads (gathered mid piece) rest old whole →
+    length old ≤ length mid → 0 < length (piece ++ bytes_of_all rest.ops) → 0 < length (bytes_of_all whole.ops)
+leads_some old mid piece rest whole leads le some =
+    let size = length-append piece (bytes_of_all rest.ops) in
+    some_among old mid piece (bytes_of_all rest.ops) [] (bytes_of_all whole.ops)
+    (ap (λ (xs : List ℕ). gathered mid piece ++ xs) (append-nil (bytes_of_all rest.ops)) ∙ leads.bytes) le (omega arith)
+
+-- the same with nothing gathered
+pub rest_some : (old mid : List ℕ) (rest whole : Scripted) → Leads mid rest old whole →
+    length old ≤ length mid → 0 < length (bytes_of_all rest.ops) → 0 < length (bytes_of_all whole.ops)
+rest_some old mid rest whole leads le some =
+    let wrote = length-append mid (bytes_of_all rest.ops) in
+    let all = length-append old (bytes_of_all whole.ops) in
+    let same : length (mid ++ bytes_of_all rest.ops) ≡ length (old ++ bytes_of_all whole.ops) =
+    ap (λ (xs : List ℕ). length xs) leads.bytes in
+    omega arith
+
+-- what is written next isn't empty
+pub behind_some : (old mid more : List ℕ) (rest whole : Scripted) → Leads (mid ++ more) rest old whole →
+    length old ≤ length mid → 0 < length more → 0 < length (bytes_of_all whole.ops)
+behind_some old mid more rest whole leads le some =
+    let longer = length-append mid more in
+    let wrote = length-append (mid ++ more) (bytes_of_all rest.ops) in
+    let all = length-append old (bytes_of_all whole.ops) in
+    let same : length ((mid ++ more) ++ bytes_of_all rest.ops) ≡ length (old ++ bytes_of_all whole.ops) =
+    ap (λ (xs : List ℕ). length xs) leads.bytes in
+    omega arith
+
+-- what is written first isn't empty
+pub start_some : (first : List ℕ) (rest whole : Scripted) → Leads first rest [] whole →
+    0 < length first → 0 < length (bytes_of_all whole.ops)
+start_some first rest whole leads some =
+    subst (λ (xs : List ℕ). 0 < length xs) leads.bytes (some_first first (bytes_of_all rest.ops) some)
+
+pub piece_some : (piece xs ys : List ℕ) → (0 < length xs → 0 < length ys) →
+    0 < length (piece ++ xs) → 0 < length (piece ++ ys)
+piece_some [] xs ys more some = more some
+piece_some (x ∷ piece) xs ys more some = omega arith
+
+-- what was gathered is written before a text
+pub grown_behind : (before piece mid more after : List ℕ) → mid ≡ gathered before piece → after ≡ mid ++ more →
+    length before ≤ length after
+grown_behind before piece mid more after e f =
+    let first = grown_gathered before piece mid e in
+    let then = grown mid more after f in
+    omega arith
+
+-- a text behind another one isn't empty
+pub text_behind_some : (old first mid more whole : List ℕ) → mid ≡ old ++ first → mid ++ more ≡ old ++ whole →
+    0 < length more → 0 < length whole
+text_behind_some old first mid more whole e f some =
+    let before = grown old first mid e in
+    let wrote = length-append mid more in
+    let all = length-append old whole in
+    let same : length (mid ++ more) ≡ length (old ++ whole) = ap (λ (xs : List ℕ). length xs) f in
+    omega arith
+
+-- ---- rows
+
+-- what a row wrote where nothing was refused, and what a link did
+pub wrote_all : (text : List ℕ) (whole : Scripted) →
+    Writes text (text ++ bytes_of_all whole.ops) whole.pen whole.flag whole
+wrote_all text whole = record { bytes = refl; stands = refl; goes_on = refl }
+
+abbrev pub link_made : Linked → Link
+link_made whole = record { flag = whole.flag; settled = whole.settled }
+
+pub linked_all : (text : List ℕ) (whole : Linked) →
+    Links text (text ++ bytes_of_all whole.ops) whole.pen (link_made whole) whole
+linked_all text whole = record { bytes = refl; stands = refl; goes_on = refl; done = refl }
+
+pub row_some : (r k : ℕ) (pen : Pen) (flag : Bool) (x : RowValue) (ys : List CellValue) →
+    0 < length (bytes_of_all (cells_from r k pen flag x.cells ys).ops) →
+    0 < length (bytes_of_all (row_written r k pen flag x ys).ops)
+unfolding row_written
+row_some r k pen flag x ys some =
+    let cells = cells_written r 0 pen flag k x.cells ys in
+    ops_first cells.ops (broken r cells.pen cells.flag x.wrapped x.cells).ops
+    (subst (λ (w : Scripted). 0 < length (bytes_of_all w.ops)) (from_settled r k pen flag x.cells ys) some)
+
+-- ---- one row for itself
+
+pub range_some : (r start stop : ℕ) (x y : RowValue) (w : Scripted) →
+    w ≡ range_written r start stop y.wrapped x.cells y.cells → 0 < length (bytes_of_all w.ops) →
+    0 < length (bytes_of_all (item_of_difference r start stop x y).ops)
+range_some r start stop x y w e some = by_case (is_whole start stop (length x.cells)) refl where
+  by_case : (b : Bool) → is_whole start stop (length x.cells) ≡ b →
+      0 < length (bytes_of_all (item_of_difference r start stop x y).ops)
+  by_case false part =
+      subst (λ (xs : List ℕ). 0 < length xs)
+      (part_item r start stop x y w [] (bytes_of_all w.ops) part e refl) some
+  by_case true whole =
+      let more = bytes_of_all ((broken r w.pen w.flag x.wrapped x.cells).ops
+      ++ mark_of r (broken r w.pen w.flag x.wrapped x.cells).pen
+      (broken r w.pen w.flag x.wrapped x.cells).flag x.wrapped x.cells) in
+      subst (λ (xs : List ℕ). 0 < length xs)
+      (whole_item r start stop x y w w.pen w.flag [] (bytes_of_all w.ops) (bytes_of_all w.ops ++ more)
+      whole e refl refl refl refl)
+      (some_first (bytes_of_all w.ops) more some)
+
+-- ---- a wrap that is pending under the last glyph
+
+pub under_last_text : (pen last : Pen) (i r : ℕ) (cells : List CellValue) (t0 t1 t2 t3 : List ℕ) →
+    t1 ≡ t0 ++ bytes_of_all (going_behind i pen cells).ops → last ≡ (going_behind i pen cells).pen →
+    t2 ≡ t1 ++ bytes_of_all (changing last.attrs pen.attrs) →
+    t3 ≡ t2 ++ bytes_of_all (replicate (r - i) LineFeed) → t3 ≡ t0 ++ bytes_of_all (under_last pen i r cells)
+unfolding under_last
+under_last_text pen last i r cells t0 t1 t2 t3 e p f g =
+    let went = going_behind i pen cells in
+    let feeds = replicate (r - i) LineFeed in
+    let change = changing went.pen.attrs pen.attrs in
+    g ∙ (ap (λ (xs : List ℕ). xs ++ bytes_of_all feeds)
+    (f ∙ (ap (λ (q : Pen). t1 ++ bytes_of_all (changing q.attrs pen.attrs)) p
+    ∙ ap (λ (xs : List ℕ). xs ++ bytes_of_all change) e))
+    ∙ (append_assoc (t0 ++ bytes_of_all went.ops) (bytes_of_all change) (bytes_of_all feeds)
+    ∙ (ap (λ (xs : List ℕ). (t0 ++ bytes_of_all went.ops) ++ xs) (sym (flat_map-append bytes_of change feeds))
+    ∙ (append_assoc t0 (bytes_of_all went.ops) (bytes_of_all (change ++ feeds))
+    ∙ ap (λ (xs : List ℕ). t0 ++ xs) (sym (flat_map-append bytes_of went.ops (change ++ feeds)))))))
+
+pub under_last_some : (pen last : Pen) (i r : ℕ) (cells : List CellValue) → last ≡ (going_behind i pen cells).pen →
+    0 < length (bytes_of_all (changing last.attrs pen.attrs)) → 0 < length (bytes_of_all (under_last pen i r cells))
+unfolding under_last
+under_last_some pen last i r cells p some =
+    let went = going_behind i pen cells in
+    ops_behind went.ops (changing went.pen.attrs pen.attrs ++ replicate (r - i) LineFeed)
+    (ops_first (changing went.pen.attrs pen.attrs) (replicate (r - i) LineFeed)
+    (subst (λ (q : Pen). 0 < length (bytes_of_all (changing q.attrs pen.attrs))) p some))
+
+pub feeds_some : (pen : Pen) (i r : ℕ) (cells : List CellValue) →
+    0 < length (bytes_of_all (replicate (r - i) LineFeed)) → 0 < length (bytes_of_all (under_last pen i r cells))
+unfolding under_last
+feeds_some pen i r cells some =
+    let went = going_behind i pen cells in
+    ops_behind went.ops (changing went.pen.attrs pen.attrs ++ replicate (r - i) LineFeed)
+    (ops_behind (changing went.pen.attrs pen.attrs) (replicate (r - i) LineFeed) some)

@@ -1,0 +1,82 @@
+use Rattle.std.proofs.Common.{◌∙◌, ◌+◌, rules, sym, ap, arith}
+use Rattle.vt_cells.specs.PieceKeeping.{gathered}
+use Rattle.vt_redraw.specs.Keeping.{cells_from}
+use Rattle.vt_redraw.proofs.CellSteps.{leads_then, leads_text, passes_cell, passes_leads, passes_then, cells_end}
+use Rattle.std.proofs.Common.{refl}
+use Rattle.vt_cells.proofs.Sinks.{on_err}
+use Rattle.vt_redraw.proofs.Refusals.{leads_some, some_first}
+use Rattle.vt_redraw.proofs.cells.write_others.Goals as goal
+
+pub loop-col-preserved-then-stands : goal.loop-col-preserved-then-stands
+loop-col-preserved-then-stands g c =
+    let l = c.loop-col in
+    let text = g.S.Sink.text in
+    let xs = c.args.cells.now.cells in
+    let ys = c.args.over.now.cells in
+    let row = c.args.pos.row in
+    let now = gathered (text l.sink) l.piece in
+    let next = c.next_other-col.result in (
+      leads_then (text c.args.sink.now) now now (cells_from row c.args.pos.col c.args.pen.now c.args.flag.now xs ys)
+          (cells_from row l.col l.pen l.flag xs ys) (cells_from row next l.pen l.flag xs ys)
+          l.invariant.0 (passes_leads l.col next row l.pen l.flag xs ys now
+          (passes_then l.col (l.col + 1) next xs ys
+          (passes_cell l.col xs ys (search rules) c.requires.range (search rules)) c.next_other-col.ensures.passed)),
+      l.invariant.1,
+    )
+
+pub returns-clause-text : goal.returns-clause-text
+returns-clause-text g c =
+    let l = c.loop-col in
+    let text = g.S.Sink.text in
+    let xs = c.args.cells.now.cells in
+    let ys = c.args.over.now.cells in
+    let row = c.args.pos.row in
+    let size = c.cols.ensures in
+    let over = c.cols-2.ensures in
+    let less = c.min-cols.ensures in
+    let inside = c.requires.range.inside in
+    let past = c.loop-col-test.false in
+    c.in_ok-flush.ensures.text
+    ∙ leads_text (gathered (text l.sink) l.piece) (text c.args.sink.now) (cells_from row l.col l.pen l.flag xs ys)
+    (cells_from row c.args.pos.col c.args.pen.now c.args.flag.now xs ys) l.pen
+    l.flag (cells_end row l.col l.pen l.flag xs ys (omega arith)) l.invariant.0
+
+pub returns-clause-pen : goal.returns-clause-pen
+returns-clause-pen g c =
+    let l = c.loop-col in
+    let size = c.cols.ensures in
+    let over = c.cols-2.ensures in
+    let less = c.min-cols.ensures in
+    let inside = c.requires.range.inside in
+    let past = c.loop-col-test.false in
+    ap (λ w. w.pen)
+    (sym (cells_end c.args.pos.row l.col l.pen l.flag c.args.cells.now.cells c.args.over.now.cells (omega arith)))
+    ∙ l.invariant.0.pen
+
+pub returns-clause-flag : goal.returns-clause-flag
+returns-clause-flag g c =
+    let l = c.loop-col in
+    let size = c.cols.ensures in
+    let over = c.cols-2.ensures in
+    let less = c.min-cols.ensures in
+    let inside = c.requires.range.inside in
+    let past = c.loop-col-test.false in
+    ap (λ w. w.flag)
+    (sym (cells_end c.args.pos.row l.col l.pen l.flag c.args.cells.now.cells c.args.over.now.cells (omega arith)))
+    ∙ l.invariant.0.flag
+
+pub returns-in_err-col-clause-some : goal.returns-in_err-col-clause-some
+returns-in_err-col-clause-some g c =
+    let l = c.loop-col in
+    let text = g.S.Sink.text in
+    on_err c.from_residual.result
+    (leads_some (text c.args.sink.now) (text l.sink) l.piece _ _ l.invariant.0 l.invariant.1
+    c.in_err-col.ensures.refused)
+
+pub returns-in_err-flush-clause-some : goal.returns-in_err-flush-clause-some
+returns-in_err-flush-clause-some g c =
+    let l = c.loop-col in
+    let text = g.S.Sink.text in
+    on_err c.from_residual-in_err-flush.result
+    (leads_some (text c.args.sink.now) (text l.sink) l.piece _ _ l.invariant.0 l.invariant.1
+    (some_first l.piece _ (c.in_err-flush.ensures.some refl)))
