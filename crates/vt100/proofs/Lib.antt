@@ -1,3 +1,4 @@
+pub mod Repeats
 pub mod Running
 pub mod Stepping
 pub mod Deciding

@@ -43,7 +43,7 @@ character_ran does c held s screen itself room =
     (stage now, print_done does c s screen itself.2 itself.3 room, refl)
 
 -- a plain character moves the cursor on by one column
-column_printed : (c : ℕ) (screen : ScreenValue) → 0x20 ≤ c → c < 0x7F →
+pub column_printed : (c : ℕ) (screen : ScreenValue) → 0x20 ≤ c → c < 0x7F →
     screen.page.column < screen.page.width → (stepped (Print c) screen).page.column ≡ screen.page.column + 1
 column_printed c screen low high room =
     ap (λ (page : Page). page.column) (printed_put c screen.attrs screen.page low high room)

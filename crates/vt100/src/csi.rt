@@ -5,11 +5,12 @@ ghost use Rattle.vt_cells.specs.Refusals.{OnlyOutOfMemory};
 ghost use Rattle.vt100.specs.Keeping.{Does, MadeIf, Stops, report_of};
 ghost use Rattle.vt_screen.specs.Calls.{UnhandledCsi};
 ghost use Rattle.vt_screen.specs.Controls.{counted_step, csi_steps, marked_steps, number_at, number_or, other_steps};
-ghost use Rattle.vt_screen.specs.Controls.{scrolling_steps, page_erasing, plain_steps, private_steps, repeated};
+ghost use Rattle.vt_screen.specs.Controls.{scrolling_steps, page_erasing, plain_steps, private_steps};
 ghost use Rattle.vt_screen.specs.Controls.{row_erasing, size_or, space_steps, style_of, window_steps, seen_of};
 ghost use Rattle.vt_screen.specs.Steps.{stepped};
 ghost use Rattle.vt_screen.specs.Steps as step;
 
+use crate::repeating::repeat;
 use crate::sequence::Sequence;
 use crate::{numbers, private_modes, sgr};
 use vt_cells::{CursorStyle, Error};
@@ -208,23 +209,6 @@ fn erase_row<CB: Callbacks>(screen: &mut Screen, callbacks: &mut CB, sequence: S
         2 => screen.erase_row(),
         _ => sequence.report(screen, callbacks),
     }
-}
-
-/// REP: the last character, so many times, up to one whose memory is refused.
-fn repeat<CB: Callbacks>(screen: &mut Screen, callbacks: &mut CB, count: u16) -> Result<(), Error>
-    ensures done { IfOk result
-        (λ _. Does CB.does callbacks.old screen.old (repeated count screen.old.last) callbacks.new screen.new) }
-    ensures stopped { IsErr result →
-        Stops CB.does callbacks.old screen.old (repeated count screen.old.last) callbacks.new screen.new }
-    ensures memory { OnlyOutOfMemory result }
-{
-    let Some(character) = screen.last_char() else {
-        return Ok(());
-    };
-    for _ in 0..count {
-        screen.text(character, callbacks)?;
-    }
-    Ok(())
 }
 
 /// Window manipulation: a size that is asked for.

@@ -11,6 +11,7 @@ mod parser;
 mod perform;
 mod private_modes;
 mod processing;
+mod repeating;
 mod sequence;
 mod sgr;
 mod writing;

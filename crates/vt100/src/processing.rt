@@ -63,6 +63,10 @@ fn process_some<CB: Callbacks>(
         execute(screen, callbacks, bytes[0])?;
         return Ok(1);
     }
+    if bytes[0] >= 0x80 {
+        let count = process_one(scanner, screen, callbacks, bytes)?;
+        return Ok(count);
+    }
     let count = process_sequence(scanner, screen, callbacks, bytes)?;
     if count > 0 {
         return Ok(count);

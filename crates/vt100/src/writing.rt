@@ -11,7 +11,6 @@ ghost use Rattle.vt100.specs.Pieces.{Processes, processing};
 use crate::parser::Parser;
 use std::io;
 use std::io::Write;
-use vt_cells::Error;
 
 impl Write for Parser<()> {
     /// Reads all the bytes, as [`Parser::process`] does, and answers how many
@@ -39,8 +38,7 @@ impl Write for Parser<()> {
     {
         match self.process(buf) {
             Ok(()) => Ok(buf.len()),
-            Err(Error::OutOfMemory) => Err(io::Error::from(io::ErrorKind::OutOfMemory)),
-            Err(Error::Failed | Error::NoNumber) => Err(io::Error::from(io::ErrorKind::Other)),
+            Err(error) => Err(io::Error::from(error)),
         }
     }
 

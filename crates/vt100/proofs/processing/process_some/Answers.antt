@@ -1,10 +1,10 @@
 -- A control function of one byte; and where no sequence went on, the bytes are those of one step.
-use Rattle.std.proofs.Common.{◌≡◌, ◌+◌, List, ℕ, get_or, refl, subst, sym, take, arith}
+use Rattle.std.proofs.Common.{◌≡◌, List, ℕ, get_or, refl, subst, sym, take, arith}
 use Rattle.std.proofs.lemmas.List.{take_more}
 use Rattle.vt_scan.specs.declared.event.Event.TheVariants.{Executed}
 use Rattle.vt_scan.proofs.Feeding.{one_event}
 use Rattle.vt100.specs.Parser.{Ran, parsing, stage}
-use Rattle.vt100.proofs.Running.{byte_ran, ran_on, stopped_then}
+use Rattle.vt100.proofs.Running.{byte_ran, stopped_then}
 use Rattle.vt100.proofs.processing.process_some.Goals as goal
 
 pub returns-then-is_control-clause-ran : goal.returns-then-is_control-clause-ran
@@ -25,8 +25,8 @@ returns-clause-stopped g c e =
     let bytes = c.args.bytes.now in
     let before = parsing c.args.scanner.now c.args.screen.now c.args.callbacks.now in
     let led = parsing c.process_sequence.new.scanner c.process_sequence.new.screen c.process_sequence.new.callbacks in
-    let now = parsing c.process_one.new.scanner c.process_one.new.screen c.process_one.new.callbacks in
-    let zero : c.in_ok-count.count ≡ 0 = omega (arith, c.if-count-gt0.false) in
+    let now = parsing c.process_one-2.new.scanner c.process_one-2.new.screen c.process_one-2.new.callbacks in
+    let zero : c.in_ok-count-2.count ≡ 0 = omega (arith, c.if-count-gt0.false) in
     let ran : Ran does before (take 0 bytes) led =
-    subst (λ (n : ℕ). Ran does before (take n bytes) led) zero c.in_ok-count.ensures.ran in
-    stopped_then does before led now bytes 0 ran (c.process_one.ensures.stopped e)
+    subst (λ (n : ℕ). Ran does before (take n bytes) led) zero c.in_ok-count-2.ensures.ran in
+    stopped_then does before led now bytes 0 ran (c.process_one-2.ensures.stopped e)

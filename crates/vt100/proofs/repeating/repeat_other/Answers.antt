@@ -1,15 +1,15 @@
 -- One more print is done, or refused.
 use Rattle.vt100.proofs.Stepping.{prints_left, prints_stop}
-use Rattle.vt100.proofs.csi.repeat.Goals as goal
+use Rattle.vt100.proofs.repeating.repeat_other.Goals as goal
 
 pub loop-preserved : goal.loop-preserved
 loop-preserved g c =
     prints_left g.CB.Callbacks.does c.args.callbacks.now c.loop.callbacks
     c.text.new.callbacks c.args.screen.now c.loop.screen c.text.new.self _
-    c.in-Some.character c.args.count c.loop.counter c.loop-test.true c.loop.invariant c.in_ok-text.ensures.done
+    c.args.character c.args.count c.loop.counter c.loop-test.true c.loop.invariant c.in_ok-text.ensures.done
 
 pub returns-in_err-text-clause-stopped : goal.returns-in_err-text-clause-stopped
 returns-in_err-text-clause-stopped g c e =
     prints_stop g.CB.Callbacks.does c.args.callbacks.now c.loop.callbacks
     c.text.new.callbacks c.args.screen.now c.loop.screen c.text.new.self _
-    c.in-Some.character c.args.count c.loop.counter c.loop-test.true c.loop.invariant c.in_err-text.ensures.refused
+    c.args.character c.args.count c.loop.counter c.loop-test.true c.loop.invariant c.in_err-text.ensures.refused

@@ -1,0 +1,45 @@
+-- A character of printable ASCII that is repeated: as many as their row has room for, or one.
+use Rattle.std.proofs.Common.{◌≡◌, ℕ, zero, suc, ◌+◌, ◌-◌, ◌<◌, ◌≤◌, List, replicate}
+use Rattle.std.proofs.Common.{refl, sym, ap, subst, ◌∙◌, arith, inl}
+use Rattle.std.proofs.lemmas.List.{replicate-append-replicate}
+use Rattle.vt_screen.specs.Calls.{CallValue}
+use Rattle.vt_screen.specs.Run.{Refuses, state}
+use Rattle.vt_screen.specs.Screen.{ScreenValue}
+use Rattle.vt_screen.specs.Steps.{Step, Print, stepped}
+use Rattle.vt_screen.specs.Texts.{text_stepped}
+use Rattle.vt_screen.proofs.Sizes.{same_printed}
+use Rattle.vt_screen.proofs.TextSteps.{print_scrolls}
+use Rattle.vt100.specs.Keeping.{Does, Stops}
+use Rattle.vt100.proofs.Plain.{column_printed}
+use Rattle.vt100.proofs.Stepping.{Left, left_through}
+
+-- a text of one character is its prints
+pub prints_done : {S : Type 0} (does : CallValue → S → ScreenValue → S → ScreenValue → Type 0)
+    (n c : ℕ) (s : S) (screen : ScreenValue) → 0x20 ≤ c → c < 0x7F → screen.page.column + n ≤ screen.page.width →
+    Does does s screen (replicate n (Print c)) s (text_stepped (replicate n c) screen)
+prints_done does zero c s screen low high room = refl
+prints_done does (suc n) c s screen low high room =
+    let here : screen.page.column < screen.page.width = omega (arith, room) in
+    let next = stepped (Print c) screen in
+    let moved = column_printed c screen low high here in
+    let same = same_printed c screen.attrs screen.page in
+    let left : next.page.column + n ≤ next.page.width = omega (arith, moved, same.width, room) in
+    (state s next, print_scrolls does c s screen low high here, prints_done does n c s next low high left)
+
+-- the first print is refused
+pub first_refused : {S : Type 0} (does : CallValue → S → ScreenValue → S → ScreenValue → Type 0)
+    (n c : ℕ) (s t : S) (d e : ScreenValue) → 0 < n → Refuses (state s d) (Print c) (state t e) →
+    Stops does s d (replicate n (Print c)) t e
+first_refused does zero c s t d e some refusal = absurd (omega (arith, some))
+first_refused does (suc n) c s t d e some refusal = inl refusal
+
+-- some more prints are done
+pub more_left : {S : Type 0} (does : CallValue → S → ScreenValue → S → ScreenValue → Type 0)
+    (s t u : S) (d e f : ScreenValue) (all : List Step) (c n k : ℕ) → k ≤ n →
+    Left does s d all t e (replicate n (Print c)) → Does does t e (replicate k (Print c)) u f →
+    Left does s d all u f (replicate (n - k) (Print c))
+more_left does s t u d e f all c n k le left done =
+    let parts : k + (n - k) ≡ n = omega (arith, le) in
+    left_through does s t u d e f all (replicate k (Print c)) (replicate (n - k) (Print c))
+    (subst (λ (steps : List Step). Left does s d all t e steps)
+    (ap (λ (m : ℕ). replicate m (Print c)) (sym parts) ∙ sym (replicate-append-replicate k (n - k) (Print c))) left) done
