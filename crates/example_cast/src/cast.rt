@@ -1,23 +1,43 @@
-//! Recordings of asciinema, version 2.
+//! Recordings of asciinema, versions 2 and 3.
 
 use anyhow::{Context, Result, bail};
 use serde_json::Value;
 use std::alloc::Global;
 use std::num::NonZeroU16;
 
-/// What stands in the first line: the size that the terminal has at first.
+/// The versions that are read.
+#[derive(Clone, Copy, PartialEq, Eq)]
+pub enum Version {
+    /// Times count from the beginning.
+    Two,
+
+    /// Times count from the event before, and a line that begins with `#` is a comment.
+    Three,
+}
+
+/// What stands in the first line: the version, and the size that the terminal has at first.
 #[derive(Clone, Copy)]
 pub struct Header {
+    pub version: Version,
     pub rows: NonZeroU16,
     pub cols: NonZeroU16,
 }
 
-/// What stands in each other line.
+/// What stands in a line behind the first one.
 #[derive(Clone, Copy)]
 pub struct Event<'a> {
     /// Seconds since the recording began.
     pub time: f64,
     pub action: Action<'a>,
+}
+
+/// When the last event happened.
+#[derive(Clone, Copy)]
+pub struct Clock {
+    version: Version,
+
+    /// Seconds since the recording began.
+    time: f64,
 }
 
 /// What happened.
@@ -29,7 +49,8 @@ pub enum Action<'a> {
     /// The terminal got another size.
     Resize { rows: NonZeroU16, cols: NonZeroU16 },
 
-    /// What does not change the screen: keys, marks, and kinds that this program doesn't know.
+    /// What does not change the screen: keys, marks, the program's exit, and kinds that this program
+    /// doesn't know.
     Other,
 }
 
@@ -42,50 +63,84 @@ pub fn json(alloc: Global, line: &str) -> Result<Value> {
     }
 }
 
+impl Version {
+    /// Whether an event stands in a line, which is neither blank nor a comment.
+    pub fn has_event(self, line: &str) -> bool {
+        let is_comment = self == Version::Three && line.starts_with('#');
+        !is_comment && !line.trim().is_empty()
+    }
+}
+
 impl Header {
     /// Reads the value of the first line.
     pub fn read(value: &Value) -> Result<Header> {
-        if value.get("version").and_then(Value::as_u64) != Some(2) {
-            bail!("not the header of a recording of version 2");
+        match value.get("version").and_then(Value::as_u64) {
+            Some(2) => Header::read_size(Version::Two, value, "height", "width"),
+            Some(3) => {
+                let term = value.get("term").context("no term")?;
+                Header::read_size(Version::Three, term, "rows", "cols")
+            }
+            _ => bail!("not the header of a recording of version 2 or 3"),
         }
+    }
+
+    /// Reads the size, whose numbers have these names.
+    fn read_size(version: Version, value: &Value, rows: &str, cols: &str) -> Result<Header> {
         Ok(Header {
-            rows: value
-                .get("height")
-                .and_then(size)
-                .context("no height from 1 to 65535")?,
-            cols: value
-                .get("width")
-                .and_then(size)
-                .context("no width from 1 to 65535")?,
+            version,
+            rows: read_number(value, rows)?,
+            cols: read_number(value, cols)?,
         })
     }
 }
 
+impl Clock {
+    /// A clock at the beginning of a recording.
+    pub fn new(version: Version) -> Clock {
+        Clock { version, time: 0.0 }
+    }
+
+    /// Goes on to an event that has this time in its line.
+    fn go_on(&mut self, time: f64) {
+        self.time = match self.version {
+            Version::Two => time,
+            Version::Three => self.time + time,
+        };
+    }
+}
+
 impl<'a> Event<'a> {
-    /// Reads the value of another line.
-    pub fn read(value: &'a Value) -> Result<Event<'a>> {
+    /// Reads the value of a line that has an event, of any kind.
+    pub fn read(value: &'a Value, clock: &mut Clock) -> Result<Event<'a>> {
         let parts = value.as_array().context("an event is an array")?;
-        let [time, kind, text] = parts.as_slice() else {
+        let [time, kind, data] = parts.as_slice() else {
             bail!("an event has three parts");
         };
-        let time = time.as_f64().context("an event begins with a number")?;
+        clock.go_on(time.as_f64().context("an event begins with a number")?);
         let kind = kind.as_str().context("the kind of an event is a text")?;
-        let text = text.as_str().context("an event ends with a text")?;
         Ok(Event {
-            time,
-            action: Action::named(kind, text)?,
+            time: clock.time,
+            action: Action::read(kind, data)?,
         })
     }
 }
 
 impl<'a> Action<'a> {
-    fn named(kind: &str, text: &'a str) -> Result<Action<'a>> {
+    fn read(kind: &str, data: &'a Value) -> Result<Action<'a>> {
         match kind {
-            "o" => Ok(Action::Output(text)),
-            "r" => resize(text).context("a size is COLSxROWS"),
+            "o" => Ok(Action::Output(data.as_str().context("output is a text")?)),
+            "r" => resize(data).context("a size is COLSxROWS"),
             _ => Ok(Action::Other),
         }
     }
+}
+
+/// The number of rows or columns of this name.
+fn read_number(value: &Value, name: &str) -> Result<NonZeroU16> {
+    value
+        .get(name)
+        .and_then(size)
+        .context(format_args!("no {name} from 1 to 65535"))
 }
 
 /// A number of rows or columns; `None` if it isn't from 1 to 65535.
@@ -93,8 +148,8 @@ fn size(value: &Value) -> Option<NonZeroU16> {
     NonZeroU16::new(u16::try_from(value.as_u64()?).ok()?)
 }
 
-fn resize<'a>(text: &str) -> Option<Action<'a>> {
-    let (cols, rows) = text.split_once('x')?;
+fn resize<'a>(data: &Value) -> Option<Action<'a>> {
+    let (cols, rows) = data.as_str()?.split_once('x')?;
     Some(Action::Resize {
         rows: rows.parse::<NonZeroU16>().ok()?,
         cols: cols.parse::<NonZeroU16>().ok()?,

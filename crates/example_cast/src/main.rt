@@ -1,13 +1,15 @@
-//! `example_cast`: reads a recording of asciinema, version 2, plays it through a mirror, and writes
-//! what was read and what the updates of a viewer took, and then the rows that the viewer sees last.
+//! `example_cast`: reads a recording of asciinema, version 2 or 3, plays it through a mirror, and
+//! writes what was read, what the updates of two viewers took, one for each kind of difference, and
+//! then the rows that the second one sees last.
 #![tactic(auto)]
 
 mod cast;
 mod player;
 mod tally;
+mod viewer;
 
 use anyhow::{Context, Result};
-use cast::{Event, Header};
+use cast::{Clock, Event, Header};
 use player::Player;
 use std::alloc::Global;
 use std::process::ExitCode;
@@ -16,27 +18,31 @@ use std::{env, io};
 
 const USAGE: &str = "usage: example_cast <RECORDING";
 
-/// Plays a whole recording: a header in its first line, and an event in each other one.
+/// Plays a whole recording: a header in its first line, and an event in each other one that is
+/// neither blank nor a comment.
 fn play(alloc: Global, recording: &str) -> Result<Player> {
     let (first, events) = recording.split_once('\n').unwrap_or((recording, ""));
-    let mut player = begin(alloc, first).context("line 1")?;
+    let header = read_header(alloc, first).context("line 1")?;
+    let mut player = Player::new(alloc, header.rows, header.cols)?;
+    let mut clock = Clock::new(header.version);
     let mut number = 2u64;
     for line in events.lines() {
-        play_line(alloc, &mut player, line).context(format_args!("line {number}"))?;
+        if header.version.has_event(line) {
+            play_line(alloc, &mut player, &mut clock, line).context(format_args!("line {number}"))?;
+        }
         number = number.saturating_add(1);
     }
     player.update()?;
     Ok(player)
 }
 
-fn begin(alloc: Global, line: &str) -> Result<Player> {
-    let header = Header::read(&cast::json(alloc, line)?)?;
-    Player::new(alloc, header.rows, header.cols)
+fn read_header(alloc: Global, line: &str) -> Result<Header> {
+    Header::read(&cast::json(alloc, line)?)
 }
 
-fn play_line(alloc: Global, player: &mut Player, line: &str) -> Result<()> {
+fn play_line(alloc: Global, player: &mut Player, clock: &mut Clock, line: &str) -> Result<()> {
     let value = cast::json(alloc, line)?;
-    player.play(Event::read(&value)?)
+    player.play(Event::read(&value, clock)?)
 }
 
 /// Reads a recording from standard input, and writes what came of it.

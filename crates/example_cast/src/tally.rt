@@ -2,17 +2,34 @@
 
 use std::fmt;
 
-/// Counts of what was read, and of updates.
-#[derive(Clone, Copy, Default)]
+/// Counts of what was read, and of the updates of two viewers.
+#[derive(Clone, Copy)]
 pub struct Tally {
     /// Events of output.
     pub read: Count,
 
+    /// Updates whose differences are drawn alone.
+    pub drawn: Updates,
+
+    /// Updates whose differences may move rows first.
+    pub scrolling: Updates,
+}
+
+/// Counts of the updates of a viewer.
+#[derive(Clone, Copy, Default)]
+pub struct Updates {
     /// Updates that draw the whole screen.
     pub redraws: Count,
 
-    /// Updates that draw what differs from the one before.
+    /// Updates that say what differs from the one before.
     pub differences: Count,
+}
+
+impl Updates {
+    /// Both together.
+    fn all(self) -> Count {
+        self.redraws.with(self.differences)
+    }
 }
 
 /// How often something came, and how many bytes it had in all.
@@ -49,13 +66,14 @@ impl fmt::Display for Tally {
     fn fmt<W: fmt::Write>(&self, f: &mut fmt::Formatter<W>) -> fmt::Result {
         let Tally {
             read,
-            redraws,
-            differences,
+            drawn,
+            scrolling,
         } = *self;
         writeln!(f, "               times     bytes")?;
         writeln!(f, "read        {read}")?;
-        writeln!(f, "redraws     {redraws}")?;
-        writeln!(f, "differences {differences}")?;
-        write!(f, "updates     {}", redraws.with(differences))
+        writeln!(f, "redraws     {}", drawn.redraws)?;
+        writeln!(f, "differences {}", drawn.differences)?;
+        writeln!(f, "updates     {}", drawn.all())?;
+        write!(f, "scrolling   {}", scrolling.all())
     }
 }

@@ -23,8 +23,8 @@ const FONTS: &str = "'DejaVu Sans Mono', Menlo, Consolas, monospace";
 /// Blanks stay, and glyphs stand from left to right in the order of their columns.
 const STYLE: &str = "text { white-space: pre; direction: ltr; unicode-bidi: bidi-override }";
 
-/// The picture of a screen, as a file of SVG: backgrounds, and then texts, each of which is as long as
-/// its columns, whatever font it is shown in.
+/// The picture of a screen, as a file of SVG: backgrounds, and then texts, each of which begins at its
+/// column and is as long as its columns, whatever font it is shown in.
 pub fn svg(alloc: Global, screen: &Screen) -> Result<String, AllocError> {
     let mut out = String::new(alloc);
     write_head(&mut out, screen)?;
@@ -92,7 +92,8 @@ fn write_paper(out: &mut String, stretch: &[Spot<'_>], row: u16) -> Result<(), A
     )
 }
 
-/// A text for each stretch of one look, without the blanks at its ends.
+/// A text for each stretch of ASCII of one look, without the blanks at its ends, and for each other
+/// glyph.
 fn write_texts(out: &mut String, spots: &[Spot<'_>], row: u16) -> Result<(), AllocError> {
     for stretch in spots.chunk_by(|one, next| one.goes_on_in(next)) {
         if let Some(inked) = inked(stretch) {
@@ -125,7 +126,7 @@ fn write_text(out: &mut String, stretch: &[Spot<'_>], row: u16) -> Result<(), Al
     writeln!(out, "</text>")
 }
 
-/// What differs from plain text. Glyphs of another font are made as wide as their columns.
+/// What differs from plain text. A glyph beyond ASCII is made as wide as its columns.
 fn write_style(out: &mut String, spot: &Spot<'_>) -> Result<(), AllocError> {
     let paint = spot.paint;
     if !spot.text.is_ascii() {

@@ -49,11 +49,11 @@ impl Spot<'_> {
         is_empty && !self.paint.underline
     }
 
-    /// Whether both look the same up to their text, and have glyphs of one font: those that aren't
-    /// ASCII may come from another one.
+    /// Whether both can be drawn as one text: they look the same up to their glyphs, which are ASCII.
+    /// Others may come from a font of another width, and would move what follows.
     pub fn goes_on_in(&self, next: &Spot<'_>) -> bool {
-        let has_same_font = self.text.is_ascii() == next.text.is_ascii();
-        has_same_font && self.cols == next.cols && self.paint == next.paint
+        let is_ascii = self.text.is_ascii() && next.text.is_ascii();
+        is_ascii && self.paint == next.paint
     }
 
     /// The column behind it.

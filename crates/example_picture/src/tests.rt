@@ -6,7 +6,7 @@ use std::test::Fail;
 use vt100::Parser;
 
 /// What is written, and what stands in its picture between the two tags of the group.
-const DRAWN: [(&str, &str); 8] = [
+const DRAWN: [(&str, &str); 10] = [
     (
         "\x1b[?25l<a> &",
         "<text x=\"0\" y=\"13\" textLength=\"45\">&lt;a&gt; &amp;</text>\n",
@@ -31,6 +31,19 @@ const DRAWN: [(&str, &str); 8] = [
         "<rect x=\"0\" y=\"0\" width=\"18\" height=\"17\" fill=\"#e5e5e5\"/>\n\
          <text x=\"0\" y=\"13\" textLength=\"18\" lengthAdjust=\"spacingAndGlyphs\" fill=\"#000000\">中</text>\n\
          <text x=\"18\" y=\"13\" textLength=\"9\">x</text>\n",
+    ),
+    (
+        "\x1b[?25la│┐ b",
+        "<text x=\"0\" y=\"13\" textLength=\"9\">a</text>\n\
+         <text x=\"9\" y=\"13\" textLength=\"9\" lengthAdjust=\"spacingAndGlyphs\">│</text>\n\
+         <text x=\"18\" y=\"13\" textLength=\"9\" lengthAdjust=\"spacingAndGlyphs\">┐</text>\n\
+         <text x=\"36\" y=\"13\" textLength=\"9\">b</text>\n",
+    ),
+    (
+        "\x1b[?25l中文e\u{301}",
+        "<text x=\"0\" y=\"13\" textLength=\"18\" lengthAdjust=\"spacingAndGlyphs\">中</text>\n\
+         <text x=\"18\" y=\"13\" textLength=\"18\" lengthAdjust=\"spacingAndGlyphs\">文</text>\n\
+         <text x=\"36\" y=\"13\" textLength=\"9\" lengthAdjust=\"spacingAndGlyphs\">e\u{301}</text>\n",
     ),
     (
         "\x1b[5 qab",
