@@ -1,6 +1,6 @@
 //! A terminal that is kept equal to another one by texts alone.
 
-use crate::pace::Pace;
+use crate::pace::{Pace, may_scroll};
 use crate::picture::{Part, differing, have_same_cells, have_same_flags};
 use crate::tally::Tally;
 use anyhow::{Result, bail};
@@ -59,7 +59,8 @@ fn follow_each(
         }
         let (piece, later) = rest.split_at(pace.next_length().min(rest.len()));
         rest = later;
-        let written = update(leader, follower, piece)?;
+        let scrolls = may_scroll(tally.updates);
+        let written = update(leader, follower, piece, scrolls)?;
         tally.count(piece.len(), written);
         tally.differs = differing(leader.screen(), follower.screen());
         if follower.callbacks().calls().len() != calls {
@@ -74,18 +75,27 @@ fn redraw(leader: &Screen, follower: &mut Parser<Notes>) -> Result<()> {
     Ok(follower.process(text.as_bytes())?)
 }
 
-/// Has the leader read these bytes and the follower the difference, and answers how long that is.
-fn update(leader: &mut Parser, follower: &mut Parser<Notes>, piece: &[u8]) -> Result<usize> {
+/// Has the leader read these bytes and the follower the difference, which may move rows first or not,
+/// and answers how long that is.
+fn update(
+    leader: &mut Parser,
+    follower: &mut Parser<Notes>,
+    piece: &[u8],
+    scrolls: bool,
+) -> Result<usize> {
     let prev = leader.screen().clone()?;
     leader.process(piece)?;
-    let text = difference(leader.screen(), &prev)?;
+    let text = difference(leader.screen(), &prev, scrolls)?;
     follower.process(text.as_bytes())?;
     Ok(text.len())
 }
 
-fn difference(screen: &Screen, prev: &Screen) -> Result<String> {
+fn difference(screen: &Screen, prev: &Screen, scrolls: bool) -> Result<String> {
     if !screen.is_sized_as(prev) {
         bail!("a leader of another size");
+    }
+    if scrolls {
+        return Ok(screen.contents_diff_scrolling(prev)?);
     }
     Ok(screen.contents_diff(prev)?)
 }

@@ -34,3 +34,9 @@ impl Pace {
         (self.state >> 16) % bound
     }
 }
+
+/// Whether the difference that comes behind so many may move rows first: two are drawn, then two may
+/// move rows, and so on, so that each kind comes behind itself and behind the other one.
+pub fn may_scroll(count: usize) -> bool {
+    count % 4 >= 2
+}

@@ -1,6 +1,6 @@
 //! Viewers of a mirror that join, leave and fall behind at random.
 
-use crate::pace::Pace;
+use crate::pace::{Pace, may_scroll};
 use crate::picture::differing;
 use crate::visits::Visits;
 use anyhow::{Context, Result};
@@ -159,7 +159,11 @@ impl Hall {
         let Some(viewer) = self.viewers.get_mut(seat) else {
             return Ok(());
         };
-        let update = self.mirror.update(viewer.number)?;
+        let update = if may_scroll(visits.updates()) {
+            self.mirror.update_scrolling(viewer.number)?
+        } else {
+            self.mirror.update(viewer.number)?
+        };
         visits.count_update(update.as_ref());
         read_update(&mut viewer.terminal, update)?;
         if !are_same(self.leader.screen(), viewer.terminal.screen()) {

@@ -33,6 +33,11 @@ impl Visits {
         self.left = self.left.saturating_add(1);
     }
 
+    /// How many updates were read.
+    pub fn updates(&self) -> usize {
+        self.full.saturating_add(self.differences)
+    }
+
     /// Counts an update.
     pub fn count_update(&mut self, update: Option<&Update>) {
         match update {

@@ -21,7 +21,7 @@ use Rattle.vt100.specs.Parser.{Parsing, Ran, quietly}
 use Rattle.vt100.proofs.Running.{ran_then}
 use Rattle.vt100.proofs.Sizes.{quiet_leaves}
 use Rattle.vt100.proofs.Streams.{ran_heard}
-use Rattle.vt_mirror.specs.Calls.{IsUpdate, MirrorProcesses, Tells}
+use Rattle.vt_mirror.specs.Calls.{Drawn, IsUpdate, MirrorProcesses, Tells}
 use Rattle.vt_mirror.specs.Keeping.{InStretch, IsBegun, IsWritten, ReadsAtMost, ReadsBytes, ReadsFewer, ReadsStretch}
 use Rattle.vt_mirror.specs.Keeping.{WritesUpdate, text_of_update}
 use Rattle.vt_mirror.specs.Mirror.{MirrorValue}
@@ -141,13 +141,13 @@ same_some : {A : Type 0} (x y : A) → Some x ≡ Some y → x ≡ y
 same_some x y e = cc
 
 full_text : (self : ScreenValue) (noted : Option ScreenValue) (update : Update) → noted ≡ None →
-    IsUpdate self noted update → text_of_update update ≡ bytes_of_all (redraw (shown self))
+    IsUpdate Drawn self noted update → text_of_update update ≡ bytes_of_all (redraw (shown self))
 full_text self None (Full rows cols text) e is = is.is
 full_text self None (Diff text) e is = absurd is
 full_text self (Some prev) update e is = absurd (no_some prev e)
 
 diff_text : (self prev : ScreenValue) (noted : Option ScreenValue) (update : Update) → noted ≡ Some prev →
-    IsUpdate self noted update → text_of_update update ≡ bytes_of_all (difference (shown self) (shown prev))
+    IsUpdate Drawn self noted update → text_of_update update ≡ bytes_of_all (difference (shown self) (shown prev))
 diff_text self prev (Some other) (Diff text) e is =
     is.is ∙ ap (λ (s : ScreenValue). bytes_of_all (difference (shown self) (shown s))) (same_some other prev e)
 diff_text self prev (Some other) (Full rows cols text) e is = absurd is
@@ -329,7 +329,7 @@ still_views every viewer is_whole old mid read left at rest written grown w s =
 -- an update was answered, and its text was written
 pub told_written : (old : MirrorValue) (viewer : ℕ) (new : MirrorValue) (update : Update) (text : List ℕ)
     (written grown : Option (List ℕ)) (answer : Result (Unit {0}) Fault)
-    → Tells old viewer update new → text ≡ text_of_update update → OnOk answer (Appends written grown text)
+    → Tells Drawn old viewer update new → text ≡ text_of_update update → OnOk answer (Appends written grown text)
     → OnOk answer (WritesUpdate old viewer new written grown)
 told_written old viewer new update text written grown (Ok u) tells is appends =
     record { update = update; tells = tells; appends = subst (Appends written grown) is appends }

@@ -17,8 +17,8 @@ use Rattle.vt_screen.proofs.Viewing.{same_shown}
 use Rattle.vt100.specs.Parser.{Parsing}
 use Rattle.vt100.specs.Pieces.{HasRead, IsPlainParser}
 use Rattle.vt100.proofs.Pieces.{read_pieces}
-use Rattle.vt_mirror.specs.Calls.{Answers, Asks, IsDiff, IsFull, IsUpdate, JoinsMirror}
-use Rattle.vt_mirror.specs.Calls.{Leaves, MirrorProcesses, Redraws, Resizes, Tells}
+use Rattle.vt_mirror.specs.Calls.{Answers, Asks, Drawn, IsDiff, IsFull, IsOfKind, IsUpdate, JoinsMirror, Kind}
+use Rattle.vt_mirror.specs.Calls.{Scrolling, Leaves, MirrorProcesses, Redraws, Resizes, Tells}
 use Rattle.vt_mirror.specs.Mirror.{MirrorValue}
 use Rattle.vt_mirror.specs.Viewers.{Puts, ViewersValue, next_number, note_of}
 use Rattle.vt_mirror.specs.Watching.{Ask, CountUp, Goes, IsFresh, IsLeft, IsNew, IsTakenBy, MirrorDoes, Watches}
@@ -146,17 +146,23 @@ sound_after : {S : Type 0} (update : Update) (p q : Parsing S) → TakesUpdate u
 sound_after (Diff text) p q t = t.sound
 sound_after (Full rows cols text) p q t = t.2.sound
 
+of_kind : (kind : Kind) (self prev : ScreenValue) (text : List ℕ) → IsOfKind kind self prev text → IsDiff self prev text
+of_kind Drawn self prev text is = is.diff
+of_kind Scrolling self prev text is = is.diff
+
 -- by what is noted, which the viewer shows
-takes_update : {S : Type 0} (self : ScreenValue) (noted : Option ScreenValue) (update : Update) (p q : Parsing S)
+takes_update : {S : Type 0} (kind : Kind) (self : ScreenValue) (noted : Option ScreenValue)
+    (update : Update) (p q : Parsing S)
     → ((prev : ScreenValue) → noted ≡ Some prev → shown p.screen ≡ shown prev)
-    → IsUpdate self noted update → IsSteady (shown self) → IsScreen p.screen
+    → IsUpdate kind self noted update → IsSteady (shown self) → IsScreen p.screen
     → IsPlainParser p → TakesUpdate update p q → Plainly self q
-takes_update self (Some prev) (Diff text) p q shows is steady sound plain t =
-    reads_diff self prev (string_bytes text) p q is steady sound plain (shows prev refl) t
-takes_update self None (Full rows cols text) p q shows is steady sound plain t =
+takes_update kind self (Some prev) (Diff text) p q shows is steady sound plain t =
+    reads_diff self prev (string_bytes text) p q (of_kind kind self prev (string_bytes text) is) steady sound plain
+    (shows prev refl) t
+takes_update kind self None (Full rows cols text) p q shows is steady sound plain t =
     reads_full self rows cols (string_bytes text) p t.0 q is steady sound plain t.1 t.2
-takes_update self (Some prev) (Full rows cols text) p q shows is steady sound plain t = absurd is
-takes_update self None (Diff text) p q shows is steady sound plain t = absurd is
+takes_update kind self (Some prev) (Full rows cols text) p q shows is steady sound plain t = absurd is
+takes_update kind self None (Diff text) p q shows is steady sound plain t = absurd is
 
 -- ---- one call
 
@@ -178,15 +184,15 @@ holds_left {S} number old new before l h = record {
       (sym l.seen) h.shows);
 }
 
-holds_own : {S : Type 0} (number : ℕ) (update : Update) (old new : Watching S) →
-    Tells old.mirror number update new.mirror → Sees update old new → Holds number old → Holds number new
-holds_own {S} number update old new t s h =
+holds_own : {S : Type 0} (kind : Kind) (number : ℕ) (update : Update) (old new : Watching S) →
+    Tells kind old.mirror number update new.mirror → Sees update old new → Holds number old → Holds number new
+holds_own {S} kind number update old new t s h =
     let self = old.mirror.parser.screen in
     let shows_prev : (prev : ScreenValue) →
     note_of old.mirror.viewers number ≡ Some prev → shown old.viewer.screen ≡ shown prev
     = λ prev e. subst (λ (o : Option ScreenValue). IfSome o (λ screen. shown old.viewer.screen ≡ shown screen))
     (h.noted prev e) h.shows in
-    let p = takes_update self (note_of old.mirror.viewers number) update
+    let p = takes_update kind self (note_of old.mirror.viewers number) update
     old.viewer new.viewer shows_prev t.text s.steady h.sound h.plain s.takes in
     record {
       sound = sound_after update old.viewer new.viewer s.takes;
@@ -197,23 +203,23 @@ holds_own {S} number update old new t s h =
           (sym s.seen) p.shows;
     }
 
-holds_taken : {S : Type 0} (number asked : ℕ) (update : Update) (old new : Watching S) →
-    Tells old.mirror asked update new.mirror →
+holds_taken : {S : Type 0} (kind : Kind) (number asked : ℕ) (update : Update) (old new : Watching S) →
+    Tells kind old.mirror asked update new.mirror →
     IsTakenBy number asked update old new → Holds number old → Holds number new
-holds_taken {S} number asked update old new t taken h =
+holds_taken {S} kind number asked update old new t taken h =
     by_number number asked
-    (λ own. holds_own number update old new
-    (subst (λ (n : ℕ). Tells old.mirror n update new.mirror) own t) (taken.own own) h)
+    (λ own. holds_own kind number update old new
+    (subst (λ (n : ℕ). Tells kind old.mirror n update new.mirror) own t) (taken.own own) h)
     (λ other. holds_left number old new
     (λ screen e. sym (t.puts.other_notes number (λ same. other (sym same))) ∙ e) (taken.others other) h)
 
-holds_ask : {S : Type 0} (number asked : ℕ) (answer : Result (Option Update) Error) (old new : Watching S) →
-    Asks old.mirror asked answer new.mirror →
-    Watches number old (Ask asked answer) new → Holds number old → Holds number new
-holds_ask number asked (Ok (Some update)) old new a f h = holds_taken number asked update old new a.answers f h
-holds_ask number asked (Ok None) old new a f h =
+holds_ask : {S : Type 0} (kind : Kind) (number asked : ℕ) (answer : Result (Option Update) Error) (old new : Watching S) →
+    Asks kind old.mirror asked answer new.mirror →
+    Watches number old (Ask kind asked answer) new → Holds number old → Holds number new
+holds_ask kind number asked (Ok (Some update)) old new a f h = holds_taken kind number asked update old new a.answers f h
+holds_ask kind number asked (Ok None) old new a f h =
     holds_left number old new (before_equal number old.mirror new.mirror a.answers.1) f h
-holds_ask number asked (Err error) old new a f h =
+holds_ask kind number asked (Err error) old new a f h =
     holds_left number old new (before_equal number old.mirror new.mirror a.refused.1) f h
 
 holds_call : {S : Type 0} (number : ℕ) (call : MirrorCall) (old new : Watching S) →
@@ -226,7 +232,7 @@ holds_call number (Join answer) old new d f h =
     holds_left number old new (before_join number old.mirror new.mirror answer d.1) f h
 holds_call number (Leave viewer answer) old new d f h =
     holds_left number old new (before_none number viewer false old.mirror new.mirror d.1.puts) f h
-holds_call number (Ask viewer answer) old new d f h = holds_ask number viewer answer old new d f h
+holds_call number (Ask kind viewer answer) old new d f h = holds_ask kind number viewer answer old new d f h
 
 -- ---- all calls
 
@@ -273,11 +279,11 @@ last_resize old new rows cols answer r = by_test (has_size rows cols old.parser.
   by_test false e (Ok u) r = ap (λ (m : MirrorValue). m.viewers.last) (r.other e)
   by_test false e (Err error) r = ap (λ (m : MirrorValue). m.viewers.last) r.refused.1
 
-last_ask : (old new : MirrorValue) (viewer : ℕ) (answer : Result (Option Update) Error) →
-    Asks old viewer answer new → new.viewers.last ≡ old.viewers.last
-last_ask old new viewer (Ok (Some update)) a = a.answers.last
-last_ask old new viewer (Ok None) a = ap (λ (m : MirrorValue). m.viewers.last) a.answers.1
-last_ask old new viewer (Err error) a = ap (λ (m : MirrorValue). m.viewers.last) a.refused.1
+last_ask : (kind : Kind) (old new : MirrorValue) (viewer : ℕ) (answer : Result (Option Update) Error) →
+    Asks kind old viewer answer new → new.viewers.last ≡ old.viewers.last
+last_ask kind old new viewer (Ok (Some update)) a = a.answers.last
+last_ask kind old new viewer (Ok None) a = ap (λ (m : MirrorValue). m.viewers.last) a.answers.1
+last_ask kind old new viewer (Err error) a = ap (λ (m : MirrorValue). m.viewers.last) a.refused.1
 
 pub numbers_count : (old new : MirrorValue) (calls : List MirrorCall) →
     FoldsTo MirrorDoes old calls new → CountUp (next_number old.viewers.last) (numbers_given calls)
@@ -300,6 +306,6 @@ numbers_count old new (Join (Err error) ∷ calls) f =
 numbers_count old new (Leave viewer answer ∷ calls) f =
     last_stays old f.0 (next_number old.viewers.last)
     (numbers_given calls) f.1.1.last refl (numbers_count f.0 new calls f.2)
-numbers_count old new (Ask viewer answer ∷ calls) f =
+numbers_count old new (Ask kind viewer answer ∷ calls) f =
     last_stays old f.0 (next_number old.viewers.last) (numbers_given calls)
-    (last_ask old f.0 viewer answer f.1) refl (numbers_count f.0 new calls f.2)
+    (last_ask kind old f.0 viewer answer f.1) refl (numbers_count f.0 new calls f.2)

@@ -1,5 +1,5 @@
 -- What each call of a mirror answers, and what it leaves.
-use Rattle.std.specs.Prelude.{◌≡◌, ◌⊎◌, ◌↔◌, ℕ, ◌-◌, ◌^◌, ◌<◌, Bool, true, false, List, [], Option, Some, None, Err, Ok}
+use Rattle.std.specs.Prelude.{◌≡◌, ◌⊎◌, ◌↔◌, ℕ, ◌-◌, ◌^◌, ◌<◌, ◌≤◌, Bool, true, false, List, [], Option, Some, None, Err, Ok}
 use Rattle.std.specs.Prelude.{length, string_bytes, IfErr, IfOk, IsErr}
 use Rattle.std.specs.declared.result.Result.{Result}
 use Rattle.vt_cells.specs.Op.{bytes_of_all}
@@ -7,6 +7,7 @@ use Rattle.vt_cells.specs.declared.error.Error.{Error}
 use Rattle.vt_cells.specs.declared.error.Error.TheVariants.{Failed, NoNumber, OutOfMemory}
 use Rattle.vt_grid.specs.Page.{SameSize}
 use Rattle.vt_redraw.specs.Locality.{IsLocal}
+use Rattle.vt_redraw.specs.Moved.{IsScrolling}
 use Rattle.vt_redraw.specs.Redraw.{difference, redraw}
 use Rattle.vt_redraw.specs.Steady.{IsSteady}
 use Rattle.vt_screen.specs.Pages.{has_size, resized}
@@ -83,41 +84,63 @@ pub record IsFull (self : ScreenValue) (rows cols : ℕ) (text : List ℕ) : Typ
   pub is : text ≡ bytes_of_all (redraw (shown self))
   pub redraws : Redraws self (IsReader (shown self)) text
 
--- the difference from a screen of the same size: it is empty where both show the same, and only there, and touches near
--- what differs alone
+-- a difference from a screen of the same size: it is empty where both show the same, and only there
 pub record IsDiff (self prev : ScreenValue) (text : List ℕ) : Type 0 where
   pub size : SameSize self.page prev.page
-  pub is : text ≡ bytes_of_all (difference (shown self) (shown prev))
   pub redraws : Redraws self (IsReaderOf (shown self) (shown prev)) text
   pub none : shown self ≡ shown prev → text ≡ []
   pub empty : IsSteady (shown self) → text ≡ [] → shown self ≡ shown prev
+
+-- how a difference is made: drawn alone, or behind rows that move first
+pub data Kind : Type 0 where
+  Drawn : Kind
+  Scrolling : Kind
+
+-- one that is drawn touches near what differs alone
+pub record IsDrawn (self prev : ScreenValue) (text : List ℕ) : Type 0 where
+  pub diff : IsDiff self prev text
+  pub is : text ≡ bytes_of_all (difference (shown self) (shown prev))
   pub touches : IsSteady (shown self)
       → TouchesOnly (IsReaderOf (shown self) (shown prev)) text (IsLocal (shown self) (shown prev))
 
--- a full redraw where nothing is noted, and else the difference from the screen that is
-abbrev pub IsUpdate : (self : ScreenValue) → Option ScreenValue → Update → Type 0
-IsUpdate self (Some prev) (Diff text) = IsDiff self prev (string_bytes text)
-IsUpdate self None (Full rows cols text) = IsFull self rows cols (string_bytes text)
-IsUpdate self _ _ = ⊥
+-- one that scrolls is never longer
+pub record Scrolls (self prev : ScreenValue) (text : List ℕ) : Type 0 where
+  pub diff : IsDiff self prev text
+  pub is : IsScrolling (shown self) (shown prev) text
+  pub shorter : length text ≤ length (bytes_of_all (difference (shown self) (shown prev)))
+
+abbrev pub IsOfKind : Kind → (self prev : ScreenValue) → (text : List ℕ) → Type 0
+IsOfKind Drawn self prev text = IsDrawn self prev text
+IsOfKind Scrolling self prev text = Scrolls self prev text
+
+abbrev pub IsFullUpdate : (self : ScreenValue) → Update → Type 0
+IsFullUpdate self (Full rows cols text) = IsFull self rows cols (string_bytes text)
+IsFullUpdate self (Diff text) = ⊥
+
+-- a full redraw where nothing is noted, and else the difference, of this kind, from the screen that is
+abbrev pub IsUpdate : Kind → (self : ScreenValue) → Option ScreenValue → Update → Type 0
+IsUpdate kind self (Some prev) (Diff text) = IsOfKind kind self prev (string_bytes text)
+IsUpdate kind self (Some prev) (Full rows cols text) = ⊥
+IsUpdate kind self None update = IsFullUpdate self update
 
 -- a viewer is told, and the mirror's screen, which is a screen, is noted for it
-pub record Tells (old : MirrorValue) (viewer : ℕ) (update : Update) (new : MirrorValue) : Type 0 where
+pub record Tells (kind : Kind) (old : MirrorValue) (viewer : ℕ) (update : Update) (new : MirrorValue) : Type 0 where
   pub is : is_viewer old.viewers viewer ≡ true
   pub whole : IsScreen old.parser.screen
   pub colored : IsColored old.parser.screen
-  pub text : IsUpdate old.parser.screen (note_of old.viewers viewer) update
+  pub text : IsUpdate kind old.parser.screen (note_of old.viewers viewer) update
   pub parser : new.parser ≡ old.parser
   pub last : new.viewers.last ≡ old.viewers.last
   pub puts : Puts old.viewers viewer true (Some old.parser.screen) new.viewers
 
 -- what an answer of an update means; none is for a number that is no viewer's
-abbrev pub Answers : (old : MirrorValue) → ℕ → Option Update → (new : MirrorValue) → Type 0
-Answers old viewer None new = (is_viewer old.viewers viewer ≡ false) × (new ≡ old)
-Answers old viewer (Some update) new = Tells old viewer update new
+abbrev pub Answers : Kind → (old : MirrorValue) → ℕ → Option Update → (new : MirrorValue) → Type 0
+Answers kind old viewer None new = (is_viewer old.viewers viewer ≡ false) × (new ≡ old)
+Answers kind old viewer (Some update) new = Tells kind old viewer update new
 
 -- an update is asked for; no viewer is answered none and is never refused; refused, all is as before
-pub record Asks (old : MirrorValue) (viewer : ℕ)
+pub record Asks (kind : Kind) (old : MirrorValue) (viewer : ℕ)
     (answer : Result (Option Update) Error) (new : MirrorValue) : Type 0 where
   pub nobody : is_viewer old.viewers viewer ≡ false → answer ≡ Ok None
-  pub answers : IfOk answer (λ update. Answers old viewer update new)
+  pub answers : IfOk answer (λ update. Answers kind old viewer update new)
   pub refused : IfErr answer (λ error. (error ≡ OutOfMemory) × (new ≡ old))

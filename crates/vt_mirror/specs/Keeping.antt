@@ -8,7 +8,7 @@ use Rattle.vt_scan.specs.Automaton.{start}
 use Rattle.vt_scan.specs.Scanner.{StandsFor}
 use Rattle.vt_screen.specs.Chain.{last_screen}
 use Rattle.vt100.specs.Parser.{Ran, quietly}
-use Rattle.vt_mirror.specs.Calls.{Tells}
+use Rattle.vt_mirror.specs.Calls.{Drawn, Tells}
 use Rattle.vt_mirror.specs.Mirror.{MirrorValue}
 use Rattle.vt_mirror.specs.Runs.{IsToldAfter, screens_on_way, text_on_way}
 use Rattle.vt_mirror.specs.Viewers.{is_viewer, note_of}
@@ -24,7 +24,7 @@ text_of_update (Full rows cols text) = string_bytes text
 pub record WritesUpdate (old : MirrorValue) (viewer : ℕ) (new : MirrorValue)
     (written grown : Option (List ℕ)) : Type 0 where
   pub update : Update
-  pub tells : Tells old viewer update new
+  pub tells : Tells Drawn old viewer update new
   pub appends : Appends written grown (text_of_update update)
 
 -- bytes were read by the mirror; its viewers and its size are as before

@@ -10,7 +10,7 @@ use Rattle.vt_screen.specs.Shown.{shown}
 use Rattle.vt100.specs.Parser.{Parsing}
 use Rattle.vt100.specs.Pieces as pieces
 use Rattle.vt100.specs.Pieces.{IsPlainParser, Processing, bytes_in}
-use Rattle.vt_mirror.specs.Calls.{Asks, JoinsMirror, Leaves, MirrorProcesses, Resizes}
+use Rattle.vt_mirror.specs.Calls.{Asks, JoinsMirror, Kind, Leaves, MirrorProcesses, Resizes}
 use Rattle.vt_mirror.specs.Mirror.{MirrorValue}
 use Rattle.vt_mirror.specs.declared.update.Update.{Update}
 use Rattle.vt_mirror.specs.declared.update.Update.TheVariants.{Diff, Full}
@@ -23,7 +23,7 @@ pub data MirrorCall : Type 0 where
   SetSize : (rows : ℕ) → (cols : ℕ) → (answer : Result (Unit {0}) Error) → MirrorCall
   Join : (answer : Result ℕ Error) → MirrorCall
   Leave : (viewer : ℕ) → (answer : Bool) → MirrorCall
-  Ask : (viewer : ℕ) → (answer : Result (Option Update) Error) → MirrorCall
+  Ask : (kind : Kind) → (viewer : ℕ) → (answer : Result (Option Update) Error) → MirrorCall
 
 -- what the mirror does in a call
 abbrev pub MirrorDoes : MirrorValue → MirrorCall → MirrorValue → Type 0
@@ -31,7 +31,7 @@ MirrorDoes old (Process bytes answer) new = MirrorProcesses old bytes answer new
 MirrorDoes old (SetSize rows cols answer) new = Resizes old rows cols answer new
 MirrorDoes old (Join answer) new = (new.parser ≡ old.parser) × JoinsMirror old.viewers answer new.viewers
 MirrorDoes old (Leave viewer answer) new = (new.parser ≡ old.parser) × Leaves old.viewers viewer answer new.viewers
-MirrorDoes old (Ask viewer answer) new = Asks old viewer answer new
+MirrorDoes old (Ask kind viewer answer) new = Asks kind old viewer answer new
 
 -- no number was given, nobody views, and nothing is noted
 pub record IsFresh (mirror : MirrorValue) : Type 0 where
@@ -97,9 +97,9 @@ Watches {S} number old (Process bytes answer) new = IsLeft old new
 Watches {S} number old (SetSize rows cols answer) new = IsLeft old new
 Watches {S} number old (Join answer) new = IsLeft old new
 Watches {S} number old (Leave viewer answer) new = IsLeft old new
-Watches {S} number old (Ask viewer (Ok (Some update))) new = IsTakenBy number viewer update old new
-Watches {S} number old (Ask viewer (Ok None)) new = IsLeft old new
-Watches {S} number old (Ask viewer (Err error)) new = IsLeft old new
+Watches {S} number old (Ask kind viewer (Ok (Some update))) new = IsTakenBy number viewer update old new
+Watches {S} number old (Ask kind viewer (Ok None)) new = IsLeft old new
+Watches {S} number old (Ask kind viewer (Err error)) new = IsLeft old new
 
 -- a call of the mirror, and what its viewer does in it
 abbrev pub Goes : {S : Type 0} → ℕ → Watching S → MirrorCall → Watching S → Type 0

@@ -23,9 +23,10 @@ use vt100::Callbacks;
 /// among them, a viewer shows the screen as it was at its last update: any
 /// parser, with any callbacks, that was plain before its first update, took
 /// the size of each full one by `Parser::set_size` before it read it, and read
-/// the texts of all its updates in order, each in any pieces (`shows`). It may
-/// have joined late, may have fallen behind by any number of calls, and may
-/// have left since.
+/// the texts of all its updates in order, each in any pieces (`shows`). Each
+/// update may be of [`update`](crate::Mirror::update) or of
+/// [`update_scrolling`](crate::Mirror::update_scrolling). It may have joined
+/// late, may have fallen behind by any number of calls, and may have left since.
 ///
 /// Premises are that the mirror's screen was steady at these updates (see
 /// `Screen::contents_formatted`), and that the viewer's own calls of

@@ -1,10 +1,11 @@
 //! A terminal and its viewers.
 
-ghost use Rattle.std.specs.Prelude.{◌≡◌, IfOk, None, []};
+ghost use Rattle.std.specs.Prelude.{◌≡◌, IfOk, None, OnErr, OnOk, Some, [], true};
 ghost use Rattle.vt_cells.specs.Refusals.{OnlyOutOfMemory};
 ghost use Rattle.vt100.specs.Parser.{parsing};
-ghost use Rattle.vt_mirror.specs.Calls.{Asks, IsUpdate, JoinsMirror, Leaves, MirrorProcesses, Resizes};
-ghost use Rattle.vt_mirror.specs.Viewers.{note_of};
+ghost use Rattle.vt_mirror.specs.Calls.{Asks, Drawn, IsFullUpdate, IsUpdate, JoinsMirror, Leaves};
+ghost use Rattle.vt_mirror.specs.Calls.{MirrorProcesses, Resizes, Scrolling};
+ghost use Rattle.vt_mirror.specs.Viewers.{Puts, is_viewer, note_of};
 ghost use Rattle.vt_scan.specs.Automaton.{start};
 ghost use Rattle.vt_scan.specs.Scanner.{StandsFor};
 ghost use Rattle.vt_screen.specs.Screen.{IsColored, IsScreen, fresh_screen};
@@ -144,22 +145,42 @@ impl Mirror {
     /// noted, is refused; then nothing has changed, and the same update can be
     /// asked for again.
     pub fn update(&mut self, viewer: u64) -> Result<Option<Update>, Error>
-        ensures call { Asks self.old viewer result self.new }
+        ensures call { Asks Drawn self.old viewer result self.new }
     {
         if !self.viewers.has(viewer) {
             return Ok(None);
         }
-        let update = self.update_from(viewer)?;
-        let screen = self.parser.screen().clone()?;
-        self.viewers.put(viewer, screen)?;
+        let update = self.drawn_update(viewer)?;
+        self.note(viewer)?;
+        Ok(Some(update))
+    }
+
+    /// The viewer's next update, as [`update`](Mirror::update) gives it, with a
+    /// difference that may move rows first, as that of
+    /// `Screen::contents_diff_scrolling` does: it is never longer, where text
+    /// has scrolled it may be much shorter, and it may touch any row.
+    ///
+    /// A viewer may get either kind from one update to the next.
+    ///
+    /// Fails where memory is refused, as `update` does; then nothing has
+    /// changed, and the same update can be asked for again.
+    pub fn update_scrolling(&mut self, viewer: u64) -> Result<Option<Update>, Error>
+        ensures call { Asks Scrolling self.old viewer result self.new }
+    {
+        if !self.viewers.has(viewer) {
+            return Ok(None);
+        }
+        let update = self.scrolling_update(viewer)?;
+        self.note(viewer)?;
         Ok(Some(update))
     }
 
     /// The difference from what is noted for a viewer, or a full redraw.
-    fn update_from(&self, viewer: u64) -> Result<Update, Error>
+    fn drawn_update(&self, viewer: u64) -> Result<Update, Error>
         ensures whole { IsScreen self.now.parser.screen }
         ensures colored { IsColored self.now.parser.screen }
-        ensures ok { IfOk result (λ update. IsUpdate self.now.parser.screen (note_of self.now.viewers viewer) update) }
+        ensures ok { IfOk result
+            (λ update. IsUpdate Drawn self.now.parser.screen (note_of self.now.viewers viewer) update) }
         ensures memory { OnlyOutOfMemory result }
     {
         let screen = self.parser.screen();
@@ -169,11 +190,42 @@ impl Mirror {
         };
         Ok(Update::Diff(screen.contents_diff(prev)?))
     }
+
+    /// The same with a difference that may move rows first.
+    fn scrolling_update(&self, viewer: u64) -> Result<Update, Error>
+        ensures whole { IsScreen self.now.parser.screen }
+        ensures colored { IsColored self.now.parser.screen }
+        ensures ok { IfOk result
+            (λ update. IsUpdate Scrolling self.now.parser.screen (note_of self.now.viewers viewer) update) }
+        ensures memory { OnlyOutOfMemory result }
+    {
+        let screen = self.parser.screen();
+        screen.size();
+        let Some(prev) = self.viewers.note(viewer) else {
+            return full(screen);
+        };
+        Ok(Update::Diff(screen.contents_diff_scrolling(prev)?))
+    }
+
+    /// Notes a copy of the screen for a viewer.
+    fn note(&mut self, viewer: u64) -> Result<(), Error>
+        requires { is_viewer self.old.viewers viewer ≡ true }
+        ensures parser { self.new.parser ≡ self.old.parser }
+        ensures last { self.new.viewers.last ≡ self.old.viewers.last }
+        ensures ok { OnOk result
+            (Puts self.old.viewers viewer true (Some self.old.parser.screen) self.new.viewers) }
+        ensures err { OnErr result (self.new ≡ self.old) }
+        ensures memory { OnlyOutOfMemory result }
+    {
+        let screen = self.parser.screen().clone()?;
+        self.viewers.put(viewer, screen)?;
+        Ok(())
+    }
 }
 
 /// A full redraw.
 fn full(screen: &Screen) -> Result<Update, Error>
-    ensures ok { IfOk result (λ update. IsUpdate screen.now None update) }
+    ensures ok { IfOk result (λ update. IsFullUpdate screen.now update) }
     ensures memory { OnlyOutOfMemory result }
 {
     let (rows, cols) = screen.size();

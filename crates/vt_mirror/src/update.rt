@@ -7,7 +7,8 @@ ghost use Rattle.vt_mirror.specs.Keeping.{text_of_update};
 #[derive(PartialEq, Eq, Debug, Drop)]
 pub enum Update {
     /// A text for a viewer that has read all its updates before, as
-    /// `Screen::contents_diff` gives it; empty where nothing changed.
+    /// `Screen::contents_diff` or `Screen::contents_diff_scrolling` gives it;
+    /// empty where nothing changed.
     Diff(String),
 
     /// A text for any plain terminal of this size, as

@@ -28,6 +28,15 @@ enum Call {
 
     /// The viewer of this number is told a size and this text, behind the clear.
     Full(u64, (u16, u16), &'static str),
+
+    /// As `Nobody`, by `update_scrolling`.
+    NobodyScrolling(u64),
+
+    /// As `Diff`, by `update_scrolling`.
+    DiffScrolling(u64, &'static str),
+
+    /// As `Full`, by `update_scrolling`.
+    FullScrolling(u64, (u16, u16), &'static str),
 }
 
 /// What a full text begins with.
@@ -96,9 +105,36 @@ const RESIZED: [Call; 14] = [
     Call::Diff(1, "c"),
 ];
 
-/// A mirror of 2 rows and 4 columns, without scrollback.
-fn mirror(alloc: Global) -> Result<Mirror, Fail> {
-    let (rows, cols) = size((2, 4))?;
+/// A viewer that is told by differences of both kinds, and one that is told later and of more at once.
+/// Rows move up, down, and above a last row that stays.
+#[rattlefmt::skip]
+const MIXED: [Call; 21] = [
+    Call::Join(0),
+    Call::Join(1),
+    Call::NobodyScrolling(2),
+    Call::FullScrolling(0, (4, 10), ""),
+    Call::Process("alpha-one\r\nbeta-two\r\ngamma-six\r\n$"),
+    Call::Diff(0, "alpha-one\r\nbeta-two\r\ngamma-six\r\n$"),
+    Call::FullScrolling(1, (4, 10), "alpha-one\r\nbeta-two\r\ngamma-six\r\n$"),
+    Call::Process("\r\ndelta-ten"),
+    Call::DiffScrolling(0, "\x1b[H\x1b[M\x1b[4;1Hdelta-ten"),
+    Call::DiffScrolling(0, ""),
+    Call::Process("\r\nfin"),
+    Call::Diff(0, "\x1b[Hgamma-six\r\n$\x1b[K\r\ndelta-ten\r\nfin\x1b[K"),
+    Call::DiffScrolling(1, "\x1b[H\x1b[2M\x1b[3;1Hdelta-ten\r\nfin"),
+    Call::Process("\x1b[H\x1b[Ltop-line"),
+    Call::DiffScrolling(0, "\x1b[H\x1b[Ltop-line"),
+    Call::Process("\x1b[1;3r\x1b[3;1H\r\nnew-line\x1b[r"),
+    Call::DiffScrolling(0, "\x1b[H\x1b[M\x1b[3;1H\x1b[Lnew-line\x1b[H"),
+    Call::SetSize(4, 9),
+    Call::FullScrolling(0, (4, 9), "gamma-six\r\n$\r\nnew-line\r\ndelta-ten\x1b[H"),
+    Call::Leave(0, true),
+    Call::NobodyScrolling(0),
+];
+
+/// A mirror of this size, without scrollback.
+fn mirror(alloc: Global, rows_and_cols: (u16, u16)) -> Result<Mirror, Fail> {
+    let (rows, cols) = size(rows_and_cols)?;
     Ok(Mirror::new(alloc, rows, cols, 0)?)
 }
 
@@ -125,6 +161,11 @@ fn answers(mirror: &mut Mirror, call: Call) -> Result<bool, Fail> {
         Call::Nobody(viewer) => Ok(mirror.update(viewer)?.is_none()),
         Call::Diff(viewer, text) => is_diff(mirror.update(viewer)?, text),
         Call::Full(viewer, size, text) => is_full(mirror.update(viewer)?, size, text),
+        Call::NobodyScrolling(viewer) => Ok(mirror.update_scrolling(viewer)?.is_none()),
+        Call::DiffScrolling(viewer, text) => is_diff(mirror.update_scrolling(viewer)?, text),
+        Call::FullScrolling(viewer, size, text) => {
+            is_full(mirror.update_scrolling(viewer)?, size, text)
+        }
     }
 }
 
@@ -146,15 +187,20 @@ fn is_full(update: Option<Update>, size: (u16, u16), wanted: &str) -> Result<boo
 
 #[test]
 fn tells_one_viewer_and_another(rt: HostRuntime) -> Result<(), Fail> {
-    expect_all(&mut mirror(rt.alloc())?, &ONE_AND_ANOTHER)
+    expect_all(&mut mirror(rt.alloc(), (2, 4))?, &ONE_AND_ANOTHER)
 }
 
 #[test]
 fn tells_viewers_apart(rt: HostRuntime) -> Result<(), Fail> {
-    expect_all(&mut mirror(rt.alloc())?, &APART)
+    expect_all(&mut mirror(rt.alloc(), (2, 4))?, &APART)
 }
 
 #[test]
 fn tells_all_of_a_resize(rt: HostRuntime) -> Result<(), Fail> {
-    expect_all(&mut mirror(rt.alloc())?, &RESIZED)
+    expect_all(&mut mirror(rt.alloc(), (2, 4))?, &RESIZED)
+}
+
+#[test]
+fn tells_a_viewer_by_both_kinds_of_difference(rt: HostRuntime) -> Result<(), Fail> {
+    expect_all(&mut mirror(rt.alloc(), (4, 10))?, &MIXED)
 }

@@ -20,7 +20,7 @@ mod users;
 mod whole;
 
 use pair::{Act, Pair};
-use scenes::{ACTS, MORE_SCENES, MORE_TEXTS, ROWS, SCENES, Scene, TEXTS};
+use scenes::{ACTS, MORE_SCENES, MORE_TEXTS, MOVED, ROWS, SCENES, Scene, TEXTS};
 use shown::Shown;
 use standing::Standing;
 use std::alloc::Global;
@@ -76,7 +76,9 @@ fn run_scenes<R: AllocGlobal + Print>(rt: &R) -> io::Result<()> {
     }
     mirrors::run(rt)?;
     users::run_recorder(rt)?;
-    users::run_mirror(rt)
+    users::run_mirror(rt)?;
+    run_pair(rt, "differences behind rows that move", &MOVED)?;
+    mirrors::run_scrolling(rt)
 }
 
 /// Makes a parser, and then its calls.

@@ -22,6 +22,9 @@ enum Call {
 
     /// `update`.
     Update(u64),
+
+    /// `update_scrolling`.
+    UpdateScrolling(u64),
 }
 
 /// What a call answers.
@@ -73,15 +76,41 @@ const CALLS: [Call; 21] = [
     Call::Update(0),
 ];
 
-/// A mirror of 2 rows and 4 columns, with room for one row in scrollback.
+/// Calls of a mirror whose viewer is told by both kinds of difference. The second text scrolls the
+/// screen: a row that has a colour for each glyph moves up, and another one goes into scrollback.
+#[rattlefmt::skip]
+const SCROLLING_CALLS: [Call; 9] = [
+    Call::Join,
+    Call::UpdateScrolling(0),
+    Call::UpdateScrolling(0),
+    Call::Process("x\r\n\x1b[31ma\x1b[32mb\x1b[33mc\x1b[34md"),
+    Call::Update(0),
+    Call::Update(0),
+    Call::Process("\r\nz"),
+    Call::UpdateScrolling(0),
+    Call::UpdateScrolling(0),
+];
+
+/// A mirror and viewers that come and go.
 pub fn run<R: AllocGlobal + Print>(rt: &R) -> io::Result<()> {
     println!(rt; "-- a mirror and its viewers")?;
+    run_calls(rt, &CALLS)
+}
+
+/// A mirror whose rows move.
+pub fn run_scrolling<R: AllocGlobal + Print>(rt: &R) -> io::Result<()> {
+    println!(rt; "-- a mirror whose rows move")?;
+    run_calls(rt, &SCROLLING_CALLS)
+}
+
+/// Makes a mirror of 2 rows and 4 columns, with room for one row in scrollback, and then its calls.
+fn run_calls<R: AllocGlobal + Print>(rt: &R, calls: &[Call]) -> io::Result<()> {
     let (rows, cols) = step::size((2, 4));
     let Ok(mut mirror) = Mirror::new(rt.alloc(), rows, cols, 1) else {
         return println!(rt; "new: refused");
     };
     println!(rt; "new: ok")?;
-    for call in &CALLS {
+    for call in calls {
         let answer = call.make(&mut mirror);
         println!(rt; "{call}: {answer}")?;
     }
@@ -108,12 +137,18 @@ impl Call {
                 Err(error) => Answer::Refused(error),
             },
             Call::Leave(viewer) => Answer::Was(mirror.leave(viewer)),
-            Call::Update(viewer) => match mirror.update(viewer) {
-                Ok(Some(update)) => Answer::Told(update),
-                Ok(None) => Answer::Nobody,
-                Err(error) => Answer::Refused(error),
-            },
+            Call::Update(viewer) => told(mirror.update(viewer)),
+            Call::UpdateScrolling(viewer) => told(mirror.update_scrolling(viewer)),
         }
+    }
+}
+
+/// The answer of a call that gives an update.
+fn told(made: Result<Option<Update>, Error>) -> Answer {
+    match made {
+        Ok(Some(update)) => Answer::Told(update),
+        Ok(None) => Answer::Nobody,
+        Err(error) => Answer::Refused(error),
     }
 }
 
@@ -125,6 +160,7 @@ impl fmt::Display for Call {
             Call::Join => write!(f, "join"),
             Call::Leave(viewer) => write!(f, "leave {viewer}"),
             Call::Update(viewer) => write!(f, "update {viewer}"),
+            Call::UpdateScrolling(viewer) => write!(f, "update_scrolling {viewer}"),
         }
     }
 }

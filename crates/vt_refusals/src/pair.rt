@@ -70,6 +70,9 @@ impl fmt::Display for Act {
             Act::Exchange => write!(f, "exchange"),
             Act::Copy => write!(f, "first gets a copy"),
             Act::Differ(Change::Picture) => write!(f, "first differs from second"),
+            Act::Differ(Change::Scrolling) => {
+                write!(f, "first differs from second, whose rows may move")
+            }
             Act::Differ(Change::State) => write!(f, "state of first differs from second"),
             Act::Differ(Change::Modes) => write!(f, "modes of first differ from second"),
             Act::Differ(Change::Rows) => write!(f, "rows of first differ from second"),

@@ -175,6 +175,17 @@ pub const MORE_TEXTS: [Act; 20] = [
     Act::Second(Step::Capture),
 ];
 
+/// Differences behind rows that move: both texts are made, and the shorter one is answered. Each is
+/// asked for twice.
+///
+/// The second screen has the first one's upper row below, with a colour for each glyph.
+pub const MOVED: [Act; 4] = [
+    Act::Second(Step::Process(b"x\r\n\x1b[31ma\x1b[32mb\x1b[33mc\x1b[34md")),
+    Act::First(Step::Process(b"\x1b[31ma\x1b[32mb\x1b[33mc\x1b[34md\r\nz")),
+    Act::Differ(Change::Scrolling),
+    Act::Differ(Change::Scrolling),
+];
+
 /// The texts of the rows of two screens, each item in its turn: what comes behind a refused item is
 /// the next row's.
 pub const ROWS: [Act; 4] = [

@@ -149,6 +149,9 @@ pub enum Change {
     /// `contents_diff`.
     Picture,
 
+    /// `contents_diff_scrolling`.
+    Scrolling,
+
     /// `state_diff`.
     State,
 
@@ -167,6 +170,7 @@ impl Change {
         }
         match self {
             Change::Picture => told(screen.contents_diff(prev)),
+            Change::Scrolling => told(screen.contents_diff_scrolling(prev)),
             Change::State => told(screen.state_diff(prev)),
             Change::Modes => told(screen.input_mode_diff(prev)),
             Change::Rows => {

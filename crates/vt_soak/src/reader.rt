@@ -8,9 +8,9 @@ use crate::tally::Tally;
 use anyhow::{Result, bail};
 use vt100::{Parser, Screen};
 
-/// Has a terminal read what differs between this screen and the one before it, in cells and modes, and
-/// answers what is not as on the screen then. If the terminal does not show the screen before, which it
-/// may have passed over, or has another size, it reads a redraw.
+/// Has a terminal read what differs between this screen and the one before it, by one kind of difference
+/// or the other, and answers what is not as on the screen then. If the terminal does not show the screen
+/// before, which it may have passed over, or has another size, it reads a redraw.
 pub fn read_difference(
     dice: &mut Dice,
     tally: &mut Tally,
@@ -21,8 +21,7 @@ pub fn read_difference(
     if !is_at(reader.screen(), screen, prev) {
         return read_redraw(dice, tally, reader, screen);
     }
-    let text = difference(screen, prev)?;
-    tally.differences = tally.differences.saturating_add(1);
+    let text = difference(tally, screen, prev)?;
     feed(reader, dice, text.as_bytes())?;
     Ok(missing(reader.screen(), screen, Part::Difference))
 }
@@ -67,11 +66,23 @@ fn is_at(reader: &Screen, screen: &Screen, prev: &Screen) -> bool {
     reader.is_sized_as(screen) && prev.is_sized_as(screen) && shows(reader, prev)
 }
 
-fn difference(screen: &Screen, prev: &Screen) -> Result<String> {
+/// Two differences that are drawn, then two that may move rows first, and so on: each kind comes behind
+/// itself and behind the other one.
+fn difference(tally: &mut Tally, screen: &Screen, prev: &Screen) -> Result<String> {
     if !screen.is_sized_as(prev) {
         bail!("screens of two sizes");
     }
-    Ok(screen.contents_diff(prev)?)
+    let may_scroll = tally.differences % 4 >= 2;
+    tally.differences = tally.differences.saturating_add(1);
+    let drawn = screen.contents_diff(prev)?;
+    if !may_scroll {
+        return Ok(drawn);
+    }
+    let text = screen.contents_diff_scrolling(prev)?;
+    if text.as_str() != drawn.as_str() {
+        tally.moved = tally.moved.saturating_add(1);
+    }
+    Ok(text)
 }
 
 fn missing(reader: &Screen, screen: &Screen, part: Part) -> Option<Part> {

@@ -18,6 +18,9 @@ pub struct Tally {
     /// How many differences were read back.
     pub differences: u64,
 
+    /// How many of these moved rows first.
+    pub moved: u64,
+
     /// How many screens were passed over, since a glyph on them may be another one if it is printed
     /// again.
     pub unsteady: u64,
@@ -35,6 +38,7 @@ impl Tally {
             bytes: 0,
             redraws: 0,
             differences: 0,
+            moved: 0,
             unsteady: 0,
             differs: None,
         }
@@ -45,8 +49,14 @@ impl fmt::Display for Tally {
     fn fmt<W: fmt::Write>(&self, f: &mut fmt::Formatter<W>) -> fmt::Result {
         write!(
             f,
-            "seed {}: {} steps, {} bytes read, {} redraws and {} differences read back, {} screens passed over",
-            self.seed, self.steps, self.bytes, self.redraws, self.differences, self.unsteady
+            "seed {}: {} steps, {} bytes read, {} redraws and {} differences read back, {} of them behind rows that moved, {} screens passed over",
+            self.seed,
+            self.steps,
+            self.bytes,
+            self.redraws,
+            self.differences,
+            self.moved,
+            self.unsteady
         )?;
         match self.differs {
             Some(part) => write!(f, "\ndiffers after step {}: {part}", self.steps),

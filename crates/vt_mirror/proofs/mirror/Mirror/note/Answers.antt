@@ -1,6 +1,6 @@
 use Rattle.std.proofs.Common.{refl, ◌∙◌}
 use Rattle.vt_mirror.proofs.Noted.{noted_copy, noted_same}
-use Rattle.vt_mirror.proofs.mirror.Mirror.update.Goals as goal
+use Rattle.vt_mirror.proofs.mirror.Mirror.note.Goals as goal
 
 pub invariant_of-self : goal.invariant_of-self
 invariant_of-self c =
