@@ -1,0 +1,86 @@
+//! What a program asks of the terminal around it.
+
+use std::alloc::Global;
+use std::num::NonZeroU16;
+use vt100::capture::RowContents;
+use vt100::{Call, Callbacks, Error, Parser, Screen};
+
+/// The greatest size that a program is given.
+const GREATEST: (u16, u16) = (200, 400);
+
+/// A window around a terminal.
+#[derive(Drop)]
+pub struct Window {
+    title: Vec<u8>,
+    bells: u64,
+    wanted: Option<(u16, u16)>,
+    has_lost: bool,
+}
+
+impl Window {
+    /// A window without a title.
+    pub fn new(alloc: Global) -> Self {
+        Window {
+            title: Vec::new(alloc),
+            bells: 0,
+            wanted: None,
+            has_lost: false,
+        }
+    }
+
+    /// The title, as the program sent it: it may be no UTF-8.
+    pub fn title(&self) -> &[u8] {
+        self.title.as_slice()
+    }
+
+    /// How often the bell rang.
+    pub fn bells(&self) -> u64 {
+        self.bells
+    }
+}
+
+impl Callbacks for Window {
+    ghost use Rattle.std.specs.Prelude.{◌≡◌};
+
+    // The screen stays as it is.
+    ghost does = { λ _ _ before _ after. after ≡ before };
+
+    fn otherwise(&mut self, _screen: &mut Screen, _call: Call<'_>) {}
+
+    fn on_scroll(&mut self, _row: RowContents<'_>, _alternate: bool) {}
+
+    fn audible_bell(&mut self, _screen: &mut Screen) {
+        self.bells = self.bells.saturating_add(1);
+    }
+
+    fn set_window_title(&mut self, _screen: &mut Screen, title: &[u8]) {
+        self.title.clear();
+        if self.title.extend_from_slice(title).is_err() {
+            self.has_lost = true;
+        }
+    }
+
+    fn resize(&mut self, _screen: &mut Screen, size: (u16, u16)) {
+        self.wanted = Some(size);
+    }
+}
+
+/// Reads bytes, and then gives the screen the size that they asked for, at most the greatest one.
+///
+/// Fails where memory is refused, also to a callback.
+pub fn read(parser: &mut Parser<Window>, bytes: &[u8]) -> Result<(), Error> {
+    parser.process(bytes)?;
+    let window = parser.callbacks_mut();
+    if window.has_lost {
+        return Err(Error::OutOfMemory);
+    }
+    let Some((rows, cols)) = window.wanted.take() else {
+        return Ok(());
+    };
+    let rows = NonZeroU16::new(rows.min(GREATEST.0));
+    let cols = NonZeroU16::new(cols.min(GREATEST.1));
+    match (rows, cols) {
+        (Some(rows), Some(cols)) => parser.set_size(rows, cols),
+        _ => Ok(()),
+    }
+}
