@@ -1,0 +1,10 @@
+pub mod Joining
+pub mod AsBox
+pub mod Null
+pub mod Logging
+pub mod Padding
+pub mod RowPlaces
+pub mod Scrolling
+pub mod Showing
+pub mod Answering
+pub mod Reported

@@ -1,0 +1,51 @@
+-- Whether a handle's pointer is null says whether it holds something. Assumes `Logic`.
+use Rattle.std.proofs.Common.{◌≡◌, ℕ, zero, ◌<◌, ◌^◌, Bool, true, false, not, [], ◌∷◌, refl, sym, subst, lit<}
+use Rattle.std.specs.Prelude.{Option, Some, None, is_some}
+use lib.Dec.{T}
+use seplogic.Ra.Ura.{Ura}
+use mir.Raw.{raw as bare}
+use mir.Syntax.{ty_ptr, ptr_eq}
+use mir.Val.{vbool, vnull, op2_val, has_ty, WT}
+use base.Logic.{ent, sep, emp, never, fst∗}
+use base.Fml.{feq}
+use types.Logic.{Logic, sem}
+use contract.Monad.{fact, fact_i, fact_use}
+use types.Kit.{‵, raw, ◌$◌, ◌∵◌, !, qed, done, move, keep, use0, use1, fsplit, feq_l}
+use denote.RawPtr.{Ptr, block_ptr, null_ptr, ptr_val, count_of, Testable, in_a_block}
+use denote.Steps.{heard}
+use Rattle.std.proofs.GlobalToken.{dealloc_token_start}
+use Rattle.std_alloc.specs.Box.Ownership.{box_owns}
+use Rattle.std.proofs.BoxSteps.Form.{τ}
+use Rattle.vt100_c.specs.contracts.object.Object as Object
+use Rattle.vt100_c.specs.Held.{heap, may_free, held_at}
+use Rattle.vt100_c.proofs.AsBox.{E}
+
+abbrev pub X : Type 0
+X = Object.the_row.Denot
+
+-- what a test of p against null tells, where what is held is o
+abbrev pub Tells : Ptr → Option X → Type 0
+Tells p o = (y : Bool) × (op2_val ptr_eq (ptr_val p) vnull ≡ vbool y) × Testable p × (not y ≡ is_some o)
+
+pub ptr_typed : (p : Ptr) → T (has_ty ty_ptr (ptr_val p)) × WT (ptr_val p)
+ptr_typed (block_ptr b o) = (tt, tt)
+ptr_typed null_ptr = (tt, record { fits = lit< tt })
+
+module _ {M : Type 1} {𝓤 : Ura M} (𝓛 : Logic 𝓤) where
+  told : (p : Ptr) (o : Option X) → ent 𝓤 (sem 𝓛 (held_at p o)) (fact 𝓤 (Tells p o))
+  told p None =
+      qed 𝓛 (‵ (feq Ptr p null_ptr) ∷ []) ∵ feq_l ! (λ e.
+      let is : Tells null_ptr None = (true, refl, lit< tt, refl) in
+      use0 𝓛 (raw (fact 𝓤 (Tells p None))) (fact_i 𝓤 (Tells p None) (emp 𝓤) (subst (λ (q : Ptr). Tells q None) (sym e) is)) $ done !)
+  told p (Some x) =
+      qed 𝓛 (‵ (box_owns may_free Object.the_row p x) ∷ []) ∵
+      in_a_block ! p (λ q. box_owns may_free Object.the_row q x) (fst∗ 𝓤 (never 𝓤) (sem 𝓛 (may_free (bare (τ E)) null_ptr))) (λ b o e. fsplit ! $ move ! (1 ∷ []) $
+      use1 𝓛 (raw (fact 𝓤 (count_of (block_ptr b o) ≡ zero))) (dealloc_token_start 𝓛 heap (bare (τ E)) (block_ptr b o)) $ heard ! _ (λ first.
+      let low : o < 2 ^ 63 = subst (λ (k : ℕ). k < 2 ^ 63) (sym first) (lit< tt) in
+      let is : Tells (block_ptr b o) (Some x) = (false, refl, low, refl) in
+      use0 𝓛 (raw (fact 𝓤 (Tells p (Some x)))) (fact_i 𝓤 (Tells p (Some x)) (emp 𝓤) (subst (λ (q : Ptr). Tells q (Some x)) (sym e) is)) $ keep ! (0 ∷ []) $ done !))
+
+  -- the fact, beside what tells it
+  pub tells : (p : Ptr) (o : Option X) → ent 𝓤 (sem 𝓛 (held_at p o)) (sep 𝓤 (fact 𝓤 (Tells p o)) (sem 𝓛 (held_at p o)))
+  tells p o =
+      fact_use 𝓤 (Tells p o) (told p o) (λ t. qed 𝓛 (‵ (held_at p o) ∷ []) ∵ use0 𝓛 (raw (fact 𝓤 (Tells p o))) (fact_i 𝓤 (Tells p o) (emp 𝓤) t) $ done !)

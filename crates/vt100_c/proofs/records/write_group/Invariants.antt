@@ -1,0 +1,9 @@
+-- The numbers so far stand behind what stood there.
+use Rattle.std.proofs.Common.{◌≡◌, ◌++◌, take}
+use Rattle.std.specs.Int.{w16, to_le_bytes}
+use Rattle.std.specs.List.{flat_map}
+use Rattle.vt100_c.proofs.records.write_group.Given as goal
+
+abbrev pub invariant-loop-number : goal.invariant-loop-number
+invariant-loop-number l =
+    l.joined.items ≡ l.initial.joined.items ++ flat_map (to_le_bytes w16) (take l.number-index l.group)

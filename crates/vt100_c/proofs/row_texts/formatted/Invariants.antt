@@ -1,0 +1,14 @@
+-- The texts so far are put one behind the other.
+use Rattle.std.proofs.Common.{◌≤◌, length}
+use Rattle.std.specs.Prelude.{string_bytes}
+use Rattle.vt100_c.specs.Rows.{IsJoined}
+use Rattle.vt100_c.proofs.row_texts.formatted.Given as goal
+
+abbrev pub invariant-loop-item : goal.invariant-loop-item
+invariant-loop-item l = record {
+  joined : IsJoined l.initial.rows l.rows l.row (string_bytes l.joined) l.ends;
+  room : length l.initial.rows ≤ length l.ends;
+}
+
+abbrev pub decreases-loop-item : goal.decreases-loop-item
+decreases-loop-item l = length l.rows

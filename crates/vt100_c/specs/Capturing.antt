@@ -1,0 +1,63 @@
+-- Rows that are written behind a capture.
+use Rattle.std.specs.Prelude.{ℕ, nat_lt, length, Option, Some, None, if◌then◌else◌}
+use Rattle.vt_rows.specs.Basic.{Written}
+use Rattle.vt_rows.specs.Row.{RowValue}
+use Rattle.vt_screen.specs.Screen.{ScreenValue}
+use Rattle.vt100_c.specs.Records.{Logged}
+use Rattle.vt100_c.specs.Status.{ok, bad_argument, no_object, wrong_kind}
+use Rattle.vt100_c.specs.declared.object.Object.{Object}
+use Rattle.vt100_c.specs.declared.object.Source.{Source}
+use Rattle.vt100_c.specs.declared.object.Source.TheVariants.{Parser, Screen, Mirror, Capture}
+
+-- the state of a capture
+abbrev pub state_in : Source → Option Written
+state_in (Parser parser) = None
+state_in (Screen screen) = None
+state_in (Mirror mirror) = None
+state_in (Capture written) = Some written
+
+-- ---- of a value and a capture beside it
+
+-- the status that is due, where `due` is that of the value
+abbrev pub due_behind : {A : Type 0} → (A → ℕ) → Option A → Option Written → ℕ
+due_behind due None state = wrong_kind
+due_behind due (Some value) None = wrong_kind
+due_behind due (Some value) (Some state) = due value
+
+-- both are there, and this holds of them
+abbrev pub OnCapture : {A : Type 0} → Option A → Option Written → (A → Written → Type 0) → Type 0
+OnCapture None state Holds = ⊥
+OnCapture (Some value) None Holds = ⊥
+OnCapture (Some value) (Some state) Holds = Holds value state
+
+-- ---- of two handles, where `of` gives the first one's value
+
+abbrev pub due_at_capture : {A : Type 0} → (Source → Option A) → (A → ℕ) → Option Object → Option Object → ℕ
+due_at_capture of due None capture = no_object
+due_at_capture of due (Some object) None = no_object
+due_at_capture of due (Some object) (Some capture) = due_behind due (of object.source) (state_in capture.source)
+
+-- of what is held beside a capture that was taken out
+abbrev pub due_beside_capture : {A : Type 0} → (Source → Option A) → (A → ℕ) → Option Object → Option Written → ℕ
+due_beside_capture of due None state = bad_argument
+due_beside_capture of due (Some object) state = due_behind due (of object.source) state
+
+abbrev pub HoldAtCapture : {A : Type 0} → (Source → Option A) → Option Object → Option Object →
+    (A → Written → Type 0) → Type 0
+HoldAtCapture of None capture Holds = ⊥
+HoldAtCapture of (Some object) None Holds = ⊥
+HoldAtCapture of (Some object) (Some capture) Holds = OnCapture (of object.source) (state_in capture.source) Holds
+
+-- ---- a screen's rows, and a row that was reported
+
+abbrev pub any_screen_is_due : ScreenValue → ℕ
+any_screen_is_due screen = ok
+
+-- there is a row of this number
+abbrev pub has_reported : ℕ → Logged → ℕ
+has_reported index log = if nat_lt index (length log.rows) then ok else bad_argument
+
+-- it is there, and this holds of it
+abbrev pub OnRow : Option RowValue → (RowValue → Type 0) → Type 0
+OnRow None Holds = ⊥
+OnRow (Some row) Holds = Holds row

@@ -1,0 +1,22 @@
+-- What a handle owns: nothing, and then it is null, or a block of the C library's heap with an object in it.
+use Rattle.std.specs.Prelude.{Option, Some, None}
+use Rattle.std.specs.Global.{Global}
+use Rattle.std_alloc.specs.Box.Ownership.{box_owns}
+use Rattle.std_heap.specs.contracts.GlobalAllocator.TheImpl.{ghosts}
+use Rattle.vt100_c.specs.declared.object.Object.{Object}
+use Rattle.vt100_c.specs.contracts.object.Object.{the_row}
+use base.Fml.{Fml, feq}
+use denote.RawPtr.{Ptr, null_ptr}
+use mir.Syntax.{Ty}
+
+-- the C library's heap
+abbrev pub heap : Global
+heap = record { memory = record { seal = tt } }
+
+-- the right to free a block of it
+abbrev pub may_free : Ty → Ptr → Fml
+may_free = ghosts.dealloc_token heap
+
+abbrev pub held_at : Ptr → Option Object → Fml
+held_at at None = feq Ptr at null_ptr
+held_at at (Some object) = box_owns may_free the_row at object

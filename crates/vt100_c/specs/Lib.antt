@@ -1,0 +1,17 @@
+pub mod Status
+pub mod Records
+pub mod Held
+pub mod Sources
+pub mod Calls
+pub mod Life
+pub mod Reading
+pub mod Due
+pub mod Shown
+pub mod Texts
+pub mod Log
+pub mod Captures
+pub mod Capturing
+pub mod Rows
+pub mod Mirrors
+pub mod Viewing
+pub mod Sizes

@@ -1,0 +1,46 @@
+-- The log of what a handle holds: a parser's.
+use Rattle.std.specs.Prelude.{◌≡◌, ℕ, List, [], Option, Some, None}
+use Rattle.vt100_c.specs.Records.{Logged, bit_of, emptied}
+use Rattle.vt100_c.specs.Status.{ok, no_object, wrong_kind}
+use Rattle.vt100_c.specs.declared.object.Object.{Object}
+use Rattle.vt100_c.specs.declared.object.Source.{Source}
+use Rattle.vt100_c.specs.declared.object.Source.TheVariants.{Parser, Screen, Mirror, Capture}
+
+abbrev pub log_in : Source → Option Logged
+log_in (Parser parser) = Some parser.callbacks
+log_in (Screen screen) = None
+log_in (Mirror mirror) = None
+log_in (Capture written) = None
+
+abbrev pub log_at : Option Object → Option Logged
+log_at None = None
+log_at (Some object) = log_in object.source
+
+-- the status that is due
+abbrev pub due_to : Option Logged → ℕ
+due_to None = wrong_kind
+due_to (Some log) = ok
+
+abbrev pub due_to_log : Option Object → ℕ
+due_to_log None = no_object
+due_to_log (Some object) = due_to (log_in object.source)
+
+-- the records; none where there is no log
+abbrev pub records_of : Option Logged → List ℕ
+records_of None = []
+records_of (Some log) = log.records
+
+-- 1 where no record is missing
+abbrev pub whole_of : Option Logged → ℕ
+whole_of None = 0
+whole_of (Some log) = bit_of log.is_whole
+
+-- a source whose log was emptied, if it has one
+abbrev pub with_emptied : Source → Source
+with_emptied (Parser parser) = Parser (record parser { callbacks = emptied parser.callbacks })
+with_emptied (Screen screen) = Screen screen
+with_emptied (Mirror mirror) = Mirror mirror
+with_emptied (Capture written) = Capture written
+
+abbrev pub Empties : Source → ℕ → Source → Type 0
+Empties old status new = (status ≡ due_to (log_in old)) × (new ≡ with_emptied old)

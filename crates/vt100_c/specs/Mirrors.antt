@@ -1,0 +1,69 @@
+-- What C is told of a mirror's answers.
+use Rattle.std.specs.Prelude.{◌≡◌, ℕ, Bool, List, Option, Some, None, Result, Ok, Err, string_bytes, string_len}
+use Rattle.std.specs.Prelude.{if◌then◌else◌}
+use Rattle.vt_cells.specs.declared.error.Error.{Error}
+use Rattle.vt_mirror.specs.Calls.{Asks, JoinsMirror, Kind, Leaves}
+use Rattle.vt_mirror.specs.Mirror.{MirrorValue}
+use Rattle.vt_mirror.specs.declared.update.Update.{Update}
+use Rattle.vt_mirror.specs.declared.update.Update.TheVariants.{Diff, Full}
+use Rattle.vt100_c.specs.Status.{ok, bad_argument, status_of}
+
+-- ---- viewers come and go
+
+-- a number is handed over, or an error is told and the place for the number stays
+abbrev pub GivesNumber : Result ℕ Error → (status before after : ℕ) → Type 0
+GivesNumber (Ok number) status before after = (status ≡ ok) × (after ≡ number)
+GivesNumber (Err error) status before after = (status ≡ status_of error) × (after ≡ before)
+
+-- a viewer joins
+pub record Joins (status before after : ℕ) (old new : MirrorValue) : Type 0 where
+  pub answer : Result ℕ Error
+  pub parser : new.parser ≡ old.parser
+  pub call : JoinsMirror old.viewers answer new.viewers
+  pub gives : GivesNumber answer status before after
+
+-- a viewer leaves; where there is none of this number, that is a bad argument
+pub record LeavesIt (viewer status : ℕ) (old new : MirrorValue) : Type 0 where
+  pub answer : Bool
+  pub parser : new.parser ≡ old.parser
+  pub call : Leaves old.viewers viewer answer new.viewers
+  pub answers : status ≡ (if answer then ok else bad_argument)
+
+-- ---- updates
+
+-- what stands where the numbers of an update go: the size of a full one, and the length of the text
+pub record Told : Type 0 where
+  pub rows : ℕ
+  pub cols : ℕ
+  pub len : ℕ
+
+abbrev pub told : (rows cols len : ℕ) → Told
+told rows cols len = record { rows = rows; cols = cols; len = len }
+
+-- a difference has no size; where there is no update, all is as before
+abbrev pub told_after : Result (Option Update) Error → Told → Told
+told_after (Ok (Some (Full rows cols text))) before = told rows cols (string_len text)
+told_after (Ok (Some (Diff text))) before = told 0 0 (string_len text)
+told_after (Ok None) before = before
+told_after (Err error) before = before
+
+-- the text that is kept
+abbrev pub text_after : Result (Option Update) Error → List ℕ → List ℕ
+text_after (Ok (Some (Full rows cols text))) before = string_bytes text
+text_after (Ok (Some (Diff text))) before = string_bytes text
+text_after (Ok None) before = before
+text_after (Err error) before = before
+
+abbrev pub status_after : Result (Option Update) Error → ℕ
+status_after (Ok (Some update)) = ok
+status_after (Ok None) = bad_argument
+status_after (Err error) = status_of error
+
+-- an update is asked for and handed over: its text is kept, and its numbers are told
+pub record Updates (kind : Kind) (viewer status : ℕ) (text text' : List ℕ) (before after : Told)
+    (old new : MirrorValue) : Type 0 where
+  pub answer : Result (Option Update) Error
+  pub call : Asks kind old viewer answer new
+  pub answers : status ≡ status_after answer
+  pub keeps : text' ≡ text_after answer text
+  pub tells : after ≡ told_after answer before

@@ -1,0 +1,157 @@
+-- The record of a call, as C reads it: its kind in a byte, two numbers of four bytes, the length of its text in eight
+-- bytes, and the text. The low byte of a number comes first.
+use Rattle.std.specs.Prelude.{◌≡◌, ◌⊎◌, ◌==◌, ◌&&◌, ◌/◌, ◌%◌, ◌^◌, ℕ, Bool, true, false}
+use Rattle.std.specs.Prelude.{List, [], ◌∷◌, ◌++◌, length, Option, Some, None}
+use Rattle.std.specs.Int.{w16, w32, w64, to_le_bytes}
+use Rattle.std.specs.List.{flat_map}
+use Rattle.vt_rows.specs.Plain.{plain_text}
+use Rattle.vt_rows.specs.Row.{RowValue, trimmed_row}
+use Rattle.vt_screen.specs.Calls.{CallValue, AudibleBell, VisualBell, Resize, SetWindowIconName, SetWindowTitle}
+use Rattle.vt_screen.specs.Calls.{CopyToClipboard, PasteFromClipboard, UnhandledChar, UnhandledControl}
+use Rattle.vt_screen.specs.Calls.{UnhandledEscape, UnhandledCsi, UnhandledOsc, OnScroll}
+use Rattle.vt_screen.specs.Screen.{ScreenValue}
+
+-- ---- one record
+
+abbrev pub kind_of : CallValue → ℕ
+kind_of AudibleBell = 0
+kind_of VisualBell = 1
+kind_of (Resize rows cols) = 2
+kind_of (SetWindowIconName name) = 3
+kind_of (SetWindowTitle title) = 4
+kind_of (CopyToClipboard kind text) = 5
+kind_of (PasteFromClipboard kind) = 6
+kind_of (UnhandledChar code) = 7
+kind_of (UnhandledControl byte) = 8
+kind_of (UnhandledEscape first second byte) = 9
+kind_of (UnhandledCsi first second groups byte) = 10
+kind_of (UnhandledOsc parts) = 11
+kind_of (OnScroll row alternate) = 12
+
+-- a byte that may be missing
+abbrev pub number_of : Option ℕ → ℕ
+number_of None = 256
+number_of (Some byte) = byte
+
+abbrev pub bit_of : Bool → ℕ
+bit_of true = 1
+bit_of false = 0
+
+abbrev pub first_of : CallValue → ℕ
+first_of AudibleBell = 0
+first_of VisualBell = 0
+first_of (Resize rows cols) = rows
+first_of (SetWindowIconName name) = 0
+first_of (SetWindowTitle title) = 0
+first_of (CopyToClipboard kind text) = 0
+first_of (PasteFromClipboard kind) = 0
+first_of (UnhandledChar code) = code
+first_of (UnhandledControl byte) = byte
+first_of (UnhandledEscape first second byte) = number_of first
+first_of (UnhandledCsi first second groups byte) = number_of first
+first_of (UnhandledOsc parts) = 0
+first_of (OnScroll row alternate) = bit_of alternate
+
+abbrev pub second_of : CallValue → ℕ
+second_of AudibleBell = 0
+second_of VisualBell = 0
+second_of (Resize rows cols) = cols
+second_of (SetWindowIconName name) = 0
+second_of (SetWindowTitle title) = 0
+second_of (CopyToClipboard kind text) = 0
+second_of (PasteFromClipboard kind) = 0
+second_of (UnhandledChar code) = 0
+second_of (UnhandledControl byte) = 0
+second_of (UnhandledEscape first second byte) = number_of second
+second_of (UnhandledCsi first second groups byte) = number_of second
+second_of (UnhandledOsc parts) = 0
+second_of (OnScroll row alternate) = bit_of row.wrapped
+
+-- bytes behind their length
+abbrev pub part_of : List ℕ → List ℕ
+part_of bytes = to_le_bytes w64 (length bytes) ++ bytes
+
+-- numbers, behind how many they are
+abbrev pub group_of : List ℕ → List ℕ
+group_of numbers = to_le_bytes w64 (length numbers) ++ flat_map (to_le_bytes w16) numbers
+
+abbrev pub text_of : CallValue → List ℕ
+text_of AudibleBell = []
+text_of VisualBell = []
+text_of (Resize rows cols) = []
+text_of (SetWindowIconName name) = name
+text_of (SetWindowTitle title) = title
+text_of (CopyToClipboard kind text) = flat_map part_of (kind ∷ text ∷ [])
+text_of (PasteFromClipboard kind) = kind
+text_of (UnhandledChar code) = []
+text_of (UnhandledControl byte) = []
+text_of (UnhandledEscape first second byte) = byte ∷ []
+text_of (UnhandledCsi first second groups code) = to_le_bytes w32 code ++ flat_map group_of groups
+text_of (UnhandledOsc parts) = flat_map part_of parts
+text_of (OnScroll row alternate) = plain_text 0 (length row.cells) row.cells
+
+abbrev pub record_with : (kind first second : ℕ) → List ℕ → List ℕ
+record_with kind first second text =
+    kind ∷ (to_le_bytes w32 first ++ (to_le_bytes w32 second ++ part_of text))
+
+abbrev pub record_of : CallValue → List ℕ
+record_of call = record_with (kind_of call) (first_of call) (second_of call) (text_of call)
+
+-- ---- the log
+
+-- which kinds are wanted, the records so far, the rows of those that report one, and whether none is missing
+pub record Logged : Type 0 where
+  pub wanted : ℕ
+  pub records : List ℕ
+  pub rows : List RowValue
+  pub is_whole : Bool
+
+-- whether bit `kind` of a number is set
+abbrev pub is_wanted : ℕ → ℕ → Bool
+is_wanted wanted kind = wanted / 2 ^ kind % 2 == 1
+
+-- a call is kept if it is wanted, and none was lost before it
+abbrev pub is_kept : CallValue → Logged → Bool
+is_kept call log = log.is_whole && is_wanted log.wanted (kind_of call)
+
+-- the rows behind those so far, without the default blanks at their ends
+abbrev pub rows_with : CallValue → List RowValue → List RowValue
+rows_with AudibleBell rows = rows
+rows_with VisualBell rows = rows
+rows_with (Resize height width) rows = rows
+rows_with (SetWindowIconName name) rows = rows
+rows_with (SetWindowTitle title) rows = rows
+rows_with (CopyToClipboard kind text) rows = rows
+rows_with (PasteFromClipboard kind) rows = rows
+rows_with (UnhandledChar code) rows = rows
+rows_with (UnhandledControl byte) rows = rows
+rows_with (UnhandledEscape first second byte) rows = rows
+rows_with (UnhandledCsi first second groups byte) rows = rows
+rows_with (UnhandledOsc parts) rows = rows
+rows_with (OnScroll row alternate) rows = rows ++ trimmed_row row ∷ []
+
+-- a log with the record of a call behind the others
+abbrev pub with_record : CallValue → Logged → Logged
+with_record call log =
+    record log { records = log.records ++ record_of call; rows = rows_with call log.rows }
+
+-- a log that lost a record
+abbrev pub with_loss : Logged → Logged
+with_loss log = record log { is_whole = false }
+
+-- an empty log, in which nothing is missing
+abbrev pub emptied : Logged → Logged
+emptied log = record { wanted = log.wanted; records = []; rows = []; is_whole = true }
+
+abbrev pub nothing_logged : ℕ → Logged
+nothing_logged wanted = record { wanted = wanted; records = []; rows = []; is_whole = true }
+
+-- a call that is kept leaves its record behind the others, or memory for that was refused, and then the log is not whole,
+-- and nothing is added until it is emptied; any other call leaves the log
+pub record LogsIt (call : CallValue) (old new : Logged) : Type 0 where
+  pub kept : is_kept call old ≡ true → (new ≡ with_record call old) ⊎ (new ≡ with_loss old)
+  pub left : is_kept call old ≡ false → new ≡ old
+
+-- the screen stays
+abbrev pub Logs : CallValue → Logged → ScreenValue → Logged → ScreenValue → Type 0
+Logs call old before new after = (after ≡ before) × LogsIt call old new

@@ -1,0 +1,61 @@
+-- The texts of rows, one behind the other.
+use Rattle.std.specs.Prelude.{◌≡◌, ◌+◌, ℕ, List, [], ◌∷◌, ◌++◌, length, take, nat_le, nat_lt, Option, Some, None, if◌then◌else◌}
+use Rattle.std.specs.List.{concat}
+use Rattle.vt_screen.specs.Contents.{row_texts}
+use Rattle.vt_screen.specs.RowsShown.{changed_text, formatted_text, range_end, texts_from}
+use Rattle.vt_screen.specs.Screen.{ScreenValue, visible_rows}
+use Rattle.vt_screen.specs.Shown.{shown}
+use Rattle.vt100_c.specs.Due.{OnBoth, same_size}
+use Rattle.vt100_c.specs.Sources.{screen_in}
+use Rattle.vt100_c.specs.Status.{ok, bad_argument, other_size}
+use Rattle.vt100_c.specs.declared.object.Object.{Object}
+
+-- where each text ends, of those that begin at a place
+abbrev pub ends_from : ℕ → List (List ℕ) → List ℕ
+ends_from at [] = []
+ends_from at (text ∷ texts) = (at + length text) ∷ ends_from (at + length text) texts
+
+-- some of the texts are put one behind the other, with their ends, and some are left
+pub record IsJoined (all left : List (List ℕ)) (count : ℕ) (joined ends : List ℕ) : Type 0 where
+  pub done : List (List ℕ)
+  pub parts : all ≡ done ++ left
+  pub count_is : length done ≡ count
+  pub text : joined ≡ concat done
+  pub ends_are : take count ends ≡ ends_from 0 done
+
+-- the status that is due for rows of a screen, where there is a place for each end
+abbrev pub has_places : (room : ℕ) → ScreenValue → ℕ
+has_places room screen = if nat_le (length screen.page.rows) room then ok else bad_argument
+
+-- and for such as begin at a column
+abbrev pub has_range : (start room : ℕ) → ScreenValue → ℕ
+has_range start room screen = if nat_lt start screen.page.width then has_places room screen else bad_argument
+
+-- and for two screens of one size
+abbrev pub have_range : (start room : ℕ) → ScreenValue → ScreenValue → ℕ
+have_range start room screen prev = if same_size screen.page prev.page then has_range start room screen else other_size
+
+-- the texts of a screen's rows, in `width` columns from `start` on
+abbrev pub plain_rows : (start width : ℕ) → ScreenValue → List (List ℕ)
+plain_rows start width screen = row_texts start (start + width) (visible_rows screen)
+
+-- those that show them where rows are blank
+abbrev pub formatted_rows : (start width : ℕ) → ScreenValue → List (List ℕ)
+formatted_rows start width screen =
+    texts_from (formatted_text start (range_end start width screen.page.width) (shown screen)) 0
+    (length screen.page.rows)
+
+-- those that show them where the rows of another screen stand
+abbrev pub changed_rows : (start width : ℕ) → (screen prev : ScreenValue) → List (List ℕ)
+changed_rows start width screen prev =
+    texts_from (changed_text start (range_end start width screen.page.width) (shown screen) (shown prev)) 0
+    (length screen.page.rows)
+
+-- the first of these numbers are where the texts end, one behind the other
+abbrev pub AreEnds : (count : ℕ) → List ℕ → List (List ℕ) → Type 0
+AreEnds count ends texts = take count ends ≡ ends_from 0 texts
+
+-- there is a screen, and one behind a handle beside it, and this holds of both
+abbrev pub HoldBeside : Option ScreenValue → Option Object → (ScreenValue → ScreenValue → Type 0) → Type 0
+HoldBeside screen None Holds = ⊥
+HoldBeside screen (Some prev) Holds = OnBoth screen (screen_in prev.source) Holds

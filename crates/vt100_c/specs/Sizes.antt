@@ -1,0 +1,78 @@
+-- What a source does with another size, and with scrollback.
+use Rattle.std.specs.Prelude.{◌≡◌, ℕ, false, zero, suc}
+use Rattle.std.specs.List.{FoldsTo}
+use Rattle.std.specs.declared.result.Result.{Result}
+use Rattle.vt_cells.specs.declared.error.Error.{Error}
+use Rattle.vt_mirror.specs.Calls.{Resizes}
+use Rattle.vt_mirror.specs.Mirror.{MirrorValue}
+use Rattle.vt_screen.specs.Pages.{calls_resized, has_size, resized}
+use Rattle.vt_screen.specs.Run.{Told}
+use Rattle.vt_screen.specs.Screen.{ScreenValue, scrolled_back}
+use Rattle.vt_screen.specs.Steps.{EraseScrollback, scrolled}
+use Rattle.vt100.specs.Parser.{Parsing}
+use Rattle.vt100_c.specs.Calls.{Either, Refuses, is_size}
+use Rattle.vt100_c.specs.Records.{Logged, Logs}
+use Rattle.vt100_c.specs.Status.{bad_argument, ok, wrong_kind, answered}
+use Rattle.vt100_c.specs.declared.object.Source.{Source}
+use Rattle.vt100_c.specs.declared.object.Source.TheVariants.{Parser, Screen, Mirror, Capture}
+
+-- what holds where all went well (0), and where memory was refused (1)
+abbrev pub Outcome : (status : ℕ) → (Done Refused : Type 0) → Type 0
+Outcome zero Done Refused = Done
+Outcome (suc zero) Done Refused = Refused
+Outcome (suc (suc status)) Done Refused = ⊥
+
+-- a parser's screen gets another size, and the events tell of the rows that leave, the others as they were
+pub record HasResized (rows cols : ℕ) (old new : Parsing Logged) : Type 0 where
+  pub screen : new ≡ record old { screen = resized rows cols old.screen; callbacks = new.callbacks }
+  pub told : FoldsTo (Told Logs) old.callbacks (calls_resized rows cols old.screen) new.callbacks
+
+abbrev pub ResizesParser : (rows cols : ℕ) → Parsing Logged → ℕ → Parsing Logged → Type 0
+ResizesParser rows cols old status new =
+    Outcome status (HasResized rows cols old new) ((new ≡ old) × (has_size rows cols old.screen ≡ false))
+
+abbrev pub ResizesScreen : (rows cols : ℕ) → ScreenValue → ℕ → ScreenValue → Type 0
+ResizesScreen rows cols old status new =
+    Outcome status (new ≡ resized rows cols old) ((new ≡ old) × (has_size rows cols old ≡ false))
+
+-- a mirror is resized, as `Mirror::set_size` does it
+pub record ResizesMirror (rows cols : ℕ) (old : MirrorValue) (status : ℕ) (new : MirrorValue) : Type 0 where
+  pub answer : Result (Unit {0}) Error
+  pub call : Resizes old rows cols answer new
+  pub status_is : status ≡ answered answer
+
+-- of a source that has a size
+abbrev pub ResizesSource : (rows cols : ℕ) → Source → ℕ → Source → Type 0
+ResizesSource rows cols (Parser old) status (Parser new) = ResizesParser rows cols old status new
+ResizesSource rows cols (Screen old) status (Screen new) = ResizesScreen rows cols old status new
+ResizesSource rows cols (Mirror old) status (Mirror new) = ResizesMirror rows cols old status new
+ResizesSource rows cols (Capture old) status new = Refuses wrong_kind (Capture old) status new
+ResizesSource rows cols old status new = ⊥
+
+-- no rows, or no columns, is a bad argument
+abbrev pub SetsSize : (rows cols : ℕ) → Source → ℕ → Source → Type 0
+SetsSize rows cols old status new =
+    Either (is_size rows cols) (ResizesSource rows cols old status new) (Refuses bad_argument old status new)
+
+-- ---- a screen alone
+
+-- a call on the screen of a parser, of which all else stays, or on a saved screen
+abbrev pub OnScreen : (ScreenValue → ℕ → ScreenValue → Type 0) → Source → ℕ → Source → Type 0
+OnScreen Does (Parser old) status (Parser new) =
+    Does old.screen status new.screen × (new ≡ record old { screen = new.screen })
+OnScreen Does (Screen old) status (Screen new) = Does old status new
+OnScreen Does (Mirror old) status new = Refuses wrong_kind (Mirror old) status new
+OnScreen Does (Capture old) status new = Refuses wrong_kind (Capture old) status new
+OnScreen Does old status new = ⊥
+
+abbrev pub SetsScreenSize : (rows cols : ℕ) → Source → ℕ → Source → Type 0
+SetsScreenSize rows cols old status new =
+    Either (is_size rows cols) (OnScreen (ResizesScreen rows cols) old status new) (Refuses bad_argument old status new)
+
+-- the view goes back by as many rows
+abbrev pub ScrollsBack : (rows : ℕ) → ScreenValue → ℕ → ScreenValue → Type 0
+ScrollsBack rows old status new = Outcome status (new ≡ scrolled_back rows old) (new ≡ old)
+
+-- scrollback is given up, which takes no memory
+abbrev pub Clears : ScreenValue → ℕ → ScreenValue → Type 0
+Clears old status new = (status ≡ ok) × (new ≡ scrolled EraseScrollback old)

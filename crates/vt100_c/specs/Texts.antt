@@ -1,0 +1,55 @@
+-- Which text each call makes.
+use Rattle.std.specs.Prelude.{◌≡◌, ◌≤◌, ℕ, List, length}
+use Rattle.vt_cells.specs.Op.{bytes_of_all}
+use Rattle.vt_redraw.specs.Moved.{IsScrolling}
+use Rattle.vt_redraw.specs.Redraw.{cursor_state, difference, redraw}
+use Rattle.vt_rows.specs.Basic.{unwritten}
+use Rattle.vt_screen.specs.AnyRegion.{reset_text}
+use Rattle.vt_screen.specs.Capture.{basic_texts}
+use Rattle.vt_screen.specs.Contents.{between_of, contents_of}
+use Rattle.vt_screen.specs.InputTexts.{input_change, input_text}
+use Rattle.vt_screen.specs.Screen.{ScreenValue, visible_rows}
+use Rattle.vt_screen.specs.Shown.{attributes_text, shown}
+use Rattle.vt_screen.specs.States.{state_change, state_text}
+use Rattle.vt100_c.specs.Due.{any_screen, any_screens, has_start, of_one_size}
+use Rattle.vt100_c.specs.declared.making.Difference.{Difference}
+use Rattle.vt100_c.specs.declared.making.Difference.TheVariants as between
+use Rattle.vt100_c.specs.declared.making.Text.{Text}
+use Rattle.vt100_c.specs.declared.making.Text.TheVariants as text
+
+-- ---- of one screen
+
+abbrev pub text_of : Text → ScreenValue → List ℕ
+text_of text.Contents screen = contents_of screen
+text_of (text.Between start_row start_col end_row end_col) screen =
+    between_of start_row start_col end_row end_col screen
+text_of text.Formatted screen = bytes_of_all (redraw (shown screen))
+text_of text.FormattedReset screen = reset_text (shown screen)
+text_of text.FormattedBasic screen = basic_texts unwritten (visible_rows screen)
+text_of text.State screen = state_text screen
+text_of text.CursorState screen = bytes_of_all (cursor_state (shown screen))
+text_of text.Attributes screen = attributes_text screen.attrs
+text_of text.InputMode screen = input_text screen.modes
+
+-- what the screen has to be for it
+abbrev pub due_for : Text → ScreenValue → ℕ
+due_for (text.Between start_row start_col end_row end_col) screen = has_start start_row start_col end_row screen
+due_for _ screen = any_screen screen
+
+-- ---- of two
+
+-- a difference that may move rows first, and is never longer for that
+pub record IsScrollingDiff (screen prev : ScreenValue) (text : List ℕ) : Type 0 where
+  pub draws : IsScrolling (shown screen) (shown prev) text
+  pub shorter : length text ≤ length (bytes_of_all (difference (shown screen) (shown prev)))
+
+abbrev pub IsDifference : Difference → ScreenValue → ScreenValue → List ℕ → Type 0
+IsDifference between.Contents screen prev text = text ≡ bytes_of_all (difference (shown screen) (shown prev))
+IsDifference between.Scrolling screen prev text = IsScrollingDiff screen prev text
+IsDifference between.State screen prev text = text ≡ state_change prev screen
+IsDifference between.InputMode screen prev text = text ≡ input_change prev.modes screen.modes
+
+-- what the two have to be for it
+abbrev pub due_for_both : Difference → ScreenValue → ScreenValue → ℕ
+due_for_both between.InputMode screen prev = any_screens screen prev
+due_for_both _ screen prev = of_one_size screen prev

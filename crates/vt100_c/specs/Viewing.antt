@@ -1,0 +1,63 @@
+-- What viewers of what a handle holds are told, where that is a mirror.
+use Rattle.std.specs.Prelude.{◌≡◌, ℕ, List, string_bytes}
+use Rattle.vt_mirror.specs.Calls.{Kind}
+use Rattle.vt_mirror.specs.Watching.{IsFresh}
+use Rattle.vt_scan.specs.Automaton.{start}
+use Rattle.vt_scan.specs.Scanner.{StandsFor}
+use Rattle.vt_screen.specs.Screen.{fresh_screen}
+use Rattle.vt100.specs.Parser.{parsing}
+use Rattle.vt100_c.specs.Calls.{Refuses}
+use Rattle.vt100_c.specs.Mirrors.{Joins, LeavesIt, Told, Updates}
+use Rattle.vt100_c.specs.Status.{wrong_kind}
+use Rattle.vt100_c.specs.declared.object.Object.{Object}
+use Rattle.vt100_c.specs.declared.object.Source.{Source}
+use Rattle.vt100_c.specs.declared.object.Source.TheVariants.{Parser, Screen, Mirror, Capture}
+
+-- a mirror that has read nothing, with a fresh screen, and nobody views it
+abbrev pub IsNewMirror : (rows cols capacity : ℕ) → Source → Type 0
+IsNewMirror rows cols capacity (Mirror mirror) =
+    StandsFor mirror.parser.scanner start
+    × (mirror.parser ≡ parsing mirror.parser.scanner (fresh_screen rows cols capacity) mirror.parser.callbacks)
+    × IsFresh mirror
+IsNewMirror rows cols capacity (Parser parser) = ⊥
+IsNewMirror rows cols capacity (Screen screen) = ⊥
+IsNewMirror rows cols capacity (Capture written) = ⊥
+
+-- a viewer joins a mirror
+abbrev pub JoinsSource : (before after : ℕ) → Source → ℕ → Source → Type 0
+JoinsSource before after (Mirror old) status (Mirror new) = Joins status before after old new
+JoinsSource before after (Mirror old) status (Parser new) = ⊥
+JoinsSource before after (Mirror old) status (Screen new) = ⊥
+JoinsSource before after (Mirror old) status (Capture new) = ⊥
+JoinsSource before after (Parser old) status new = Refuses wrong_kind (Parser old) status new
+JoinsSource before after (Screen old) status new = Refuses wrong_kind (Screen old) status new
+JoinsSource before after (Capture old) status new = Refuses wrong_kind (Capture old) status new
+
+-- a viewer leaves one
+abbrev pub LeavesSource : (viewer : ℕ) → Source → ℕ → Source → Type 0
+LeavesSource viewer (Mirror old) status (Mirror new) = LeavesIt viewer status old new
+LeavesSource viewer (Mirror old) status (Parser new) = ⊥
+LeavesSource viewer (Mirror old) status (Screen new) = ⊥
+LeavesSource viewer (Mirror old) status (Capture new) = ⊥
+LeavesSource viewer (Parser old) status new = Refuses wrong_kind (Parser old) status new
+LeavesSource viewer (Screen old) status new = Refuses wrong_kind (Screen old) status new
+LeavesSource viewer (Capture old) status new = Refuses wrong_kind (Capture old) status new
+
+-- one is updated: the text that was kept becomes another
+abbrev pub UpdatesSource : Kind → (viewer : ℕ) → (before after : Told) → (text text' : List ℕ) →
+    Source → ℕ → Source → Type 0
+UpdatesSource kind viewer before after text text' (Mirror old) status (Mirror new) =
+    Updates kind viewer status text text' before after old new
+UpdatesSource kind viewer before after text text' (Mirror old) status (Parser new) = ⊥
+UpdatesSource kind viewer before after text text' (Mirror old) status (Screen new) = ⊥
+UpdatesSource kind viewer before after text text' (Mirror old) status (Capture new) = ⊥
+UpdatesSource kind viewer before after text text' (Parser old) status new =
+    Refuses wrong_kind (Parser old) status new × (text' ≡ text) × (after ≡ before)
+UpdatesSource kind viewer before after text text' (Screen old) status new =
+    Refuses wrong_kind (Screen old) status new × (text' ≡ text) × (after ≡ before)
+UpdatesSource kind viewer before after text text' (Capture old) status new =
+    Refuses wrong_kind (Capture old) status new × (text' ≡ text) × (after ≡ before)
+
+abbrev pub UpdatesObject : Kind → (viewer : ℕ) → (before after : Told) → Object → ℕ → Object → Type 0
+UpdatesObject kind viewer before after old status new =
+    UpdatesSource kind viewer before after (string_bytes old.text) (string_bytes new.text) old.source status new.source

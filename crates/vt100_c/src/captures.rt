@@ -1,0 +1,116 @@
+//! What is read from captures: their pieces outside of SGR, and their rows.
+
+ghost use Rattle.std.specs.Prelude.{◌≡◌, ◌+◌, ◌<◌, ◌≤◌, ◌↔◌, List, IfSome, IsSome, drop, length};
+ghost use Rattle.vt_rows.specs.CaptureRows.{AreRowsOf};
+ghost use Rattle.vt_rows.specs.Pieces.{ArePiecesOf, Piece};
+ghost use Rattle.vt100_c.specs.Captures.{IsFirstPiece, IsFirstRow, IsPlace, behind};
+
+use crate::status::{BAD_ARGUMENT, OK};
+use std::str;
+use vt100::capture::{basic_formatted_rows, basic_formatted_to_plain_indexed};
+
+/// Where there is no row any more.
+const NO_PLACE: usize = usize::MAX;
+
+/// Finds the next piece outside of SGR, from byte `at` on, and says where it
+/// begins and ends. Where there is none, both are the end of the text.
+#[unsafe(no_mangle)]
+pub extern "C" fn vt100_next_plain(text: &[u8], at: usize, start: &mut usize, end: &mut usize) -> u8
+    ensures status { result ≡ OK ↔ IsPlace text.now at }
+    ensures other { ¬ (result ≡ OK) → result ≡ BAD_ARGUMENT }
+    ensures left { ¬ (result ≡ OK) → (start.new ≡ start.old) × (end.new ≡ end.old) }
+    ensures piece { result ≡ OK → (pieces : List Piece) × ArePiecesOf (drop at text.now) pieces
+        × IsFirstPiece (length text.now) at pieces start.new end.new }
+{
+    let Some(rest) = text_from(text, at) else {
+        return BAD_ARGUMENT;
+    };
+    let (first, last) = next_plain(rest, at, text.len());
+    *start = first;
+    *end = last;
+    OK
+}
+
+/// Finds the row of a capture that begins at byte `at`, on a terminal of
+/// `width` columns: says where it ends, and where the next one begins. Behind
+/// the last row that is `SIZE_MAX`.
+#[unsafe(no_mangle)]
+pub extern "C" fn vt100_next_row(
+    text: &[u8],
+    width: u16,
+    at: usize,
+    end: &mut usize,
+    next: &mut usize,
+) -> u8
+    ensures status { result ≡ OK ↔ IsPlace text.now at }
+    ensures other { ¬ (result ≡ OK) → result ≡ BAD_ARGUMENT }
+    ensures left { ¬ (result ≡ OK) → (end.new ≡ end.old) × (next.new ≡ next.old) }
+    ensures row { result ≡ OK → (rows : List Piece) × AreRowsOf width (drop at text.now) rows
+        × IsFirstRow at rows end.new next.new }
+{
+    let Some(rest) = text_from(text, at) else {
+        return BAD_ARGUMENT;
+    };
+    let (last, following) = next_row(rest, width, at);
+    *end = last;
+    *next = following;
+    OK
+}
+
+/// The text from byte `at` on, if the bytes are a text, and a character begins
+/// there or the text ends.
+fn text_from(text: &[u8], at: usize) -> Option<&str>
+    ensures is { IsSome result ↔ IsPlace text.now at }
+    ensures rest { IfSome result (λ rest. rest.now ≡ drop at text.now) }
+    ensures len { IfSome result (λ rest. at + length rest.now ≡ length text.now) }
+{
+    let Ok(text) = str::from_utf8(text) else {
+        return None;
+    };
+    match text.split_at_checked(at) {
+        Some((_, rest)) => Some(rest),
+        None => None,
+    }
+}
+
+/// Where the first piece outside of SGR begins and ends, in a text that begins
+/// at byte `at`; `stop` where there is none.
+fn next_plain(text: &str, at: usize, stop: usize) -> (usize, usize)
+    requires { at + length text.now ≤ stop }
+    ensures { (pieces : List Piece) × ArePiecesOf text.now pieces
+        × IsFirstPiece stop at pieces result.0 result.1 }
+{
+    let mut pieces = basic_formatted_to_plain_indexed(text);
+    match pieces.next() {
+        Some((start, piece)) => (at + start, at + start + piece.len()),
+        None => (stop, stop),
+    }
+}
+
+/// Where the first row ends, and where the next one begins, in a text that
+/// begins at byte `at`.
+fn next_row(text: &str, width: u16, at: usize) -> (usize, usize)
+    requires { at + length text.now < 18446744073709551615 }
+    ensures { (rows : List Piece) × AreRowsOf width text.now rows × IsFirstRow at rows result.0 result.1 }
+{
+    let mut rows = basic_formatted_rows(text, width);
+    let Some(row) = rows.next() else {
+        return (at, NO_PLACE);
+    };
+    match rows.next() {
+        Some(_) => (at + row.len(), at + behind(text.as_bytes(), row.len())),
+        None => (at + row.len(), NO_PLACE),
+    }
+}
+
+/// The place behind a line feed there, or this one.
+fn behind(text: &[u8], end: usize) -> usize
+    ensures value { result ≡ behind text.now end }
+    ensures inside { end ≤ length text.now → result ≤ length text.now }
+{
+    if end < text.len() && text[end] == b'\n' {
+        end + 1
+    } else {
+        end
+    }
+}

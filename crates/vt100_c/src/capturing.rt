@@ -1,0 +1,307 @@
+//! Captures that are written: texts of rows with SGR alone.
+
+ghost use Rattle.std.specs.Prelude.{◌≡◌, IfErr, IfOk, None, OnErr, OnOk, Some, length, string_bytes};
+ghost use Rattle.std.specs.List.{slice_get};
+ghost use Rattle.vt_rows.specs.Basic.{basic_text, unwritten, written_after};
+ghost use Rattle.vt_screen.specs.Capture.{all_rows, basic_texts, written_after_all};
+ghost use Rattle.vt100_c.specs.Calls.{MakesOne};
+ghost use Rattle.vt100_c.specs.Capturing.{HoldAtCapture, OnCapture, OnRow, any_screen_is_due, due_at_capture};
+ghost use Rattle.vt100_c.specs.Capturing.{due_behind, due_beside_capture, has_reported, state_in};
+ghost use Rattle.vt100_c.specs.Due.{IsAnswer, source_at, status_in, text_at};
+ghost use Rattle.vt100_c.specs.Log.{log_in};
+ghost use Rattle.vt100_c.specs.Sources.{screen_in};
+ghost use Rattle.vt100_c.specs.Status.{ok, out_of_memory};
+
+use crate::event_log::log_of;
+use crate::events::Events;
+use crate::handle::Handle;
+use crate::life::hold;
+use crate::making::keep;
+use crate::object::{Object, Source, screen_of};
+use crate::parts::Parts;
+use crate::status::{BAD_ARGUMENT, IN_USE, NO_OBJECT, OUT_OF_MEMORY, WRONG_KIND};
+use std::alloc::Global;
+use vt100::Screen;
+use vt100::capture::{BasicFormattedCaptureRange, BasicFormattedCaptureState, RowContents};
+
+/// Makes a capture behind `out`, of which nothing is written yet.
+#[unsafe(no_mangle)]
+pub extern "C" fn vt100_capture_new(alloc: Global, out: &mut Handle) -> u8
+    ensures { MakesOne (λ made. made ≡ Source.Capture unwritten) out.old.held result out.new.held }
+{
+    if out.is_full() {
+        return IN_USE;
+    }
+    hold(
+        alloc,
+        Source::Capture(BasicFormattedCaptureState::new()),
+        out,
+    )
+}
+
+/// Writes the scrollback and the page of a parser's screen, or of a saved one,
+/// behind the rows of a capture; the text is kept with the capture.
+#[unsafe(no_mangle)]
+pub extern "C" fn vt100_capture_screen(
+    alloc: Global,
+    handle: &mut Handle,
+    capture: &mut Handle,
+    len: &mut usize,
+) -> u8
+    ensures same { handle.new.held ≡ handle.old.held }
+    ensures answer { IsAnswer (due_at_capture screen_in any_screen_is_due handle.old.held capture.old.held) result }
+    ensures text { result ≡ ok → HoldAtCapture screen_in handle.old.held capture.old.held
+        (λ screen state. text_at capture.new.held ≡ basic_texts state (all_rows screen)) }
+    ensures state { result ≡ ok → HoldAtCapture screen_in handle.old.held capture.old.held
+        (λ screen state. source_at capture.new.held
+        ≡ Some (Source.Capture (written_after_all state (all_rows screen)))) }
+    ensures len { result ≡ ok → len.new ≡ length (text_at capture.new.held) }
+    ensures refused { ¬ (result ≡ ok) → capture.new.held ≡ capture.old.held }
+    ensures refused_len { ¬ (result ≡ ok) → len.new ≡ len.old }
+{
+    if !handle.is_full() || !capture.is_full() {
+        return NO_OBJECT;
+    }
+    let mut object = capture.take(alloc).into_box();
+    let status = screen_beside(alloc, &mut object, handle, len);
+    capture.put(Parts::of(object));
+    status
+}
+
+/// The same for what another handle holds.
+///
+/// The capture's handle was full, and is empty now. So is the other one only
+/// where C gave one handle twice: that is a bad argument.
+fn screen_beside(alloc: Global, object: &mut Object, handle: &mut Handle, len: &mut usize) -> u8
+    ensures same { handle.new.held ≡ handle.old.held }
+    ensures answer { IsAnswer
+        (due_beside_capture screen_in any_screen_is_due handle.old.held (state_in object.old.source)) result }
+    ensures text { result ≡ ok → HoldAtCapture screen_in handle.old.held (Some object.old)
+        (λ screen state. string_bytes object.new.text ≡ basic_texts state (all_rows screen)) }
+    ensures state { result ≡ ok → HoldAtCapture screen_in handle.old.held (Some object.old)
+        (λ screen state. object.new.source ≡ Source.Capture (written_after_all state (all_rows screen))) }
+    ensures len { result ≡ ok → len.new ≡ length (string_bytes object.new.text) }
+    ensures refused { ¬ (result ≡ ok) → object.new ≡ object.old }
+    ensures refused_len { ¬ (result ≡ ok) → len.new ≡ len.old }
+{
+    if !handle.is_full() {
+        return BAD_ARGUMENT;
+    }
+    let other = handle.take(alloc).into_box();
+    let status = write_screen(alloc, object, &other.source, len);
+    handle.put(Parts::of(other));
+    status
+}
+
+/// Writes the rows of a source's screen, if both are of their kind.
+fn write_screen(alloc: Global, object: &mut Object, from: &Source, len: &mut usize) -> u8
+    ensures answer { IsAnswer
+        (due_behind any_screen_is_due (screen_in from.now) (state_in object.old.source)) result }
+    ensures text { result ≡ ok → OnCapture (screen_in from.now) (state_in object.old.source)
+        (λ screen state. string_bytes object.new.text ≡ basic_texts state (all_rows screen)) }
+    ensures state { result ≡ ok → OnCapture (screen_in from.now) (state_in object.old.source)
+        (λ screen state. object.new.source ≡ Source.Capture (written_after_all state (all_rows screen))) }
+    ensures len { result ≡ ok → len.new ≡ length (string_bytes object.new.text) }
+    ensures refused { ¬ (result ≡ ok) → object.new ≡ object.old }
+    ensures refused_len { ¬ (result ≡ ok) → len.new ≡ len.old }
+{
+    let Some(screen) = screen_of(from) else {
+        return WRONG_KIND;
+    };
+    let made = screen_text(alloc, screen, &mut object.source);
+    keep(&mut object.text, made, len)
+}
+
+/// The text of all rows of a screen behind those of a capture, if it is one.
+fn screen_text(alloc: Global, screen: &Screen, capture: &mut Source) -> Result<String, u8>
+    ensures text { IfOk result (λ text. OnCapture (Some screen.now) (state_in capture.old)
+        (λ screen state. string_bytes text ≡ basic_texts state (all_rows screen))) }
+    ensures state { OnOk result (OnCapture (Some screen.now) (state_in capture.old)
+        (λ screen state. capture.new ≡ Source.Capture (written_after_all state (all_rows screen)))) }
+    ensures err { OnErr result (capture.new ≡ capture.old) }
+    ensures answer { IsAnswer (due_behind any_screen_is_due (Some screen.now) (state_in capture.old))
+        (status_in result) }
+    ensures refused { IfErr result (λ status. ¬ (status ≡ ok)) }
+{
+    match capture {
+        Source::Capture(state) => rows_text(alloc, screen, state),
+        Source::Parser(_) => Err(WRONG_KIND),
+        Source::Screen(_) => Err(WRONG_KIND),
+        Source::Mirror(_) => Err(WRONG_KIND),
+    }
+}
+
+/// The text of all rows of a screen behind a state, which goes on.
+///
+/// Fails where memory is refused; then the state is as it was.
+fn rows_text(
+    alloc: Global,
+    screen: &Screen,
+    state: &mut BasicFormattedCaptureState,
+) -> Result<String, u8>
+    ensures text { IfOk result (λ text. string_bytes text ≡ basic_texts state.old (all_rows screen.now)) }
+    ensures ok { OnOk result (state.new ≡ written_after_all state.old (all_rows screen.now)) }
+    ensures err { OnErr result (state.new ≡ state.old) }
+    ensures memory { IfErr result (λ status. status ≡ out_of_memory) }
+{
+    let mut text = String::new(alloc);
+    let mut behind = state.clone().unwrap();
+    let range = BasicFormattedCaptureRange::Full(&mut behind);
+    if screen
+        .write_contents_formatted_basic(&mut text, range)
+        .is_err()
+    {
+        return Err(OUT_OF_MEMORY);
+    }
+    *state = behind;
+    Ok(text)
+}
+
+/// Writes a row that an event of a parser reported, counted from 0, behind the
+/// rows of a capture; the text is kept with the capture.
+#[unsafe(no_mangle)]
+pub extern "C" fn vt100_capture_row(
+    alloc: Global,
+    parser: &mut Handle,
+    index: usize,
+    capture: &mut Handle,
+    len: &mut usize,
+) -> u8
+    ensures same { parser.new.held ≡ parser.old.held }
+    ensures answer { IsAnswer (due_at_capture log_in (has_reported index) parser.old.held capture.old.held) result }
+    ensures text { result ≡ ok → HoldAtCapture log_in parser.old.held capture.old.held
+        (λ log state. OnRow (slice_get log.rows index)
+        (λ row. text_at capture.new.held ≡ basic_text state row)) }
+    ensures state { result ≡ ok → HoldAtCapture log_in parser.old.held capture.old.held
+        (λ log state. OnRow (slice_get log.rows index)
+        (λ row. source_at capture.new.held ≡ Some (Source.Capture (written_after state row)))) }
+    ensures len { result ≡ ok → len.new ≡ length (text_at capture.new.held) }
+    ensures refused { ¬ (result ≡ ok) → capture.new.held ≡ capture.old.held }
+    ensures refused_len { ¬ (result ≡ ok) → len.new ≡ len.old }
+{
+    if !parser.is_full() || !capture.is_full() {
+        return NO_OBJECT;
+    }
+    let mut object = capture.take(alloc).into_box();
+    let status = row_beside(alloc, &mut object, parser, index, len);
+    capture.put(Parts::of(object));
+    status
+}
+
+/// The same for what another handle holds; see [`screen_beside`].
+fn row_beside(
+    alloc: Global,
+    object: &mut Object,
+    parser: &mut Handle,
+    index: usize,
+    len: &mut usize,
+) -> u8
+    ensures same { parser.new.held ≡ parser.old.held }
+    ensures answer { IsAnswer
+        (due_beside_capture log_in (has_reported index) parser.old.held (state_in object.old.source)) result }
+    ensures text { result ≡ ok → HoldAtCapture log_in parser.old.held (Some object.old)
+        (λ log state. OnRow (slice_get log.rows index)
+        (λ row. string_bytes object.new.text ≡ basic_text state row)) }
+    ensures state { result ≡ ok → HoldAtCapture log_in parser.old.held (Some object.old)
+        (λ log state. OnRow (slice_get log.rows index)
+        (λ row. object.new.source ≡ Source.Capture (written_after state row))) }
+    ensures len { result ≡ ok → len.new ≡ length (string_bytes object.new.text) }
+    ensures refused { ¬ (result ≡ ok) → object.new ≡ object.old }
+    ensures refused_len { ¬ (result ≡ ok) → len.new ≡ len.old }
+{
+    if !parser.is_full() {
+        return BAD_ARGUMENT;
+    }
+    let other = parser.take(alloc).into_box();
+    let status = write_row(alloc, object, &other.source, index, len);
+    parser.put(Parts::of(other));
+    status
+}
+
+/// Writes a row of a source's log, if both are of their kind and there is one.
+fn write_row(alloc: Global, object: &mut Object, from: &Source, index: usize, len: &mut usize) -> u8
+    ensures answer { IsAnswer
+        (due_behind (has_reported index) (log_in from.now) (state_in object.old.source)) result }
+    ensures text { result ≡ ok → OnCapture (log_in from.now) (state_in object.old.source)
+        (λ log state. OnRow (slice_get log.rows index)
+        (λ row. string_bytes object.new.text ≡ basic_text state row)) }
+    ensures state { result ≡ ok → OnCapture (log_in from.now) (state_in object.old.source)
+        (λ log state. OnRow (slice_get log.rows index)
+        (λ row. object.new.source ≡ Source.Capture (written_after state row))) }
+    ensures len { result ≡ ok → len.new ≡ length (string_bytes object.new.text) }
+    ensures refused { ¬ (result ≡ ok) → object.new ≡ object.old }
+    ensures refused_len { ¬ (result ≡ ok) → len.new ≡ len.old }
+{
+    let Some(log) = log_of(from) else {
+        return WRONG_KIND;
+    };
+    let made = reported_text(alloc, log, index, &mut object.source);
+    keep(&mut object.text, made, len)
+}
+
+/// The text of a row that was reported behind those of a capture, if it is one
+/// and there is such a row.
+fn reported_text(
+    alloc: Global,
+    log: &Events,
+    index: usize,
+    capture: &mut Source,
+) -> Result<String, u8>
+    ensures text { IfOk result (λ text. OnCapture (Some log.now) (state_in capture.old)
+        (λ log state. OnRow (slice_get log.rows index) (λ row. string_bytes text ≡ basic_text state row))) }
+    ensures state { OnOk result (OnCapture (Some log.now) (state_in capture.old)
+        (λ log state. OnRow (slice_get log.rows index)
+        (λ row. capture.new ≡ Source.Capture (written_after state row)))) }
+    ensures err { OnErr result (capture.new ≡ capture.old) }
+    ensures answer { IsAnswer (due_behind (has_reported index) (Some log.now) (state_in capture.old))
+        (status_in result) }
+    ensures refused { IfErr result (λ status. ¬ (status ≡ ok)) }
+{
+    match capture {
+        Source::Capture(state) => event_text(alloc, log, index, state),
+        Source::Parser(_) => Err(WRONG_KIND),
+        Source::Screen(_) => Err(WRONG_KIND),
+        Source::Mirror(_) => Err(WRONG_KIND),
+    }
+}
+
+/// The text of a row that was reported behind a state, if there is one.
+fn event_text(
+    alloc: Global,
+    log: &Events,
+    index: usize,
+    state: &mut BasicFormattedCaptureState,
+) -> Result<String, u8>
+    ensures text { IfOk result
+        (λ text. OnRow (slice_get log.now.rows index) (λ row. string_bytes text ≡ basic_text state.old row)) }
+    ensures ok { OnOk result
+        (OnRow (slice_get log.now.rows index) (λ row. state.new ≡ written_after state.old row)) }
+    ensures err { OnErr result (state.new ≡ state.old) }
+    ensures answer { IsAnswer (has_reported index log.now) (status_in result) }
+    ensures refused { IfErr result (λ status. ¬ (status ≡ ok)) }
+{
+    match log.row(index) {
+        Some(row) => row_text(alloc, &row, state),
+        None => Err(BAD_ARGUMENT),
+    }
+}
+
+/// The text of a row behind a state, which goes on.
+///
+/// Fails where memory is refused; then the state is as it was.
+fn row_text(
+    alloc: Global,
+    row: &RowContents<'_>,
+    state: &mut BasicFormattedCaptureState,
+) -> Result<String, u8>
+    ensures text { IfOk result (λ text. string_bytes text ≡ basic_text state.old row.now) }
+    ensures ok { OnOk result (state.new ≡ written_after state.old row.now) }
+    ensures err { OnErr result (state.new ≡ state.old) }
+    ensures memory { IfErr result (λ status. status ≡ out_of_memory) }
+{
+    let mut text = String::new(alloc);
+    match row.write_formatted_basic(&mut text, state) {
+        Ok(()) => Ok(text),
+        Err(_) => Err(OUT_OF_MEMORY),
+    }
+}

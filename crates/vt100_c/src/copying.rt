@@ -1,0 +1,37 @@
+//! The text that was made last, fetched.
+
+ghost use Rattle.std.specs.Prelude.{◌≡◌, drop, length, min, take};
+ghost use Rattle.vt100_c.specs.Due.{text_at};
+
+use crate::handle::Handle;
+use crate::parts::Parts;
+use std::alloc::Global;
+
+/// Copies the text that was made last of what a handle holds, as far as there
+/// is room, and says how many bytes were copied; those behind them stay.
+#[unsafe(no_mangle)]
+pub extern "C" fn vt100_copy(alloc: Global, handle: &mut Handle, out: &mut [u8]) -> usize
+    ensures same { handle.new.held ≡ handle.old.held }
+    ensures count { result ≡ min (length (text_at handle.old.held)) (length out.old) }
+    ensures text { take result out.new ≡ take result (text_at handle.old.held) }
+    ensures rest { drop result out.new ≡ drop result out.old }
+{
+    if !handle.is_full() {
+        return 0;
+    }
+    let object = handle.take(alloc).into_box();
+    let count = copy(object.text.as_bytes(), out);
+    handle.put(Parts::of(object));
+    count
+}
+
+/// Copies bytes, as far as there is room, and says how many.
+pub(crate) fn copy(bytes: &[u8], out: &mut [u8]) -> usize
+    ensures count { result ≡ min (length bytes.now) (length out.old) }
+    ensures text { take result out.new ≡ take result bytes.now }
+    ensures rest { drop result out.new ≡ drop result out.old }
+{
+    let count = bytes.len().min(out.len());
+    out[..count].copy_from_slice(&bytes[..count]);
+    count
+}

@@ -1,0 +1,142 @@
+//! The records of a parser's events, fetched and forgotten.
+
+ghost use Rattle.std.specs.Prelude.{◌≡◌, IfSome, None, Some, drop, length, min, take};
+ghost use Rattle.vt100_c.specs.Calls.{OnSource};
+ghost use Rattle.vt100_c.specs.Log.{Empties, due_to, due_to_log, log_at, log_in, records_of, whole_of};
+ghost use Rattle.vt100_c.specs.Records.{emptied};
+ghost use Rattle.vt100_c.specs.Status.{ok};
+
+use crate::copying::copy;
+use crate::events::Events;
+use crate::handle::Handle;
+use crate::object::Source;
+use crate::parts::Parts;
+use crate::status::{NO_OBJECT, OK, WRONG_KIND};
+use std::alloc::Global;
+use vt100::Parser;
+
+/// Says how many bytes the records take that weren't cleared yet, and whether
+/// none is missing: 1 for that, else 0, and then those behind the missing one
+/// are left out too.
+#[unsafe(no_mangle)]
+pub extern "C" fn vt100_events(
+    alloc: Global,
+    handle: &mut Handle,
+    len: &mut usize,
+    is_whole: &mut u8,
+) -> u8
+    ensures same { handle.new.held ≡ handle.old.held }
+    ensures status { result ≡ due_to_log handle.old.held }
+    ensures len { result ≡ ok → len.new ≡ length (records_of (log_at handle.old.held)) }
+    ensures whole { result ≡ ok → is_whole.new ≡ whole_of (log_at handle.old.held) }
+    ensures refused_len { ¬ (result ≡ ok) → len.new ≡ len.old }
+    ensures refused_whole { ¬ (result ≡ ok) → is_whole.new ≡ is_whole.old }
+{
+    if !handle.is_full() {
+        return NO_OBJECT;
+    }
+    let object = handle.take(alloc).into_box();
+    let status = tell(&object.source, len, is_whole);
+    handle.put(Parts::of(object));
+    status
+}
+
+/// Copies the records, as far as there is room, and says how many bytes were
+/// copied; those behind them stay. They stay in the log, too.
+#[unsafe(no_mangle)]
+pub extern "C" fn vt100_copy_events(alloc: Global, handle: &mut Handle, out: &mut [u8]) -> usize
+    ensures same { handle.new.held ≡ handle.old.held }
+    ensures count { result ≡ min (length (records_of (log_at handle.old.held))) (length out.old) }
+    ensures text { take result out.new ≡ take result (records_of (log_at handle.old.held)) }
+    ensures rest { drop result out.new ≡ drop result out.old }
+{
+    if !handle.is_full() {
+        return 0;
+    }
+    let object = handle.take(alloc).into_box();
+    let count = copy_records(&object.source, out);
+    handle.put(Parts::of(object));
+    count
+}
+
+/// Forgets the records and the rows that they report, and that some are
+/// missing.
+#[unsafe(no_mangle)]
+pub extern "C" fn vt100_clear_events(alloc: Global, handle: &mut Handle) -> u8
+    ensures { OnSource Empties handle.old.held result handle.new.held }
+{
+    if !handle.is_full() {
+        return NO_OBJECT;
+    }
+    let mut object = handle.take(alloc).into_box();
+    let status = clear(&mut object.source);
+    handle.put(Parts::of(object));
+    status
+}
+
+/// The log of a parser.
+pub(crate) fn log_of(source: &Source) -> Option<&Events>
+    ensures some { IfSome result (λ log. log_in source.now ≡ Some log.now) }
+    ensures none { result ≡ None → log_in source.now ≡ None }
+{
+    match source {
+        Source::Parser(parser) => Some(parser.callbacks()),
+        Source::Screen(_) => None,
+        Source::Mirror(_) => None,
+        Source::Capture(_) => None,
+    }
+}
+
+/// Copies the records of a parser, as far as there is room, and says how many
+/// bytes that are; of anything else none.
+fn copy_records(source: &Source, out: &mut [u8]) -> usize
+    ensures count { result ≡ min (length (records_of (log_in source.now))) (length out.old) }
+    ensures text { take result out.new ≡ take result (records_of (log_in source.now)) }
+    ensures rest { drop result out.new ≡ drop result out.old }
+{
+    match log_of(source) {
+        Some(log) => copy(log.records(), out),
+        None => 0,
+    }
+}
+
+/// Says how long the records are and whether none is missing, if there is a
+/// log.
+fn tell(source: &Source, len: &mut usize, is_whole: &mut u8) -> u8
+    ensures status { result ≡ due_to (log_in source.now) }
+    ensures len { result ≡ ok → len.new ≡ length (records_of (log_in source.now)) }
+    ensures whole { result ≡ ok → is_whole.new ≡ whole_of (log_in source.now) }
+    ensures refused_len { ¬ (result ≡ ok) → len.new ≡ len.old }
+    ensures refused_whole { ¬ (result ≡ ok) → is_whole.new ≡ is_whole.old }
+{
+    match log_of(source) {
+        Some(log) => {
+            *len = log.records().len();
+            *is_whole = log.whole_bit();
+            OK
+        }
+        None => WRONG_KIND,
+    }
+}
+
+/// Empties the log, if there is one.
+fn clear(source: &mut Source) -> u8
+    ensures { Empties source.old result source.new }
+{
+    match source {
+        Source::Parser(parser) => {
+            clear_log(parser);
+            OK
+        }
+        Source::Screen(_) => WRONG_KIND,
+        Source::Mirror(_) => WRONG_KIND,
+        Source::Capture(_) => WRONG_KIND,
+    }
+}
+
+/// Empties a parser's log.
+fn clear_log(parser: &mut Parser<Events>)
+    ensures { parser.new ≡ record parser.old { callbacks = emptied parser.old.callbacks } }
+{
+    parser.callbacks_mut().clear();
+}

@@ -1,0 +1,54 @@
+//! A handle that C holds.
+
+ghost use Rattle.std.specs.Prelude.{◌≡◌, IsSome, is_some, Option, Some, None};
+ghost use Rattle.vt100_c.specs.Held.{held_at};
+ghost use Rattle.vt100_c.specs.declared.object.Object.{Object as ObjectValue};
+
+use crate::object::Object;
+use crate::parts::Parts;
+use std::alloc::Global;
+use std::marker::Model;
+use std::ptr::null_mut;
+
+/// Where an object is, or null, and then it holds nothing.
+#[repr(C)]
+#[derive(Drop)]
+pub struct Handle {
+    at: *mut u8,
+    pub ghost held: { Option ObjectValue },
+}
+
+impl Model for Handle {
+    ghost also_owns = { λ handle. held_at handle.at handle.held };
+}
+
+// An object may go to another thread, and then so may its handle.
+unsafe impl Send for Handle {}
+
+impl Handle {
+    /// Whether it holds an object.
+    pub(crate) fn is_full(&mut self) -> bool
+        ensures { (self.new ≡ self.old) × (result ≡ is_some self.old.held) }
+    {
+        !self.at.is_null()
+    }
+
+    /// Takes the object out; the handle is empty until it is put back.
+    pub(crate) fn take(&mut self, alloc: Global) -> Parts<Object, Global>
+        requires { IsSome self.old.held }
+        ensures { (self.old.held ≡ Some result.value) × (self.new.held ≡ None) }
+    {
+        let at = self.at as *mut Object;
+        self.at = null_mut();
+        Parts { at, alloc }
+    }
+
+    /// Puts an object behind it. What it held before is no more reached, so it
+    /// is to be empty.
+    pub(crate) fn put(&mut self, parts: Parts<Object, Global>)
+        ensures { self.new.held ≡ Some parts.value }
+    {
+        let Parts { at, alloc: _ } = parts;
+        self.at = at as *mut u8;
+    }
+}

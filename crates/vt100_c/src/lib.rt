@@ -1,0 +1,28 @@
+//! The terminal for C: functions over handles of one word, with a status each.
+#![tactic(auto)]
+
+mod captures;
+mod capturing;
+mod cells;
+mod convert;
+mod copying;
+mod differences;
+mod event_log;
+mod events;
+mod handle;
+mod life;
+mod making;
+mod mirrors;
+mod object;
+mod parts;
+mod reading;
+mod records;
+mod row_changes;
+mod row_texts;
+mod rows;
+mod shown;
+mod sizes;
+mod state;
+mod status;
+mod texts;
+mod viewers;

@@ -1,0 +1,208 @@
+//! Making, saving, exchanging and freeing what handles hold.
+
+ghost use Rattle.std.specs.Prelude.{◌≡◌, IfErr, IfOk, IfSome, None, Some, is_some, unwrap_or};
+ghost use Rattle.vt100_c.specs.Calls.{Fills, is_size};
+ghost use Rattle.vt100_c.specs.Life.{IsNewParser, Makes, Saves, Swaps, refusal_of, saved_from};
+ghost use Rattle.vt100_c.specs.Life.{swap_status, with_other};
+ghost use Rattle.vt100_c.specs.Sources.{kind_held, screen_in};
+ghost use Rattle.vt100_c.specs.Status.{out_of_memory};
+ghost use Rattle.vt100_c.specs.declared.object.Source.TheVariants as source;
+
+use crate::events::Events;
+use crate::handle::Handle;
+use crate::object::{Object, Source, kind_of};
+use crate::parts::Parts;
+use crate::status::{BAD_ARGUMENT, IN_USE, NO_OBJECT, OK, OUT_OF_MEMORY, WRONG_KIND};
+use std::alloc::Global;
+use std::mem;
+use std::num::NonZeroU16;
+use vt100::{Parser, Screen};
+
+/// Makes a parser with a fresh screen behind `out`. Bit k of `wanted` says
+/// whether events of kind k are kept.
+#[unsafe(no_mangle)]
+pub extern "C" fn vt100_parser_new(
+    alloc: Global,
+    rows: u16,
+    cols: u16,
+    scrollback_capacity: usize,
+    wanted: u16,
+    out: &mut Handle,
+) -> u8
+    ensures { Makes rows cols (IsNewParser rows cols scrollback_capacity wanted) out.old.held result out.new.held }
+{
+    if out.is_full() {
+        return IN_USE;
+    }
+    let Some((some_rows, some_cols)) = size_of(rows, cols) else {
+        return BAD_ARGUMENT;
+    };
+    let events = Events::new(alloc, wanted);
+    match Parser::new_with_callbacks(alloc, some_rows, some_cols, scrollback_capacity, events) {
+        Ok(parser) => hold(alloc, Source::Parser(parser), out),
+        Err(_) => OUT_OF_MEMORY,
+    }
+}
+
+/// Saves the screen of a parser, or a saved one, behind `out`; of a capture, a
+/// copy of it.
+#[unsafe(no_mangle)]
+pub extern "C" fn vt100_save(alloc: Global, handle: &mut Handle, out: &mut Handle) -> u8
+    ensures same { handle.new.held ≡ handle.old.held }
+    ensures call { Saves handle.old.held out.old.held result out.new.held }
+{
+    if !handle.is_full() {
+        return NO_OBJECT;
+    }
+    if out.is_full() {
+        return IN_USE;
+    }
+    let object = handle.take(alloc).into_box();
+    let copy = copy_of(&object.source);
+    handle.put(Parts::of(object));
+    match copy {
+        Ok(copy) => hold(alloc, copy, out),
+        Err(status) => status,
+    }
+}
+
+/// Exchanges the screens of two handles, each a parser or a saved screen. The
+/// same handle twice is a bad argument.
+#[unsafe(no_mangle)]
+pub extern "C" fn vt100_swap(alloc: Global, handle: &mut Handle, other: &mut Handle) -> u8
+    ensures { Swaps handle.old.held other.old.held result handle.new.held other.new.held }
+{
+    if !handle.is_full() || !other.is_full() {
+        return NO_OBJECT;
+    }
+    let mut first = handle.take(alloc).into_box();
+    if !other.is_full() {
+        // It was full before: this is the same handle twice.
+        handle.put(Parts::of(first));
+        return BAD_ARGUMENT;
+    }
+    let mut second = other.take(alloc).into_box();
+    let status = swap(&mut first.source, &mut second.source);
+    other.put(Parts::of(second));
+    handle.put(Parts::of(first));
+    status
+}
+
+/// Frees what a handle holds, and empties it.
+#[unsafe(no_mangle)]
+pub extern "C" fn vt100_free(alloc: Global, handle: &mut Handle)
+    ensures { handle.new.held ≡ None }
+{
+    if handle.is_full() {
+        drop(handle.take(alloc).into_box());
+    }
+}
+
+/// The kind of what a handle holds; 0 for nothing.
+#[unsafe(no_mangle)]
+pub extern "C" fn vt100_kind(alloc: Global, handle: &mut Handle) -> u8
+    ensures same { handle.new.held ≡ handle.old.held }
+    ensures kind { result ≡ kind_held handle.old.held }
+{
+    if !handle.is_full() {
+        return 0;
+    }
+    let object = handle.take(alloc).into_box();
+    let kind = kind_of(&object.source);
+    handle.put(Parts::of(object));
+    kind
+}
+
+/// Numbers of rows and columns that a screen may have.
+pub(crate) fn size_of(rows: u16, cols: u16) -> Option<(NonZeroU16, NonZeroU16)>
+    ensures some { is_some result ≡ is_size rows cols }
+    ensures rows { IfSome result (λ size. size.0.value ≡ rows) }
+    ensures cols { IfSome result (λ size. size.1.value ≡ cols) }
+{
+    let Some(some_rows) = NonZeroU16::new(rows) else {
+        return None;
+    };
+    let Some(some_cols) = NonZeroU16::new(cols) else {
+        return None;
+    };
+    Some((some_rows, some_cols))
+}
+
+/// Puts a source behind an empty handle, with an empty text.
+pub(crate) fn hold(alloc: Global, source: Source, out: &mut Handle) -> u8
+    requires { out.old.held ≡ None }
+    ensures { Fills (λ held. held ≡ source) result out.new.held }
+{
+    let object = Object {
+        source,
+        text: String::new(alloc),
+    };
+    match Box::new(alloc, object) {
+        Ok(object) => {
+            out.put(Parts::of(object));
+            OK
+        }
+        Err(_) => OUT_OF_MEMORY,
+    }
+}
+
+/// What is saved of a source, or the status of what refuses it.
+fn copy_of(source: &Source) -> Result<Source, u8>
+    ensures ok { IfOk result (λ copy. saved_from source.now ≡ Some copy) }
+    ensures err { IfErr result (λ status. status ≡ refusal_of (saved_from source.now)) }
+{
+    match source {
+        Source::Parser(parser) => saved(parser.screen()),
+        Source::Screen(screen) => saved(screen),
+        Source::Mirror(_) => Err(WRONG_KIND),
+        Source::Capture(state) => match state.clone() {
+            Ok(copy) => Ok(Source::Capture(copy)),
+            Err(_) => Err(OUT_OF_MEMORY),
+        },
+    }
+}
+
+/// A saved screen.
+fn saved(screen: &Screen) -> Result<Source, u8>
+    ensures ok { IfOk result (λ copy. copy ≡ source.Screen screen.now) }
+    ensures err { IfErr result (λ status. status ≡ out_of_memory) }
+{
+    match screen.clone() {
+        Ok(copy) => Ok(Source::Screen(copy)),
+        Err(_) => Err(OUT_OF_MEMORY),
+    }
+}
+
+/// Exchanges the screens of two sources, if both have one.
+fn swap(first: &mut Source, second: &mut Source) -> u8
+    ensures status { result ≡ swap_status (screen_in first.old) (screen_in second.old) }
+    ensures first { first.new ≡ with_other (screen_in second.old) first.old }
+    ensures second { second.new ≡ with_other (screen_in first.old) second.old }
+{
+    match first {
+        Source::Parser(parser) => swap_with(parser.screen_mut(), second),
+        Source::Screen(screen) => swap_with(screen, second),
+        Source::Mirror(_) => WRONG_KIND,
+        Source::Capture(_) => WRONG_KIND,
+    }
+}
+
+/// Exchanges a screen and that of a source, if it has one.
+fn swap_with(screen: &mut Screen, source: &mut Source) -> u8
+    ensures status { result ≡ swap_status (Some screen.old) (screen_in source.old) }
+    ensures screen { screen.new ≡ unwrap_or (screen_in source.old) screen.old }
+    ensures source { source.new ≡ with_other (Some screen.old) source.old }
+{
+    match source {
+        Source::Parser(parser) => {
+            mem::swap(screen, parser.screen_mut());
+            OK
+        }
+        Source::Screen(other) => {
+            mem::swap(screen, other);
+            OK
+        }
+        Source::Mirror(_) => WRONG_KIND,
+        Source::Capture(_) => WRONG_KIND,
+    }
+}

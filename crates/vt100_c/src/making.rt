@@ -1,0 +1,235 @@
+//! The texts of screens, by name.
+
+ghost use Rattle.std.specs.Prelude.{◌≡◌, ◌<◌, ◌≤◌, ◌&&◌, IfErr, IfOk, None, Ok, Some, false, length};
+ghost use Rattle.std.specs.Prelude.{nat_lt, string_bytes, true};
+ghost use Rattle.vt_cells.specs.Refusals.{OnlyOutOfMemory};
+ghost use Rattle.vt_grid.specs.Page.{SameSize};
+ghost use Rattle.vt_screen.specs.Contents.{between_of};
+ghost use Rattle.vt100_c.specs.Due.{IsAnswer, OnBoth, OnScreen, due_on, due_on_both, has_start, of_one_size};
+ghost use Rattle.vt100_c.specs.Due.{same_size, status_in};
+ghost use Rattle.vt100_c.specs.Sources.{screen_in};
+ghost use Rattle.vt100_c.specs.Status.{ok};
+ghost use Rattle.vt100_c.specs.Texts.{IsDifference, due_for, due_for_both, text_of};
+ghost use Rattle.vt100_c.specs.declared.making.Difference.TheVariants as between;
+
+use crate::object::{Source, screen_of};
+use crate::status::{BAD_ARGUMENT, OK, OTHER_SIZE, OUT_OF_MEMORY, WRONG_KIND};
+use vt100::{Error, Screen};
+
+/// A text of a screen.
+#[derive(Clone, Copy)]
+pub enum Text {
+    /// All rows that are shown, without attributes.
+    Contents,
+
+    /// From a row and a column up to a row and a column, without attributes.
+    Between(u16, u16, u16, u16),
+
+    /// What redraws the screen.
+    Formatted,
+
+    /// What redraws it whatever the scroll region is.
+    FormattedReset,
+
+    /// The rows with SGR alone.
+    FormattedBasic,
+
+    /// What redraws the screen and sets its input modes.
+    State,
+
+    /// What sets the cursor.
+    CursorState,
+
+    /// What sets the attributes.
+    Attributes,
+
+    /// What sets the input modes.
+    InputMode,
+}
+
+/// A text that takes one screen to another.
+#[derive(Clone, Copy)]
+pub enum Difference {
+    /// What is shown.
+    Contents,
+
+    /// What is shown, where rows may move first.
+    Scrolling,
+
+    /// What is shown, and the input modes.
+    State,
+
+    /// The input modes.
+    InputMode,
+}
+
+/// The screen of a source is made a text, if there is one.
+pub(crate) fn text_in(source: &Source, text: Text) -> Result<String, u8>
+    ensures text { IfOk result
+        (λ made. OnScreen (screen_in source.now) (λ screen. string_bytes made ≡ text_of text screen)) }
+    ensures answer { IsAnswer (due_on (due_for text) (screen_in source.now)) (status_in result) }
+    ensures refused { IfErr result (λ status. ¬ (status ≡ ok)) }
+{
+    match screen_of(source) {
+        Some(screen) => text_of(screen, text),
+        None => Err(WRONG_KIND),
+    }
+}
+
+/// A screen is made a text.
+fn text_of(screen: &Screen, text: Text) -> Result<String, u8>
+    ensures text { IfOk result (λ made. string_bytes made ≡ text_of text screen.now) }
+    ensures answer { IsAnswer (due_for text screen.now) (status_in result) }
+    ensures refused { IfErr result (λ status. ¬ (status ≡ ok)) }
+{
+    match text {
+        Text::Contents => or_status(screen.contents()),
+        Text::Between(start_row, start_col, end_row, end_col) => {
+            between(screen, (start_row, start_col), (end_row, end_col))
+        }
+        Text::Formatted => or_status(screen.contents_formatted()),
+        Text::FormattedReset => or_status(screen.contents_formatted_reset()),
+        Text::FormattedBasic => or_status(screen.contents_formatted_basic()),
+        Text::State => or_status(screen.state_formatted()),
+        Text::CursorState => or_status(screen.cursor_state_formatted()),
+        Text::Attributes => or_status(screen.attributes_formatted()),
+        Text::InputMode => or_status(screen.input_mode_formatted()),
+    }
+}
+
+/// The text from a row and a column up to a row and a column, if it begins on
+/// the screen.
+fn between(screen: &Screen, start: (u16, u16), end: (u16, u16)) -> Result<String, u8>
+    ensures text { IfOk result
+        (λ made. string_bytes made ≡ between_of start.0 start.1 end.0 end.1 screen.now) }
+    ensures answer { IsAnswer (has_start start.0 start.1 end.0 screen.now) (status_in result) }
+    ensures refused { IfErr result (λ status. ¬ (status ≡ ok)) }
+{
+    if is_outside(screen, start, end.0) {
+        return Err(BAD_ARGUMENT);
+    }
+    or_status(screen.contents_between(start.0, start.1, end.0, end.1))
+}
+
+/// Whether a range of several rows begins past the columns of the screen.
+fn is_outside(screen: &Screen, start: (u16, u16), end_row: u16) -> bool
+    ensures value { result ≡ (nat_lt start.0 end_row && nat_lt screen.now.page.width start.1) }
+    ensures inside { result ≡ false → start.0 < end_row → start.1 ≤ screen.now.page.width }
+{
+    let (_, cols) = screen.size();
+    start.0 < end_row && cols.get() < start.1
+}
+
+/// The difference of two sources is made a text, if both have a screen.
+pub(crate) fn difference_in(
+    source: &Source,
+    prev: &Source,
+    difference: Difference,
+) -> Result<String, u8>
+    ensures text { IfOk result (λ made. OnBoth (screen_in source.now) (screen_in prev.now)
+        (λ screen prev. IsDifference difference screen prev (string_bytes made))) }
+    ensures answer { IsAnswer (due_on_both (due_for_both difference) (screen_in source.now) (screen_in prev.now))
+        (status_in result) }
+    ensures refused { IfErr result (λ status. ¬ (status ≡ ok)) }
+{
+    let Some(screen) = screen_of(source) else {
+        return Err(WRONG_KIND);
+    };
+    match screen_of(prev) {
+        Some(prev) => difference_of(screen, prev, difference),
+        None => Err(WRONG_KIND),
+    }
+}
+
+/// The difference of two screens is made a text, if they are of one size where
+/// it wants that.
+fn difference_of(screen: &Screen, prev: &Screen, difference: Difference) -> Result<String, u8>
+    ensures text { IfOk result (λ made. IsDifference difference screen.now prev.now (string_bytes made)) }
+    ensures answer { IsAnswer (due_for_both difference screen.now prev.now) (status_in result) }
+    ensures refused { IfErr result (λ status. ¬ (status ≡ ok)) }
+{
+    match difference {
+        Difference::Contents => contents_diff(screen, prev),
+        Difference::Scrolling => contents_diff_scrolling(screen, prev),
+        Difference::State => state_diff(screen, prev),
+        Difference::InputMode => or_status(screen.input_mode_diff(prev)),
+    }
+}
+
+/// What takes the one to the other, if they are of one size.
+fn contents_diff(screen: &Screen, prev: &Screen) -> Result<String, u8>
+    ensures text { IfOk result (λ made. IsDifference between.Contents screen.now prev.now (string_bytes made)) }
+    ensures answer { IsAnswer (of_one_size screen.now prev.now) (status_in result) }
+    ensures refused { IfErr result (λ status. ¬ (status ≡ ok)) }
+{
+    if !is_sized_as(screen, prev) {
+        return Err(OTHER_SIZE);
+    }
+    or_status(screen.contents_diff(prev))
+}
+
+/// The same, where rows may move first.
+fn contents_diff_scrolling(screen: &Screen, prev: &Screen) -> Result<String, u8>
+    ensures text { IfOk result (λ made. IsDifference between.Scrolling screen.now prev.now (string_bytes made)) }
+    ensures answer { IsAnswer (of_one_size screen.now prev.now) (status_in result) }
+    ensures refused { IfErr result (λ status. ¬ (status ≡ ok)) }
+{
+    if !is_sized_as(screen, prev) {
+        return Err(OTHER_SIZE);
+    }
+    or_status(screen.contents_diff_scrolling(prev))
+}
+
+/// The same with the input modes.
+fn state_diff(screen: &Screen, prev: &Screen) -> Result<String, u8>
+    ensures text { IfOk result (λ made. IsDifference between.State screen.now prev.now (string_bytes made)) }
+    ensures answer { IsAnswer (of_one_size screen.now prev.now) (status_in result) }
+    ensures refused { IfErr result (λ status. ¬ (status ≡ ok)) }
+{
+    if !is_sized_as(screen, prev) {
+        return Err(OTHER_SIZE);
+    }
+    or_status(screen.state_diff(prev))
+}
+
+/// Whether both screens are of one size.
+pub(crate) fn is_sized_as(screen: &Screen, prev: &Screen) -> bool
+    ensures value { result ≡ same_size screen.now.page prev.now.page }
+    ensures size { result ≡ true → SameSize screen.now.page prev.now.page }
+{
+    let (rows, cols) = screen.size();
+    let (prev_rows, prev_cols) = prev.size();
+    rows.get() == prev_rows.get() && cols.get() == prev_cols.get()
+}
+
+/// A text, or the status of the error.
+pub(crate) fn or_status(made: Result<String, Error>) -> Result<String, u8>
+    requires { OnlyOutOfMemory made }
+    ensures text { IfOk result (λ text. made ≡ Ok text) }
+    ensures answer { IsAnswer ok (status_in result) }
+    ensures refused { IfErr result (λ status. ¬ (status ≡ ok)) }
+{
+    match made {
+        Ok(text) => Ok(text),
+        Err(_) => Err(OUT_OF_MEMORY),
+    }
+}
+
+/// Keeps a text that was made, and says how long it is.
+pub(crate) fn keep(place: &mut String, made: Result<String, u8>, len: &mut usize) -> u8
+    requires { IfErr made (λ status. ¬ (status ≡ ok)) }
+    ensures status { result ≡ status_in made }
+    ensures text { result ≡ ok → made ≡ Ok place.new }
+    ensures len { result ≡ ok → len.new ≡ length (string_bytes place.new) }
+    ensures refused { ¬ (result ≡ ok) → place.new ≡ place.old }
+    ensures refused_len { ¬ (result ≡ ok) → len.new ≡ len.old }
+{
+    match made {
+        Ok(text) => {
+            *len = text.len();
+            *place = text;
+            OK
+        }
+        Err(status) => status,
+    }
+}

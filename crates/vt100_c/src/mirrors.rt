@@ -1,0 +1,183 @@
+//! Mirrors: a terminal, and viewers that are kept equal to it by texts.
+
+ghost use Rattle.std.specs.Prelude.{◌≡◌};
+ghost use Rattle.vt100_c.specs.Calls.{OnObject, OnSource};
+ghost use Rattle.vt100_c.specs.Life.{Makes};
+ghost use Rattle.vt100_c.specs.Mirrors.{told};
+ghost use Rattle.vt100_c.specs.Status.{ok};
+ghost use Rattle.vt100_c.specs.Viewing.{IsNewMirror, JoinsSource, LeavesSource, UpdatesObject};
+ghost use Rattle.vt_mirror.specs.Calls.{Drawn, Scrolling};
+
+use crate::handle::Handle;
+use crate::life::{hold, size_of};
+use crate::object::{Object, Source};
+use crate::parts::Parts;
+use crate::status::{BAD_ARGUMENT, IN_USE, NO_OBJECT, OUT_OF_MEMORY, WRONG_KIND};
+use crate::viewers;
+use std::alloc::Global;
+use vt_mirror::Mirror;
+
+/// Makes a mirror with a fresh screen and no viewer behind `out`.
+#[unsafe(no_mangle)]
+pub extern "C" fn vt100_mirror_new(
+    alloc: Global,
+    rows: u16,
+    cols: u16,
+    scrollback_capacity: usize,
+    out: &mut Handle,
+) -> u8
+    ensures { Makes rows cols (IsNewMirror rows cols scrollback_capacity) out.old.held result out.new.held }
+{
+    if out.is_full() {
+        return IN_USE;
+    }
+    let Some((some_rows, some_cols)) = size_of(rows, cols) else {
+        return BAD_ARGUMENT;
+    };
+    match Mirror::new(alloc, some_rows, some_cols, scrollback_capacity) {
+        Ok(mirror) => hold(alloc, Source::Mirror(mirror), out),
+        Err(_) => OUT_OF_MEMORY,
+    }
+}
+
+/// Adds a viewer to a mirror, and says its number.
+#[unsafe(no_mangle)]
+pub extern "C" fn vt100_join(alloc: Global, handle: &mut Handle, viewer: &mut u64) -> u8
+    ensures call { OnSource (JoinsSource viewer.old viewer.new) handle.old.held result handle.new.held }
+    ensures refused { ¬ (result ≡ ok) → viewer.new ≡ viewer.old }
+{
+    if !handle.is_full() {
+        return NO_OBJECT;
+    }
+    let mut object = handle.take(alloc).into_box();
+    let status = join(&mut object.source, viewer);
+    handle.put(Parts::of(object));
+    status
+}
+
+/// Removes a viewer from a mirror.
+#[unsafe(no_mangle)]
+pub extern "C" fn vt100_leave(alloc: Global, handle: &mut Handle, viewer: u64) -> u8
+    ensures { OnSource (LeavesSource viewer) handle.old.held result handle.new.held }
+{
+    if !handle.is_full() {
+        return NO_OBJECT;
+    }
+    let mut object = handle.take(alloc).into_box();
+    let status = leave(&mut object.source, viewer);
+    handle.put(Parts::of(object));
+    status
+}
+
+/// Makes a viewer's next update, and keeps its text with the mirror. Says how
+/// long it is, and for which size a full one is; a difference is for none, and
+/// both numbers are 0.
+#[unsafe(no_mangle)]
+pub extern "C" fn vt100_update(
+    alloc: Global,
+    handle: &mut Handle,
+    viewer: u64,
+    rows: &mut u16,
+    cols: &mut u16,
+    len: &mut usize,
+) -> u8
+    ensures call { OnObject (UpdatesObject Drawn viewer
+        (told rows.old cols.old len.old) (told rows.new cols.new len.new)) handle.old.held result handle.new.held }
+    ensures refused { ¬ (result ≡ ok) → told rows.new cols.new len.new ≡ told rows.old cols.old len.old }
+{
+    if !handle.is_full() {
+        return NO_OBJECT;
+    }
+    let mut object = handle.take(alloc).into_box();
+    let status = update(&mut object, viewer, rows, cols, len);
+    handle.put(Parts::of(object));
+    status
+}
+
+/// The same as [`vt100_update`], with a difference that may move rows first.
+#[unsafe(no_mangle)]
+pub extern "C" fn vt100_update_scrolling(
+    alloc: Global,
+    handle: &mut Handle,
+    viewer: u64,
+    rows: &mut u16,
+    cols: &mut u16,
+    len: &mut usize,
+) -> u8
+    ensures call { OnObject (UpdatesObject Scrolling viewer
+        (told rows.old cols.old len.old) (told rows.new cols.new len.new)) handle.old.held result handle.new.held }
+    ensures refused { ¬ (result ≡ ok) → told rows.new cols.new len.new ≡ told rows.old cols.old len.old }
+{
+    if !handle.is_full() {
+        return NO_OBJECT;
+    }
+    let mut object = handle.take(alloc).into_box();
+    let status = update_scrolling(&mut object, viewer, rows, cols, len);
+    handle.put(Parts::of(object));
+    status
+}
+
+/// Adds a viewer, if it is a mirror.
+fn join(source: &mut Source, viewer: &mut u64) -> u8
+    ensures call { JoinsSource viewer.old viewer.new source.old result source.new }
+    ensures refused { ¬ (result ≡ ok) → viewer.new ≡ viewer.old }
+{
+    match source {
+        Source::Mirror(mirror) => viewers::join(mirror, viewer),
+        Source::Parser(_) => WRONG_KIND,
+        Source::Screen(_) => WRONG_KIND,
+        Source::Capture(_) => WRONG_KIND,
+    }
+}
+
+/// Removes a viewer, if it is a mirror.
+fn leave(source: &mut Source, viewer: u64) -> u8
+    ensures { LeavesSource viewer source.old result source.new }
+{
+    match source {
+        Source::Mirror(mirror) => viewers::leave(mirror, viewer),
+        Source::Parser(_) => WRONG_KIND,
+        Source::Screen(_) => WRONG_KIND,
+        Source::Capture(_) => WRONG_KIND,
+    }
+}
+
+/// Makes an update, if it is a mirror.
+fn update(object: &mut Object, viewer: u64, rows: &mut u16, cols: &mut u16, len: &mut usize) -> u8
+    ensures call { UpdatesObject Drawn viewer
+        (told rows.old cols.old len.old) (told rows.new cols.new len.new) object.old result object.new }
+    ensures refused { ¬ (result ≡ ok) → told rows.new cols.new len.new ≡ told rows.old cols.old len.old }
+{
+    match &mut object.source {
+        Source::Mirror(mirror) => {
+            let answer = mirror.update(viewer);
+            viewers::hand_over(answer, &mut object.text, rows, cols, len)
+        }
+        Source::Parser(_) => WRONG_KIND,
+        Source::Screen(_) => WRONG_KIND,
+        Source::Capture(_) => WRONG_KIND,
+    }
+}
+
+/// The same, with a difference that may move rows first.
+fn update_scrolling(
+    object: &mut Object,
+    viewer: u64,
+    rows: &mut u16,
+    cols: &mut u16,
+    len: &mut usize,
+) -> u8
+    ensures call { UpdatesObject Scrolling viewer
+        (told rows.old cols.old len.old) (told rows.new cols.new len.new) object.old result object.new }
+    ensures refused { ¬ (result ≡ ok) → told rows.new cols.new len.new ≡ told rows.old cols.old len.old }
+{
+    match &mut object.source {
+        Source::Mirror(mirror) => {
+            let answer = mirror.update_scrolling(viewer);
+            viewers::hand_over(answer, &mut object.text, rows, cols, len)
+        }
+        Source::Parser(_) => WRONG_KIND,
+        Source::Screen(_) => WRONG_KIND,
+        Source::Capture(_) => WRONG_KIND,
+    }
+}

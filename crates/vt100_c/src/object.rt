@@ -1,0 +1,57 @@
+//! What a handle holds.
+
+ghost use Rattle.std.specs.Prelude.{◌≡◌, IfSome, Some, None};
+ghost use Rattle.vt100_c.specs.Sources.{kind_of, screen_in};
+
+use crate::events::Events;
+use vt_mirror::Mirror;
+use vt100::capture::BasicFormattedCaptureState;
+use vt100::{Parser, Screen};
+
+/// What it is.
+#[derive(Drop)]
+pub enum Source {
+    /// A parser, with its screen and its log of events.
+    Parser(Parser<Events>),
+
+    /// A saved screen.
+    Screen(Screen),
+
+    /// A mirror, with its viewers.
+    Mirror(Mirror),
+
+    /// What stands behind a capture.
+    Capture(BasicFormattedCaptureState),
+}
+
+/// What a handle holds, and the text that was last made of it.
+#[derive(Drop)]
+pub struct Object {
+    pub(crate) source: Source,
+    pub(crate) text: String,
+}
+
+/// The screen of a parser, or a saved one.
+pub(crate) fn screen_of(source: &Source) -> Option<&Screen>
+    ensures some { IfSome result (λ screen. screen_in source.now ≡ Some screen.now) }
+    ensures none { result ≡ None → screen_in source.now ≡ None }
+{
+    match source {
+        Source::Parser(parser) => Some(parser.screen()),
+        Source::Screen(screen) => Some(screen),
+        Source::Mirror(_) => None,
+        Source::Capture(_) => None,
+    }
+}
+
+/// The number of a source's kind.
+pub(crate) fn kind_of(source: &Source) -> u8
+    ensures { result ≡ kind_of source.now }
+{
+    match source {
+        Source::Parser(_) => 1,
+        Source::Screen(_) => 2,
+        Source::Mirror(_) => 3,
+        Source::Capture(_) => 4,
+    }
+}

@@ -1,0 +1,40 @@
+//! The two parts of a box, as long as a handle's word stands for it.
+
+ghost use Rattle.std.specs.Prelude.{◌≡◌};
+ghost use Rattle.std_alloc.specs.Box.Ownership.{box_owns};
+
+use std::alloc::Allocator;
+use std::marker::Model;
+
+/// What a box is made of: where its value is, and what frees it.
+///
+/// They can't be let go, only be made a box again, or be put behind a handle.
+pub struct Parts<T, A: Allocator> {
+    pub(crate) at: *mut T,
+    pub(crate) alloc: A,
+    pub ghost value: { T },
+}
+
+impl<T, A: Allocator> Model for Parts<T, A> {
+    ghost also_owns = { λ parts. box_owns (A.dealloc_token parts.alloc) T.row parts.at parts.value };
+}
+
+impl<T, A: Allocator> Parts<T, A> {
+    /// Those of a box.
+    pub(crate) fn of(whole: Box<T, A>) -> Parts<T, A>
+    where
+        T: Drop,
+        ensures { result.value ≡ whole.value }
+    {
+        let (at, alloc) = Box::into_raw_with_allocator(whole);
+        Parts { at, alloc }
+    }
+
+    /// The box again.
+    pub(crate) fn into_box(self) -> Box<T, A>
+        ensures { result.value ≡ self.value }
+    {
+        let Parts { at, alloc } = self;
+        unsafe { Box::from_raw(alloc, at) }
+    }
+}

@@ -1,0 +1,234 @@
+//! The record of a call, as C reads it: its kind in a byte, two numbers of four bytes, the length
+//! of its text in eight bytes, and the text; the low byte of a number first.
+
+ghost use Rattle.std.specs.Prelude.{◌≡◌, ◌+◌, ◌<◌, ◌≤◌, ◌∷◌, ◌++◌, IfOk, OnErr, OnOk};
+ghost use Rattle.std.specs.Prelude.{length, map, string_bytes, vec_capacity, vec_len};
+ghost use Rattle.std.specs.Int.{w32, to_le_bytes};
+ghost use Rattle.std.specs.List.{flat_map};
+ghost use Rattle.vt100_c.specs.Records.{bit_of, group_of, is_wanted, kind_of, number_of, part_of};
+ghost use Rattle.vt100_c.specs.Records.{record_of, record_with};
+ghost use Rattle.vt_rows.specs.Plain.{plain_text};
+ghost use Rattle.vt_rows.specs.Row.{IsRow, trimmed_row};
+ghost use Rattle.vt_screen.specs.Calls as calls;
+ghost use Rattle.vt_screen.specs.Meanings.{call_of};
+
+use std::alloc::{AllocError, Global};
+use vt_rows::capture::trimmed;
+use vt_rows::{Row, plain};
+use vt100::Call;
+use vt100::capture::RowContents;
+
+/// How many bytes a record has before its text.
+const HEAD_LEN: usize = 17;
+
+/// The kind of the report of a row.
+pub(crate) const ON_SCROLL: u8 = 12;
+
+/// Whether the bit of a kind is set.
+pub(crate) fn is_wanted(wanted: u16, kind: u8) -> bool
+    requires { kind < 16 }
+    ensures { result ≡ is_wanted wanted kind }
+{
+    (wanted >> kind) % 2 == 1
+}
+
+/// The kind of a call.
+pub(crate) fn kind_of(call: Call<'_>) -> u8
+    ensures kind { result ≡ kind_of (call_of call.entry) }
+    ensures few { result < 16 }
+{
+    match call {
+        Call::AudibleBell => 0,
+        Call::VisualBell => 1,
+        Call::Resize(_) => 2,
+        Call::SetWindowIconName(_) => 3,
+        Call::SetWindowTitle(_) => 4,
+        Call::CopyToClipboard(_, _) => 5,
+        Call::PasteFromClipboard(_) => 6,
+        Call::UnhandledChar(_) => 7,
+        Call::UnhandledControl(_) => 8,
+        Call::UnhandledEscape(_, _, _) => 9,
+        Call::UnhandledCsi(_, _, _, _) => 10,
+        Call::UnhandledOsc(_) => 11,
+    }
+}
+
+/// Writes the record of a call behind the others.
+///
+/// Fails where memory is refused; then the records are as they were.
+pub(crate) fn write_call(
+    alloc: Global,
+    records: &mut Vec<u8>,
+    call: Call<'_>,
+) -> Result<(), AllocError>
+    ensures ok { OnOk result (records.new.items ≡ records.old.items ++ record_of (call_of call.entry)) }
+    ensures err { OnErr result (records.new.items ≡ records.old.items) }
+{
+    match call {
+        Call::AudibleBell => write(records, 0, 0, 0, &[]),
+        Call::VisualBell => write(records, 1, 0, 0, &[]),
+        Call::Resize((rows, cols)) => write(records, 2, u32::from(rows), u32::from(cols), &[]),
+        Call::SetWindowIconName(name) => write(records, 3, 0, 0, name),
+        Call::SetWindowTitle(title) => write(records, 4, 0, 0, title),
+        Call::CopyToClipboard(kind, text) => {
+            let text = parts(alloc, &[kind, text])?;
+            write(records, 5, 0, 0, text.as_slice())
+        }
+        Call::PasteFromClipboard(kind) => write(records, 6, 0, 0, kind),
+        Call::UnhandledChar(code) => write(records, 7, u32::from(code), 0, &[]),
+        Call::UnhandledControl(byte) => write(records, 8, u32::from(byte), 0, &[]),
+        Call::UnhandledEscape(first, second, byte) => {
+            write(records, 9, number(first), number(second), &[byte])
+        }
+        Call::UnhandledCsi(first, second, groups, code) => {
+            let text = code_and_groups(alloc, code, groups)?;
+            write(records, 10, number(first), number(second), text.as_slice())
+        }
+        Call::UnhandledOsc(texts) => {
+            let text = parts(alloc, texts)?;
+            write(records, 11, 0, 0, text.as_slice())
+        }
+    }
+}
+
+/// Writes the record of a row behind the others.
+///
+/// Fails where memory is refused; then the records are as they were.
+pub(crate) fn write_row(
+    alloc: Global,
+    records: &mut Vec<u8>,
+    row: &RowContents<'_>,
+    alternate: bool,
+) -> Result<(), AllocError>
+    ensures ok { OnOk result
+        (records.new.items ≡ records.old.items ++ record_of (calls.OnScroll row.now alternate)) }
+    ensures err { OnErr result (records.new.items ≡ records.old.items) }
+{
+    let text = text_of(alloc, row)?;
+    write(
+        records,
+        ON_SCROLL,
+        bit(alternate),
+        bit(row.wrapped()),
+        text.as_bytes(),
+    )
+}
+
+/// A copy of a row, without the default blanks at its end.
+///
+/// Fails where memory is refused.
+pub(crate) fn kept_row(alloc: Global, row: &RowContents<'_>) -> Result<Row, AllocError>
+    ensures copy { IfOk result (λ copy. copy ≡ trimmed_row row.now) }
+    ensures sound { IfOk result (λ copy. IsRow (length copy.cells) copy) }
+{
+    let kept = trimmed(row);
+    let _ = kept.cells();
+    match Row::trimmed_copy(alloc, row.cells(), row.wrapped()) {
+        Ok(copy) => Ok(copy),
+        Err(_) => Err(AllocError),
+    }
+}
+
+/// The plain text of a row.
+fn text_of(alloc: Global, row: &RowContents<'_>) -> Result<String, AllocError>
+    ensures { IfOk result
+        (λ text. string_bytes text ≡ plain_text 0 (length row.now.cells) row.now.cells) }
+{
+    let mut text = String::new(alloc);
+    let cells = row.cells();
+    match plain::write_contents(&mut text, cells, 0, cells.len()) {
+        Ok(()) => Ok(text),
+        Err(_) => Err(AllocError),
+    }
+}
+
+/// Writes a record behind the others.
+///
+/// Fails where memory is refused; then the records are as they were.
+fn write(
+    records: &mut Vec<u8>,
+    kind: u8,
+    first: u32,
+    second: u32,
+    text: &[u8],
+) -> Result<(), AllocError>
+    ensures ok { OnOk result (records.new.items ≡ records.old.items ++ record_with kind first second text.now) }
+    ensures err { OnErr result (records.new.items ≡ records.old.items) }
+{
+    records.reserve(HEAD_LEN + text.len())?;
+    put(records, &[kind]);
+    put(records, &first.to_le_bytes());
+    put(records, &second.to_le_bytes());
+    put(records, &(text.len() as u64).to_le_bytes());
+    put(records, text);
+    Ok(())
+}
+
+/// Writes bytes for which there is room.
+fn put(records: &mut Vec<u8>, bytes: &[u8])
+    requires { vec_len records.old + length bytes.now ≤ vec_capacity records.old }
+    ensures items { records.new.items ≡ records.old.items ++ bytes.now }
+    ensures len { vec_len records.new ≡ vec_len records.old + length bytes.now }
+    ensures capacity { vec_capacity records.old ≤ vec_capacity records.new }
+{
+    let _ = records.extend_from_slice(bytes);
+}
+
+/// Texts, each behind its length.
+///
+/// Fails where memory is refused.
+fn parts(alloc: Global, texts: &[&[u8]]) -> Result<Vec<u8>, AllocError>
+    ensures { IfOk result (λ joined. joined.items ≡ flat_map part_of (map (λ text. text.now) texts.now)) }
+{
+    let mut joined = Vec::new(alloc);
+    for text in texts {
+        joined.extend_from_slice(&(text.len() as u64).to_le_bytes())?;
+        joined.extend_from_slice(text)?;
+    }
+    Ok(joined)
+}
+
+/// A character, and groups of numbers behind it.
+///
+/// Fails where memory is refused.
+fn code_and_groups(alloc: Global, code: char, groups: &[&[u16]]) -> Result<Vec<u8>, AllocError>
+    ensures { IfOk result (λ joined. joined.items
+        ≡ to_le_bytes w32 code ++ flat_map group_of (map (λ group. group.now) groups.now)) }
+{
+    let mut joined = Vec::new(alloc);
+    joined.extend_from_slice(&u32::from(code).to_le_bytes())?;
+    for group in groups {
+        write_group(&mut joined, group)?;
+    }
+    Ok(joined)
+}
+
+/// Writes the numbers of a group behind how many they are.
+///
+/// Fails where memory is refused.
+fn write_group(joined: &mut Vec<u8>, group: &[u16]) -> Result<(), AllocError>
+    ensures { OnOk result (joined.new.items ≡ joined.old.items ++ group_of group.now) }
+{
+    joined.extend_from_slice(&(group.len() as u64).to_le_bytes())?;
+    for number in group {
+        joined.extend_from_slice(&number.to_le_bytes())?;
+    }
+    Ok(())
+}
+
+/// The number of a byte that may be missing.
+fn number(byte: Option<u8>) -> u32
+    ensures { result ≡ number_of byte }
+{
+    match byte {
+        Some(byte) => u32::from(byte),
+        None => 256,
+    }
+}
+
+/// 1 where the test holds.
+fn bit(test: bool) -> u32
+    ensures { result ≡ bit_of test }
+{
+    if test { 1 } else { 0 }
+}

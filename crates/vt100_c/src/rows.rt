@@ -1,0 +1,184 @@
+//! The texts of the rows that a screen shows, one behind the other.
+
+ghost use Rattle.std.specs.Prelude.{◌≡◌, ◌<◌, ◌≤◌, IfErr, IfOk, OnOk, Some, length, string_bytes};
+ghost use Rattle.std.specs.Prelude.{if◌then◌else◌, true};
+ghost use Rattle.std.specs.List.{concat};
+ghost use Rattle.vt100_c.specs.Due.{HoldsScreen, IsAnswer, OnScreen, due_at, due_on, source_at, status_in, text_at};
+ghost use Rattle.vt100_c.specs.Rows.{AreEnds, formatted_rows, has_places, has_range, plain_rows};
+ghost use Rattle.vt100_c.specs.Sources.{screen_in};
+ghost use Rattle.vt100_c.specs.Status.{bad_argument, ok};
+
+use crate::handle::Handle;
+use crate::making::{keep, or_status};
+use crate::object::{Source, screen_of};
+use crate::parts::Parts;
+use crate::row_texts;
+use crate::status::{BAD_ARGUMENT, NO_OBJECT, WRONG_KIND};
+use std::alloc::Global;
+use vt100::Screen;
+
+/// Makes the texts of the rows that are shown, one behind the other, in `width`
+/// columns from `start` on, keeps them, and says how long they are and where
+/// each ends. `ends` has a place for each row; where memory is refused it isn't
+/// said what stands there ([`Screen::rows`]).
+#[unsafe(no_mangle)]
+pub extern "C" fn vt100_rows(
+    alloc: Global,
+    handle: &mut Handle,
+    start: u16,
+    width: u16,
+    ends: &mut [usize],
+    len: &mut usize,
+) -> u8
+    ensures source { source_at handle.new.held ≡ source_at handle.old.held }
+    ensures answer { IsAnswer (due_at (has_places (length ends.old)) handle.old.held) result }
+    ensures text { result ≡ ok → HoldsScreen handle.old.held
+        (λ screen. text_at handle.new.held ≡ concat (plain_rows start width screen)) }
+    ensures ends { result ≡ ok → HoldsScreen handle.old.held
+        (λ screen. AreEnds (length screen.page.rows) ends.new (plain_rows start width screen)) }
+    ensures len { result ≡ ok → len.new ≡ length (text_at handle.new.held) }
+    ensures refused { ¬ (result ≡ ok) → handle.new.held ≡ handle.old.held }
+    ensures refused_len { ¬ (result ≡ ok) → len.new ≡ len.old }
+{
+    if !handle.is_full() {
+        return NO_OBJECT;
+    }
+    let mut object = handle.take(alloc).into_box();
+    let made = plain_in(alloc, &object.source, start, width, ends);
+    let status = keep(&mut object.text, made, len);
+    handle.put(Parts::of(object));
+    status
+}
+
+/// The same for the texts that show the rows where rows are blank; `start` is one
+/// of the columns ([`Screen::rows_formatted`]).
+#[unsafe(no_mangle)]
+pub extern "C" fn vt100_rows_formatted(
+    alloc: Global,
+    handle: &mut Handle,
+    start: u16,
+    width: u16,
+    ends: &mut [usize],
+    len: &mut usize,
+) -> u8
+    ensures source { source_at handle.new.held ≡ source_at handle.old.held }
+    ensures answer { IsAnswer (due_at (has_range start (length ends.old)) handle.old.held) result }
+    ensures text { result ≡ ok → HoldsScreen handle.old.held
+        (λ screen. text_at handle.new.held ≡ concat (formatted_rows start width screen)) }
+    ensures ends { result ≡ ok → HoldsScreen handle.old.held
+        (λ screen. AreEnds (length screen.page.rows) ends.new (formatted_rows start width screen)) }
+    ensures len { result ≡ ok → len.new ≡ length (text_at handle.new.held) }
+    ensures refused { ¬ (result ≡ ok) → handle.new.held ≡ handle.old.held }
+    ensures refused_len { ¬ (result ≡ ok) → len.new ≡ len.old }
+{
+    if !handle.is_full() {
+        return NO_OBJECT;
+    }
+    let mut object = handle.take(alloc).into_box();
+    let made = formatted_in(alloc, &object.source, start, width, ends);
+    let status = keep(&mut object.text, made, len);
+    handle.put(Parts::of(object));
+    status
+}
+
+/// The rows of a source, if it has a screen.
+fn plain_in(
+    alloc: Global,
+    source: &Source,
+    start: u16,
+    width: u16,
+    ends: &mut [usize],
+) -> Result<String, u8>
+    ensures text { IfOk result (λ made. OnScreen (screen_in source.now)
+        (λ screen. string_bytes made ≡ concat (plain_rows start width screen))) }
+    ensures ends { OnOk result (OnScreen (screen_in source.now)
+        (λ screen. AreEnds (length screen.page.rows) ends.new (plain_rows start width screen))) }
+    ensures answer { IsAnswer (due_on (has_places (length ends.old)) (screen_in source.now)) (status_in result) }
+    ensures refused { IfErr result (λ status. ¬ (status ≡ ok)) }
+{
+    match screen_of(source) {
+        Some(screen) => plain_of(alloc, screen, start, width, ends),
+        None => Err(WRONG_KIND),
+    }
+}
+
+/// The rows of a screen, if there is a place for each end.
+fn plain_of(
+    alloc: Global,
+    screen: &Screen,
+    start: u16,
+    width: u16,
+    ends: &mut [usize],
+) -> Result<String, u8>
+    ensures text { IfOk result (λ made. string_bytes made ≡ concat (plain_rows start width screen.now)) }
+    ensures ends { OnOk result
+        (AreEnds (length screen.now.page.rows) ends.new (plain_rows start width screen.now)) }
+    ensures answer { IsAnswer (has_places (length ends.old) screen.now) (status_in result) }
+    ensures refused { IfErr result (λ status. ¬ (status ≡ ok)) }
+{
+    if !has_places(screen, ends) {
+        return Err(BAD_ARGUMENT);
+    }
+    or_status(row_texts::plain(alloc, screen, start, width, ends))
+}
+
+/// The rows, to be shown, of a source, if it has a screen.
+fn formatted_in(
+    alloc: Global,
+    source: &Source,
+    start: u16,
+    width: u16,
+    ends: &mut [usize],
+) -> Result<String, u8>
+    ensures text { IfOk result (λ made. OnScreen (screen_in source.now)
+        (λ screen. string_bytes made ≡ concat (formatted_rows start width screen))) }
+    ensures ends { OnOk result (OnScreen (screen_in source.now)
+        (λ screen. AreEnds (length screen.page.rows) ends.new (formatted_rows start width screen))) }
+    ensures answer { IsAnswer (due_on (has_range start (length ends.old)) (screen_in source.now)) (status_in result) }
+    ensures refused { IfErr result (λ status. ¬ (status ≡ ok)) }
+{
+    match screen_of(source) {
+        Some(screen) => formatted_of(alloc, screen, start, width, ends),
+        None => Err(WRONG_KIND),
+    }
+}
+
+/// The rows, to be shown, of a screen, if there is a place for each end, and they
+/// begin at a column.
+fn formatted_of(
+    alloc: Global,
+    screen: &Screen,
+    start: u16,
+    width: u16,
+    ends: &mut [usize],
+) -> Result<String, u8>
+    ensures text { IfOk result (λ made. string_bytes made ≡ concat (formatted_rows start width screen.now)) }
+    ensures ends { OnOk result
+        (AreEnds (length screen.now.page.rows) ends.new (formatted_rows start width screen.now)) }
+    ensures answer { IsAnswer (has_range start (length ends.old) screen.now) (status_in result) }
+    ensures refused { IfErr result (λ status. ¬ (status ≡ ok)) }
+{
+    if !has_range(screen, start, ends) {
+        return Err(BAD_ARGUMENT);
+    }
+    or_status(row_texts::formatted(alloc, screen, start, width, ends))
+}
+
+/// Whether there is a place for each row's end.
+fn has_places(screen: &Screen, ends: &[usize]) -> bool
+    ensures yes { result ≡ true → length screen.now.page.rows ≤ length ends.now }
+    ensures value { has_places (length ends.now) screen.now ≡ (if result then ok else bad_argument) }
+{
+    let (rows, _) = screen.size();
+    usize::from(rows.get()) <= ends.len()
+}
+
+/// The same, and whether a range of columns begins at one.
+pub(crate) fn has_range(screen: &Screen, start: u16, ends: &[usize]) -> bool
+    ensures yes { result ≡ true → length screen.now.page.rows ≤ length ends.now }
+    ensures start { result ≡ true → start < screen.now.page.width }
+    ensures value { has_range start (length ends.now) screen.now ≡ (if result then ok else bad_argument) }
+{
+    let (_, cols) = screen.size();
+    start < cols.get() && has_places(screen, ends)
+}

@@ -1,0 +1,199 @@
+//! Cells and rows that are shown.
+
+ghost use Rattle.std.specs.Prelude.{◌≡◌, ◌<◌, drop, length};
+ghost use Rattle.vt_screen.specs.Screen.{visible_row};
+ghost use Rattle.vt100_c.specs.Due.{HoldsScreen, OnScreen, due_at, due_on, has_cell, has_row, has_row_and_room};
+ghost use Rattle.vt100_c.specs.Shown.{IsRowForC, bit, cell_for_c, shown_cell};
+ghost use Rattle.vt100_c.specs.Sources.{screen_in};
+ghost use Rattle.vt100_c.specs.Status.{ok};
+
+use crate::cells::VtCell;
+use crate::convert::{bit, cell_for_c};
+use crate::handle::Handle;
+use crate::object::{Source, screen_of};
+use crate::parts::Parts;
+use crate::status::{BAD_ARGUMENT, NO_OBJECT, OK, WRONG_KIND};
+use std::alloc::Global;
+use vt100::{Cell, Screen};
+
+/// Writes the cell that is shown at a row and a column, counted from 0.
+#[unsafe(no_mangle)]
+pub extern "C" fn vt100_get_cell(
+    alloc: Global,
+    handle: &mut Handle,
+    row: u16,
+    col: u16,
+    out: &mut VtCell,
+) -> u8
+    ensures same { handle.new.held ≡ handle.old.held }
+    ensures status { result ≡ due_at (has_cell row col) handle.old.held }
+    ensures cell { result ≡ ok → HoldsScreen handle.old.held
+        (λ screen. out.new ≡ cell_for_c (shown_cell row col screen)) }
+    ensures refused { ¬ (result ≡ ok) → out.new ≡ out.old }
+{
+    if !handle.is_full() {
+        return NO_OBJECT;
+    }
+    let object = handle.take(alloc).into_box();
+    let status = write_cell(&object.source, row, col, out);
+    handle.put(Parts::of(object));
+    status
+}
+
+/// Writes the cells of a row that is shown, as many as the screen has columns;
+/// what is behind them stays.
+#[unsafe(no_mangle)]
+pub extern "C" fn vt100_get_cells(
+    alloc: Global,
+    handle: &mut Handle,
+    row: u16,
+    out: &mut [VtCell],
+) -> u8
+    ensures same { handle.new.held ≡ handle.old.held }
+    ensures status { result ≡ due_at (has_row_and_room row (length out.old)) handle.old.held }
+    ensures cells { result ≡ ok → HoldsScreen handle.old.held (λ screen. IsRowForC row screen out.new) }
+    ensures rest { result ≡ ok → HoldsScreen handle.old.held
+        (λ screen. drop screen.page.width out.new ≡ drop screen.page.width out.old) }
+    ensures refused { ¬ (result ≡ ok) → out.new ≡ out.old }
+{
+    if !handle.is_full() {
+        return NO_OBJECT;
+    }
+    let object = handle.take(alloc).into_box();
+    let status = write_cells(&object.source, row, out);
+    handle.put(Parts::of(object));
+    status
+}
+
+/// Writes whether the text of a row that is shown goes on in the row below: 1
+/// or 0.
+#[unsafe(no_mangle)]
+pub extern "C" fn vt100_row_wrapped(
+    alloc: Global,
+    handle: &mut Handle,
+    row: u16,
+    out: &mut u8,
+) -> u8
+    ensures same { handle.new.held ≡ handle.old.held }
+    ensures status { result ≡ due_at (has_row row) handle.old.held }
+    ensures wrapped { result ≡ ok → HoldsScreen handle.old.held
+        (λ screen. out.new ≡ bit 1 (visible_row screen row).wrapped) }
+    ensures refused { ¬ (result ≡ ok) → out.new ≡ out.old }
+{
+    if !handle.is_full() {
+        return NO_OBJECT;
+    }
+    let object = handle.take(alloc).into_box();
+    let status = write_wrapped(&object.source, row, out);
+    handle.put(Parts::of(object));
+    status
+}
+
+/// Writes a cell of a source's screen, if there is one.
+fn write_cell(source: &Source, row: u16, col: u16, out: &mut VtCell) -> u8
+    ensures status { result ≡ due_on (has_cell row col) (screen_in source.now) }
+    ensures cell { result ≡ ok → OnScreen (screen_in source.now)
+        (λ screen. out.new ≡ cell_for_c (shown_cell row col screen)) }
+    ensures refused { ¬ (result ≡ ok) → out.new ≡ out.old }
+{
+    match screen_of(source) {
+        Some(screen) => write_shown(screen, row, col, out),
+        None => WRONG_KIND,
+    }
+}
+
+/// Writes the cell at a place, if there is one.
+fn write_shown(screen: &Screen, row: u16, col: u16, out: &mut VtCell) -> u8
+    ensures status { result ≡ has_cell row col screen.now }
+    ensures cell { result ≡ ok → out.new ≡ cell_for_c (shown_cell row col screen.now) }
+    ensures refused { ¬ (result ≡ ok) → out.new ≡ out.old }
+{
+    match screen.cell(row, col) {
+        Some(cell) => {
+            *out = cell_for_c(cell);
+            OK
+        }
+        None => BAD_ARGUMENT,
+    }
+}
+
+/// Writes a row of a source's screen, if there is one and room for it.
+fn write_cells(source: &Source, row: u16, out: &mut [VtCell]) -> u8
+    ensures status { result ≡ due_on (has_row_and_room row (length out.old)) (screen_in source.now) }
+    ensures cells { result ≡ ok → OnScreen (screen_in source.now) (λ screen. IsRowForC row screen out.new) }
+    ensures rest { result ≡ ok → OnScreen (screen_in source.now)
+        (λ screen. drop screen.page.width out.new ≡ drop screen.page.width out.old) }
+    ensures refused { ¬ (result ≡ ok) → out.new ≡ out.old }
+{
+    match screen_of(source) {
+        Some(screen) => write_row(screen, row, out),
+        None => WRONG_KIND,
+    }
+}
+
+/// Writes a row that is shown, if there is one and room for it.
+fn write_row(screen: &Screen, row: u16, out: &mut [VtCell]) -> u8
+    ensures status { result ≡ has_row_and_room row (length out.old) screen.now }
+    ensures cells { result ≡ ok → IsRowForC row screen.now out.new }
+    ensures rest { result ≡ ok → drop screen.now.page.width out.new ≡ drop screen.now.page.width out.old }
+    ensures refused { ¬ (result ≡ ok) → out.new ≡ out.old }
+{
+    let (rows, cols) = screen.size();
+    let width = usize::from(cols.get());
+    if out.len() < width || row >= rows.get() {
+        return BAD_ARGUMENT;
+    }
+    fill_row(screen, row, &mut out[..width]);
+    OK
+}
+
+/// Writes the cells of a row that is shown, as many as the screen has columns.
+fn fill_row(screen: &Screen, row: u16, out: &mut [VtCell])
+    requires shown { row < length screen.now.page.rows }
+    requires room { length out.old ≡ screen.now.page.width }
+    ensures len { length out.new ≡ length out.old }
+    ensures cells { IsRowForC row screen.now out.new }
+{
+    let (_, cols) = screen.size();
+    for col in 0..cols.get() {
+        out[usize::from(col)] = shown_cell(screen, row, col);
+    }
+}
+
+/// The cell that is shown in a row at a column; a blank where it has none.
+fn shown_cell(screen: &Screen, row: u16, col: u16) -> VtCell
+    requires { row < length screen.now.page.rows }
+    ensures { result ≡ cell_for_c (shown_cell row col screen.now) }
+{
+    match screen.cell(row, col) {
+        Some(cell) => cell_for_c(cell),
+        None => cell_for_c(&Cell::new()),
+    }
+}
+
+/// Writes whether a row of a source's screen goes on below, if there is one.
+fn write_wrapped(source: &Source, row: u16, out: &mut u8) -> u8
+    ensures status { result ≡ due_on (has_row row) (screen_in source.now) }
+    ensures wrapped { result ≡ ok → OnScreen (screen_in source.now)
+        (λ screen. out.new ≡ bit 1 (visible_row screen row).wrapped) }
+    ensures refused { ¬ (result ≡ ok) → out.new ≡ out.old }
+{
+    match screen_of(source) {
+        Some(screen) => write_goes_on(screen, row, out),
+        None => WRONG_KIND,
+    }
+}
+
+/// Writes whether a row that is shown goes on below, if there is one.
+fn write_goes_on(screen: &Screen, row: u16, out: &mut u8) -> u8
+    ensures status { result ≡ has_row row screen.now }
+    ensures wrapped { result ≡ ok → out.new ≡ bit 1 (visible_row screen.now row).wrapped }
+    ensures refused { ¬ (result ≡ ok) → out.new ≡ out.old }
+{
+    let (rows, _) = screen.size();
+    if row >= rows.get() {
+        return BAD_ARGUMENT;
+    }
+    *out = bit(1, screen.row_wrapped(row));
+    OK
+}

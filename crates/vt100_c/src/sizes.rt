@@ -1,0 +1,192 @@
+//! Another size, and scrollback.
+
+ghost use Rattle.std.specs.Prelude.{◌≡◌};
+ghost use Rattle.vt100_c.specs.Calls.{OnSource};
+ghost use Rattle.vt100_c.specs.Sizes.{Clears, OnScreen, ResizesMirror, ResizesParser, ResizesScreen};
+ghost use Rattle.vt100_c.specs.Sizes.{ResizesSource, ScrollsBack, SetsScreenSize, SetsSize};
+
+use crate::events::Events;
+use crate::handle::Handle;
+use crate::life::size_of;
+use crate::object::Source;
+use crate::parts::Parts;
+use crate::status::{BAD_ARGUMENT, NO_OBJECT, OK, OUT_OF_MEMORY, WRONG_KIND, answered};
+use std::alloc::Global;
+use std::num::NonZeroU16;
+use vt_mirror::Mirror;
+use vt100::{Parser, Screen};
+
+/// Gives the screen another size. The events of a parser tell of the rows that
+/// leave.
+#[unsafe(no_mangle)]
+pub extern "C" fn vt100_set_size(alloc: Global, handle: &mut Handle, rows: u16, cols: u16) -> u8
+    ensures { OnSource (SetsSize rows cols) handle.old.held result handle.new.held }
+{
+    if !handle.is_full() {
+        return NO_OBJECT;
+    }
+    let mut object = handle.take(alloc).into_box();
+    let status = set_size(&mut object.source, rows, cols);
+    handle.put(Parts::of(object));
+    status
+}
+
+/// Gives the screen of a parser, or a saved one, another size; nobody is told.
+#[unsafe(no_mangle)]
+pub extern "C" fn vt100_screen_set_size(
+    alloc: Global,
+    handle: &mut Handle,
+    rows: u16,
+    cols: u16,
+) -> u8
+    ensures { OnSource (SetsScreenSize rows cols) handle.old.held result handle.new.held }
+{
+    if !handle.is_full() {
+        return NO_OBJECT;
+    }
+    let mut object = handle.take(alloc).into_box();
+    let status = set_screen_size(&mut object.source, rows, cols);
+    handle.put(Parts::of(object));
+    status
+}
+
+/// Scrolls the view back by rows of scrollback, at most by all.
+#[unsafe(no_mangle)]
+pub extern "C" fn vt100_set_scrollback(alloc: Global, handle: &mut Handle, rows: usize) -> u8
+    ensures { OnSource (OnScreen (ScrollsBack rows)) handle.old.held result handle.new.held }
+{
+    if !handle.is_full() {
+        return NO_OBJECT;
+    }
+    let mut object = handle.take(alloc).into_box();
+    let status = set_scrollback(&mut object.source, rows);
+    handle.put(Parts::of(object));
+    status
+}
+
+/// Gives up scrollback; nobody is told.
+#[unsafe(no_mangle)]
+pub extern "C" fn vt100_clear_scrollback(alloc: Global, handle: &mut Handle) -> u8
+    ensures { OnSource (OnScreen Clears) handle.old.held result handle.new.held }
+{
+    if !handle.is_full() {
+        return NO_OBJECT;
+    }
+    let mut object = handle.take(alloc).into_box();
+    let status = clear_scrollback(&mut object.source);
+    handle.put(Parts::of(object));
+    status
+}
+
+/// Gives a source another size, if there is such a size.
+fn set_size(source: &mut Source, rows: u16, cols: u16) -> u8
+    ensures { SetsSize rows cols source.old result source.new }
+{
+    let Some((some_rows, some_cols)) = size_of(rows, cols) else {
+        return BAD_ARGUMENT;
+    };
+    resize(source, some_rows, some_cols)
+}
+
+/// Gives a source another size, if it has one.
+fn resize(source: &mut Source, rows: NonZeroU16, cols: NonZeroU16) -> u8
+    ensures { ResizesSource rows.value cols.value source.old result source.new }
+{
+    match source {
+        Source::Parser(parser) => resize_parser(parser, rows, cols),
+        Source::Screen(screen) => resize_screen(screen, rows, cols),
+        Source::Mirror(mirror) => resize_mirror(mirror, rows, cols),
+        Source::Capture(_) => WRONG_KIND,
+    }
+}
+
+/// Gives a parser's screen another size.
+fn resize_parser(parser: &mut Parser<Events>, rows: NonZeroU16, cols: NonZeroU16) -> u8
+    ensures { ResizesParser rows.value cols.value parser.old result parser.new }
+{
+    match parser.set_size(rows, cols) {
+        Ok(()) => OK,
+        Err(_) => OUT_OF_MEMORY,
+    }
+}
+
+/// Gives a screen another size.
+fn resize_screen(screen: &mut Screen, rows: NonZeroU16, cols: NonZeroU16) -> u8
+    ensures { ResizesScreen rows.value cols.value screen.old result screen.new }
+{
+    match screen.set_size(rows, cols) {
+        Ok(()) => OK,
+        Err(_) => OUT_OF_MEMORY,
+    }
+}
+
+/// Gives a mirror's screen another size.
+fn resize_mirror(mirror: &mut Mirror, rows: NonZeroU16, cols: NonZeroU16) -> u8
+    ensures { ResizesMirror rows.value cols.value mirror.old result mirror.new }
+{
+    answered(mirror.set_size(rows, cols))
+}
+
+/// Gives the screen of a source another size, if there is such a size.
+fn set_screen_size(source: &mut Source, rows: u16, cols: u16) -> u8
+    ensures { SetsScreenSize rows cols source.old result source.new }
+{
+    let Some((some_rows, some_cols)) = size_of(rows, cols) else {
+        return BAD_ARGUMENT;
+    };
+    resize_own(source, some_rows, some_cols)
+}
+
+/// Gives the screen of a source another size, if it has one of its own.
+fn resize_own(source: &mut Source, rows: NonZeroU16, cols: NonZeroU16) -> u8
+    ensures { OnScreen (ResizesScreen rows.value cols.value) source.old result source.new }
+{
+    match source {
+        Source::Parser(parser) => resize_screen(parser.screen_mut(), rows, cols),
+        Source::Screen(screen) => resize_screen(screen, rows, cols),
+        Source::Mirror(_) => WRONG_KIND,
+        Source::Capture(_) => WRONG_KIND,
+    }
+}
+
+/// Scrolls the view of a source back.
+fn set_scrollback(source: &mut Source, rows: usize) -> u8
+    ensures { OnScreen (ScrollsBack rows) source.old result source.new }
+{
+    match source {
+        Source::Parser(parser) => scroll_back(parser.screen_mut(), rows),
+        Source::Screen(screen) => scroll_back(screen, rows),
+        Source::Mirror(_) => WRONG_KIND,
+        Source::Capture(_) => WRONG_KIND,
+    }
+}
+
+/// Scrolls the view of a screen back.
+fn scroll_back(screen: &mut Screen, rows: usize) -> u8
+    ensures { ScrollsBack rows screen.old result screen.new }
+{
+    match screen.set_scrollback(rows) {
+        Ok(()) => OK,
+        Err(_) => OUT_OF_MEMORY,
+    }
+}
+
+/// Gives up the scrollback of a source.
+fn clear_scrollback(source: &mut Source) -> u8
+    ensures { OnScreen Clears source.old result source.new }
+{
+    match source {
+        Source::Parser(parser) => clear(parser.screen_mut()),
+        Source::Screen(screen) => clear(screen),
+        Source::Mirror(_) => WRONG_KIND,
+        Source::Capture(_) => WRONG_KIND,
+    }
+}
+
+/// Gives up the scrollback of a screen.
+fn clear(screen: &mut Screen) -> u8
+    ensures { Clears screen.old result screen.new }
+{
+    screen.clear_scrollback();
+    OK
+}

@@ -1,0 +1,54 @@
+//! What a call answers.
+
+ghost use Rattle.std.specs.Prelude.{◌≡◌};
+ghost use Rattle.vt100_c.specs.Status.{answered, status_of};
+
+use vt100::Error;
+
+/// All went well.
+pub(crate) const OK: u8 = 0;
+
+/// Memory was refused.
+pub(crate) const OUT_OF_MEMORY: u8 = 1;
+
+/// A parser or mirror ran out of memory before, and reads no more.
+pub(crate) const FAILED: u8 = 2;
+
+/// An argument is out of its range.
+pub(crate) const BAD_ARGUMENT: u8 = 3;
+
+/// The handle holds something of a kind that the call isn't for.
+pub(crate) const WRONG_KIND: u8 = 4;
+
+/// Two screens are of different sizes.
+pub(crate) const OTHER_SIZE: u8 = 5;
+
+/// The handle is empty.
+pub(crate) const NO_OBJECT: u8 = 6;
+
+/// The handle that is to be filled isn't empty.
+pub(crate) const IN_USE: u8 = 7;
+
+/// A mirror has no number left for a viewer.
+pub(crate) const NO_NUMBER: u8 = 8;
+
+/// The status of an error.
+pub(crate) fn status_of(error: Error) -> u8
+    ensures { result ≡ status_of error }
+{
+    match error {
+        Error::OutOfMemory => OUT_OF_MEMORY,
+        Error::Failed => FAILED,
+        Error::NoNumber => NO_NUMBER,
+    }
+}
+
+/// The status of an answer that gives nothing else.
+pub(crate) fn answered(answer: Result<(), Error>) -> u8
+    ensures { result ≡ answered answer }
+{
+    match answer {
+        Ok(()) => OK,
+        Err(error) => status_of(error),
+    }
+}

@@ -1,0 +1,75 @@
+//! Viewers of a mirror, and what they are told.
+
+ghost use Rattle.std.specs.Prelude.{◌≡◌, string_bytes};
+ghost use Rattle.vt100_c.specs.Mirrors.{Joins, LeavesIt, status_after, text_after, told, told_after};
+ghost use Rattle.vt100_c.specs.Status.{ok};
+
+use crate::status::{BAD_ARGUMENT, OK, status_of};
+use vt_mirror::{Mirror, Update};
+use vt100::Error;
+
+/// Adds a viewer, and says its number.
+pub(crate) fn join(mirror: &mut Mirror, viewer: &mut u64) -> u8
+    ensures call { Joins result viewer.old viewer.new mirror.old mirror.new }
+    ensures refused { ¬ (result ≡ ok) → viewer.new ≡ viewer.old }
+{
+    match mirror.join() {
+        Ok(number) => {
+            *viewer = number;
+            OK
+        }
+        Err(error) => status_of(error),
+    }
+}
+
+/// Removes a viewer, if there is one of this number.
+pub(crate) fn leave(mirror: &mut Mirror, viewer: u64) -> u8
+    ensures { LeavesIt viewer result mirror.old mirror.new }
+{
+    if mirror.leave(viewer) {
+        OK
+    } else {
+        BAD_ARGUMENT
+    }
+}
+
+/// Keeps the text of an update, and says its numbers.
+pub(crate) fn hand_over(
+    answer: Result<Option<Update>, Error>,
+    text: &mut String,
+    rows: &mut u16,
+    cols: &mut u16,
+    len: &mut usize,
+) -> u8
+    ensures status { result ≡ status_after answer }
+    ensures text { string_bytes text.new ≡ text_after answer (string_bytes text.old) }
+    ensures told { told rows.new cols.new len.new ≡ told_after answer (told rows.old cols.old len.old) }
+    ensures refused { ¬ (result ≡ ok) → told rows.new cols.new len.new ≡ told rows.old cols.old len.old }
+{
+    match answer {
+        Ok(
+            Some(
+                Update::Full {
+                    rows: height,
+                    cols: width,
+                    text: redraw,
+                },
+            ),
+        ) => {
+            *rows = height;
+            *cols = width;
+            *len = redraw.len();
+            *text = redraw;
+            OK
+        }
+        Ok(Some(Update::Diff(diff))) => {
+            *rows = 0;
+            *cols = 0;
+            *len = diff.len();
+            *text = diff;
+            OK
+        }
+        Ok(None) => BAD_ARGUMENT,
+        Err(error) => status_of(error),
+    }
+}
