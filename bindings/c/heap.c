@@ -1,0 +1,27 @@
+/* The heap that the library takes its memory from: that of the C library. A refusal carries an
+   address too, which nobody reads. */
+#include <stdbool.h>
+#include <stddef.h>
+#include <stdlib.h>
+
+struct block { bool is_granted; void *at; };
+static char nowhere;
+static bool fits(size_t align) { return align <= _Alignof(max_align_t); }
+static struct block block_at(void *at) {
+    return (struct block){at != NULL, at != NULL ? at : &nowhere};
+}
+
+struct block rattle_alloc(size_t size, size_t align);
+struct block rattle_realloc(void *at, size_t old_size, size_t size, size_t align);
+void rattle_dealloc(void *at);
+
+struct block rattle_alloc(size_t size, size_t align) {
+    return block_at(fits(align) ? malloc(size > 0 ? size : 1) : NULL);
+}
+
+struct block rattle_realloc(void *at, size_t old_size, size_t size, size_t align) {
+    (void)old_size;
+    return block_at(fits(align) ? realloc(at, size > 0 ? size : 1) : NULL);
+}
+
+void rattle_dealloc(void *at) { free(at); }

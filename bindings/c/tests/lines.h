@@ -1,0 +1,32 @@
+/* The lines that case files have about a screen and its calls (crates/vt_cases/README.md). */
+#ifndef LINES_H
+#define LINES_H
+
+#include <vt100.h>
+
+/* A text that grows. */
+struct text {
+    char *bytes;
+    size_t len, room;
+};
+
+/* Adds what printf would print. */
+void add(struct text *text, const char *format, ...);
+
+/* Adds bytes in hexadecimal, or a dot for none. */
+void add_hex(struct text *text, const uint8_t *bytes, size_t len);
+
+/* Empties a text. */
+void clear(struct text *text);
+
+/* Stops the program, with a line that says where, unless what is said holds. */
+#define must(holds) must_hold((holds) != 0, #holds, __FILE__, __LINE__)
+void must_hold(int holds, const char *what, const char *file, int line);
+
+/* Each adds lines: of size and scrollback; of cursor, flags and cells; of modes; of calls. */
+void add_size(struct text *text, vt100_handle *handle);
+void add_picture(struct text *text, vt100_handle *handle);
+void add_modes(struct text *text, vt100_handle *handle);
+void add_calls(struct text *text, vt100_handle *parser);
+
+#endif

@@ -1,0 +1,225 @@
+/*
+ * refused [FIRST]: a run of calls, once with all memory, and then once for each of its growths
+ * with that growth refused, and once more with all behind it refused too. A refused call answers
+ * VT100_OUT_OF_MEMORY and has changed nothing that is shown; made again, it gives what it gave in
+ * the first run. A parser or mirror that was refused memory while it read answers VT100_FAILED from
+ * then on, and shows what it read before. A record that was refused has none behind it. In the end
+ * all memory is given back. FIRST is how many growths are tried, all without it.
+ */
+#include "heap_refusing.h"
+#include "lines.h"
+
+#include <stdio.h>
+#include <stdlib.h>
+#include <string.h>
+
+enum { STEPS = 40 };
+
+/* What is made, and what the first run made of it. */
+static vt100_handle parser, saved, mirror, capture;
+static struct text texts[STEPS];
+static uint64_t viewer;
+static int parser_failed, mirror_failed, is_first;
+static long refusals, failures, gaps;
+
+static const char *const begun =
+    "\x1b]2;a title\a\x1b[1;31mbold\x1b[m \xe5\xae\xbd\xe5\xad\x97\r\n1\r\n22\r\n333\r\n4444\r\n"
+    "55555";
+static const char *const going_on =
+    "\x1b]52;c;YWI=\a\r\n6\r\n7\r\n8\r\n\x1b[?1049h\x1b[2Jalternate\r\n\n\n\n\x1b[?1049lback"
+    "\x1b[7;8z"
+    "\x1b[2;3Hx\x1b[1;3r\x1b[3;1Hone more row, longer than the others are\r\n\n\x1b]9;a;b\x1b\\";
+
+static vt100_status read_into(vt100_handle *handle, const char *bytes) {
+    return vt100_process(handle, (const uint8_t *)bytes, strlen(bytes));
+}
+
+/* ---- a step's call; it says how long a text is that it made, and with which handle */
+
+static vt100_status texts_of(int step, size_t *len) {
+    size_t ends[16];
+    switch (step) {
+    case 10: return vt100_contents(&parser, len);
+    case 11: return vt100_contents_formatted(&parser, len);
+    case 12: return vt100_contents_formatted_reset(&parser, len);
+    case 13: return vt100_contents_formatted_basic(&parser, len);
+    case 14: return vt100_state_formatted(&parser, len);
+    case 15: return vt100_cursor_state_formatted(&parser, len);
+    case 16: return vt100_attributes_formatted(&parser, len);
+    case 17: return vt100_input_mode_formatted(&parser, len);
+    case 18: return vt100_contents_between(&parser, 0, 1, 3, 4, len);
+    case 19: return vt100_rows(&parser, 0, 9, ends, 16, len);
+    case 20: return vt100_rows_formatted(&parser, 1, 9, ends, 16, len);
+    case 21: return vt100_contents_diff(&parser, &saved, len);
+    case 22: return vt100_contents_diff_scrolling(&parser, &saved, len);
+    case 23: return vt100_state_diff(&parser, &saved, len);
+    case 24: return vt100_input_mode_diff(&parser, &saved, len);
+    default: return vt100_rows_diff(&parser, &saved, 0, 9, ends, 16, len);
+    }
+}
+
+static vt100_status call(int step, size_t *len) {
+    uint16_t rows, cols;
+    if (step >= 10 && step < 26) return texts_of(step, len);
+    switch (step) {
+    case 0: return vt100_parser_new(4, 9, 2, 0x1fff, &parser);
+    case 1: return vt100_mirror_new(4, 9, 2, &mirror);
+    case 2: return vt100_capture_new(&capture);
+    case 3: return vt100_join(&mirror, &viewer);
+    case 4: return vt100_update(&mirror, viewer, &rows, &cols, len);
+    case 5: return read_into(&parser, begun);
+    case 6: return vt100_save(&parser, &saved);
+    case 7: return read_into(&parser, going_on);
+    case 8: return read_into(&mirror, begun);
+    case 9: return vt100_update_scrolling(&mirror, viewer, &rows, &cols, len);
+    case 26: return vt100_capture_row(&parser, 0, &capture, len);
+    case 27: return vt100_capture_screen(&parser, &capture, len);
+    case 28: return vt100_set_scrollback(&parser, 2);
+    case 29: return vt100_set_size(&parser, 3, 12);
+    case 30: return vt100_set_size(&parser, 6, 5);
+    case 31: return vt100_screen_set_size(&saved, 5, 7);
+    case 32: return vt100_set_size(&mirror, 2, 3);
+    case 33: return vt100_update(&mirror, viewer, &rows, &cols, len);
+    default: return vt100_leave(&mirror, viewer);
+    }
+}
+
+static vt100_handle *handle_of(int step) {
+    if (step == 26 || step == 27) return &capture;
+    return step == 4 || step == 9 || step == 33 ? &mirror : &parser;
+}
+
+static int makes_text(int step) {
+    return step == 4 || step == 9 || (step >= 10 && step < 28) || step == 33;
+}
+
+/* All that is shown, with nothing refused meanwhile. */
+static struct text shown(void) {
+    struct text text = {0};
+    long refused = heap_refused;
+    heap_refused = -1;
+    clear(&text);
+    if (vt100_kind(&parser) != VT100_NONE) {
+        add_size(&text, &parser);
+        add_picture(&text, &parser);
+        add_modes(&text, &parser);
+    }
+    if (vt100_kind(&saved) != VT100_NONE) add_picture(&text, &saved);
+    add(&text, "%u %u\n", vt100_kind(&mirror), vt100_kind(&capture));
+    heap_refused = refused;
+    return text;
+}
+
+/* Looks at the text that a step made, of `len` bytes: it is that of the first run. */
+static void compare(int step, size_t len) {
+    uint8_t *bytes = malloc(len + 1);
+    must(bytes != NULL && vt100_copy(handle_of(step), bytes, len + 1) == len);
+    if (is_first) {
+        clear(&texts[step]);
+        add_hex(&texts[step], bytes, len);
+    } else {
+        struct text text = {0};
+        add_hex(&text, bytes, len);
+        must(strcmp(text.bytes, texts[step].bytes) == 0);
+        free(text.bytes);
+    }
+    free(bytes);
+}
+
+static int reads(int step) { return step == 5 || step == 7 || step == 8; }
+
+/* The parser or mirror was refused memory: it reads no more. What it shows is not compared. */
+static void fail(int step) {
+    vt100_handle *handle = step == 8 ? &mirror : &parser;
+    failures++;
+    if (step == 8) mirror_failed = 1;
+    else parser_failed = 1;
+    must(read_into(handle, "x") == VT100_FAILED);
+    must(read_into(handle, "") == VT100_FAILED);
+}
+
+/* Takes a step, and once more with all memory if it was refused. */
+static void take(int step) {
+    int has_failed = step == 8 || step == 9 ? mirror_failed : parser_failed;
+    struct text before = shown();
+    size_t len = 0;
+    long refused = heap_refused;
+    vt100_status status = call(step, &len);
+    if (reads(step) && has_failed) {
+        must(status == VT100_FAILED);
+    } else if (status == VT100_OUT_OF_MEMORY) {
+        must(!is_first);
+        refusals++;
+        if (reads(step)) fail(step);
+        struct text after = shown();
+        must(reads(step) || strcmp(before.bytes, after.bytes) == 0);
+        free(after.bytes);
+        heap_refused = -1;
+        if (!reads(step)) status = call(step, &len);
+        heap_refused = refused;
+    }
+    must(reads(step) || status == VT100_OK || step == 26);
+    if (step == 26 && status != VT100_OK) must(parser_failed || gaps > 0);
+    else if (makes_text(step) && !parser_failed && !mirror_failed) {
+        if (step != 27 || gaps == 0) compare(step, len);
+    }
+    free(before.bytes);
+}
+
+/* Whether the log is whole; one that isn't is a beginning of the first run's. */
+static void look_at_log(void) {
+    static uint8_t whole[4096];
+    static size_t whole_len;
+    static uint8_t records[4096];
+    size_t len = 0;
+    uint8_t is_whole = 0;
+    must(vt100_events(&parser, &len, &is_whole) == VT100_OK && len <= sizeof records);
+    must(vt100_copy_events(&parser, records, sizeof records) == len);
+    if (is_first) {
+        must(is_whole == 1 && len > 100);
+        memcpy(whole, records, len);
+        whole_len = len;
+    }
+    if (is_whole == 0) gaps++;
+    must(len <= whole_len && memcmp(records, whole, len) == 0);
+    must(is_whole == 0 || parser_failed || len == whole_len);
+}
+
+static void run(void) {
+    heap_growths = 0;
+    parser_failed = mirror_failed = 0;
+    long gaps_before = gaps;
+    gaps = 0;
+    for (int step = 0; step < 35; step++) {
+        take(step);
+        if (step == 7) look_at_log();
+    }
+    gaps += gaps_before;
+    vt100_free(&parser);
+    vt100_free(&saved);
+    vt100_free(&mirror);
+    vt100_free(&capture);
+    must(heap_live == 0);
+}
+
+int main(int argc, char **argv) {
+    heap_refused = -1;
+    is_first = 1;
+    run();
+    is_first = 0;
+    long growths = heap_growths;
+    long count = argc > 1 ? strtol(argv[1], NULL, 10) : growths;
+    if (count > growths) count = growths;
+    for (long growth = 0; growth < count; growth++) {
+        for (int all = 0; all < 2; all++) {
+            heap_refused = growth;
+            heap_refuses_all_behind = all;
+            run();
+        }
+    }
+    must(refusals > 0 && (count < growths || (failures > 0 && gaps > 0)));
+    printf("%ld of %ld growths refused: %ld calls, %ld while reading, %ld records\n", count,
+           growths, refusals, failures, gaps);
+    for (int step = 0; step < STEPS; step++) free(texts[step].bytes);
+    return 0;
+}

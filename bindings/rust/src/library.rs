@@ -1,0 +1,454 @@
+//! The library, and safe calls of it. All unsafe code of this crate is here.
+//!
+//! What is trusted: that these declarations are those of `vt100.h`, and the duties of that header.
+//! A [`Handle`] keeps the latter:
+//!
+//! - it is lent as `&mut` to each call, so that one call at a time uses it, and the two handles of
+//!   one call are two;
+//! - it is neither `Clone` nor `Copy`, and its address is private, so that no copy of it is used;
+//! - it gives its object back when it is dropped, once;
+//! - bytes are a slice's pointer and length; results are places of this module's own stack, or a
+//!   vector's room, and the length that is passed is that of the room.
+
+/// Defines structs as the header lays them out.
+macro_rules! structs {
+    ($($(#[$meta:meta])* $name:ident { $($field:ident: $type:ty,)* })*) => {
+        $($(#[$meta])*
+        #[repr(C)]
+        #[derive(Clone, Copy, Default, PartialEq, Eq)]
+        pub struct $name { $(pub $field: $type,)* })*
+    };
+}
+
+structs! {
+    /// A colour: kind 0 the default one, 1 of the palette, 2 of three parts.
+    Color { kind: u8, red: u8, green: u8, blue: u8, }
+
+    /// A cell; the text behind its length is 0.
+    Cell { text: [u8; 30], len: u8, flags: u8, fgcolor: Color, bgcolor: Color, }
+
+    /// What a screen is but for its cells.
+    State {
+        rows: u16, cols: u16, cursor_row: u16, cursor_col: u16,
+        alternate_screen: u8, application_keypad: u8, application_cursor: u8, hide_cursor: u8,
+        bracketed_paste: u8, mouse_protocol_mode: u8, mouse_protocol_encoding: u8, cursor_style: u8,
+        flags: u8, reserved: [u8; 3], fgcolor: Color, bgcolor: Color,
+        scrollback: usize, scrollback_len: usize, scrollback_capacity: usize,
+    }
+}
+
+pub const BOLD: u8 = 1;
+pub const DIM: u8 = 2;
+pub const ITALIC: u8 = 4;
+pub const UNDERLINE: u8 = 8;
+pub const INVERSE: u8 = 16;
+pub const WIDE: u8 = 32;
+pub const WIDE_CONTINUATION: u8 = 64;
+
+/// What [`Handle::parser`] is told to keep no events by, and to keep all.
+pub const NO_EVENTS: u16 = 0;
+pub const ALL_EVENTS: u16 = (1 << 13) - 1;
+
+const OK: u8 = 0;
+const OUT_OF_MEMORY: u8 = 1;
+const FAILED: u8 = 2;
+const BAD_ARGUMENT: u8 = 3;
+const OTHER_SIZE: u8 = 5;
+
+type OfOne = unsafe extern "C" fn(*mut Handle, *mut usize) -> u8;
+type OfTwo = unsafe extern "C" fn(*mut Handle, *mut Handle, *mut usize) -> u8;
+type OfRows = unsafe extern "C" fn(*mut Handle, u16, u16, *mut usize, usize, *mut usize) -> u8;
+
+extern "C" {
+    fn vt100_parser_new(rows: u16, cols: u16, capacity: usize, wanted: u16, out: *mut Handle)
+        -> u8;
+    fn vt100_capture_new(out: *mut Handle) -> u8;
+    fn vt100_save(handle: *mut Handle, out: *mut Handle) -> u8;
+    fn vt100_swap(handle: *mut Handle, other: *mut Handle) -> u8;
+    fn vt100_free(handle: *mut Handle);
+    fn vt100_process(handle: *mut Handle, bytes: *const u8, len: usize) -> u8;
+    fn vt100_process_until(
+        handle: *mut Handle,
+        bytes: *const u8,
+        len: usize,
+        used: *mut usize,
+    ) -> u8;
+    fn vt100_set_size(handle: *mut Handle, rows: u16, cols: u16) -> u8;
+    fn vt100_screen_set_size(handle: *mut Handle, rows: u16, cols: u16) -> u8;
+    fn vt100_set_scrollback(handle: *mut Handle, rows: usize) -> u8;
+    fn vt100_clear_scrollback(handle: *mut Handle) -> u8;
+    fn vt100_get_state(handle: *mut Handle, out: *mut State) -> u8;
+    fn vt100_get_cell(handle: *mut Handle, row: u16, col: u16, out: *mut Cell) -> u8;
+    fn vt100_get_cells(handle: *mut Handle, row: u16, out: *mut Cell, room: usize) -> u8;
+    fn vt100_row_wrapped(handle: *mut Handle, row: u16, out: *mut u8) -> u8;
+    fn vt100_contents(handle: *mut Handle, len: *mut usize) -> u8;
+    fn vt100_contents_between(
+        handle: *mut Handle,
+        start_row: u16,
+        start_col: u16,
+        end_row: u16,
+        end_col: u16,
+        len: *mut usize,
+    ) -> u8;
+    fn vt100_contents_formatted(handle: *mut Handle, len: *mut usize) -> u8;
+    fn vt100_contents_formatted_basic(handle: *mut Handle, len: *mut usize) -> u8;
+    fn vt100_state_formatted(handle: *mut Handle, len: *mut usize) -> u8;
+    fn vt100_cursor_state_formatted(handle: *mut Handle, len: *mut usize) -> u8;
+    fn vt100_attributes_formatted(handle: *mut Handle, len: *mut usize) -> u8;
+    fn vt100_input_mode_formatted(handle: *mut Handle, len: *mut usize) -> u8;
+    fn vt100_contents_diff(handle: *mut Handle, prev: *mut Handle, len: *mut usize) -> u8;
+    fn vt100_state_diff(handle: *mut Handle, prev: *mut Handle, len: *mut usize) -> u8;
+    fn vt100_input_mode_diff(handle: *mut Handle, prev: *mut Handle, len: *mut usize) -> u8;
+    fn vt100_rows(
+        handle: *mut Handle,
+        start: u16,
+        width: u16,
+        ends: *mut usize,
+        room: usize,
+        len: *mut usize,
+    ) -> u8;
+    fn vt100_rows_formatted(
+        handle: *mut Handle,
+        start: u16,
+        width: u16,
+        ends: *mut usize,
+        room: usize,
+        len: *mut usize,
+    ) -> u8;
+    fn vt100_rows_diff(
+        handle: *mut Handle,
+        prev: *mut Handle,
+        start: u16,
+        width: u16,
+        ends: *mut usize,
+        room: usize,
+        len: *mut usize,
+    ) -> u8;
+    fn vt100_copy(handle: *mut Handle, out: *mut u8, room: usize) -> usize;
+    fn vt100_capture_screen(handle: *mut Handle, capture: *mut Handle, len: *mut usize) -> u8;
+    fn vt100_capture_row(
+        parser: *mut Handle,
+        index: usize,
+        capture: *mut Handle,
+        len: *mut usize,
+    ) -> u8;
+    fn vt100_next_plain(
+        text: *const u8,
+        len: usize,
+        at: usize,
+        start: *mut usize,
+        end: *mut usize,
+    ) -> u8;
+    fn vt100_next_row(
+        text: *const u8,
+        len: usize,
+        width: u16,
+        at: usize,
+        end: *mut usize,
+        next: *mut usize,
+    ) -> u8;
+    fn vt100_events(handle: *mut Handle, len: *mut usize, is_whole: *mut u8) -> u8;
+    fn vt100_copy_events(handle: *mut Handle, out: *mut u8, room: usize) -> usize;
+    fn vt100_clear_events(handle: *mut Handle) -> u8;
+}
+
+/// A text of one screen.
+#[derive(Clone, Copy)]
+pub struct Text(OfOne);
+
+impl Text {
+    pub const CONTENTS: Self = Self(vt100_contents);
+    pub const FORMATTED: Self = Self(vt100_contents_formatted);
+    pub const BASIC: Self = Self(vt100_contents_formatted_basic);
+    pub const STATE: Self = Self(vt100_state_formatted);
+    pub const CURSOR_STATE: Self = Self(vt100_cursor_state_formatted);
+    pub const ATTRIBUTES: Self = Self(vt100_attributes_formatted);
+    pub const INPUT_MODE: Self = Self(vt100_input_mode_formatted);
+}
+
+/// A text of two screens.
+#[derive(Clone, Copy)]
+pub struct Difference(OfTwo);
+
+impl Difference {
+    pub const CONTENTS: Self = Self(vt100_contents_diff);
+    pub const STATE: Self = Self(vt100_state_diff);
+    pub const INPUT_MODE: Self = Self(vt100_input_mode_diff);
+}
+
+/// A text of each row.
+#[derive(Clone, Copy)]
+pub struct RowTexts(OfRows);
+
+impl RowTexts {
+    pub const PLAIN: Self = Self(vt100_rows);
+    pub const FORMATTED: Self = Self(vt100_rows_formatted);
+}
+
+/// An object of the library, or none.
+#[repr(C)]
+pub struct Handle {
+    at: *mut u8,
+}
+
+// SAFETY: the header allows that a handle moves to another thread, and a `Handle` is the only one
+// of its object.
+unsafe impl Send for Handle {}
+
+// SAFETY: no function of a `Handle` takes `&self`, but for one that looks whether it is null.
+unsafe impl Sync for Handle {}
+
+impl Drop for Handle {
+    fn drop(&mut self) {
+        // SAFETY: the handle is empty, or the only one of its object.
+        unsafe { vt100_free(self) }
+    }
+}
+
+impl Default for Handle {
+    /// One that holds nothing.
+    fn default() -> Self {
+        Self {
+            at: std::ptr::null_mut(),
+        }
+    }
+}
+
+/// Panics unless a call went well.
+#[track_caller]
+fn check(status: u8) {
+    match status {
+        OK => {}
+        OUT_OF_MEMORY => panic!("vt100: out of memory"),
+        FAILED => panic!("vt100: the parser ran out of memory before"),
+        BAD_ARGUMENT => panic!("vt100: a bad argument"),
+        _ => panic!("vt100: status {status}"),
+    }
+}
+
+// Each call below is safe for the reasons at the top of this module.
+impl Handle {
+    /// A parser with a fresh screen.
+    pub fn parser(rows: u16, cols: u16, capacity: usize, wanted: u16) -> Self {
+        let mut out = Self::default();
+        check(unsafe { vt100_parser_new(rows, cols, capacity, wanted, &mut out) });
+        out
+    }
+
+    /// A capture that nothing was written to.
+    pub fn capture() -> Self {
+        let mut out = Self::default();
+        check(unsafe { vt100_capture_new(&mut out) });
+        out
+    }
+
+    /// A saved screen of one cell.
+    pub fn one_cell() -> Self {
+        Self::parser(1, 1, 0, NO_EVENTS).save()
+    }
+
+    /// Whether it holds nothing.
+    pub fn is_empty(&self) -> bool {
+        self.at.is_null()
+    }
+
+    /// A copy of a screen, or of a capture.
+    pub fn save(&mut self) -> Self {
+        let mut out = Self::default();
+        check(unsafe { vt100_save(self, &mut out) });
+        out
+    }
+
+    /// Exchanges the screens of two handles.
+    pub fn swap(&mut self, other: &mut Self) {
+        check(unsafe { vt100_swap(self, other) });
+    }
+
+    pub fn process(&mut self, bytes: &[u8]) {
+        check(unsafe { vt100_process(self, bytes.as_ptr(), bytes.len()) });
+    }
+
+    /// Reads up to and with the first byte that left an event, and answers how many bytes it read.
+    pub fn process_until(&mut self, bytes: &[u8]) -> usize {
+        let mut used = 0;
+        check(unsafe { vt100_process_until(self, bytes.as_ptr(), bytes.len(), &mut used) });
+        used
+    }
+
+    /// Another size of a parser, which keeps events of rows that leave.
+    pub fn set_size(&mut self, rows: u16, cols: u16) {
+        check(unsafe { vt100_set_size(self, rows, cols) });
+    }
+
+    /// Another size, telling nobody.
+    pub fn screen_set_size(&mut self, rows: u16, cols: u16) {
+        check(unsafe { vt100_screen_set_size(self, rows, cols) });
+    }
+
+    pub fn set_scrollback(&mut self, rows: usize) {
+        check(unsafe { vt100_set_scrollback(self, rows) });
+    }
+
+    pub fn clear_scrollback(&mut self) {
+        check(unsafe { vt100_clear_scrollback(self) });
+    }
+
+    pub fn state(&mut self) -> State {
+        let mut state = State::default();
+        check(unsafe { vt100_get_state(self, &mut state) });
+        state
+    }
+
+    /// The cell at a place, if there is one.
+    pub fn cell(&mut self, row: u16, col: u16) -> Option<Cell> {
+        let mut cell = Cell::default();
+        match unsafe { vt100_get_cell(self, row, col, &mut cell) } {
+            BAD_ARGUMENT => None,
+            status => {
+                check(status);
+                Some(cell)
+            }
+        }
+    }
+
+    /// The cells of a row of a screen of `cols` columns.
+    pub fn cells(&mut self, row: u16, cols: u16) -> Vec<Cell> {
+        let mut cells = vec![Cell::default(); usize::from(cols)];
+        check(unsafe { vt100_get_cells(self, row, cells.as_mut_ptr(), cells.len()) });
+        cells
+    }
+
+    /// Whether the text of a row goes on; not where there is no such row.
+    pub fn row_wrapped(&mut self, row: u16) -> bool {
+        let mut wrapped = 0;
+        match unsafe { vt100_row_wrapped(self, row, &mut wrapped) } {
+            BAD_ARGUMENT => false,
+            status => {
+                check(status);
+                wrapped == 1
+            }
+        }
+    }
+
+    pub fn text(&mut self, text: Text) -> String {
+        let mut len = 0;
+        check(unsafe { (text.0)(self, &mut len) });
+        self.copied(len)
+    }
+
+    pub fn between(&mut self, start: (u16, u16), end: (u16, u16)) -> String {
+        let mut len = 0;
+        check(unsafe { vt100_contents_between(self, start.0, start.1, end.0, end.1, &mut len) });
+        self.copied(len)
+    }
+
+    /// The difference from another screen, or `None` if it is of another size.
+    pub fn difference(&mut self, prev: &mut Self, difference: Difference) -> Option<String> {
+        let mut len = 0;
+        match unsafe { (difference.0)(self, prev, &mut len) } {
+            OTHER_SIZE => None,
+            status => {
+                check(status);
+                Some(self.copied(len))
+            }
+        }
+    }
+
+    /// The text of each of so many rows, all that are shown.
+    pub fn rows(&mut self, texts: RowTexts, start: u16, width: u16, rows: u16) -> Vec<String> {
+        let mut ends = vec![0; usize::from(rows)];
+        let mut len = 0;
+        let (out, room) = (ends.as_mut_ptr(), ends.len());
+        check(unsafe { (texts.0)(self, start, width, out, room, &mut len) });
+        cut(&self.copied(len), &ends)
+    }
+
+    /// What turns each row of another screen into that of this one, or `None` if it is of another
+    /// size.
+    pub fn rows_diff(
+        &mut self,
+        prev: &mut Self,
+        start: u16,
+        width: u16,
+        rows: u16,
+    ) -> Option<Vec<String>> {
+        let mut ends = vec![0; usize::from(rows)];
+        let mut len = 0;
+        let (out, room) = (ends.as_mut_ptr(), ends.len());
+        match unsafe { vt100_rows_diff(self, prev, start, width, out, room, &mut len) } {
+            OTHER_SIZE => None,
+            status => {
+                check(status);
+                Some(cut(&self.copied(len), &ends))
+            }
+        }
+    }
+
+    /// The text of a screen behind what a capture has.
+    pub fn capture_screen(&mut self, capture: &mut Self) -> String {
+        let mut len = 0;
+        check(unsafe { vt100_capture_screen(self, capture, &mut len) });
+        capture.copied(len)
+    }
+
+    /// The text of a row that left a parser's screen behind what a capture has.
+    pub fn capture_row(&mut self, index: usize, capture: &mut Self) -> String {
+        let mut len = 0;
+        check(unsafe { vt100_capture_row(self, index, capture, &mut len) });
+        capture.copied(len)
+    }
+
+    /// The records of a parser's events; panics where one is missing.
+    pub fn events(&mut self) -> Vec<u8> {
+        let (mut len, mut is_whole) = (0, 0);
+        check(unsafe { vt100_events(self, &mut len, &mut is_whole) });
+        check(if is_whole == 1 { OK } else { OUT_OF_MEMORY });
+        let mut records = vec![0; len];
+        let copied = unsafe { vt100_copy_events(self, records.as_mut_ptr(), len) };
+        records.truncate(copied);
+        records
+    }
+
+    pub fn clear_events(&mut self) {
+        check(unsafe { vt100_clear_events(self) });
+    }
+
+    /// The text that was made last, of this length.
+    fn copied(&mut self, len: usize) -> String {
+        let mut text = Vec::with_capacity(len);
+        // SAFETY: there is room for `len` bytes, and of these so many are written as are answered.
+        unsafe {
+            let copied = vt100_copy(self, text.as_mut_ptr(), len);
+            text.set_len(copied.min(len));
+        }
+        String::from_utf8(text).expect("a screen's text is UTF-8")
+    }
+}
+
+/// The texts that end at these places of one text.
+fn cut(text: &str, ends: &[usize]) -> Vec<String> {
+    let mut start = 0;
+    let mut texts = Vec::with_capacity(ends.len());
+    for &end in ends {
+        texts.push(text[start..end].to_owned());
+        start = end;
+    }
+    texts
+}
+
+/// Where the next piece of a capture that is no sequence begins and ends, the length of the text
+/// where there is none.
+pub fn next_plain(text: &str) -> (usize, usize) {
+    let (mut start, mut end) = (0, 0);
+    let (bytes, len) = (text.as_ptr(), text.len());
+    check(unsafe { vt100_next_plain(bytes, len, 0, &mut start, &mut end) });
+    (start, end)
+}
+
+/// Where the first row of a capture ends, and where the next one begins, if there is one.
+pub fn next_row(text: &str, width: u16) -> (usize, Option<usize>) {
+    let (mut end, mut next) = (0, 0);
+    let (bytes, len) = (text.as_ptr(), text.len());
+    check(unsafe { vt100_next_row(bytes, len, width, 0, &mut end, &mut next) });
+    (end, Some(next).filter(|&next| next != usize::MAX))
+}

@@ -1,0 +1,210 @@
+use crate::callbacks::Callbacks;
+use crate::capture::RowContents;
+use crate::event::{records, Event};
+use crate::library::{Handle, ALL_EVENTS, NO_EVENTS};
+use crate::Screen;
+use std::num::NonZeroU16;
+use std::sync::{Mutex, PoisonError};
+
+/// Reads what a program writes to its terminal, and keeps the screen.
+pub struct Parser<CB: Callbacks = ()> {
+    /// Behind this stands the library's parser with the screen in it while they are together, else
+    /// the screen alone. They are parted when the screen is lent as `&mut`, since then it may be
+    /// exchanged for another one.
+    screen: Screen,
+
+    /// While they are together a screen of one cell, or nothing if they were never parted; else the
+    /// library's parser, with a screen of one cell in it.
+    rest: Mutex<Handle>,
+
+    is_together: bool,
+    has_events: bool,
+    callbacks: CB,
+}
+
+impl Parser {
+    /// How many rows [`Parser::default`] has: 24.
+    pub const DEFAULT_ROWS: NonZeroU16 = match NonZeroU16::new(24) {
+        Some(rows) => rows,
+        None => unreachable!(),
+    };
+
+    /// How many columns [`Parser::default`] has: 80.
+    pub const DEFAULT_COLS: NonZeroU16 = match NonZeroU16::new(80) {
+        Some(cols) => cols,
+        None => unreachable!(),
+    };
+
+    /// A parser with a fresh screen of this size, which keeps at most so many rows of scrollback.
+    #[must_use]
+    pub fn new(rows: NonZeroU16, cols: NonZeroU16, scrollback_capacity: usize) -> Self {
+        Self::with_events(rows, cols, scrollback_capacity, (), false)
+    }
+}
+
+impl<CB: Callbacks> Parser<CB> {
+    /// The same, with callbacks.
+    pub fn new_with_callbacks(
+        rows: NonZeroU16,
+        cols: NonZeroU16,
+        scrollback_capacity: usize,
+        callbacks: CB,
+    ) -> Self {
+        Self::with_events(rows, cols, scrollback_capacity, callbacks, true)
+    }
+
+    fn with_events(
+        rows: NonZeroU16,
+        cols: NonZeroU16,
+        scrollback_capacity: usize,
+        callbacks: CB,
+        has_events: bool,
+    ) -> Self {
+        let wanted = if has_events { ALL_EVENTS } else { NO_EVENTS };
+        let handle = Handle::parser(rows.get(), cols.get(), scrollback_capacity, wanted);
+        Self {
+            screen: Screen::new(handle),
+            rest: Mutex::default(),
+            is_together: true,
+            has_events,
+            callbacks,
+        }
+    }
+
+    /// Reads bytes, in any pieces: a sequence or a character may go on in the next call. Each
+    /// callback is called behind the byte that makes the call, before the next one is read.
+    pub fn process(&mut self, bytes: &[u8]) {
+        self.join();
+        if !self.has_events {
+            self.screen.changed().process(bytes);
+            return;
+        }
+        self.screen.unchanged().clear_events();
+        let mut bytes = bytes;
+        while !bytes.is_empty() {
+            self.join();
+            let used = self.screen.changed().process_until(bytes);
+            assert!(used > 0, "vt100: nothing was read");
+            bytes = &bytes[used..];
+            self.tell();
+        }
+    }
+
+    /// Gives the terminal another size.
+    ///
+    /// Where it becomes lower, rows below the cursor go first; then rows at the top go into
+    /// scrollback, and [`on_scroll`](Callbacks::on_scroll) is called for those that are not kept.
+    /// Where it becomes higher, rows come back from scrollback; blank rows stand for those that are
+    /// no longer kept, and what is still missing comes in at the bottom as blank rows. Rows are cut
+    /// or filled up to the new width.
+    pub fn set_size(&mut self, rows: NonZeroU16, cols: NonZeroU16) {
+        self.join();
+        if self.has_events {
+            self.screen.unchanged().clear_events();
+        }
+        self.screen.changed().set_size(rows.get(), cols.get());
+        if self.has_events {
+            self.tell();
+        }
+    }
+
+    /// The screen.
+    #[must_use]
+    pub fn screen(&self) -> &Screen {
+        &self.screen
+    }
+
+    /// The screen, to be changed or exchanged.
+    #[must_use]
+    pub fn screen_mut(&mut self) -> &mut Screen {
+        self.part();
+        &mut self.screen
+    }
+
+    /// The callbacks.
+    pub fn callbacks(&self) -> &CB {
+        &self.callbacks
+    }
+
+    /// The callbacks, to be changed.
+    pub fn callbacks_mut(&mut self) -> &mut CB {
+        &mut self.callbacks
+    }
+
+    /// Both, to be changed.
+    pub fn screen_and_callbacks_mut(&mut self) -> (&mut Screen, &mut CB) {
+        self.part();
+        (&mut self.screen, &mut self.callbacks)
+    }
+
+    /// Calls the callbacks of the events that are kept, and forgets these.
+    fn tell(&mut self) {
+        let log = self.screen.unchanged().events();
+        if log.is_empty() {
+            return;
+        }
+        let mut row = 0;
+        for event in records(&log) {
+            if let Event::OnScroll(alternate) = event {
+                let parser = if self.is_together {
+                    self.screen.handle()
+                } else {
+                    &self.rest
+                };
+                let contents = RowContents::new(parser, row);
+                self.callbacks.on_scroll(contents, alternate);
+                row += 1;
+            } else {
+                self.part();
+                event.tell(&mut self.callbacks, &mut self.screen);
+            }
+        }
+        self.join();
+        self.screen.unchanged().clear_events();
+    }
+
+    /// Takes the screen out of the library's parser.
+    fn part(&mut self) {
+        if self.is_together {
+            self.exchange();
+        }
+    }
+
+    /// Puts the screen into the library's parser.
+    fn join(&mut self) {
+        if !self.is_together {
+            self.exchange();
+        }
+    }
+
+    /// Exchanges the screens of both handles, and then the handles: the screen stays where it is,
+    /// and the parser is the other one's.
+    fn exchange(&mut self) {
+        let handle = self.screen.unchanged();
+        let rest = self.rest.get_mut().unwrap_or_else(PoisonError::into_inner);
+        if rest.is_empty() {
+            *rest = Handle::one_cell();
+        }
+        handle.swap(rest);
+        std::mem::swap(handle, rest);
+        self.is_together = !self.is_together;
+    }
+}
+
+impl Default for Parser {
+    /// A parser of 24 rows and 80 columns that keeps no scrollback.
+    fn default() -> Self {
+        Self::new(Self::DEFAULT_ROWS, Self::DEFAULT_COLS, 0)
+    }
+}
+
+impl std::io::Write for Parser {
+    fn write(&mut self, buf: &[u8]) -> std::io::Result<usize> {
+        self.process(buf);
+        Ok(buf.len())
+    }
+
+    fn flush(&mut self) -> std::io::Result<()> {
+        Ok(())
+    }
+}

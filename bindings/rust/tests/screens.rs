@@ -1,0 +1,168 @@
+//! Screens: what is lent and copied, and what stands behind changes.
+
+use std::io::Write;
+use std::num::NonZeroU16;
+use std::panic::{RefUnwindSafe, UnwindSafe};
+use vt100::{Cell, Color, MouseProtocolEncoding, MouseProtocolMode, Parser, Screen};
+
+fn size(number: u16) -> NonZeroU16 {
+    NonZeroU16::new(number).unwrap()
+}
+
+fn is_plain_data<T: Send + Sync + UnwindSafe + RefUnwindSafe>() {}
+
+#[test]
+fn types_may_go_to_other_threads() {
+    is_plain_data::<Parser>();
+    is_plain_data::<Parser<Nothing>>();
+    is_plain_data::<Screen>();
+    is_plain_data::<Cell>();
+    is_plain_data::<vt100::capture::BasicFormattedCaptureState>();
+}
+
+struct Nothing;
+impl vt100::Callbacks for Nothing {}
+
+#[test]
+fn cells_are_those_behind_the_last_change() {
+    let mut parser = Parser::new(size(2), size(4), 3);
+    let text = |screen: &Screen, row, col| screen.cell(row, col).map(|c| c.contents().to_owned());
+    assert_eq!(text(parser.screen(), 0, 0).as_deref(), Some(""));
+    parser.process(b"ab");
+    assert_eq!(text(parser.screen(), 0, 1).as_deref(), Some("b"));
+    assert_eq!(text(parser.screen(), 0, 4), None);
+    assert_eq!(text(parser.screen(), 2, 0), None);
+    parser.process("\r\n\u{5b57}c\r\nd".as_bytes());
+    assert_eq!(text(parser.screen(), 0, 0).as_deref(), Some("\u{5b57}"));
+    assert!(parser.screen().cell(0, 0).unwrap().is_wide());
+    assert!(parser.screen().cell(0, 1).unwrap().is_wide_continuation());
+    parser.screen_mut().set_scrollback(1);
+    assert_eq!(text(parser.screen(), 0, 0).as_deref(), Some("a"));
+    assert_eq!(parser.screen().scrollback(), 1);
+    parser.screen_mut().clear_scrollback();
+    assert_eq!(text(parser.screen(), 0, 0).as_deref(), Some("\u{5b57}"));
+    parser.set_size(size(1), size(2));
+    assert_eq!(text(parser.screen(), 0, 0).as_deref(), Some("d"));
+    assert_eq!(text(parser.screen(), 0, 2), None);
+    parser.screen_mut().set_size(size(3), size(5));
+    assert_eq!(text(parser.screen(), 2, 4).as_deref(), Some(""));
+    *parser.screen_mut() = Parser::default().screen().clone();
+    assert_eq!(parser.screen().size(), (size(24), size(80)));
+    assert_eq!(text(parser.screen(), 23, 79).as_deref(), Some(""));
+}
+
+#[test]
+fn cells_are_compared_by_what_they_show() {
+    let mut parser = Parser::new(size(1), size(9), 0);
+    parser.process(b"aba\x1b[1ma\x1b[22;31ma\x1b[38;2;1;2;3ma\x1b[38;2;1;2;3ma");
+    let cell = |col| parser.screen().cell(0, col).unwrap();
+    assert_eq!(cell(0), cell(2));
+    assert_eq!(cell(5), cell(6));
+    for col in [1, 3, 4, 5, 7] {
+        assert_ne!(cell(0), cell(col), "{col}");
+    }
+    assert_eq!(cell(4).fgcolor(), Color::Idx(1));
+    assert_eq!(cell(5).fgcolor(), Color::Rgb(1, 2, 3));
+    assert_eq!(cell(0).clone(), *cell(2));
+    assert!(format!("{:?}", cell(1)).contains("\"b\""));
+    assert!(format!("{:?}", parser.screen()).contains("abaaaaa"));
+}
+
+#[test]
+fn a_copy_stays_as_it_was() {
+    let mut parser = Parser::default();
+    assert_eq!(
+        parser.screen().size(),
+        (Parser::DEFAULT_ROWS, Parser::DEFAULT_COLS)
+    );
+    parser.write_all(b"\x1b[?1000h\x1b[?1006hshown").unwrap();
+    parser.flush().unwrap();
+    let copy = parser.screen().clone();
+    parser.process(b"\x1bc");
+    assert_eq!(copy.contents(), "shown");
+    assert_eq!(copy.mouse_protocol_mode(), MouseProtocolMode::PressRelease);
+    assert_eq!(copy.mouse_protocol_encoding(), MouseProtocolEncoding::Sgr);
+    assert_eq!(parser.screen().contents(), "");
+    assert_eq!(
+        parser.screen().mouse_protocol_mode(),
+        MouseProtocolMode::None
+    );
+}
+
+#[test]
+fn a_screen_does_not_differ_from_itself() {
+    let mut parser = Parser::default();
+    parser.process(b"\x1b[?1hsome\x1b[7m text");
+    let screen = parser.screen();
+    assert_eq!(screen.contents_diff(screen), "");
+    assert_eq!(screen.state_diff(screen), "");
+    assert_eq!(screen.input_mode_diff(screen), "");
+    assert!(screen.rows_diff(screen, 0, 80).all(|row| row.is_empty()));
+}
+
+#[test]
+fn from_another_size_a_difference_is_a_redraw() {
+    let mut parser = Parser::new(size(3), size(5), 0);
+    parser.process(b"\x1b[?1hone\r\n\x1b[1mtwo");
+    let prev = Parser::new(size(2), size(9), 0).screen().clone();
+    let screen = parser.screen();
+    assert_eq!(screen.contents_diff(&prev), screen.contents_formatted());
+    let modes = screen.input_mode_diff(&prev);
+    assert_eq!(modes, "\x1b[?1h");
+    assert_eq!(
+        screen.state_diff(&prev),
+        screen.contents_formatted() + &modes
+    );
+    let rows: Vec<String> = screen.rows_diff(&prev, 0, 5).collect();
+    assert_eq!(
+        rows,
+        screen.rows_formatted(0, 5).take(2).collect::<Vec<_>>()
+    );
+    let redraw = screen.state_formatted();
+    assert_eq!(
+        redraw,
+        screen.contents_formatted() + &screen.input_mode_formatted()
+    );
+}
+
+#[test]
+fn columns_past_the_screen_have_no_text() {
+    let mut parser = Parser::new(size(2), size(5), 0);
+    parser.process(b"abcde\r\nf");
+    let none = vec![String::new(); 2];
+    assert_eq!(parser.screen().rows(5, 3).collect::<Vec<_>>(), none);
+    assert_eq!(
+        parser.screen().rows_formatted(5, 3).collect::<Vec<_>>(),
+        none
+    );
+    let prev = Parser::new(size(2), size(5), 0).screen().clone();
+    assert_eq!(
+        parser.screen().rows_diff(&prev, 5, 3).collect::<Vec<_>>(),
+        none
+    );
+    assert!(!parser.screen().row_wrapped(7));
+}
+
+#[test]
+fn threads_may_read_one_screen() {
+    let mut parser = Parser::default();
+    for row in 0..40 {
+        parser.process(format!("row {row}\r\n").as_bytes());
+    }
+    let (screen, prev) = (parser.screen(), Parser::default());
+    let (text, prev) = (screen.contents(), prev.screen());
+    let diff = screen.contents_diff(prev);
+    std::thread::scope(|scope| {
+        for turn in 0..4 {
+            let (text, diff) = (&text, &diff);
+            scope.spawn(move || {
+                for _ in 0..50 {
+                    assert_eq!(screen.contents(), *text);
+                    assert_eq!(screen.cell(turn, 0).unwrap().contents(), "r");
+                    assert_eq!(screen.contents_diff(prev), *diff);
+                    assert_ne!(prev.contents_diff(screen), *diff);
+                }
+            });
+        }
+    });
+}
