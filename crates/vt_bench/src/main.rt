@@ -9,9 +9,13 @@
 //! `vt_bench lengths ROWS COLS CAPACITY EVERY FILE` prints two sums of bytes, of `contents_diff` and of
 //! `contents_diff_scrolling`: one difference after each EVERY bytes of FILE and one at its end, each
 //! from the screen of the one before, the first one from a fresh screen.
+//!
+//! `vt_bench texts ROWS COLS CAPACITY EVERY FILE` prints these differences, redraws of the same
+//! screens and what these show: see `bench/tmux`.
 #![tactic(auto)]
 
 mod lengths;
+mod texts;
 mod work;
 
 use anyhow::{Context, Result, bail};
@@ -20,6 +24,7 @@ use std::alloc::Global;
 use std::num::NonZeroU16;
 use std::rt::{Env, Files};
 use std::{env, fs};
+use texts::show_texts;
 use vt100::Parser;
 use work::Work;
 
@@ -45,14 +50,14 @@ fn run<R: AllocGlobal + Env + Files + Print>(rt: &R) -> Result<()> {
     let [what, rows, cols, capacity, times, file] = words.as_slice() else {
         bail!("usage: vt_bench WHAT ROWS COLS CAPACITY TIMES FILE");
     };
-    if what.as_str() == "lengths" {
+    if matches!(what.as_str(), "lengths" | "texts") {
         let reading = Reading {
             rows: rows.parse::<NonZeroU16>()?,
             cols: cols.parse::<NonZeroU16>()?,
             capacity: capacity.parse::<usize>()?,
             every: times.parse::<usize>()?,
         };
-        return show_lengths(rt, reading, file.as_str());
+        return show_on_the_way(rt, what.as_str(), reading, file.as_str());
     }
     let task = Task {
         work: Work::named(what.as_str()).context("no call of this name")?,
@@ -67,13 +72,17 @@ fn run<R: AllocGlobal + Env + Files + Print>(rt: &R) -> Result<()> {
     Ok(())
 }
 
-/// Prints the lengths of differences on the way through a file.
-fn show_lengths<R: AllocGlobal + Files + Print>(
+/// Prints the texts of screens on the way through a file, or the lengths of their differences.
+fn show_on_the_way<R: AllocGlobal + Files + Print>(
     rt: &R,
+    what: &str,
     reading: Reading,
     file: &str,
 ) -> Result<()> {
     let bytes = fs::read(rt, file)?;
+    if what == "texts" {
+        return show_texts(rt, reading, bytes.as_slice());
+    }
     let Lengths { plain, scrolling } = reading.lengths(rt.alloc(), bytes.as_slice())?;
     println!(rt; "{plain} {scrolling}")?;
     Ok(())

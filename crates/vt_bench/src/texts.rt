@@ -1,0 +1,95 @@
+//! The texts of screens, for another terminal to read, and what that has to show then.
+
+use crate::lengths::Reading;
+use anyhow::{Result, ensure};
+use std::alloc::{AllocError, Global};
+use vt100::{Cell, Color, Parser, Screen};
+
+/// Prints four texts after each so many bytes, and at the end: `contents_formatted`,
+/// `contents_diff` and `contents_diff_scrolling` from the screen of the time before, the first one
+/// from a fresh screen, and what the screen shows. Before them stands a line with the cursor's row
+/// and column, from 0, whether it is hidden, and how many bytes each text has; behind them a line
+/// end.
+pub fn show_texts<R: AllocGlobal + Print>(rt: &R, reading: Reading, bytes: &[u8]) -> Result<()> {
+    ensure!(reading.every > 0, "no bytes between texts");
+    let alloc = rt.alloc();
+    let mut parser = Parser::new(alloc, reading.rows, reading.cols, reading.capacity)?;
+    let mut prev = parser.screen().clone()?;
+    for piece in bytes.chunks(reading.every) {
+        parser.process(piece)?;
+        show(rt, parser.screen(), &prev)?;
+        prev = parser.screen().clone()?;
+    }
+    Ok(())
+}
+
+fn show<R: AllocGlobal + Print>(rt: &R, screen: &Screen, prev: &Screen) -> Result<()> {
+    ensure!(screen.is_sized_as(prev), "another size");
+    let (redraw, drawn) = (screen.contents_formatted()?, screen.contents_diff(prev)?);
+    let scrolling = screen.contents_diff_scrolling(prev)?;
+    let shown = shown(rt.alloc(), screen)?;
+    let (row, col) = screen.cursor_position();
+    let hidden = screen.hide_cursor();
+    let (first, second) = (redraw.len(), drawn.len());
+    let (third, fourth) = (scrolling.len(), shown.len());
+    println!(rt; "{row} {col} {hidden} {first} {second} {third} {fourth}")?;
+    println!(rt; "{redraw}{drawn}{scrolling}{shown}")?;
+    Ok(())
+}
+
+/// What a screen shows: for each row its glyphs, NUL for a blank, and a line end. Before the first
+/// cell of a row, and where they change, stand the attributes, as `ESC [ FOREGROUND BACKGROUND
+/// MARKS m`.
+fn shown(alloc: Global, screen: &Screen) -> Result<String, AllocError> {
+    let (rows, cols) = screen.size();
+    let mut text = String::new(alloc);
+    for row in 0..rows.get() {
+        let mut before = None;
+        for col in 0..cols.get() {
+            if let Some(cell) = screen.cell(row, col) {
+                write_cell(&mut text, cell, before)?;
+                before = Some(cell);
+            }
+        }
+        text.push_str("\n")?;
+    }
+    Ok(text)
+}
+
+/// Appends a cell, unless it is the right half of a glyph.
+fn write_cell(text: &mut String, cell: &Cell, before: Option<&Cell>) -> Result<(), AllocError> {
+    if cell.is_wide_continuation() {
+        return Ok(());
+    }
+    if before.is_none_or(|before| looks(before) != looks(cell)) {
+        let (ink, paper, marks) = looks(cell);
+        text.push_str("\x1b[")?;
+        write_color(text, ink)?;
+        write_color(text, paper)?;
+        write!(text, "{marks}m")?;
+    }
+    if cell.has_contents() {
+        text.push_str(cell.contents())
+    } else {
+        text.push_str("\0")
+    }
+}
+
+/// The colours of a cell, and a sum: 1 for bold, 2 dim, 4 italic, 8 underlined and 16 inverse.
+fn looks(cell: &Cell) -> (Color, Color, u32) {
+    let marks = u32::from(cell.bold())
+        + 2 * u32::from(cell.dim())
+        + 4 * u32::from(cell.italic())
+        + 8 * u32::from(cell.underline())
+        + 16 * u32::from(cell.inverse());
+    (cell.fgcolor(), cell.bgcolor(), marks)
+}
+
+/// Appends a colour: `-`, its number, or its red, green and blue parts; and a space.
+fn write_color(text: &mut String, color: Color) -> Result<(), AllocError> {
+    match color {
+        Color::Default => text.push_str("- "),
+        Color::Idx(number) => write!(text, "{number} "),
+        Color::Rgb(red, green, blue) => write!(text, "{red},{green},{blue} "),
+    }
+}
