@@ -12,10 +12,10 @@ use Rattle.unicode_width.specs.declared.kind.Kind.{Kind}
 use Rattle.unicode_width.specs.declared.kind.Kind.TheVariants as kinds
 use Rattle.vt_cells.specs.Glyph.{columns_of}
 
--- Hiragana and Katakana without their combining marks, what is enclosed and squared with all ideographs up
--- to the syllables of Yi, and the syllables of Hangul
+-- punctuation, Hiragana and Katakana without their combining marks, what is enclosed and squared with all ideographs
+-- up to the syllables of Yi, and the syllables of Hangul
 abbrev pub blocks : List Range
-blocks = (0x3041, 0x3096) ∷ (0x309B, 0x30FF) ∷ (0x3250, 0xA48C) ∷ (0xAC00, 0xD7A3) ∷ []
+blocks = (0x3000, 0x3029) ∷ (0x3041, 0x3096) ∷ (0x309B, 0x30FF) ∷ (0x3250, 0xA48C) ∷ (0xAC00, 0xD7A3) ∷ []
 
 is_two : Kind → Bool
 is_two kinds.Wide = true
@@ -58,6 +58,10 @@ pub enclosed : (c : ℕ) → 0x3250 ≤ c → c ≤ 0xA48C → columns_of c ≡ 
 unfolding in_ranges
 enclosed c low high = columns_of-block c (omega arith) (omega arith) (grind (arith, nat_tests))
 
+pub punctuation : (c : ℕ) → 0x3000 ≤ c → c ≤ 0x3029 → columns_of c ≡ Some 2
+unfolding in_ranges
+punctuation c low high = columns_of-block c (omega arith) (omega arith) (grind (arith, nat_tests))
+
 pub hiragana : (c : ℕ) → 0x3041 ≤ c → c ≤ 0x3096 → columns_of c ≡ Some 2
 unfolding in_ranges
 hiragana c low high = columns_of-block c (omega arith) (omega arith) (grind (arith, nat_tests))
@@ -70,4 +74,4 @@ pub hangul : (c : ℕ) → 0xAC00 ≤ c → c ≤ 0xD7A3 → columns_of c ≡ So
 unfolding in_ranges
 hangul c low high = columns_of-block c (omega arith) (omega arith) (grind (arith, nat_tests))
 
-pub ruleset blocks_wide = (hiragana, katakana, enclosed, hangul)
+pub ruleset blocks_wide = (punctuation, hiragana, katakana, enclosed, hangul)

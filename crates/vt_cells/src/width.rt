@@ -27,13 +27,17 @@ pub fn columns(c: char) -> Option<u8>
 }
 
 /// Whether this is in one of the blocks whose characters all take two columns:
-/// the letters of Hiragana and Katakana, the ideographs with the enclosed and
-/// squared ones before them and the syllables of Yi behind them, and the
-/// syllables of Hangul. There are others that take two.
+/// the ideographs with the enclosed and squared ones before them and the
+/// syllables of Yi behind them, which come most and are asked for first,
+/// punctuation, the letters of Hiragana and Katakana, and the syllables of
+/// Hangul. There are others that take two.
 #[inline]
 #[tactic(auto, using(crate::proofs::Ideographs::blocks_wide))]
 fn is_ideograph(code: u32) -> bool
     ensures { IsTrue result → columns_of code ≡ Some 2 }
 {
-    matches!(code, 0x3041..=0x3096 | 0x309B..=0x30FF | 0x3250..=0xA48C | 0xAC00..=0xD7A3)
+    if code >= 0x3250 && code <= 0xA48C {
+        return true;
+    }
+    matches!(code, 0x3000..=0x3029 | 0x3041..=0x3096 | 0x309B..=0x30FF | 0xAC00..=0xD7A3)
 }

@@ -192,6 +192,7 @@ impl Sheet {
     }
 
     /// Puts a wide glyph at a column of a row and the next; see `cells::put_wide`.
+    #[inline(always)]
     pub fn put_wide(&mut self, row: u16, col: u16, c: char, attrs: Attrs)
         requires inside { row < length self.old.rows }
         requires paired { IsPaired (sheet_row self.old row).cells }

@@ -6,17 +6,17 @@ use Rattle.std.proofs.lemmas.List.{get_or_append_left, get_or-append_right, get_
 use Rattle.vt_cells.specs.Cell.{CellValue, default_blank}
 use Rattle.vt_rows.specs.Cells.{at}
 
--- the cells before `from`, and the piece behind them
-pub piece_taken : (cells : List CellValue) (from to : ℕ) → from ≤ to →
-    take from cells ++ slice_range cells from to ≡ take to cells
-piece_taken cells from to le =
+-- the items before `from`, and the piece behind them
+pub piece_taken : {X : Type 0} (xs : List X) (from to : ℕ) → from ≤ to →
+    take from xs ++ slice_range xs from to ≡ take to xs
+piece_taken xs from to le =
     let whole : from + (to - from) ≡ to = omega arith in
-    sym (take-add from (to - from) cells) ∙ ap (λ (n : ℕ). take n cells) whole
+    sym (take-add from (to - from) xs) ∙ ap (λ (n : ℕ). take n xs) whole
 
-pub length-piece : (cells : List CellValue) (from to : ℕ) → from ≤ to → to ≤ length cells →
-    length (slice_range cells from to) ≡ to - from
-length-piece cells from to le inside =
-    omega (arith, length-take (to - from) (drop from cells), length-drop from cells)
+pub length-piece : {X : Type 0} (xs : List X) (from to : ℕ) → from ≤ to → to ≤ length xs →
+    length (slice_range xs from to) ≡ to - from
+length-piece xs from to le inside =
+    omega (arith, length-take (to - from) (drop from xs), length-drop from xs)
 
 -- the first n cells are copies, and those behind them stay
 pub at-copied : (n k : ℕ) (copies cells : List CellValue) → n ≤ length copies → k < n →

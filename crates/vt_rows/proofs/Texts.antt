@@ -1,12 +1,13 @@
 -- A text of printable ASCII in a row: one edit is an edit for each byte.
 use Rattle.std.proofs.Common.{◌≡◌, ℕ, zero, suc, ◌+◌, ◌-◌, ◌<◌, ◌≤◌, ◌==◌, ◌&&◌, false, List}
-use Rattle.std.proofs.Common.{[], ◌∷◌, length, get_or, refl, inl, inr, sym, ap, ◌∙◌, arith}
+use Rattle.std.proofs.Common.{[], ◌∷◌, ◌++◌, length, take, get_or, refl, inl, inr, sym, ap, ◌∙◌, arith}
+use Rattle.std.specs.List.{slice_range}
 use Rattle.std.specs.Prelude.{All, nat_lt, if◌then◌else◌}
 use Rattle.std.specs.Char.{encode_utf8}
 use Rattle.std.proofs.Math.Utf8.{low_scalar}
 use Rattle.std.proofs.lemmas.Bool.{cases_lt, cases_eq}
 use Rattle.std.proofs.lemmas.Bool.Decides.{nat_tests}
-use Rattle.std.proofs.lemmas.List.{length-map, ext_get_or, get_or-map}
+use Rattle.std.proofs.lemmas.List.{length-map, map-append, ext_get_or, get_or-map}
 use Rattle.std.proofs.lemmas.List.Elements.{All-nil, All-cons, All-head, All-tail}
 use Rattle.vt_cells.specs.Attrs.{Attrs}
 use Rattle.vt_cells.specs.Cell.{CellValue, blank, glyph, default_blank, attrs_of, is_wide, is_right_half, IsCell}
@@ -18,6 +19,7 @@ use Rattle.vt_rows.specs.Cells.{at, IsPaired, put_cells, column_of, put_narrow}
 use Rattle.vt_rows.specs.Row.{RowValue, IsRow, with_cells}
 use Rattle.vt_rows.specs.Texts.{IsPrintableAscii, narrow_glyph, glyphs_of, put_text}
 use Rattle.vt_rows.proofs.Columns.{put_columns, length-put_cells, same_columns}
+use Rattle.vt_rows.proofs.Copying.{piece_taken}
 use Rattle.vt_rows.proofs.Pairs.{IsPaired-put_cells}
 use Rattle.vt_rows.proofs.Rows.{IsRow-with_cells}
 use Rattle.vt_rows.proofs.Sound.{All-put_cells}
@@ -138,3 +140,10 @@ glyphs_of_is attrs text cells e f =
     ext_get_or default_blank cells (glyphs_of attrs text) (e ∙ sym (length-glyphs_of attrs text))
     (λ k h. let lt : k < length text =
     omega arith in f k lt ∙ sym (get_or-map (narrow_glyph attrs) text k 0 default_blank lt))
+
+-- the glyphs of the bytes before `from`, and those of the piece behind them
+pub glyphs_on : (attrs : Attrs) (text : List ℕ) (from to : ℕ) → from ≤ to →
+    glyphs_of attrs (take from text) ++ glyphs_of attrs (slice_range text from to) ≡ glyphs_of attrs (take to text)
+glyphs_on attrs text from to le =
+    sym (map-append (narrow_glyph attrs) (take from text) (slice_range text from to))
+    ∙ ap (glyphs_of attrs) (piece_taken text from to le)

@@ -22,6 +22,10 @@ use vt_cells::{Attrs, Cell};
 /// them by vector instructions.
 const RUN: usize = 40;
 
+/// How many glyphs of a text are written at a time: so many that the loop over
+/// them is laid out one by one.
+const GLYPHS: usize = 8;
+
 /// Puts a narrow glyph at a column.
 ///
 /// Of a wide glyph whose right half stood there the left half becomes blank,
@@ -66,9 +70,26 @@ pub fn put_text(cells: &mut [Cell], column: usize, text: &[u8], attrs: Attrs)
     write_text(&mut cells[column..end], text, attrs);
 }
 
-/// Makes each cell the narrow glyph of a byte of printable ASCII.
+/// Makes each cell the narrow glyph of a byte of printable ASCII, many at a time.
 #[inline]
 fn write_text(cells: &mut [Cell], text: &[u8], attrs: Attrs)
+    requires same { length cells.old ≡ length text.now }
+    requires printable { IsPrintableAscii text.now }
+    ensures { cells.new ≡ glyphs_of attrs text.now }
+{
+    let len = text.len();
+    let mut done = 0;
+    while len - done >= GLYPHS {
+        let end = done + GLYPHS;
+        write_each(&mut cells[done..end], &text[done..end], attrs);
+        done = end;
+    }
+    write_each(&mut cells[done..len], &text[done..len], attrs);
+}
+
+/// Makes each cell the narrow glyph of a byte of printable ASCII, one by one.
+#[inline(always)]
+fn write_each(cells: &mut [Cell], text: &[u8], attrs: Attrs)
     requires same { length cells.old ≡ length text.now }
     requires printable { IsPrintableAscii text.now }
     ensures { cells.new ≡ glyphs_of attrs text.now }
@@ -84,6 +105,7 @@ fn write_text(cells: &mut [Cell], text: &[u8], attrs: Attrs)
 /// Of a wide glyph whose right half stood at the first the left half becomes
 /// blank, in its own attributes. Of one whose left half stood at the second
 /// the right half becomes blank, in `attrs`.
+#[inline(always)]
 pub fn put_wide(cells: &mut [Cell], column: usize, c: char, attrs: Attrs)
     requires paired { IsPaired cells.old }
     requires inside { column + 1 < length cells.old }
@@ -98,6 +120,7 @@ pub fn put_wide(cells: &mut [Cell], column: usize, c: char, attrs: Attrs)
 
 /// Puts a wide cell at a column, and its right half at the next; neighbours as
 /// under `put_wide`, in the attributes of the cell.
+#[inline(always)]
 pub fn put_wide_cell(cells: &mut [Cell], column: usize, cell: Cell)
     requires paired { IsPaired cells.old }
     requires inside { column + 1 < length cells.old }

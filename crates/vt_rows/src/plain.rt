@@ -77,7 +77,7 @@ fn write_behind<S: Sink>(sink: &mut S, cells: &[Cell], gap: usize) -> Result<(),
 
 /// Adds a cell behind `gap` columns without a glyph, if it is one, and answers
 /// how many such columns there are behind it.
-#[inline]
+#[inline(always)]
 fn add_cell<S: Sink>(
     sink: &mut S,
     piece: &mut Piece,
@@ -102,9 +102,23 @@ fn add_cell<S: Sink>(
     }
 }
 
-/// Adds a number of spaces.
-#[inline]
+/// Adds a number of spaces: mostly none.
+#[inline(always)]
 fn add_spaces<S: Sink>(sink: &mut S, piece: &mut Piece, count: usize) -> Result<(), S::Error>
+    ensures text { OnOk result
+        (gathered (S.text sink.new) piece.new ≡ gathered (S.text sink.old) piece.old ++ replicate count 0x20) }
+    ensures grows { OnOk result (length (S.text sink.old) ≤ length (S.text sink.new)) }
+    ensures some { IsErr result → 0 < count }
+{
+    if count == 0 {
+        return Ok(());
+    }
+    add_gap(sink, piece, count)
+}
+
+/// Adds the spaces of a gap.
+#[inline(never)]
+fn add_gap<S: Sink>(sink: &mut S, piece: &mut Piece, count: usize) -> Result<(), S::Error>
     ensures text { OnOk result
         (gathered (S.text sink.new) piece.new ≡ gathered (S.text sink.old) piece.old ++ replicate count 0x20) }
     ensures grows { OnOk result (length (S.text sink.old) ≤ length (S.text sink.new)) }

@@ -408,7 +408,7 @@ impl Grid {
     }
 
     /// Prints a character of two columns; on a page of one column nothing.
-    #[inline(never)]
+    #[inline(always)]
     fn print_wide<L: Leaving>(
         &mut self,
         c: char,
@@ -437,6 +437,7 @@ impl Grid {
     }
 
     /// Puts a glyph of two columns at the cursor, which moves behind it.
+    #[inline(always)]
     fn put_wide(&mut self, c: char, attrs: Attrs)
         requires reported { c ≢ 0xFFFD }
         requires columns { columns_of c ≡ Some 2 }

@@ -1,7 +1,7 @@
 use Rattle.std.proofs.Common.{◌≤◌, ◌∙◌, arith}
 use Rattle.vt_cells.specs.PieceKeeping.{gathered}
 use Rattle.vt_rows.proofs.PlainTexts.{sixteen}
-use Rattle.vt_rows.proofs.plain.add_spaces.Goals as goal
+use Rattle.vt_rows.proofs.plain.add_gap.Goals as goal
 
 pub loop-left-preserved : goal.loop-left-preserved
 loop-left-preserved g c =

@@ -1,0 +1,18 @@
+use Rattle.std.proofs.Common.{◌<◌, length, arith}
+use Rattle.vt_rows.proofs.Texts.{glyphs_of_is}
+use Rattle.vt_rows.proofs.cells.write_each.Goals as goal
+
+pub ascii-requires-clause-low : goal.ascii-requires-clause-low
+ascii-requires-clause-low c =
+    let lt : c.loop-k.k < length c.args.text.now = omega arith in
+    (c.requires.printable c.loop-k.k 0 lt).0
+
+pub ascii-requires-clause-high : goal.ascii-requires-clause-high
+ascii-requires-clause-high c =
+    let lt : c.loop-k.k < length c.args.text.now = omega arith in
+    (c.requires.printable c.loop-k.k 0 lt).1
+
+pub returns : goal.returns
+returns c =
+    glyphs_of_is c.args.attrs c.args.text.now c.loop-k.cells (omega arith)
+    (λ k h. let lt : k < c.loop-k.k = omega arith in c.loop-k.invariant k lt)
