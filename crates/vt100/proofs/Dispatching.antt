@@ -1,10 +1,10 @@
 -- What a control sequence does, from the tests that the code makes.
-use Rattle.std.proofs.Common.{◌≡◌, ℕ, true, false, List, [], ◌∷◌, Option, None, Some, subst, rules}
+use Rattle.std.proofs.Common.{◌≡◌, ℕ, ◌-◌, true, false, List, [], ◌∷◌, Option, None, Some, refl, subst, rules}
 use Rattle.vt_screen.specs.Calls.{CallValue}
 use Rattle.vt_screen.specs.Screen.{ScreenValue}
 use Rattle.vt_screen.specs.Controls.{counted_step, csi_steps, mark_at, marked_steps, number_or}
-use Rattle.vt_screen.specs.Controls.{one_or, plain_steps, scrolling_steps, seen_of}
-use Rattle.vt_screen.specs.Steps.{Step}
+use Rattle.vt_screen.specs.Controls.{Seen, one_or, other_steps, plain_steps, scrolling_steps, seen_of, sgr_steps}
+use Rattle.vt_screen.specs.Steps.{MoveTo, Step}
 use Rattle.vt100.specs.Keeping.{Does, MadeIf, Stops}
 use Rattle.vt100.proofs.Stepping.{stepping}
 
@@ -76,6 +76,16 @@ pub marked_stops : {S : Type 0} (does : CallValue → S → ScreenValue → S �
     Stops does s d (csi_steps groups marks b (seen_of d)) t e
 marked_stops does groups [] mark b s t d e h k = search rules
 marked_stops does groups (m ∷ marks) mark b s t d e h k = search rules
+
+-- SGR and CUP
+pub plain_sgr : (groups : List (List ℕ)) (b : ℕ) (seen : Seen) → b ≡ 0x6D → plain_steps groups b seen ≡ sgr_steps groups
+unfolding counted_step scrolling_steps other_steps
+plain_sgr groups b seen is = rw is refl
+
+pub plain_place : (groups : List (List ℕ)) (b : ℕ) (seen : Seen) → b ≡ 0x48 →
+    plain_steps groups b seen ≡ MoveTo (number_or 1 0 groups - 1) (number_or 1 1 groups - 1) ∷ []
+unfolding counted_step scrolling_steps other_steps
+plain_place groups b seen is = rw is refl
 
 -- sequences by their marks, and those without a mark by what they count
 pub ruleset by_marks = (plain_does, plain_stops, marked_does, marked_stops)

@@ -18,6 +18,7 @@ use vt_scan::Parameters;
 use vt_screen::{Callbacks, Screen};
 
 /// Does what a control sequence says, up to a step whose memory is refused.
+#[inline(always)]
 #[tactic(auto, using(crate::proofs::Dispatching::by_marks))]
 pub fn perform<CB: Callbacks>(
     screen: &mut Screen,
@@ -46,10 +47,37 @@ pub fn perform<CB: Callbacks>(
     marked(screen, callbacks, mark, sequence)
 }
 
-/// A control sequence without a marker or an intermediate.
+/// A control sequence without a marker or an intermediate. The two that are
+/// most frequent come first.
 #[inline(always)]
-#[tactic(auto, using(crate::proofs::Dispatching::by_counts))]
 fn plain<CB: Callbacks>(
+    screen: &mut Screen,
+    callbacks: &mut CB,
+    parameters: &Parameters,
+    byte: u8,
+) -> Result<(), Error>
+    ensures done { IfOk result (λ _. Does CB.does callbacks.old screen.old
+        (plain_steps parameters.now.groups byte (seen_of screen.old)) callbacks.new screen.new) }
+    ensures stopped { IsErr result →
+        Stops CB.does callbacks.old screen.old
+        (plain_steps parameters.now.groups byte (seen_of screen.old)) callbacks.new screen.new }
+    ensures memory { OnlyOutOfMemory result }
+{
+    if byte == b'm' {
+        sgr::perform(screen, callbacks, parameters);
+        return Ok(());
+    }
+    if byte == b'H' {
+        move_to(screen, parameters);
+        return Ok(());
+    }
+    plain_by_table(screen, callbacks, parameters, byte)
+}
+
+/// The same by a table of all final bytes.
+#[inline(never)]
+#[tactic(auto, using(crate::proofs::Dispatching::by_counts))]
+fn plain_by_table<CB: Callbacks>(
     screen: &mut Screen,
     callbacks: &mut CB,
     parameters: &Parameters,
@@ -148,7 +176,7 @@ fn other<CB: Callbacks>(screen: &mut Screen, callbacks: &mut CB, sequence: Seque
         b'H' | b'f' => move_to(screen, sequence.parameters),
         b'J' => erase_page(screen, callbacks, sequence),
         b'K' => erase_row(screen, callbacks, sequence),
-        b'm' => sgr::perform(screen, callbacks, sequence),
+        b'm' => sgr::perform(screen, callbacks, sequence.parameters),
         b'r' => set_region(screen, sequence.parameters),
         b't' => window(screen, callbacks, sequence),
         _ => sequence.report(screen, callbacks),
@@ -156,6 +184,7 @@ fn other<CB: Callbacks>(screen: &mut Screen, callbacks: &mut CB, sequence: Seque
 }
 
 /// CUP, whose numbers count from 1.
+#[inline(always)]
 fn move_to(screen: &mut Screen, parameters: &Parameters)
     ensures { screen.new
         ≡ stepped (step.MoveTo (number_or 1 0 parameters.now.groups - 1)
@@ -240,6 +269,7 @@ fn number_or_own(own: u16, parameters: &Parameters, i: usize) -> u16
 }
 
 /// A control sequence with a marker or an intermediate.
+#[inline(never)]
 #[tactic(auto, using(crate::proofs::Stepping::tested_steps), unfolding(vt_screen::specs::Controls::marked_steps))]
 fn marked<CB: Callbacks>(
     screen: &mut Screen,

@@ -1,5 +1,35 @@
 //! A terminal in memory: bytes that a program writes are read, and a screen
 //! keeps what a person would see.
+//!
+//! ```text
+//! use std::num::NonZeroU16;
+//! use vt100::{Color, Error, Parser};
+//!
+//! fn main(rt: HostRuntime) -> Result<(), Error> {
+//!     let (rows, cols) = (NonZeroU16::new(24).unwrap(), NonZeroU16::new(80).unwrap());
+//!     let mut parser = Parser::new(rt.alloc(), rows, cols, 0)?;
+//!     parser.process(b"this text is \x1b[31mRED\x1b[m")?;
+//!     if let Some(cell) = parser.screen().cell(0, 13) {
+//!         let is_red = cell.fgcolor() == Color::Idx(1);
+//!         let _ = println!(rt; "{} is red: {is_red}", cell.contents());
+//!     }
+//!     let before = parser.screen().clone()?;
+//!     parser.process(b"\x1b[3D\x1b[32mGREEN")?;
+//!     let screen = parser.screen();
+//!     let _ = println!(rt; "{}", screen.contents_formatted()?);
+//!     let update = if screen.is_sized_as(&before) {
+//!         screen.contents_diff(&before)?
+//!     } else {
+//!         screen.contents_formatted()?
+//!     };
+//!     let _ = println!(rt; "{update}");
+//!     Ok(())
+//! }
+//! ```
+//!
+//! It prints that `R` is red, then a redraw of the screen, which any terminal of
+//! its size may read, and then what a terminal has to read that showed the screen
+//! before.
 #![tactic(auto)]
 
 pub mod capture;

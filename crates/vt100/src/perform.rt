@@ -30,7 +30,7 @@ pub fn perform<CB: Callbacks>(
     ensures memory { OnlyOutOfMemory result }
 {
     match event {
-        Event::Character(character) => print(screen, callbacks, character),
+        Event::Character(character) => print_apart(screen, callbacks, character),
         Event::Executed(byte) => execute(screen, callbacks, byte),
         Event::Escape(byte) => {
             escape(screen, callbacks, scanner.marks(), byte);
@@ -45,7 +45,7 @@ pub fn perform<CB: Callbacks>(
 }
 
 /// A control sequence.
-#[inline]
+#[inline(always)]
 pub fn control_sequence<CB: Callbacks>(
     screen: &mut Screen,
     callbacks: &mut CB,
@@ -97,6 +97,22 @@ pub fn print<CB: Callbacks>(
     }
     screen.text(character, callbacks)?;
     Ok(())
+}
+
+/// The same as a call of its own, where few characters go.
+#[inline(never)]
+pub fn print_apart<CB: Callbacks>(
+    screen: &mut Screen,
+    callbacks: &mut CB,
+    character: char,
+) -> Result<(), Error>
+    ensures done { IfOk result
+        (λ _. Does CB.does callbacks.old screen.old (character_steps character) callbacks.new screen.new) }
+    ensures stopped { IsErr result →
+        Stops CB.does callbacks.old screen.old (character_steps character) callbacks.new screen.new }
+    ensures memory { OnlyOutOfMemory result }
+{
+    print(screen, callbacks, character)
 }
 
 /// U+0080 to U+009F, and what stands for bytes that are no character.

@@ -7,7 +7,7 @@ ghost use Rattle.vt100.specs.Parser.{Ran, Stopped, parsing};
 ghost use Rattle.vt_scan.specs.Scanner.{ReadsItself, event_of, events_in};
 ghost use Rattle.vt_screen.specs.Run.{Breaks, Performs, StopsIn, state};
 
-use crate::perform::{control_sequence, execute, perform, print};
+use crate::perform::{control_sequence, execute, perform, print, print_apart};
 use vt_cells::Error;
 use vt_scan::{Event, Events, Scanner};
 use vt_screen::{Callbacks, Screen};
@@ -59,13 +59,13 @@ fn process_some<CB: Callbacks>(
     if scanner.is_plain(bytes[0]) {
         return print_some(scanner, screen, callbacks, bytes);
     }
-    if scanner.is_control(bytes[0]) {
-        execute(screen, callbacks, bytes[0])?;
-        return Ok(1);
-    }
     if bytes[0] >= 0x80 {
         let count = process_one(scanner, screen, callbacks, bytes)?;
         return Ok(count);
+    }
+    if scanner.is_control(bytes[0]) {
+        execute(screen, callbacks, bytes[0])?;
+        return Ok(1);
     }
     let count = process_sequence(scanner, screen, callbacks, bytes)?;
     if count > 0 {
@@ -164,7 +164,7 @@ fn print_some<CB: Callbacks>(
     let fitting = bytes.len().min(usize::from(screen.room()));
     let count = scanner.plain_len(&bytes[..fitting]);
     if count == 0 {
-        print(screen, callbacks, char::from(bytes[0]))?;
+        print_apart(screen, callbacks, char::from(bytes[0]))?;
         return Ok(1);
     }
     screen.print_text(&bytes[..count]);

@@ -1,44 +1,93 @@
 //! Select Graphic Rendition.
 
-ghost use Rattle.std.specs.Prelude.{◌≡◌, None};
+ghost use Rattle.std.specs.Prelude.{◌≡◌, [], ◌∷◌, None, map};
 ghost use Rattle.vt_screen.specs.Calls.{UnhandledCsi};
-ghost use Rattle.vt100.specs.Keeping.{Does, report_of};
+ghost use Rattle.vt100.specs.Keeping.{Does};
 ghost use Rattle.vt_screen.specs.Controls.{reading_steps, sgr_steps};
 
 use crate::sequence::Sequence;
+use vt_scan::Parameters;
 use vt_screen::sgr::{Reading, Wanted};
 use vt_screen::{Callbacks, Screen};
 
 /// Makes the settings of a sequence, group by group, and reports each group
 /// that is none.
-pub fn perform<CB: Callbacks>(screen: &mut Screen, callbacks: &mut CB, sequence: Sequence<'_>)
-    requires { report_of sequence ≡ UnhandledCsi None None sequence.parameters.now.groups 0x6D }
+#[inline(never)]
+pub fn perform<CB: Callbacks>(screen: &mut Screen, callbacks: &mut CB, parameters: &Parameters)
     ensures { Does CB.does callbacks.old screen.old
-        (sgr_steps sequence.entry.parameters.now.groups) callbacks.new screen.new }
+        (sgr_steps parameters.now.groups) callbacks.new screen.new }
+{
+    match parameters.lone_numbers() {
+        Some(numbers) => set_by_numbers(screen, callbacks, parameters, numbers),
+        None => set_by_groups(screen, callbacks, parameters),
+    }
+}
+
+/// The same where each group is one number.
+#[inline(always)]
+fn set_by_numbers<CB: Callbacks>(
+    screen: &mut Screen,
+    callbacks: &mut CB,
+    parameters: &Parameters,
+    numbers: &[u16],
+)
+    requires { parameters.now.groups ≡ map (λ number. number ∷ []) numbers.now }
+    ensures { Does CB.does callbacks.old screen.old
+        (sgr_steps parameters.now.groups) callbacks.new screen.new }
 {
     let mut wanted = Wanted::Any;
-    for i in 0..sequence.parameters.group_count() {
-        let read = wanted.read(sequence.parameters.group(i));
-        apply(screen, callbacks, sequence, read.reading);
+    for i in 0..numbers.len() {
+        let group = [numbers[i]];
+        let read = wanted.read(&group);
+        apply(screen, callbacks, parameters, read.reading);
+        wanted = read.wanted;
+    }
+}
+
+/// The same for any groups.
+#[inline(never)]
+fn set_by_groups<CB: Callbacks>(screen: &mut Screen, callbacks: &mut CB, parameters: &Parameters)
+    ensures { Does CB.does callbacks.old screen.old
+        (sgr_steps parameters.now.groups) callbacks.new screen.new }
+{
+    let mut wanted = Wanted::Any;
+    for i in 0..parameters.group_count() {
+        let read = wanted.read(parameters.group(i));
+        apply(screen, callbacks, parameters, read.reading);
         wanted = read.wanted;
     }
 }
 
 /// What one group gives.
+#[inline(always)]
 #[tactic(auto, using(crate::proofs::Stepping::told, crate::proofs::Stepping::stepping))]
 fn apply<CB: Callbacks>(
     screen: &mut Screen,
     callbacks: &mut CB,
-    sequence: Sequence<'_>,
+    parameters: &Parameters,
     reading: Reading,
 )
-    requires { report_of sequence ≡ UnhandledCsi None None sequence.parameters.now.groups 0x6D }
     ensures { Does CB.does callbacks.old screen.old
-        (reading_steps sequence.entry.parameters.now.groups reading) callbacks.new screen.new }
+        (reading_steps parameters.now.groups reading) callbacks.new screen.new }
 {
     match reading {
         Reading::Silent => {}
         Reading::Set(setting) => screen.render(setting),
-        Reading::Unhandled => sequence.report(screen, callbacks),
+        Reading::Unhandled => report(screen, callbacks, parameters),
     }
+}
+
+/// Tells the callbacks that a group is not known.
+#[inline(never)]
+fn report<CB: Callbacks>(screen: &mut Screen, callbacks: &mut CB, parameters: &Parameters)
+    ensures { CB.does (UnhandledCsi None None parameters.now.groups 0x6D)
+        callbacks.old screen.old callbacks.new screen.new }
+{
+    let sequence = Sequence {
+        first: None,
+        second: None,
+        parameters,
+        byte: b'm',
+    };
+    sequence.report(screen, callbacks);
 }

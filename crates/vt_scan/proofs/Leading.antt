@@ -4,14 +4,14 @@ use Rattle.std.proofs.Common.{◌≢◌, ◌<◌, ◌==◌, false, length, filte
 use Rattle.std.specs.List.{AllByRecursion}
 use Rattle.std.proofs.lemmas.List.{append_assoc, append-nil}
 use Rattle.std.proofs.lemmas.List.Elements.{filter-append}
-use Rattle.std.proofs.Common.{◌||◌, nat_lt, get_or, zero, suc}
+use Rattle.std.proofs.Common.{◌||◌, nat_lt, drop, get_or, zero, suc}
 use Rattle.std.proofs.Math.Logic.{⊎_elim}
 use Rattle.std.proofs.lemmas.Bool.{cases_lt}
 use Rattle.std.proofs.lemmas.Bool.Decides.{nat_tests}
 use Rattle.vt_scan.specs.declared.table.Class.{Class}
 use Rattle.vt_scan.specs.Automaton as automaton
 use Rattle.vt_scan.specs.Automaton.{State, Step, is_parameter, after, step_in}
-use Rattle.vt_scan.specs.Keeping.{Begins, Fits, IsUnended}
+use Rattle.vt_scan.specs.Keeping.{Begins, Fits, IsUnended, Opens}
 use Rattle.vt_scan.specs.Parameters.{table_of}
 use Rattle.vt_scan.specs.Run.{run}
 use Rattle.vt_scan.specs.Scanner.{Feeds, FeedsAll, Held, Reads, ReadsSequence, Follows, StandsFor, is_final}
@@ -256,3 +256,42 @@ feeds_first old middle new b bytes first second = λ s stands.
     let step = step_in s.kind s.collected b in
     let rest = second step.state follows.stands in
     (rest.0, ap (λ (l : List automaton.Event). l ++ (run step.state bytes).events) (sym follows.means) ∙ rest.1)
+
+-- ESC and `[` at once: what is held between the two
+abbrev pub opened : Held → Held
+opened old = record {
+  kind = Escape;
+  unfinished = old.unfinished;
+  table = table_of [];
+  marks = [];
+  text = old.text;
+}
+
+begins_opened : (old : Held) → Begins old (opened old) Escape
+begins_opened old = record {
+  kind = refl;
+  reads = record { table = refl; marks = refl };
+  text = λ e. refl;
+  table = λ e. absurd cc;
+  marks = λ e. absurd cc;
+}
+
+begins_behind : (old led : Held) → Begins old led CsiEntry → Begins (opened old) led CsiEntry
+begins_behind old led begun = record {
+  kind = begun.kind;
+  reads = begun.reads;
+  text = λ e. ⊎_elim (λ (f : CsiEntry ≡ Ground). absurd cc) (λ (f : CsiEntry ≡ Escape). absurd cc) e;
+  table = λ e. absurd cc;
+  marks = λ e. absurd cc;
+}
+
+pub opening_feeds : (old led new : Held) (bytes : List ℕ) (n : ℕ) → old.kind ≡ Ground → old.unfinished ≡ [] →
+    Opens bytes → Begins old led CsiEntry → FeedsAll led (take n (drop 2 bytes)) new [] →
+    FeedsAll old (take (suc (suc n)) bytes) new []
+opening_feeds old led new [] n is none opens begun fed = absurd (omega (arith, opens.long))
+opening_feeds old led new (a ∷ []) n is none opens begun fed = absurd (omega (arith, opens.long))
+opening_feeds old led new (a ∷ b ∷ bytes) n is none opens begun fed =
+    feeds_first old (opened old) new a (b ∷ take n bytes)
+    (escape_feeds old (opened old) a is none opens.first (begins_opened old))
+    (feeds_first (opened old) led new b (take n bytes)
+    (bracket_feeds (opened old) led b refl opens.second (begins_behind old led begun)) fed)

@@ -5,6 +5,7 @@ pub mod Feeding
 pub mod Growing
 pub mod Leading
 pub mod Lists
+pub mod Lone
 pub mod Readback
 pub mod Reading
 pub mod Rows

@@ -1,5 +1,5 @@
 -- Lists that change at their last element, and texts that are split and grow at their end.
-use Rattle.std.proofs.Common.{ℕ, suc, ◌+◌, ◌-◌, ◌≤◌, drop, get_or, take}
+use Rattle.std.proofs.Common.{ℕ, suc, ◌+◌, ◌-◌, drop, get_or, take}
 use Rattle.std.proofs.Math.Seq.{take-add}
 use Rattle.std.proofs.lemmas.List.{append_assoc, length-drop, take_all, take_more}
 use Rattle.std.proofs.Common.{◌≡◌, ◌<◌, Bool, true, false, cond, List, [], ◌∷◌}

@@ -191,7 +191,7 @@ pub step_digit_cut : (groups : List (List ℕ)) (b : ℕ) (is_cut : Bool) (text 
 step_digit_cut groups b is_cut text digit cuts e =
     ap (table groups) cuts ∙ digit_cut groups text b digit (ap (table groups) (sym cuts) ∙ e)
 
-not_cut : (is_cut : Bool) (len : ℕ) → (is_cut ≡ true → len ≡ 32) → len ≢ 32 → is_cut ≡ false
+pub not_cut : (is_cut : Bool) (len : ℕ) → (is_cut ≡ true → len ≡ 32) → len ≢ 32 → is_cut ≡ false
 not_cut true len f n = absurd (n (f refl))
 not_cut false len f n = refl
 

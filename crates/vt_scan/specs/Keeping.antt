@@ -1,6 +1,6 @@
 -- Aids of proofs, which only contracts of private functions cite.
 use Rattle.std.specs.Prelude.{◌≡◌, ◌≢◌, ℕ, ◌-◌, ◌<◌, ◌⊎◌, ◌&&◌, nat_le, Bool, true, false, List, [], ◌∷◌, ◌++◌}
-use Rattle.std.specs.Prelude.{take, drop, Some, None}
+use Rattle.std.specs.Prelude.{◌≤◌, length, slice_index_or, take, drop, Some, None}
 use Rattle.vt_scan.specs.Characters.{is_character, is_beginning, character_of}
 use Rattle.vt_scan.specs.Parameters.{GroupTable}
 use Rattle.vt_scan.specs.Scanner.{Held, Reads}
@@ -74,6 +74,12 @@ is_digit b = nat_le 0x30 b && nat_le b 0x39
 -- a byte that ends no string: none of CAN, SUB and ESC
 abbrev pub IsUnended : ℕ → Type 0
 IsUnended b = (b ≢ 0x18) × (b ≢ 0x1A) × (b ≢ 0x1B)
+
+-- bytes that begin with ESC and `[`
+pub record Opens (bytes : List ℕ) : Type 0 where
+  pub long : 2 ≤ length bytes
+  pub first : slice_index_or bytes 0 0 ≡ 0x1B
+  pub second : slice_index_or bytes 1 0 ≡ 0x5B
 
 -- the groups of numbers that end at these places, and the last one that ends at len
 abbrev pub groups_from : ℕ → List ℕ → ℕ → List ℕ → List (List ℕ)

@@ -1,9 +1,10 @@
 //! The numbers of a control sequence.
 
 ghost use Rattle.std.specs.Prelude.{◌≡◌, ℕ, ◌+◌, ◌*◌, ◌<◌, ◌≤◌, List, [], ◌∷◌, ◌++◌};
-ghost use Rattle.std.specs.Prelude.{false, if◌then◌else◌, length, min, nat_lt, slice_index_or, take, true};
+ghost use Rattle.std.specs.Prelude.{IfSome, None, false, if◌then◌else◌, length, map, min, nat_lt};
+ghost use Rattle.std.specs.Prelude.{slice_index_or, take, true};
 ghost use Rattle.vt_scan.specs.Automaton.{is_parameter};
-ghost use Rattle.vt_scan.specs.Parameters.{GroupTable, table_of};
+ghost use Rattle.vt_scan.specs.Parameters.{GroupTable, table_of, total};
 ghost use Rattle.vt_scan.specs.Keeping.{Ascends, groups_from, is_digit};
 ghost use Rattle.vt_scan.specs.Texts.{IsParameterText};
 
@@ -126,10 +127,56 @@ impl Parameters {
     {
         let mut count = self.push_digits(bytes);
         while count < bytes.len() && is_parameter_byte(bytes[count]) {
-            self.push(bytes[count]);
-            let more = self.push_digits(&bytes[count + 1..]);
+            let more = self.push_some(bytes[count], &bytes[count + 1..]);
             count += 1 + more;
         }
+        count
+    }
+
+    /// Reads a byte of the text, and the digits behind it that come first of
+    /// these bytes. Answers how many digits they were; those of a further
+    /// group's number may be left where there is no room.
+    #[inline(always)]
+    fn push_some(&mut self, byte: u8, bytes: &[u8]) -> usize
+        requires from { 0x30 ≤ byte }
+        requires to { byte ≤ 0x3B }
+        ensures inside { result ≤ length bytes.now }
+        ensures parameters { IsParameterText (take result bytes.now) }
+        ensures read { (text : List ℕ) → self.old ≡ table_of text
+            → self.new ≡ table_of ((text ++ byte ∷ []) ++ take result bytes.now) }
+    {
+        if byte == b';' {
+            return self.push_group(bytes);
+        }
+        self.push(byte);
+        self.push_digits(bytes)
+    }
+
+    /// Begins one more number in a group of its own, if there is room, and
+    /// reads its digits, which come first of these bytes. The group is stored
+    /// when its number is known. Answers how many digits were read.
+    #[inline(always)]
+    fn push_group(&mut self, bytes: &[u8]) -> usize
+        ensures inside { result ≤ length bytes.now }
+        ensures parameters { IsParameterText (take result bytes.now) }
+        ensures read { (text : List ℕ) → self.old ≡ table_of text
+            → self.new ≡ table_of ((text ++ 0x3B ∷ []) ++ take result bytes.now) }
+    {
+        let place = self.len;
+        if place == MAX_NUMBERS {
+            self.is_cut = true;
+            return 0;
+        }
+        let mut number = 0;
+        let mut count = 0;
+        while count < bytes.len() && is_digit_byte(bytes[count]) {
+            number = with_digit(number, bytes[count] - b'0');
+            count += 1;
+        }
+        self.ends[self.closed] = place;
+        self.closed += 1;
+        self.numbers[place] = number;
+        self.len = place + 1;
         count
     }
 
@@ -185,6 +232,19 @@ impl Parameters {
             return 0;
         }
         self.numbers[start_of(&self.ends, i)]
+    }
+
+    /// The numbers, one after the other, where no group has more than one.
+    #[inline(always)]
+    pub fn lone_numbers(&self) -> Option<&[u16]>
+        ensures some { IfSome result (λ numbers. self.now.groups ≡ map (λ number. number ∷ []) numbers.now) }
+        ensures none { result ≡ None → length self.now.groups < total self.now.groups }
+    {
+        let count = self.len;
+        if self.closed + 1 != count {
+            return None;
+        }
+        Some(&self.numbers[..count])
     }
 
     /// The groups, lent until the next byte.
@@ -243,5 +303,6 @@ fn is_digit_byte(byte: u8) -> bool
 fn with_digit(number: u16, digit: u8) -> u16
     ensures { result ≡ min 65535 (10 * number + digit) }
 {
-    number.saturating_mul(10).saturating_add(u16::from(digit))
+    let more = u32::from(number) * 10 + u32::from(digit);
+    more.min(65535) as u16
 }

@@ -163,6 +163,7 @@ impl Screen {
         ensures cols { result.1.value ≡ self.now.page.width }
     {
         let size = self.grid.size();
+        // For the proof: every screen is whole.
         self.sound();
         (non_zero(size.rows), non_zero(size.cols))
     }

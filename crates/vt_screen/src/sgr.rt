@@ -162,6 +162,7 @@ impl Wanted {
     /// or is of a form other than 2 and 5; in one group such a colour is
     /// unknown, and reading goes on. The first group of a sequence is read as
     /// [`Wanted::Any`]. (ECMA-48, and xterm's control sequences.)
+    #[inline(always)]
     #[tactic(auto, unfolding(crate::specs::Sgr::group_read))]
     pub fn read(self, group: &[u16]) -> GroupRead
         ensures { result ≡ group_read self group.now }
@@ -179,6 +180,7 @@ impl Wanted {
 }
 
 /// A group where a setting is wanted.
+#[inline(always)]
 #[tactic(auto, unfolding(crate::specs::Sgr::setting_read))]
 fn read_setting(group: &[u16]) -> GroupRead
     ensures { result ≡ setting_read group.now }
@@ -194,6 +196,7 @@ fn read_setting(group: &[u16]) -> GroupRead
 }
 
 /// A group of one number where a setting is wanted.
+#[inline(always)]
 #[tactic(auto, using(std::proofs::lemmas::Bool::Decides::nat_tests), unfolding(crate::specs::Sgr::number_read))]
 fn read_number(number: u16) -> GroupRead
     ensures { result ≡ number_read number }

@@ -221,6 +221,7 @@ impl Screen {
     }
 
     /// Makes one setting of SGR: what is drawn from now on has it.
+    #[inline(always)]
     pub fn render(&mut self, setting: Setting)
         ensures { self.new ≡ stepped (step.Render setting) self.old }
     {

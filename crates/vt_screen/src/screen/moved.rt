@@ -63,6 +63,7 @@ impl Screen {
         ensures never { shown self.now ≡ shown prev.now → IsOk result }
     {
         let text = self.contents_diff(prev)?;
+        // For the proof: a value in the tail, so that its clause is found.
         let shorter = self.shortened(prev, text)?;
         Ok(shorter)
     }

@@ -179,5 +179,6 @@ fn resize_alternate<CB: Callbacks>(
     };
     let done = page.set_size(fresh, nothing, &mut reporter);
     prove!(done.is_ok());
+    // For the proof: it is Ok, and has nothing to give up.
     let _ = done;
 }

@@ -57,6 +57,7 @@ impl Screen {
             EachLinked (shown self.now) (λ r. Turns (IsWrapReader (shown self.now) r)
             (text_at result (r + 1)) (HasLinked r (row_of_picture (shown self.now) (r + 1)))) }
     {
+        // For the proof: every screen is whole.
         self.sound();
         RowsFormatted::new(self, start, self.range_end(start, width))
     }
@@ -103,6 +104,7 @@ impl Screen {
         ensures empty { IsWholeRow start width self.now.page.width → (r : ℕ) → r < length self.now.page.rows →
             (text_at result r ≡ []) ↔ (row_of_picture (shown self.now) r ≡ row_of_picture (shown prev.now) r) }
     {
+        // For the proof: every screen is whole.
         self.sound();
         prev.sound();
         RowsDiff::new(self, prev, start, self.range_end(start, width))
@@ -114,6 +116,7 @@ impl Screen {
         ensures whole { IsScreen self.now }
         ensures colored { IsColored self.now }
     {
+        // For the proof: a field is touched, so that the invariant is known.
         let _ = &self.alloc;
         let _ = self.attrs();
     }

@@ -11,23 +11,23 @@ use Rattle.vt100.proofs.processing.print_some.Given as given
 use Rattle.vt100.proofs.processing.print_some.Goals as goal
 use Rattle.vt100.proofs.processing.print_some.Goals.{After-plain_len-count}
 
-pub returns-in_err-print-clause-stopped : goal.returns-in_err-print-clause-stopped
-returns-in_err-print-clause-stopped g c e =
+pub returns-in_err-print_apart-clause-stopped : goal.returns-in_err-print_apart-clause-stopped
+returns-in_err-print_apart-clause-stopped g c e =
     let held = c.args.scanner.now in
     let before = parsing held c.args.screen.now c.args.callbacks.now in
     let byte = get_or c.args.bytes.now 0 0 in
     let code = c.from-then-count-eq0.result in
     let itself = c.requires.plain in
     let feeds = plain_feeds held byte itself.0 itself.1 itself.2 (omega (arith, itself.3)) in
-    inr (stopped_within g.CB.Callbacks.does before before (parsing held c.print.new.screen c.print.new.callbacks)
+    inr (stopped_within g.CB.Callbacks.does before before (parsing held c.print_apart.new.screen c.print_apart.new.callbacks)
     held c.args.bytes.now 0 (one_character code) c.requires.some (λ s stands. (stands, refl))
-    (plain_answer held byte code feeds c.from-then-count-eq0.ensures) (inl (c.in_err-print.ensures.stopped refl)))
+    (plain_answer held byte code feeds c.from-then-count-eq0.ensures) (inl (c.in_err-print_apart.ensures.stopped refl)))
 
 pub returns-then-count-eq0-clause-ran : goal.returns-then-count-eq0-clause-ran
 returns-then-count-eq0-clause-ran g c =
     let held = c.args.scanner.now in
     let before = parsing held c.args.screen.now c.args.callbacks.now in
-    let now = parsing held c.print.new.screen c.print.new.callbacks in
+    let now = parsing held c.print_apart.new.screen c.print_apart.new.callbacks in
     let byte = get_or c.args.bytes.now 0 0 in
     let code = c.from-then-count-eq0.result in
     let itself = c.requires.plain in
@@ -35,7 +35,7 @@ returns-then-count-eq0-clause-ran g c =
     subst (λ (bytes : List ℕ). Ran g.CB.Callbacks.does before bytes now)
     (sym (take_more c.args.bytes.now 0 0 c.requires.some))
     (byte_ran g.CB.Callbacks.does before now byte (one_character code)
-    (plain_answer held byte code feeds c.from-then-count-eq0.ensures) (stage now, c.in_ok-print.ensures.done, refl))
+    (plain_answer held byte code feeds c.from-then-count-eq0.ensures) (stage now, c.in_ok-print_apart.ensures.done, refl))
 
 -- the bytes that are printed are plain
 plain_text : (g : given.Over) (c : After-plain_len-count g) →

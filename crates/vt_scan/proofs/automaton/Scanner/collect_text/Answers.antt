@@ -1,5 +1,5 @@
 -- The bytes of a command are all that it is read from.
-use Rattle.std.proofs.Common.{◌≡◌, ◌∙◌, ◌<◌, ◌++◌, List, ℕ, ap, arith, sym, take, rules}
+use Rattle.std.proofs.Common.{◌≡◌, ◌∙◌, ◌++◌, ap, arith, take, rules}
 use Rattle.vt_scan.specs.Scanner.{Held}
 use Rattle.vt_scan.proofs.Leading.{command_feeds, command_turn}
 use Rattle.vt_scan.proofs.Standing.{stands_in_command}

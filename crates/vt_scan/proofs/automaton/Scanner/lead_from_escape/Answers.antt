@@ -1,5 +1,5 @@
 -- One byte, and what leads in behind it.
-use Rattle.std.proofs.Common.{◌<◌, ◌∷◌, [], List, ℕ, arith, drop, get_or, length, subst, sym, take}
+use Rattle.std.proofs.Common.{◌<◌, [], List, ℕ, arith, drop, get_or, length, subst, sym, take}
 use Rattle.std.proofs.lemmas.Bool.Decides.{nat_tests}
 use Rattle.vt_scan.specs.Scanner.{FeedsAll}
 use Rattle.vt_scan.proofs.Leading.{feeds_first}

@@ -1,5 +1,5 @@
 -- Some of the parameter text, or nothing of it.
-use Rattle.std.proofs.Common.{◌≡◌, ◌<◌, ◌∙◌, ◌++◌, [], List, ℕ, ap, arith, length, refl, subst, take}
+use Rattle.std.proofs.Common.{◌<◌, ◌∙◌, ◌++◌, [], ℕ, ap, arith, length, refl, subst, take}
 use Rattle.std.proofs.lemmas.List.{length-take}
 use Rattle.vt_scan.specs.Automaton.{State}
 use Rattle.vt_scan.specs.Parameters.{table_of}

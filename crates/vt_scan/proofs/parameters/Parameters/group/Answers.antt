@@ -1,5 +1,5 @@
 -- A group lies between its places.
-use Rattle.std.proofs.Common.{◌≡◌, ◌<◌, ◌≤◌, ◌∙◌, List, [], ap, arith, get_or, length, rules, subst, sym}
+use Rattle.std.proofs.Common.{◌<◌, ◌≤◌, ◌∙◌, [], ap, arith, get_or, length, rules}
 use Rattle.vt_scan.specs.Parameters.{GroupTable}
 use Rattle.vt_scan.proofs.Rows.{group_lies, groups_count}
 use Rattle.vt_scan.proofs.parameters.Parameters.group.Goals as goal

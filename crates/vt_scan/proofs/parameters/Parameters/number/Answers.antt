@@ -1,5 +1,5 @@
 -- The first number of a group stands where the group begins.
-use Rattle.std.proofs.Common.{◌≡◌, ◌<◌, ◌≤◌, ◌∙◌, List, [], ap, arith, get_or, length, rules, sym}
+use Rattle.std.proofs.Common.{◌<◌, ◌∙◌, List, [], ap, arith, get_or, length, rules, sym}
 use Rattle.vt_scan.specs.Parameters.{GroupTable}
 use Rattle.vt_scan.proofs.Rows.{group_lies, group_none, groups_count}
 use Rattle.vt_scan.proofs.parameters.Parameters.number.Goals as goal

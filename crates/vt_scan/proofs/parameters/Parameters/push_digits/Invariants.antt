@@ -1,5 +1,5 @@
 -- The digits so far, with their number in place of the last one.
-use Rattle.std.proofs.Common.{◌≡◌, ◌+◌, ◌-◌, ◌≤◌, ◌++◌, List, ℕ, false, length, set, take}
+use Rattle.std.proofs.Common.{◌≡◌, ◌+◌, ◌-◌, ◌≤◌, ◌++◌, List, ℕ, length, set, take}
 use Rattle.vt_scan.specs.Keeping.{groups_from}
 use Rattle.vt_scan.specs.Parameters.{table_of}
 use Rattle.vt_scan.specs.Texts.{IsParameterText}

@@ -1,6 +1,6 @@
 use Rattle.std.proofs.Common.{arith}
 use Rattle.vt_scan.proofs.Lanes.{All-run, ends_here, ends_inside, ends_run, run_more}
-use Rattle.vt_scan.proofs.automaton.printable_len.Goals as goal
+use Rattle.vt_scan.proofs.automaton.short.printable_len.Goals as goal
 
 pub returns-then-odd-ne0-clause-inside : goal.returns-then-odd-ne0-clause-inside
 returns-then-odd-ne0-clause-inside c =

@@ -1,12 +1,13 @@
--- The bytes so far are text.
+-- The bytes so far end no string.
 use Rattle.std.proofs.Common.{◌-◌, ◌≤◌, length, take}
 use Rattle.std.specs.List.{AllByRecursion}
-use Rattle.vt_scan.proofs.automaton.text_len.Given as goal
+use Rattle.vt_scan.specs.Keeping.{IsUnended}
+use Rattle.vt_scan.proofs.automaton.short.unended_len.Given as goal
 
 abbrev pub invariant-loop-len : goal.invariant-loop-len
 invariant-loop-len l = record {
   inside : l.len ≤ length l.bytes;
-  text : AllByRecursion (λ b. 0x20 ≤ b) (take l.len l.bytes);
+  unended : AllByRecursion IsUnended (take l.len l.bytes);
 }
 
 abbrev pub decreases-loop-len : goal.decreases-loop-len

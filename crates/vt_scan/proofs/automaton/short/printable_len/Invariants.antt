@@ -1,6 +1,6 @@
 use Rattle.std.proofs.Common.{◌-◌, ◌≤◌, length}
 use Rattle.vt_scan.proofs.Lanes.{IsRun}
-use Rattle.vt_scan.proofs.automaton.printable_len.Given as goal
+use Rattle.vt_scan.proofs.automaton.short.printable_len.Given as goal
 
 abbrev pub invariant-loop-len : goal.invariant-loop-len
 invariant-loop-len l = (l.len ≤ length l.bytes) × IsRun l.bytes l.len
