@@ -53,98 +53,14 @@ pub fn likely_band(view: &View<'_>, prev: &View<'_>, text: &str) -> Option<Band>
         return None;
     }
     let height = view.rows().min(MOST_ROWS);
-    let shift = likely_shift(view, prev, height, &shares(text, prev.pen().row))?;
     let here = costs(view, prev, height);
+    let shift = likely_shift(view, prev, height, &here)?;
     let stretch = best_stretch(view, prev, height, &here, shift)?;
     let band = stretch.band(shift);
     if band.is_within(prev.rows()) {
         Some(band)
     } else {
         None
-    }
-}
-
-/// How many bytes of a difference stand for each row, for a reader whose cursor
-/// is in this one: those behind a move there, up to the next move. Rows that are
-/// reached by a wrap count for the row above.
-fn shares(text: &str, row: u16) -> Numbers {
-    let mut shares = [0_i32; 256];
-    let mut place = Place {
-        row,
-        within: Within::Text,
-    };
-    for byte in text.bytes() {
-        place.read(byte);
-        let row = usize::from(place.row);
-        if row < 256 {
-            shares[row] = shares[row].saturating_add(1);
-        }
-    }
-    shares
-}
-
-/// Where a reader of a difference is, as far as its moves tell.
-#[derive(Clone, Copy)]
-struct Place {
-    row: u16,
-    within: Within,
-}
-
-/// What a byte is read in.
-#[derive(Clone, Copy)]
-enum Within {
-    /// Text.
-    Text,
-
-    /// A sequence that has begun.
-    Escape,
-
-    /// The first number of a control sequence, so far.
-    Number(u16),
-
-    /// A control sequence, behind its first number.
-    Behind(u16),
-}
-
-impl Place {
-    /// Reads a byte of the text.
-    fn read(&mut self, byte: u8) {
-        self.within = match self.within {
-            Within::Text => self.read_text(byte),
-            Within::Escape if byte == b'[' => Within::Number(0),
-            Within::Escape => Within::Text,
-            Within::Number(number) => self.read_number(byte, number),
-            Within::Behind(number) => self.read_behind(byte, number),
-        };
-    }
-
-    fn read_text(&mut self, byte: u8) -> Within {
-        if byte == b'\n' {
-            self.row = self.row.saturating_add(1);
-        }
-        if byte == 0x1b {
-            Within::Escape
-        } else {
-            Within::Text
-        }
-    }
-
-    fn read_number(&mut self, byte: u8, number: u16) -> Within {
-        if byte.is_ascii_digit() {
-            let digit = u16::from(byte.saturating_sub(b'0'));
-            return Within::Number(number.saturating_mul(10).saturating_add(digit));
-        }
-        self.read_behind(byte, number)
-    }
-
-    fn read_behind(&mut self, byte: u8, number: u16) -> Within {
-        if byte < b'@' {
-            return Within::Behind(number);
-        }
-        if byte == b'H' {
-            self.row = number.saturating_sub(1);
-        }
-        Within::Text
     }
 }
 
@@ -180,33 +96,20 @@ fn cost(cells: &PictureRow<'_>, over: &PictureRow<'_>) -> i32 {
     bytes
 }
 
-/// The shift by which most of the text would come to stand.
-fn likely_shift(view: &View<'_>, prev: &View<'_>, height: u16, shares: &Numbers) -> Option<Shift>
+/// The shift by which most of what differs would come to stand.
+fn likely_shift(view: &View<'_>, prev: &View<'_>, height: u16, here: &Numbers) -> Option<Shift>
     requires size { SamePictureSize view.now prev.now }
     requires inside { height ≤ length view.now.rows }
     requires few { height ≤ 256 }
 {
     let mut votes = [0_i32; 512];
     for row in 0..height {
-        let weight = share(shares, view, prev, row);
+        let weight = here[usize::from(row)];
         if weight > 0 {
             vote(&mut votes, &view.row(row), prev, row, weight, height);
         }
     }
     heaviest(&votes)
-}
-
-/// The share of a row, also where the row above goes on in it.
-fn share(shares: &Numbers, view: &View<'_>, prev: &View<'_>, row: u16) -> i32
-    requires size { SamePictureSize view.now prev.now }
-    requires inside { row < length view.now.rows }
-    requires few { row < 256 }
-{
-    let own = shares[usize::from(row)];
-    if own > 0 || row == 0 || !view.row(row - 1).wrapped() {
-        return own;
-    }
-    cost(&view.row(row), &prev.row(row))
 }
 
 /// A row with text votes for each shift that would bring it where it is.

@@ -140,9 +140,11 @@ pub fn write_first<S: Sink>(
 {
     let cell = cells.cell(0);
     if cell.is_blank() {
+        // For the proof: a value in the tail, so that its clause is found.
         let link = write_first_blank(sink, pen, row, flag, cell, cells, over)?;
         return Ok(link);
     }
+    // For the proof: a value in the tail, so that its clause is found.
     let link = write_first_glyph(sink, pen, row, flag, cell, cells, over)?;
     Ok(link)
 }
@@ -206,6 +208,7 @@ pub fn write_link<S: Sink>(
         return Ok(Link { flag, settled: 0 });
     }
     write_last(sink, pen, row, above)?;
+    // For the proof: a value in the tail, so that its clause is found.
     let link = write_first(sink, pen, row + 1, flag, cells, over)?;
     Ok(link)
 }

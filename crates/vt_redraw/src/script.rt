@@ -42,6 +42,7 @@ fn write_row<S: Sink>(
         col: link.settled,
     };
     write_cells(sink, pen, &mut flag, pos, cells, over)?;
+    // For the proof: a value in the tail, so that its clause is found.
     let on = write_break(sink, pen, row, flag, cells)?;
     Ok(on)
 }
@@ -65,6 +66,7 @@ fn write_top<S: Sink>(
         flag: over.wrapped(),
         settled: 0,
     };
+    // For the proof: a value in the tail, so that its clause is found.
     let on = write_row(sink, pen, 0, link, cells, over)?;
     Ok(on)
 }
