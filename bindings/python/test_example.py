@@ -58,6 +58,35 @@ def test_differences_keep_a_second_terminal():
     assert first.contents_diff(first) == ""
 
 
+def test_rows_move_where_that_is_shorter():
+    parser = vt100.Parser(4, 10)
+    parser.process(b"aaaaaaaaa\r\nbbbbbbbbb\r\nccccccccc\r\nddddddddd")
+    before = parser.save()
+    parser.process(b"\r\neeeeeeeee")
+    moved = parser.contents_diff_scrolling(before)
+    assert moved == "\x1b[H\x1b[M\x1b[4;1Heeeeeeeee"
+    assert len(moved) < len(parser.contents_diff(before))
+
+
+def test_viewers_are_kept_equal_by_both_kinds_of_update():
+    mirror, shown = vt100.Mirror(3, 8), vt100.Parser(3, 8)
+    viewer, terminal = mirror.join(), vt100.Parser(1, 1)
+    for piece in range(40):
+        text = b"line %d\r\n" % piece
+        mirror.process(text)
+        shown.process(text)
+        update = (mirror.update_scrolling if piece % 4 > 1 else mirror.update)(viewer)
+        assert update.size == ((3, 8) if piece == 0 else None)
+        if update.size:
+            terminal.set_size(*update.size)
+        terminal.process(update.text.encode())
+        assert terminal.contents_formatted() == shown.contents_formatted()
+    mirror.set_size(2, 5)
+    assert mirror.update_scrolling(viewer).size == (2, 5)
+    assert mirror.update(viewer) == vt100.Update("")
+    mirror.leave(viewer)
+
+
 def test_scrollback_comes_into_view():
     parser = vt100.Parser(2, 12, scrollback=10)
     parser.process(b"a\r\nb\r\nc\r\nd")
@@ -73,6 +102,8 @@ def test_what_cannot_be_is_refused():
         lambda: vt100.Parser(0, 80),
         lambda: vt100.Parser().set_size(24, 0),
         lambda: vt100.Parser().row_wrapped(24),
+        lambda: vt100.Mirror().update(0),
+        lambda: vt100.Mirror().leave(0),
     ):
         try:
             wrong()

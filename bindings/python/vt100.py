@@ -18,7 +18,7 @@ import threading
 from dataclasses import dataclass
 from typing import List, Optional, Tuple, Union
 
-__all__ = ["Cell", "Error", "Parser", "Screen"]
+__all__ = ["Cell", "Error", "Mirror", "Parser", "Screen", "Update"]
 
 # None for the default colour, a number of the palette, or red, green and blue.
 Color = Union[None, int, Tuple[int, int, int]]
@@ -26,11 +26,12 @@ Color = Union[None, int, Tuple[int, int, int]]
 _BOLD, _DIM, _ITALIC, _UNDERLINE, _INVERSE, _WIDE, _CONTINUATION = (1 << bit for bit in range(7))
 _OUT_OF_MEMORY, _BAD_ARGUMENT = 1, 3
 _STATUSES = {
-    2: "the parser ran out of memory before",
+    2: "the parser or mirror ran out of memory before",
     4: "of another kind",
     5: "of another size",
     6: "nothing is held",
     7: "something is held",
+    8: "no viewer's number is left",
 }
 
 
@@ -91,6 +92,7 @@ def _load() -> ctypes.CDLL:
     library = ctypes.CDLL(os.environ.get("VT100_LIBRARY") or "libvt100.so.0.18")
     handle, size = ctypes.POINTER(_Handle), ctypes.c_size_t
     u8, u16, length = ctypes.c_uint8, ctypes.c_uint16, ctypes.POINTER(ctypes.c_size_t)
+    viewer, side = ctypes.c_uint64, ctypes.POINTER(ctypes.c_uint16)
     one, two = [handle, length], [handle, handle, length]
     arguments = {
         "parser_new": [u16, u16, size, u16, handle],
@@ -104,11 +106,16 @@ def _load() -> ctypes.CDLL:
         "row_wrapped": [handle, u16, ctypes.POINTER(u8)],
         "contents_between": [handle, u16, u16, u16, u16, length],
         "rows": [handle, u16, u16, length, size, length],
+        "mirror_new": [u16, u16, size, handle],
+        "join": [handle, ctypes.POINTER(viewer)],
+        "leave": [handle, viewer],
     }
     for name in ("contents", "contents_formatted", "contents_formatted_basic", "state_formatted"):
         arguments[name] = one
     for name in ("contents_diff", "contents_diff_scrolling", "state_diff"):
         arguments[name] = two
+    for name in ("update", "update_scrolling"):
+        arguments[name] = [handle, viewer, side, side, length]
     for name, types in arguments.items():
         function = getattr(library, "vt100_" + name)
         function.argtypes, function.restype = types, u8
@@ -124,7 +131,7 @@ def _check(status: int) -> None:
     if status == _OUT_OF_MEMORY:
         raise MemoryError
     if status == _BAD_ARGUMENT:
-        raise ValueError("no such size, row, cell or range")
+        raise ValueError("no such size, row, cell, range or viewer")
     if status:
         raise Error(_STATUSES.get(status, str(status)))
 
@@ -152,8 +159,8 @@ class Cell:
         return cls(text, *colors, *(bool(cell.flags & flag) for flag in flags))
 
 
-class Screen:
-    """A screen: a parser's, or one that `save` gave."""
+class _Object:
+    """What a handle of the library stands for."""
 
     def __init__(self) -> None:
         self._handle = _Handle()
@@ -176,6 +183,14 @@ class Screen:
             room = ctypes.create_string_buffer(length.value + 1)
             copied = _library.vt100_copy(ctypes.byref(self._handle), room, length.value)
         return room.raw[:copied].decode()
+
+    def _process(self, data: bytes) -> None:
+        data = bytes(data)
+        self._call("process", data, len(data))
+
+
+class Screen(_Object):
+    """A screen: a parser's, or one that `save` gave."""
 
     def _diff(self, name: str, prev: "Screen") -> str:
         if prev is self:
@@ -302,5 +317,56 @@ class Parser(Screen):
 
     def process(self, data: bytes) -> None:
         """Reads bytes, in any pieces."""
-        data = bytes(data)
-        self._call("process", data, len(data))
+        self._process(data)
+
+
+@dataclass(frozen=True)
+class Update:
+    """What a viewer has to read, and the size that its terminal takes first, rows and columns; it is
+    None where only what has changed is drawn."""
+
+    text: str
+    size: Optional[Tuple[int, int]] = None
+
+
+class Mirror(_Object):
+    """A terminal that viewers elsewhere watch.
+
+    A viewer's first update draws the whole screen, and so does the next one behind another size;
+    each other one is what has changed. A viewer may join late and fall behind.
+    """
+
+    def __init__(self, rows: int = 24, cols: int = 80, scrollback: int = 0) -> None:
+        super().__init__()
+        _check(_library.vt100_mirror_new(rows, cols, scrollback, ctypes.byref(self._handle)))
+
+    def process(self, data: bytes) -> None:
+        """Reads bytes, in any pieces."""
+        self._process(data)
+
+    def set_size(self, rows: int, cols: int) -> None:
+        """Gives the terminal another size."""
+        self._call("set_size", rows, cols)
+
+    def join(self) -> int:
+        """The number of a new viewer, one that was never given before."""
+        viewer = ctypes.c_uint64()
+        self._call("join", ctypes.byref(viewer))
+        return viewer.value
+
+    def leave(self, viewer: int) -> None:
+        """Forgets a viewer."""
+        self._call("leave", viewer)
+
+    def update(self, viewer: int) -> Update:
+        """What the viewer has to read next."""
+        return self._update("update", viewer)
+
+    def update_scrolling(self, viewer: int) -> Update:
+        """The same; rows are moved where that is shorter."""
+        return self._update("update_scrolling", viewer)
+
+    def _update(self, name: str, viewer: int) -> Update:
+        rows, cols = ctypes.c_uint16(), ctypes.c_uint16()
+        text = self._text(name, viewer, ctypes.byref(rows), ctypes.byref(cols))
+        return Update(text, (rows.value, cols.value) if rows.value else None)

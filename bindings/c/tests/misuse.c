@@ -252,12 +252,15 @@ static void places(void) {
     must(vt100_row_wrapped(&handle, ROWS, &byte) == VT100_BAD_ARGUMENT);
     must(vt100_contents_between(&handle, 0, COLS + 1, 1, 0, &len) == VT100_BAD_ARGUMENT);
     must(vt100_contents_between(&handle, 1, COLS + 1, 1, 0, &len) == VT100_OK && len == 0);
+    for (size_t i = 0; i < ROWS; i++) ends[i] = UNTOUCHED;
     must(vt100_rows(&handle, 0, 1, ends, ROWS - 1, &len) == VT100_BAD_ARGUMENT);
     must(vt100_rows_formatted(&handle, 0, 1, ends, ROWS - 1, &len) == VT100_BAD_ARGUMENT);
     must(vt100_rows_diff(&handle, &screen, 0, 1, ends, ROWS - 1, &len) == VT100_BAD_ARGUMENT);
-    must(vt100_rows(&handle, COLS, 1, ends, ROWS, &len) == VT100_OK && len == 0);
     must(vt100_rows_formatted(&handle, COLS, 1, ends, ROWS, &len) == VT100_BAD_ARGUMENT);
     must(vt100_rows_diff(&handle, &screen, COLS, 1, ends, ROWS, &len) == VT100_BAD_ARGUMENT);
+    for (size_t i = 0; i < ROWS; i++) must(ends[i] == UNTOUCHED);
+    must(vt100_rows(&handle, COLS, 1, ends, ROWS, &len) == VT100_OK && len == 0);
+    for (size_t i = 0; i < ROWS; i++) must(ends[i] == 0);
     vt100_free(&screen);
     screen = made(VT100_CAPTURE);
     must(vt100_capture_row(&handle, 0, &screen, &len) == VT100_BAD_ARGUMENT);

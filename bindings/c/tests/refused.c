@@ -13,7 +13,7 @@
 #include <stdlib.h>
 #include <string.h>
 
-enum { STEPS = 40 };
+enum { STEPS = 40, UNTOUCHED = 4711 };
 
 /* What is made, and what the first run made of it. */
 static vt100_handle parser, saved, mirror, capture;
@@ -36,8 +36,18 @@ static vt100_status read_into(vt100_handle *handle, const char *bytes) {
 
 /* ---- a step's call; it says how long a text is that it made, and with which handle */
 
-static vt100_status texts_of(int step, size_t *len) {
+/* Texts of rows; where they end is told of all four rows, or of none where it is refused. */
+static vt100_status rows_of(int step, size_t *len) {
     size_t ends[16];
+    for (size_t i = 0; i < 16; i++) ends[i] = UNTOUCHED;
+    vt100_status status = step == 19 ? vt100_rows(&parser, 0, 9, ends, 16, len)
+        : step == 20 ? vt100_rows_formatted(&parser, 1, 9, ends, 16, len)
+                     : vt100_rows_diff(&parser, &saved, 0, 9, ends, 16, len);
+    for (size_t i = 0; i < 16; i++) must((ends[i] != UNTOUCHED) == (status == VT100_OK && i < 4));
+    return status;
+}
+
+static vt100_status texts_of(int step, size_t *len) {
     switch (step) {
     case 10: return vt100_contents(&parser, len);
     case 11: return vt100_contents_formatted(&parser, len);
@@ -48,13 +58,11 @@ static vt100_status texts_of(int step, size_t *len) {
     case 16: return vt100_attributes_formatted(&parser, len);
     case 17: return vt100_input_mode_formatted(&parser, len);
     case 18: return vt100_contents_between(&parser, 0, 1, 3, 4, len);
-    case 19: return vt100_rows(&parser, 0, 9, ends, 16, len);
-    case 20: return vt100_rows_formatted(&parser, 1, 9, ends, 16, len);
     case 21: return vt100_contents_diff(&parser, &saved, len);
     case 22: return vt100_contents_diff_scrolling(&parser, &saved, len);
     case 23: return vt100_state_diff(&parser, &saved, len);
     case 24: return vt100_input_mode_diff(&parser, &saved, len);
-    default: return vt100_rows_diff(&parser, &saved, 0, 9, ends, 16, len);
+    default: return rows_of(step, len);
     }
 }
 

@@ -1,8 +1,9 @@
 //! A terminal screen in memory: reads what a program writes to its terminal, keeps the screen that
 //! a person would see, and writes it as text.
 //!
-//! The items are those of the crate `vt100` 0.18.1. What they do is done by a library that is
-//! proved; this crate calls it.
+//! The items are those of the crate `vt100` 0.18.1, and beside them [`mirror`] and
+//! [`Screen::contents_diff_scrolling`]. What they do is done by a library that is proved; this crate
+//! calls it.
 //!
 //! # Synopsis
 //!
@@ -43,6 +44,7 @@ mod color;
 mod event;
 #[allow(unsafe_code)]
 mod library;
+pub mod mirror;
 mod modes;
 mod parser;
 mod screen;

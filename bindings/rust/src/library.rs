@@ -57,11 +57,13 @@ const OTHER_SIZE: u8 = 5;
 
 type OfOne = unsafe extern "C" fn(*mut Handle, *mut usize) -> u8;
 type OfTwo = unsafe extern "C" fn(*mut Handle, *mut Handle, *mut usize) -> u8;
+type OfViewer = unsafe extern "C" fn(*mut Handle, u64, *mut u16, *mut u16, *mut usize) -> u8;
 type OfRows = unsafe extern "C" fn(*mut Handle, u16, u16, *mut usize, usize, *mut usize) -> u8;
 
 extern "C" {
     fn vt100_parser_new(rows: u16, cols: u16, capacity: usize, wanted: u16, out: *mut Handle)
         -> u8;
+    fn vt100_mirror_new(rows: u16, cols: u16, capacity: usize, out: *mut Handle) -> u8;
     fn vt100_capture_new(out: *mut Handle) -> u8;
     fn vt100_save(handle: *mut Handle, out: *mut Handle) -> u8;
     fn vt100_swap(handle: *mut Handle, other: *mut Handle) -> u8;
@@ -97,6 +99,8 @@ extern "C" {
     fn vt100_attributes_formatted(handle: *mut Handle, len: *mut usize) -> u8;
     fn vt100_input_mode_formatted(handle: *mut Handle, len: *mut usize) -> u8;
     fn vt100_contents_diff(handle: *mut Handle, prev: *mut Handle, len: *mut usize) -> u8;
+    fn vt100_contents_diff_scrolling(handle: *mut Handle, prev: *mut Handle, len: *mut usize)
+        -> u8;
     fn vt100_state_diff(handle: *mut Handle, prev: *mut Handle, len: *mut usize) -> u8;
     fn vt100_input_mode_diff(handle: *mut Handle, prev: *mut Handle, len: *mut usize) -> u8;
     fn vt100_rows(
@@ -150,6 +154,22 @@ extern "C" {
     fn vt100_events(handle: *mut Handle, len: *mut usize, is_whole: *mut u8) -> u8;
     fn vt100_copy_events(handle: *mut Handle, out: *mut u8, room: usize) -> usize;
     fn vt100_clear_events(handle: *mut Handle) -> u8;
+    fn vt100_join(mirror: *mut Handle, viewer: *mut u64) -> u8;
+    fn vt100_leave(mirror: *mut Handle, viewer: u64) -> u8;
+    fn vt100_update(
+        mirror: *mut Handle,
+        viewer: u64,
+        rows: *mut u16,
+        cols: *mut u16,
+        len: *mut usize,
+    ) -> u8;
+    fn vt100_update_scrolling(
+        mirror: *mut Handle,
+        viewer: u64,
+        rows: *mut u16,
+        cols: *mut u16,
+        len: *mut usize,
+    ) -> u8;
 }
 
 /// A text of one screen.
@@ -172,8 +192,18 @@ pub struct Difference(OfTwo);
 
 impl Difference {
     pub const CONTENTS: Self = Self(vt100_contents_diff);
+    pub const SCROLLING: Self = Self(vt100_contents_diff_scrolling);
     pub const STATE: Self = Self(vt100_state_diff);
     pub const INPUT_MODE: Self = Self(vt100_input_mode_diff);
+}
+
+/// What a viewer of a mirror is told by.
+#[derive(Clone, Copy)]
+pub struct Updates(OfViewer);
+
+impl Updates {
+    pub const DRAWN: Self = Self(vt100_update);
+    pub const SCROLLING: Self = Self(vt100_update_scrolling);
 }
 
 /// A text of each row.
@@ -232,6 +262,13 @@ impl Handle {
     pub fn parser(rows: u16, cols: u16, capacity: usize, wanted: u16) -> Self {
         let mut out = Self::default();
         check(unsafe { vt100_parser_new(rows, cols, capacity, wanted, &mut out) });
+        out
+    }
+
+    /// A mirror with a fresh screen and no viewers.
+    pub fn mirror(rows: u16, cols: u16, capacity: usize) -> Self {
+        let mut out = Self::default();
+        check(unsafe { vt100_mirror_new(rows, cols, capacity, &mut out) });
         out
     }
 
@@ -411,6 +448,37 @@ impl Handle {
 
     pub fn clear_events(&mut self) {
         check(unsafe { vt100_clear_events(self) });
+    }
+
+    /// The number of a new viewer of a mirror.
+    pub fn join(&mut self) -> u64 {
+        let mut viewer = 0;
+        check(unsafe { vt100_join(self, &mut viewer) });
+        viewer
+    }
+
+    /// Forgets a viewer, and answers whether there was one.
+    pub fn leave(&mut self, viewer: u64) -> bool {
+        match unsafe { vt100_leave(self, viewer) } {
+            BAD_ARGUMENT => false,
+            status => {
+                check(status);
+                true
+            }
+        }
+    }
+
+    /// What a viewer has to read, with the size that its terminal takes first, rows and columns,
+    /// both 0 where it keeps its own; or `None` where there is no such viewer.
+    pub fn update(&mut self, updates: Updates, viewer: u64) -> Option<((u16, u16), String)> {
+        let (mut rows, mut cols, mut len) = (0, 0, 0);
+        match unsafe { (updates.0)(self, viewer, &mut rows, &mut cols, &mut len) } {
+            BAD_ARGUMENT => None,
+            status => {
+                check(status);
+                Some(((rows, cols), self.copied(len)))
+            }
+        }
     }
 
     /// The text that was made last, of this length.

@@ -103,6 +103,13 @@ impl Screen {
             .unwrap_or_else(|| self.contents_formatted())
     }
 
+    /// The same, never longer; rows are moved where that is shorter. Not in the crate `vt100`.
+    #[must_use]
+    pub fn contents_diff_scrolling(&self, prev: &Self) -> String {
+        self.difference(prev, Difference::SCROLLING)
+            .unwrap_or_else(|| self.contents_formatted())
+    }
+
     /// What turns each row of `prev` into that of this screen, of `width` columns from `start` on.
     /// The cursor has to stand at the place where the row is to begin; where it stands then is not
     /// said. From a screen of another size it is what redraws each row that both have.

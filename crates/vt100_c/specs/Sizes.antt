@@ -1,8 +1,9 @@
 -- What a source does with another size, and with scrollback.
-use Rattle.std.specs.Prelude.{◌≡◌, ℕ, false, zero, suc}
+use Rattle.std.specs.Prelude.{◌≡◌, ℕ, false, length, zero, suc}
 use Rattle.std.specs.List.{FoldsTo}
 use Rattle.std.specs.declared.result.Result.{Result}
 use Rattle.vt_cells.specs.declared.error.Error.{Error}
+use Rattle.vt_grid.specs.Scrollback.{ViewTakesMemory}
 use Rattle.vt_mirror.specs.Calls.{Resizes}
 use Rattle.vt_mirror.specs.Mirror.{MirrorValue}
 use Rattle.vt_screen.specs.Pages.{calls_resized, has_size, resized}
@@ -69,9 +70,14 @@ abbrev pub SetsScreenSize : (rows cols : ℕ) → Source → ℕ → Source → 
 SetsScreenSize rows cols old status new =
     Either (is_size rows cols) (OnScreen (ResizesScreen rows cols) old status new) (Refuses bad_argument old status new)
 
--- the view goes back by as many rows
+-- the view goes back by as many rows; memory is refused only where a row that comes into view has to grow
+pub record HasNotScrolledBack (rows : ℕ) (old new : ScreenValue) : Type 0 where
+  pub same : new ≡ old
+  pub main : old.is_alternate ≡ false
+  pub grows : ViewTakesMemory (length old.page.rows) old.page.width rows old.scrollback
+
 abbrev pub ScrollsBack : (rows : ℕ) → ScreenValue → ℕ → ScreenValue → Type 0
-ScrollsBack rows old status new = Outcome status (new ≡ scrolled_back rows old) (new ≡ old)
+ScrollsBack rows old status new = Outcome status (new ≡ scrolled_back rows old) (HasNotScrolledBack rows old new)
 
 -- scrollback is given up, which takes no memory
 abbrev pub Clears : ScreenValue → ℕ → ScreenValue → Type 0

@@ -122,6 +122,7 @@ pub(crate) fn kept_row(alloc: Global, row: &RowContents<'_>) -> Result<Row, Allo
     ensures sound { IfOk result (λ copy. IsRow (length copy.cells) copy) }
 {
     let kept = trimmed(row);
+    // For the proof: a row that is lent is sound.
     let _ = kept.cells();
     match Row::trimmed_copy(alloc, row.cells(), row.wrapped()) {
         Ok(copy) => Ok(copy),

@@ -1,6 +1,6 @@
 //! The texts of the rows that a screen shows where those of another one stand.
 
-ghost use Rattle.std.specs.Prelude.{◌≡◌, IfErr, IfOk, OnOk, Some, length, string_bytes};
+ghost use Rattle.std.specs.Prelude.{◌≡◌, IfErr, IfOk, OnErr, OnOk, Some, drop, length, string_bytes};
 ghost use Rattle.std.specs.List.{concat};
 ghost use Rattle.vt100_c.specs.Due.{HoldBoth, IsAnswer, OnBoth, due_at_both, due_beside, due_on_both};
 ghost use Rattle.vt100_c.specs.Due.{source_at, status_in, text_at};
@@ -13,7 +13,7 @@ use crate::making::{is_sized_as, keep, or_status};
 use crate::object::{Source, screen_of};
 use crate::parts::Parts;
 use crate::row_texts;
-use crate::rows::has_range;
+use crate::rows::{has_range, places_for, write_ends};
 use crate::status::{BAD_ARGUMENT, NO_OBJECT, OTHER_SIZE, WRONG_KIND};
 use std::alloc::Global;
 use vt100::Screen;
@@ -21,8 +21,8 @@ use vt100::Screen;
 /// Makes the texts that show the rows of a screen where those of `prev` stand,
 /// one behind the other, in `width` columns from `start` on, keeps them with
 /// the first handle, and says how long they are and where each ends. `start` is
-/// one of the columns, and `ends` has a place for each row; where memory is
-/// refused it isn't said what stands there ([`Screen::rows_diff`]).
+/// one of the columns, and `ends` has a place for each row; more places stay as
+/// they are ([`Screen::rows_diff`]).
 #[unsafe(no_mangle)]
 pub extern "C" fn vt100_rows_diff(
     alloc: Global,
@@ -40,6 +40,9 @@ pub extern "C" fn vt100_rows_diff(
         (λ screen before. text_at handle.new.held ≡ concat (changed_rows start width screen before)) }
     ensures ends { result ≡ ok → HoldBoth handle.old.held prev.old.held
         (λ screen before. AreEnds (length screen.page.rows) ends.new (changed_rows start width screen before)) }
+    ensures rest { result ≡ ok → HoldBoth handle.old.held prev.old.held
+        (λ screen _. drop (length screen.page.rows) ends.new ≡ drop (length screen.page.rows) ends.old) }
+    ensures refused_ends { ¬ (result ≡ ok) → ends.new ≡ ends.old }
     ensures len { result ≡ ok → len.new ≡ length (text_at handle.new.held) }
     ensures refused { ¬ (result ≡ ok) → handle.new.held ≡ handle.old.held }
     ensures refused_len { ¬ (result ≡ ok) → len.new ≡ len.old }
@@ -70,6 +73,9 @@ fn beside(
         (λ screen before. string_bytes made ≡ concat (changed_rows range.0 range.1 screen before))) }
     ensures ends { OnOk result (HoldBeside (screen_in source.now) prev.old.held
         (λ screen before. AreEnds (length screen.page.rows) ends.new (changed_rows range.0 range.1 screen before))) }
+    ensures rest { OnOk result (HoldBeside (screen_in source.now) prev.old.held
+        (λ screen _. drop (length screen.page.rows) ends.new ≡ drop (length screen.page.rows) ends.old)) }
+    ensures left { OnErr result (ends.new ≡ ends.old) }
     ensures answer { IsAnswer
         (due_beside (have_range range.0 (length ends.old)) (screen_in source.now) prev.old.held) (status_in result) }
     ensures refused { IfErr result (λ status. ¬ (status ≡ ok)) }
@@ -95,6 +101,9 @@ fn changed_in(
         (λ screen before. string_bytes made ≡ concat (changed_rows range.0 range.1 screen before))) }
     ensures ends { OnOk result (OnBoth (screen_in source.now) (screen_in prev.now)
         (λ screen before. AreEnds (length screen.page.rows) ends.new (changed_rows range.0 range.1 screen before))) }
+    ensures rest { OnOk result (OnBoth (screen_in source.now) (screen_in prev.now)
+        (λ screen _. drop (length screen.page.rows) ends.new ≡ drop (length screen.page.rows) ends.old)) }
+    ensures left { OnErr result (ends.new ≡ ends.old) }
     ensures answer { IsAnswer
         (due_on_both (have_range range.0 (length ends.old)) (screen_in source.now) (screen_in prev.now))
         (status_in result) }
@@ -122,6 +131,9 @@ fn changed_of(
         (λ made. string_bytes made ≡ concat (changed_rows range.0 range.1 screen.now prev.now)) }
     ensures ends { OnOk result
         (AreEnds (length screen.now.page.rows) ends.new (changed_rows range.0 range.1 screen.now prev.now)) }
+    ensures rest { OnOk result
+        (drop (length screen.now.page.rows) ends.new ≡ drop (length screen.now.page.rows) ends.old) }
+    ensures left { OnErr result (ends.new ≡ ends.old) }
     ensures answer { IsAnswer (have_range range.0 (length ends.old) screen.now prev.now) (status_in result) }
     ensures refused { IfErr result (λ status. ¬ (status ≡ ok)) }
 {
@@ -131,5 +143,15 @@ fn changed_of(
     if !has_range(screen, range.0, ends) {
         return Err(BAD_ARGUMENT);
     }
-    or_status(row_texts::changed(alloc, screen, prev, range.0, range.1, ends))
+    let mut places = places_for(alloc, screen)?;
+    let text = or_status(row_texts::changed(
+        alloc,
+        screen,
+        prev,
+        range.0,
+        range.1,
+        places.as_mut_slice(),
+    ))?;
+    write_ends(places.as_slice(), ends);
+    Ok(text)
 }

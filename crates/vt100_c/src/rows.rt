@@ -1,26 +1,26 @@
 //! The texts of the rows that a screen shows, one behind the other.
 
-ghost use Rattle.std.specs.Prelude.{◌≡◌, ◌<◌, ◌≤◌, IfErr, IfOk, OnOk, Some, length, string_bytes};
-ghost use Rattle.std.specs.Prelude.{if◌then◌else◌, true};
+ghost use Rattle.std.specs.Prelude.{◌≡◌, ◌<◌, ◌≤◌, IfErr, IfOk, OnErr, OnOk, Some, length, string_bytes};
+ghost use Rattle.std.specs.Prelude.{drop, if◌then◌else◌, take, true};
 ghost use Rattle.std.specs.List.{concat};
 ghost use Rattle.vt100_c.specs.Due.{HoldsScreen, IsAnswer, OnScreen, due_at, due_on, source_at, status_in, text_at};
 ghost use Rattle.vt100_c.specs.Rows.{AreEnds, formatted_rows, has_places, has_range, plain_rows};
 ghost use Rattle.vt100_c.specs.Sources.{screen_in};
-ghost use Rattle.vt100_c.specs.Status.{bad_argument, ok};
+ghost use Rattle.vt100_c.specs.Status.{bad_argument, ok, out_of_memory};
 
 use crate::handle::Handle;
 use crate::making::{keep, or_status};
 use crate::object::{Source, screen_of};
 use crate::parts::Parts;
 use crate::row_texts;
-use crate::status::{BAD_ARGUMENT, NO_OBJECT, WRONG_KIND};
+use crate::status::{BAD_ARGUMENT, NO_OBJECT, OUT_OF_MEMORY, WRONG_KIND};
 use std::alloc::Global;
 use vt100::Screen;
 
 /// Makes the texts of the rows that are shown, one behind the other, in `width`
 /// columns from `start` on, keeps them, and says how long they are and where
-/// each ends. `ends` has a place for each row; where memory is refused it isn't
-/// said what stands there ([`Screen::rows`]).
+/// each ends. `ends` has a place for each row, and more places stay as they are
+/// ([`Screen::rows`]).
 #[unsafe(no_mangle)]
 pub extern "C" fn vt100_rows(
     alloc: Global,
@@ -36,6 +36,9 @@ pub extern "C" fn vt100_rows(
         (λ screen. text_at handle.new.held ≡ concat (plain_rows start width screen)) }
     ensures ends { result ≡ ok → HoldsScreen handle.old.held
         (λ screen. AreEnds (length screen.page.rows) ends.new (plain_rows start width screen)) }
+    ensures rest { result ≡ ok → HoldsScreen handle.old.held
+        (λ screen. drop (length screen.page.rows) ends.new ≡ drop (length screen.page.rows) ends.old) }
+    ensures refused_ends { ¬ (result ≡ ok) → ends.new ≡ ends.old }
     ensures len { result ≡ ok → len.new ≡ length (text_at handle.new.held) }
     ensures refused { ¬ (result ≡ ok) → handle.new.held ≡ handle.old.held }
     ensures refused_len { ¬ (result ≡ ok) → len.new ≡ len.old }
@@ -67,6 +70,9 @@ pub extern "C" fn vt100_rows_formatted(
         (λ screen. text_at handle.new.held ≡ concat (formatted_rows start width screen)) }
     ensures ends { result ≡ ok → HoldsScreen handle.old.held
         (λ screen. AreEnds (length screen.page.rows) ends.new (formatted_rows start width screen)) }
+    ensures rest { result ≡ ok → HoldsScreen handle.old.held
+        (λ screen. drop (length screen.page.rows) ends.new ≡ drop (length screen.page.rows) ends.old) }
+    ensures refused_ends { ¬ (result ≡ ok) → ends.new ≡ ends.old }
     ensures len { result ≡ ok → len.new ≡ length (text_at handle.new.held) }
     ensures refused { ¬ (result ≡ ok) → handle.new.held ≡ handle.old.held }
     ensures refused_len { ¬ (result ≡ ok) → len.new ≡ len.old }
@@ -93,6 +99,9 @@ fn plain_in(
         (λ screen. string_bytes made ≡ concat (plain_rows start width screen))) }
     ensures ends { OnOk result (OnScreen (screen_in source.now)
         (λ screen. AreEnds (length screen.page.rows) ends.new (plain_rows start width screen))) }
+    ensures rest { OnOk result (OnScreen (screen_in source.now)
+        (λ screen. drop (length screen.page.rows) ends.new ≡ drop (length screen.page.rows) ends.old)) }
+    ensures left { OnErr result (ends.new ≡ ends.old) }
     ensures answer { IsAnswer (due_on (has_places (length ends.old)) (screen_in source.now)) (status_in result) }
     ensures refused { IfErr result (λ status. ¬ (status ≡ ok)) }
 {
@@ -113,13 +122,19 @@ fn plain_of(
     ensures text { IfOk result (λ made. string_bytes made ≡ concat (plain_rows start width screen.now)) }
     ensures ends { OnOk result
         (AreEnds (length screen.now.page.rows) ends.new (plain_rows start width screen.now)) }
+    ensures rest { OnOk result
+        (drop (length screen.now.page.rows) ends.new ≡ drop (length screen.now.page.rows) ends.old) }
+    ensures left { OnErr result (ends.new ≡ ends.old) }
     ensures answer { IsAnswer (has_places (length ends.old) screen.now) (status_in result) }
     ensures refused { IfErr result (λ status. ¬ (status ≡ ok)) }
 {
     if !has_places(screen, ends) {
         return Err(BAD_ARGUMENT);
     }
-    or_status(row_texts::plain(alloc, screen, start, width, ends))
+    let mut places = places_for(alloc, screen)?;
+    let text = or_status(row_texts::plain(alloc, screen, start, width, places.as_mut_slice()))?;
+    write_ends(places.as_slice(), ends);
+    Ok(text)
 }
 
 /// The rows, to be shown, of a source, if it has a screen.
@@ -134,6 +149,9 @@ fn formatted_in(
         (λ screen. string_bytes made ≡ concat (formatted_rows start width screen))) }
     ensures ends { OnOk result (OnScreen (screen_in source.now)
         (λ screen. AreEnds (length screen.page.rows) ends.new (formatted_rows start width screen))) }
+    ensures rest { OnOk result (OnScreen (screen_in source.now)
+        (λ screen. drop (length screen.page.rows) ends.new ≡ drop (length screen.page.rows) ends.old)) }
+    ensures left { OnErr result (ends.new ≡ ends.old) }
     ensures answer { IsAnswer (due_on (has_range start (length ends.old)) (screen_in source.now)) (status_in result) }
     ensures refused { IfErr result (λ status. ¬ (status ≡ ok)) }
 {
@@ -155,13 +173,19 @@ fn formatted_of(
     ensures text { IfOk result (λ made. string_bytes made ≡ concat (formatted_rows start width screen.now)) }
     ensures ends { OnOk result
         (AreEnds (length screen.now.page.rows) ends.new (formatted_rows start width screen.now)) }
+    ensures rest { OnOk result
+        (drop (length screen.now.page.rows) ends.new ≡ drop (length screen.now.page.rows) ends.old) }
+    ensures left { OnErr result (ends.new ≡ ends.old) }
     ensures answer { IsAnswer (has_range start (length ends.old) screen.now) (status_in result) }
     ensures refused { IfErr result (λ status. ¬ (status ≡ ok)) }
 {
     if !has_range(screen, start, ends) {
         return Err(BAD_ARGUMENT);
     }
-    or_status(row_texts::formatted(alloc, screen, start, width, ends))
+    let mut places = places_for(alloc, screen)?;
+    let text = or_status(row_texts::formatted(alloc, screen, start, width, places.as_mut_slice()))?;
+    write_ends(places.as_slice(), ends);
+    Ok(text)
 }
 
 /// Whether there is a place for each row's end.
@@ -181,4 +205,27 @@ pub(crate) fn has_range(screen: &Screen, start: u16, ends: &[usize]) -> bool
 {
     let (_, cols) = screen.size();
     start < cols.get() && has_places(screen, ends)
+}
+
+/// A place for the end of each row. They are noted here first, so that nothing
+/// is told where memory is refused at a later row.
+pub(crate) fn places_for(alloc: Global, screen: &Screen) -> Result<Vec<usize>, u8>
+    ensures len { IfOk result (λ places. length places.items ≡ length screen.now.page.rows) }
+    ensures memory { IfErr result (λ status. status ≡ out_of_memory) }
+{
+    let (rows, _) = screen.size();
+    let mut places = Vec::new(alloc);
+    match places.resize(usize::from(rows.get()), 0) {
+        Ok(()) => Ok(places),
+        Err(_) => Err(OUT_OF_MEMORY),
+    }
+}
+
+/// Tells the ends; what is behind them stays.
+pub(crate) fn write_ends(places: &[usize], ends: &mut [usize])
+    requires { length places.now ≤ length ends.old }
+    ensures ends { take (length places.now) ends.new ≡ places.now }
+    ensures rest { drop (length places.now) ends.new ≡ drop (length places.now) ends.old }
+{
+    ends[..places.len()].copy_from_slice(places);
 }

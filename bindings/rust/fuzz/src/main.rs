@@ -127,28 +127,9 @@ macro_rules! side {
                     screen.scrollback_len(),
                     screen.scrollback_capacity()
                 );
-                writeln!(
-                    text,
-                    "{} {} {} {} {} {:?} {:?} {:?}",
-                    screen.alternate_screen(),
-                    screen.application_keypad(),
-                    screen.application_cursor(),
-                    screen.hide_cursor(),
-                    screen.bracketed_paste(),
-                    screen.mouse_protocol_mode(),
-                    screen.mouse_protocol_encoding(),
-                    screen.cursor_style()
-                )
-                .unwrap();
-                let (fg, bg) = (screen.fgcolor(), screen.bgcolor());
-                let attrs = [
-                    screen.bold(),
-                    screen.dim(),
-                    screen.italic(),
-                    screen.underline(),
-                    screen.inverse(),
-                ];
-                writeln!(text, "{fg:?} {bg:?} {attrs:?}").unwrap();
+                let (alternate, hidden) = (screen.alternate_screen(), screen.hide_cursor());
+                writeln!(text, "{alternate} {hidden} {}", modes(screen)).unwrap();
+                writeln!(text, "{}", attributes(screen)).unwrap();
                 writeln!(text, "{:?}", screen.contents()).unwrap();
                 writeln!(text, "{:?}", screen.contents_formatted_basic()).unwrap();
                 let rows: Vec<String> = screen.rows(col, end_col).collect();
@@ -157,6 +138,32 @@ macro_rules! side {
                 let range = screen.contents_between(row, col, end_row, end_col);
                 writeln!(text, "{range:?}").unwrap();
                 text + &cells(screen)
+            }
+
+            /// The input modes.
+            pub fn modes(screen: &Screen) -> String {
+                format!(
+                    "{} {} {} {:?} {:?} {:?}",
+                    screen.application_keypad(),
+                    screen.application_cursor(),
+                    screen.bracketed_paste(),
+                    screen.mouse_protocol_mode(),
+                    screen.mouse_protocol_encoding(),
+                    screen.cursor_style()
+                )
+            }
+
+            /// What the next character is drawn with.
+            pub fn attributes(screen: &Screen) -> String {
+                let (fg, bg) = (screen.fgcolor(), screen.bgcolor());
+                let attrs = [
+                    screen.bold(),
+                    screen.dim(),
+                    screen.italic(),
+                    screen.underline(),
+                    screen.inverse(),
+                ];
+                format!("{fg:?} {bg:?} {attrs:?}")
             }
 
             /// Cells and flags of the rows that are shown.
@@ -218,12 +225,86 @@ fn reader(screen: &::mine::Screen, texts: &[&str]) -> ::other::Parser {
 fn draws_another(screen: &::mine::Screen, texts: &[&str]) -> bool {
     let reader = reader(screen, texts);
     let again = reader.screen();
-    other::cells(again) != mine::cells(screen)
-        || again.cursor_position() != screen.cursor_position()
+    has_another_cursor(screen, again)
+        || other::cells(again) != mine::cells(screen)
+        || other::attributes(again) != mine::attributes(screen)
+}
+
+fn has_another_cursor(screen: &::mine::Screen, again: &::other::Screen) -> bool {
+    again.cursor_position() != screen.cursor_position()
         || again.hide_cursor() != screen.hide_cursor()
-        || again.bold() != screen.bold()
-        || again.inverse() != screen.inverse()
-        || format!("{:?}", again.fgcolor()) != format!("{:?}", screen.fgcolor())
+}
+
+/// The same, or has other input modes.
+fn states_another(screen: &::mine::Screen, texts: &[&str]) -> bool {
+    draws_another(screen, texts)
+        || other::modes(reader(screen, texts).screen()) != mine::modes(screen)
+}
+
+/// Whether the texts of cursor and attributes set other ones.
+fn sets_another(screen: &::mine::Screen, redraw: &str) -> bool {
+    let cursor = reader(
+        screen,
+        &[redraw, "\x1b[m\x1b[H", &screen.cursor_state_formatted()],
+    );
+    let attributes = reader(screen, &[&screen.attributes_formatted()]);
+    has_another_cursor(screen, cursor.screen())
+        || other::cells(cursor.screen()) != mine::cells(screen)
+        || other::attributes(attributes.screen()) != mine::attributes(screen)
+}
+
+/// Whether the texts of whole rows, read behind these, make other cells. Which rows go on is not
+/// looked at, since they leave that to the text of the row below.
+fn rows_are_others(
+    screen: &::mine::Screen,
+    begun: &str,
+    rows: impl Iterator<Item = String>,
+) -> bool {
+    let mut text = begun.to_owned();
+    for (row, cells) in (1..).zip(rows) {
+        text += &format!("\x1b[{row};1H\x1b[m{cells}");
+    }
+    let cells = |text: &str| -> Vec<String> {
+        text.lines()
+            .map(|line| line.split_once(' ').unwrap().1.to_owned())
+            .collect()
+    };
+    let again = reader(screen, &[&text]);
+    cells(&other::cells(again.screen())) != cells(&mine::cells(screen))
+}
+
+/// The first text of a screen that draws something else than the screen: the redraw, and one of the
+/// others in turn.
+fn wrong_redraw(screen: &::mine::Screen, turn: usize) -> Option<&'static str> {
+    let redraw = screen.contents_formatted();
+    let is_wrong = match turn % 4 {
+        0 => states_another(screen, &[&screen.state_formatted()]),
+        1 => sets_another(screen, &redraw),
+        2 => rows_are_others(screen, "", screen.rows_formatted(0, u16::MAX)),
+        _ => false,
+    };
+    if draws_another(screen, &[&redraw]) {
+        return Some("redraw");
+    }
+    is_wrong.then(|| ["state", "cursor and attributes", "rows"][turn % 4])
+}
+
+/// The same from another screen of its size.
+fn wrong_difference(
+    screen: &::mine::Screen,
+    prev: &::mine::Screen,
+    turn: usize,
+) -> Option<&'static str> {
+    let begun = prev.contents_formatted();
+    let is_wrong = match turn % 4 {
+        0 => rows_are_others(screen, &begun, screen.rows_diff(prev, 0, u16::MAX)),
+        1 => states_another(screen, &[&prev.state_formatted(), &screen.state_diff(prev)]),
+        _ => false,
+    };
+    if draws_another(screen, &[&begun, &screen.contents_diff(prev)]) {
+        return Some("difference");
+    }
+    is_wrong.then(|| ["difference of rows", "difference of states"][turn % 4])
 }
 
 /// The first thing that differs in a script, and the steps up to it.
@@ -235,7 +316,7 @@ fn run(seed: u64, counts: &mut Counts) -> Result<(), String> {
     let mut other = other::parser(rows, cols, capacity, resizes);
     let (mut kept, mut other_kept) = (mine.screen().clone(), other.screen().clone());
     let mut steps = Vec::new();
-    for _ in 0..2 + random.below(6) {
+    for turn in 0..2 + random.below(6) as usize {
         steps.push(Step::random(&mut random));
         let step = steps.last().unwrap();
         let prev = mine.screen().clone();
@@ -262,16 +343,20 @@ fn run(seed: u64, counts: &mut Counts) -> Result<(), String> {
             return told("called", &one, &two);
         }
         let screen = mine.screen();
-        let (redraw, begun) = (screen.contents_formatted(), prev.contents_formatted());
-        counts.redraws += 1;
-        if screen.scrollback() == 0 && draws_another(screen, &[&redraw]) {
-            return told("redraw", &redraw, &other.screen().contents_formatted());
+        if screen.scrollback() == 0 {
+            counts.redraws += 1;
+            if let Some(what) = wrong_redraw(screen, turn) {
+                return told(what, &format!("{screen:?}"), &screen.contents_formatted());
+            }
         }
         if screen.size() == prev.size() && prev.scrollback() + screen.scrollback() == 0 {
             counts.differences += 1;
-            let difference = screen.contents_diff(&prev);
-            if draws_another(screen, &[&begun, &difference]) {
-                return told("difference", &begun, &difference);
+            if let Some(what) = wrong_difference(screen, &prev, turn) {
+                return told(
+                    what,
+                    &prev.contents_formatted(),
+                    &screen.contents_formatted(),
+                );
             }
         }
     }

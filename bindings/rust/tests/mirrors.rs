@@ -1,0 +1,75 @@
+//! Differences that move rows, and viewers of a mirror.
+
+use std::num::NonZeroU16;
+use vt100::mirror::{Mirror, Update};
+use vt100::Parser;
+
+fn size(number: u16) -> NonZeroU16 {
+    NonZeroU16::new(number).unwrap()
+}
+
+/// Has a viewer's terminal take an update.
+fn take(terminal: &mut Parser, update: &Update) {
+    if let Update::Full { rows, cols, .. } = update {
+        terminal.set_size(*rows, *cols);
+    }
+    terminal.process(update.text().as_bytes());
+}
+
+#[test]
+fn rows_move_where_that_is_shorter() {
+    let mut parser = Parser::new(size(4), size(10), 0);
+    parser.process(b"aaaaaaaaa\r\nbbbbbbbbb\r\nccccccccc\r\nddddddddd");
+    let before = parser.screen().clone();
+    parser.process(b"\r\neeeeeeeee");
+    let screen = parser.screen();
+    assert_eq!(
+        screen.contents_diff_scrolling(&before),
+        "\x1b[H\x1b[M\x1b[4;1Heeeeeeeee"
+    );
+    assert!(screen.contents_diff_scrolling(&before).len() < screen.contents_diff(&before).len());
+    assert_eq!(screen.contents_diff_scrolling(screen), "");
+    let other = Parser::new(size(3), size(10), 0);
+    assert_eq!(
+        screen.contents_diff_scrolling(other.screen()),
+        screen.contents_formatted()
+    );
+}
+
+#[test]
+fn viewers_are_kept_equal_by_both_kinds_of_update() {
+    let mut mirror = Mirror::new(size(3), size(8), 5);
+    let mut shown = Parser::new(size(3), size(8), 5);
+    let (early, mut terminal) = (mirror.join(), Parser::new(size(1), size(1), 0));
+    for piece in 0..40 {
+        let text = format!("line {piece}\r\n\x1b[3{}m", piece % 8);
+        mirror.process(text.as_bytes());
+        shown.process(text.as_bytes());
+        let update = if piece % 4 < 2 {
+            mirror.update(early)
+        } else {
+            mirror.update_scrolling(early)
+        };
+        let update = update.unwrap();
+        assert_eq!(matches!(update, Update::Full { .. }), piece == 0);
+        take(&mut terminal, &update);
+        let (seen, wanted) = (terminal.screen(), shown.screen());
+        assert_eq!(seen.contents_formatted(), wanted.contents_formatted());
+    }
+    let late = mirror.join();
+    assert_ne!(early, late);
+    mirror.set_size(size(2), size(5));
+    shown.set_size(size(2), size(5));
+    for viewer in [early, late] {
+        let mut terminal = Parser::default();
+        take(&mut terminal, &mirror.update_scrolling(viewer).unwrap());
+        let (seen, wanted) = (terminal.screen(), shown.screen());
+        assert_eq!(seen.contents_formatted(), wanted.contents_formatted());
+    }
+    assert!(mirror.leave(early) && !mirror.leave(early));
+    assert_eq!(mirror.update(early), None);
+    assert_eq!(
+        mirror.update_scrolling(late),
+        Some(Update::Diff(String::new()))
+    );
+}
