@@ -168,6 +168,7 @@ fn send_next<CB: Callbacks>(
     ensures sends { OnOk result (SendsNext screen.now prev.now remote.old remote.new) }
     ensures only { IfErr result (IsFailure remote.old) }
 {
+    // For the proof: every screen is whole.
     screen.size();
     let text = screen.contents_diff(prev)?;
     remote.process(text.as_bytes())?;

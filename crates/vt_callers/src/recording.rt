@@ -34,8 +34,10 @@ pub fn record(
     vt_notes::laws::recorded();
     let recorder = Recorder::new(alloc);
     let mut parser = Parser::new_with_callbacks(alloc, rows, cols, capacity, recorder)?;
+    // For the proof: every screen is whole.
     parser.screen().size();
     parser.process(output)?;
+    // For the proof: a value in the tail, so that its clause is found.
     let text = finish(alloc, &mut parser)?;
     Ok(text)
 }

@@ -63,6 +63,7 @@ pub fn output_shows(
     laws::one_text::<()>();
     let mut parser = Parser::new(alloc, rows, cols, 0)?;
     parser.process(output)?;
+    // For the proof: a value in the tail, so that its clause is found.
     let holds = screen_shows(parser.screen(), text)?;
     Ok(holds)
 }
@@ -84,6 +85,7 @@ pub fn pieces_show(
     laws::one_text::<()>();
     let mut parser = Parser::new(alloc, rows, cols, 0)?;
     read_pieces(&mut parser, pieces)?;
+    // For the proof: a value in the tail, so that its clause is found.
     let holds = screen_shows(parser.screen(), text)?;
     Ok(holds)
 }

@@ -184,6 +184,7 @@ impl Mirror {
         ensures memory { OnlyOutOfMemory result }
     {
         let screen = self.parser.screen();
+        // For the proof: every screen is whole.
         screen.size();
         let Some(prev) = self.viewers.note(viewer) else {
             return full(screen);
@@ -200,6 +201,7 @@ impl Mirror {
         ensures memory { OnlyOutOfMemory result }
     {
         let screen = self.parser.screen();
+        // For the proof: every screen is whole.
         screen.size();
         let Some(prev) = self.viewers.note(viewer) else {
             return full(screen);
