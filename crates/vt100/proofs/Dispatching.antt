@@ -2,10 +2,10 @@
 use Rattle.std.proofs.Common.{◌≡◌, ℕ, ◌-◌, true, false, List, [], ◌∷◌, Option, None, Some, refl, subst, rules}
 use Rattle.vt_screen.specs.Calls.{CallValue}
 use Rattle.vt_screen.specs.Screen.{ScreenValue}
-use Rattle.vt_screen.specs.Controls.{counted_step, csi_steps, mark_at, marked_steps, number_or}
+use Rattle.vt_screen.specs.Controls.{counted_step, csi_steps, intermediate_at, intermediate_steps, number_or}
 use Rattle.vt_screen.specs.Controls.{Seen, one_or, other_steps, plain_steps, scrolling_steps, seen_of, sgr_steps}
 use Rattle.vt_screen.specs.Steps.{MoveTo, Step}
-use Rattle.vt100.specs.Keeping.{Does, MadeIf, Stops}
+use Rattle.vt100.specs.Internals.{Does, MadeIf, Stops}
 use Rattle.vt100.proofs.Stepping.{stepping}
 
 made_one : {S : Type 0} (does : CallValue → S → ScreenValue → S → ScreenValue → Type 0)
@@ -50,32 +50,32 @@ plain_other_stops does groups b s t d e f h k =
     (λ x. scrolling_steps groups b (seen_of x)) s t d e f h k
 
 pub plain_stops : {S : Type 0} (does : CallValue → S → ScreenValue → S → ScreenValue → Type 0)
-    (groups : List (List ℕ)) (marks : List ℕ) (b : ℕ) (s t : S) (d e : ScreenValue) →
-    mark_at 0 marks ≡ None → Stops does s d (plain_steps groups b (seen_of d)) t e →
-    Stops does s d (csi_steps groups marks b (seen_of d)) t e
+    (groups : List (List ℕ)) (intermediates : List ℕ) (b : ℕ) (s t : S) (d e : ScreenValue) →
+    intermediate_at 0 intermediates ≡ None → Stops does s d (plain_steps groups b (seen_of d)) t e →
+    Stops does s d (csi_steps groups intermediates b (seen_of d)) t e
 plain_stops does groups [] b s t d e h k = k
-plain_stops does groups (m ∷ marks) b s t d e h k = search rules
+plain_stops does groups (m ∷ intermediates) b s t d e h k = search rules
 
 pub plain_does : {S : Type 0} (does : CallValue → S → ScreenValue → S → ScreenValue → Type 0)
-    (groups : List (List ℕ)) (marks : List ℕ) (b : ℕ) (s t : S) (d e : ScreenValue) →
-    mark_at 0 marks ≡ None → Does does s d (plain_steps groups b (seen_of d)) t e →
-    Does does s d (csi_steps groups marks b (seen_of d)) t e
+    (groups : List (List ℕ)) (intermediates : List ℕ) (b : ℕ) (s t : S) (d e : ScreenValue) →
+    intermediate_at 0 intermediates ≡ None → Does does s d (plain_steps groups b (seen_of d)) t e →
+    Does does s d (csi_steps groups intermediates b (seen_of d)) t e
 plain_does does groups [] b s t d e h k = k
-plain_does does groups (m ∷ marks) b s t d e h k = search rules
+plain_does does groups (m ∷ intermediates) b s t d e h k = search rules
 
-pub marked_does : {S : Type 0} (does : CallValue → S → ScreenValue → S → ScreenValue → Type 0)
-    (groups : List (List ℕ)) (marks : List ℕ) (mark b : ℕ) (s t : S) (d e : ScreenValue) →
-    mark_at 0 marks ≡ Some mark → Does does s d (marked_steps mark (mark_at 1 marks) groups b) t e →
-    Does does s d (csi_steps groups marks b (seen_of d)) t e
-marked_does does groups [] mark b s t d e h k = search rules
-marked_does does groups (m ∷ marks) mark b s t d e h k = search rules
+pub intermediate_does : {S : Type 0} (does : CallValue → S → ScreenValue → S → ScreenValue → Type 0)
+    (groups : List (List ℕ)) (intermediates : List ℕ) (intermediate b : ℕ) (s t : S) (d e : ScreenValue) →
+    intermediate_at 0 intermediates ≡ Some intermediate → Does does s d (intermediate_steps intermediate (intermediate_at 1 intermediates) groups b) t e →
+    Does does s d (csi_steps groups intermediates b (seen_of d)) t e
+intermediate_does does groups [] intermediate b s t d e h k = search rules
+intermediate_does does groups (m ∷ intermediates) intermediate b s t d e h k = search rules
 
-pub marked_stops : {S : Type 0} (does : CallValue → S → ScreenValue → S → ScreenValue → Type 0)
-    (groups : List (List ℕ)) (marks : List ℕ) (mark b : ℕ) (s t : S) (d e : ScreenValue) →
-    mark_at 0 marks ≡ Some mark → Stops does s d (marked_steps mark (mark_at 1 marks) groups b) t e →
-    Stops does s d (csi_steps groups marks b (seen_of d)) t e
-marked_stops does groups [] mark b s t d e h k = search rules
-marked_stops does groups (m ∷ marks) mark b s t d e h k = search rules
+pub intermediate_stops : {S : Type 0} (does : CallValue → S → ScreenValue → S → ScreenValue → Type 0)
+    (groups : List (List ℕ)) (intermediates : List ℕ) (intermediate b : ℕ) (s t : S) (d e : ScreenValue) →
+    intermediate_at 0 intermediates ≡ Some intermediate → Stops does s d (intermediate_steps intermediate (intermediate_at 1 intermediates) groups b) t e →
+    Stops does s d (csi_steps groups intermediates b (seen_of d)) t e
+intermediate_stops does groups [] intermediate b s t d e h k = search rules
+intermediate_stops does groups (m ∷ intermediates) intermediate b s t d e h k = search rules
 
 -- SGR and CUP
 pub plain_sgr : (groups : List (List ℕ)) (b : ℕ) (seen : Seen) → b ≡ 0x6D → plain_steps groups b seen ≡ sgr_steps groups
@@ -87,7 +87,7 @@ pub plain_place : (groups : List (List ℕ)) (b : ℕ) (seen : Seen) → b ≡ 0
 unfolding counted_step scrolling_steps other_steps
 plain_place groups b seen is = rw is refl
 
--- sequences by their marks, and those without a mark by what they count
-pub ruleset by_marks = (plain_does, plain_stops, marked_does, marked_stops)
+-- sequences by their intermediates, and those without a intermediate by what they count
+pub ruleset by_intermediates = (plain_does, plain_stops, intermediate_does, intermediate_stops)
 
 pub ruleset by_counts = (plain_counted, plain_other, plain_other_stops)

@@ -14,7 +14,7 @@ use Rattle.vt_screen.specs.Calls.{CallValue}
 use Rattle.vt_screen.specs.Run.{Takes, state}
 use Rattle.vt_screen.specs.Screen.{ScreenValue}
 use Rattle.vt_screen.specs.Controls.{character_steps}
-use Rattle.vt_screen.specs.Steps.{Step, Print, stepped}
+use Rattle.vt_screen.specs.Steps.{Step, Print, display_after}
 use Rattle.vt_screen.specs.Texts.{text_stepped}
 use Rattle.vt_screen.proofs.Sizes.{same_printed}
 use Rattle.vt_screen.proofs.TextSteps.{print_scrolls}
@@ -25,26 +25,26 @@ use Rattle.vt100.proofs.Running.{byte_ran, one_character, ran_then}
 print_done : {S : Type 0} (does : CallValue → S → ScreenValue → S → ScreenValue → Type 0)
     (c : ℕ) (s : S) (screen : ScreenValue) →
     0x20 ≤ c → c < 0x7F → screen.page.column < screen.page.width →
-    FoldsTo (Takes does) (state s screen) (character_steps c) (state s (stepped (Print c) screen))
+    FoldsTo (Takes does) (state s screen) (character_steps c) (state s (display_after (Print c) screen))
 print_done does c s screen low high room =
     let shown : ((c == 0xFFFD) || (nat_le 0x80 c && nat_le c 0x9F)) ≡ false = grind (arith, nat_tests) in
-    subst (λ (steps : List Step). FoldsTo (Takes does) (state s screen) steps (state s (stepped (Print c) screen)))
+    subst (λ (steps : List Step). FoldsTo (Takes does) (state s screen) steps (state s (display_after (Print c) screen)))
     (sym (printed_steps c shown))
-    (state s (stepped (Print c) screen), print_scrolls does c s screen low high room, refl)
+    (state s (display_after (Print c) screen), print_scrolls does c s screen low high room, refl)
 
 character_ran : {S : Type 0} (does : CallValue → S → ScreenValue → S → ScreenValue → Type 0)
     (c : ℕ) (held : Held) (s : S) (screen : ScreenValue) →
     ReadsItself held c → screen.page.column < screen.page.width →
-    Ran does (parsing held screen s) (c ∷ []) (parsing held (stepped (Print c) screen) s)
+    Ran does (parsing held screen s) (c ∷ []) (parsing held (display_after (Print c) screen) s)
 character_ran does c held s screen itself room =
-    let now = parsing held (stepped (Print c) screen) s in
+    let now = parsing held (display_after (Print c) screen) s in
     byte_ran does (parsing held screen s) now c (one_character c)
     (plain_feeds held c itself.0 itself.1 itself.2 (omega (arith, itself.3)))
     (stage now, print_done does c s screen itself.2 itself.3 room, refl)
 
 -- a plain character moves the cursor on by one column
 pub column_printed : (c : ℕ) (screen : ScreenValue) → 0x20 ≤ c → c < 0x7F →
-    screen.page.column < screen.page.width → (stepped (Print c) screen).page.column ≡ screen.page.column + 1
+    screen.page.column < screen.page.width → (display_after (Print c) screen).page.column ≡ screen.page.column + 1
 column_printed c screen low high room =
     ap (λ (page : Page). page.column) (printed_put c screen.attrs screen.page low high room)
 
@@ -55,7 +55,7 @@ pub text_ran : {S : Type 0} (does : CallValue → S → ScreenValue → S → Sc
 text_ran does [] held s screen plain room = λ st stands. (stands, refl)
 text_ran does (c ∷ text) held s screen plain room =
     let first = All-head (ReadsItself held) c text plain in
-    let next = stepped (Print c) screen in
+    let next = display_after (Print c) screen in
     let here : screen.page.column < screen.page.width = omega (arith, room) in
     let moved = column_printed c screen first.2 first.3 here in
     let same = same_printed c screen.attrs screen.page in

@@ -18,7 +18,7 @@ use Rattle.vt_scan.specs.Table.{class_of, turn_of}
 use Rattle.vt_screen.specs.Calls.{CallValue}
 use Rattle.vt_screen.specs.Screen.{ScreenValue, above_page}
 use Rattle.vt_screen.specs.Run as act
-use Rattle.vt_screen.specs.Run.{Performs, Breaks, Hears, Refuses, StopsIn, Takes, state}
+use Rattle.vt_screen.specs.Run.{Performs, Breaks, CalledOnScroll, Refuses, StopsIn, Takes, state}
 use Rattle.vt_screen.specs.Controls.{seen_of, steps_of}
 use Rattle.vt_screen.specs.Steps.{Step, Print, CarriageReturn, LineFeed, ReverseIndex, MoveUp, MoveDown, MoveLeft}
 use Rattle.vt_screen.specs.Steps.{NextLine, PreviousLine, Tab, MoveToColumn, MoveToRow, SetRegion, UseOrigin}
@@ -27,7 +27,7 @@ use Rattle.vt_screen.specs.Steps.{DeleteChars, InsertLines, DeleteLines, ScrollD
 use Rattle.vt_screen.specs.Steps.{EraseBelow, EraseRest, EraseChars, Render, HideCursor, UseApplicationCursor}
 use Rattle.vt_screen.specs.Steps.{UseBracketedPaste, SetMouseMode, ClearMouseMode, SetMouseEncoding, ClearMouseEncoding}
 use Rattle.vt_screen.specs.Steps.{SetCursorStyle, SaveCursor, RestoreCursor, EnterAlternate, EnterFresh, LeaveAlternate}
-use Rattle.vt_screen.specs.Steps.{LeaveRestoring, Reset, UseApplicationKeypad, Tell, Grows, outgoing, stepped}
+use Rattle.vt_screen.specs.Steps.{LeaveRestoring, Reset, UseApplicationKeypad, CallBack, Grows, outgoing, display_after}
 use Rattle.vt_screen.specs.Reading.{Terminal, terminal, grows, quiet_step, quiet_steps, quiet_events, read, read_byte}
 use Rattle.vt_screen.proofs.Readback.{and_then-some}
 use Rattle.vt100.specs.Parser.{IsHarmless, Parsing, Ran, Stopped, Collects, stage}
@@ -66,7 +66,7 @@ unsent : {S : Type 0} (does : CallValue → S → ScreenValue → S → ScreenVa
     → b.screen
     ≡ (if screen.is_alternate then after
     else record after { scrollback = pushed (length screen.page.rows) screen.page.width gone screen.scrollback })
-    → FoldsTo (Hears does screen.is_alternate) held (reported gone (above_page screen)) b.callbacks
+    → FoldsTo (CalledOnScroll does screen.is_alternate) held (reported gone (above_page screen)) b.callbacks
     → b ≡ state held after
 unsent {S} does held screen after gone b none kept is heard =
     let shown : b.screen ≡ after = is ∙ same_screen screen.is_alternate after after _ refl
@@ -75,7 +75,7 @@ unsent {S} does held screen after gone b none kept is heard =
     none
     ∙ ap (λ (above : Scrollback). record after { scrollback = above }) (sym kept)) in
     let told : held ≡ b.callbacks =
-    subst (λ (rows : List RowValue). FoldsTo (Hears does screen.is_alternate)
+    subst (λ (rows : List RowValue). FoldsTo (CalledOnScroll does screen.is_alternate)
     held (reported rows (above_page screen)) b.callbacks)
     none heard in
     ap (λ (s : S). act.state s b.screen) (sym told) ∙ ap (act.state held) shown
@@ -84,112 +84,112 @@ quiet_takes : {S : Type 0} (does : CallValue → S → ScreenValue → S → Scr
     (x : Step) (held : S) (screen after : ScreenValue) (b : act.State S) →
     quiet_step x screen ≡ Some after → Takes does (state held screen) x b → b ≡ state held after
 quiet_takes does (Print c) held screen after b e t =
-    let calm = calm_of (pushes c screen.page) (Some (stepped (Print c) screen)) after e in
+    let calm = calm_of (pushes c screen.page) (Some (display_after (Print c) screen)) after e in
     let none : outgoing (Print c) screen ≡ [] =
     ap (λ (pushed : Bool). if pushed then take 1 (left_by (columns_of c) screen.attrs screen.page).rows else [])
     calm.0 in
-    unsent does held screen (stepped (Print c) screen) (outgoing (Print c) screen) b none refl t.screen t.heard
-    ∙ ap (state held) (same_some (stepped (Print c) screen) after calm.1)
+    unsent does held screen (display_after (Print c) screen) (outgoing (Print c) screen) b none refl t.screen t.heard
+    ∙ ap (state held) (same_some (display_after (Print c) screen) after calm.1)
 quiet_takes does LineFeed held screen after b e t =
-    let calm = calm_of (feeds_out screen.page) (Some (stepped LineFeed screen)) after e in
+    let calm = calm_of (feeds_out screen.page) (Some (display_after LineFeed screen)) after e in
     let none : outgoing LineFeed screen ≡ [] =
     ap (λ (fed : Bool). if fed then take 1 screen.page.rows else []) calm.0 in
-    unsent does held screen (stepped LineFeed screen) (outgoing LineFeed screen) b none refl t.screen t.heard
-    ∙ ap (state held) (same_some (stepped LineFeed screen) after calm.1)
-quiet_takes does (Tell call) held screen after b e t = absurd (subst IsNone e tt)
+    unsent does held screen (display_after LineFeed screen) (outgoing LineFeed screen) b none refl t.screen t.heard
+    ∙ ap (state held) (same_some (display_after LineFeed screen) after calm.1)
+quiet_takes does (CallBack call) held screen after b e t = absurd (subst IsNone e tt)
 quiet_takes does CarriageReturn held screen after b e t =
-    t ∙ ap (state held) (same_some (stepped CarriageReturn screen) after e)
+    t ∙ ap (state held) (same_some (display_after CarriageReturn screen) after e)
 quiet_takes does ReverseIndex held screen after b e t =
-    t ∙ ap (state held) (same_some (stepped ReverseIndex screen) after e)
+    t ∙ ap (state held) (same_some (display_after ReverseIndex screen) after e)
 quiet_takes does (MoveUp count) held screen after b e t =
-    t ∙ ap (state held) (same_some (stepped (MoveUp count) screen) after e)
+    t ∙ ap (state held) (same_some (display_after (MoveUp count) screen) after e)
 quiet_takes does (MoveDown count) held screen after b e t =
-    t ∙ ap (state held) (same_some (stepped (MoveDown count) screen) after e)
+    t ∙ ap (state held) (same_some (display_after (MoveDown count) screen) after e)
 quiet_takes does (MoveLeft count) held screen after b e t =
-    t ∙ ap (state held) (same_some (stepped (MoveLeft count) screen) after e)
+    t ∙ ap (state held) (same_some (display_after (MoveLeft count) screen) after e)
 quiet_takes does (NextLine count) held screen after b e t =
-    t ∙ ap (state held) (same_some (stepped (NextLine count) screen) after e)
+    t ∙ ap (state held) (same_some (display_after (NextLine count) screen) after e)
 quiet_takes does (PreviousLine count) held screen after b e t =
-    t ∙ ap (state held) (same_some (stepped (PreviousLine count) screen) after e)
-quiet_takes does Tab held screen after b e t = t ∙ ap (state held) (same_some (stepped Tab screen) after e)
+    t ∙ ap (state held) (same_some (display_after (PreviousLine count) screen) after e)
+quiet_takes does Tab held screen after b e t = t ∙ ap (state held) (same_some (display_after Tab screen) after e)
 quiet_takes does (MoveToColumn col) held screen after b e t =
-    t ∙ ap (state held) (same_some (stepped (MoveToColumn col) screen) after e)
+    t ∙ ap (state held) (same_some (display_after (MoveToColumn col) screen) after e)
 quiet_takes does (MoveToRow row) held screen after b e t =
-    t ∙ ap (state held) (same_some (stepped (MoveToRow row) screen) after e)
+    t ∙ ap (state held) (same_some (display_after (MoveToRow row) screen) after e)
 quiet_takes does (SetRegion top bottom) held screen after b e t =
-    t ∙ ap (state held) (same_some (stepped (SetRegion top bottom) screen) after e)
+    t ∙ ap (state held) (same_some (display_after (SetRegion top bottom) screen) after e)
 quiet_takes does (UseOrigin on) held screen after b e t =
-    t ∙ ap (state held) (same_some (stepped (UseOrigin on) screen) after e)
+    t ∙ ap (state held) (same_some (display_after (UseOrigin on) screen) after e)
 quiet_takes does EraseAbove held screen after b e t =
-    t ∙ ap (state held) (same_some (stepped EraseAbove screen) after e)
-quiet_takes does ErasePage held screen after b e t = t ∙ ap (state held) (same_some (stepped ErasePage screen) after e)
+    t ∙ ap (state held) (same_some (display_after EraseAbove screen) after e)
+quiet_takes does ErasePage held screen after b e t = t ∙ ap (state held) (same_some (display_after ErasePage screen) after e)
 quiet_takes does EraseStart held screen after b e t =
-    t ∙ ap (state held) (same_some (stepped EraseStart screen) after e)
-quiet_takes does EraseRow held screen after b e t = t ∙ ap (state held) (same_some (stepped EraseRow screen) after e)
+    t ∙ ap (state held) (same_some (display_after EraseStart screen) after e)
+quiet_takes does EraseRow held screen after b e t = t ∙ ap (state held) (same_some (display_after EraseRow screen) after e)
 quiet_takes does (InsertChars count) held screen after b e t =
-    t ∙ ap (state held) (same_some (stepped (InsertChars count) screen) after e)
+    t ∙ ap (state held) (same_some (display_after (InsertChars count) screen) after e)
 quiet_takes does (DeleteChars count) held screen after b e t =
-    t ∙ ap (state held) (same_some (stepped (DeleteChars count) screen) after e)
+    t ∙ ap (state held) (same_some (display_after (DeleteChars count) screen) after e)
 quiet_takes does (InsertLines count) held screen after b e t =
-    t ∙ ap (state held) (same_some (stepped (InsertLines count) screen) after e)
+    t ∙ ap (state held) (same_some (display_after (InsertLines count) screen) after e)
 quiet_takes does (DeleteLines count) held screen after b e t =
-    t ∙ ap (state held) (same_some (stepped (DeleteLines count) screen) after e)
+    t ∙ ap (state held) (same_some (display_after (DeleteLines count) screen) after e)
 quiet_takes does (ScrollDown count) held screen after b e t =
-    t ∙ ap (state held) (same_some (stepped (ScrollDown count) screen) after e)
+    t ∙ ap (state held) (same_some (display_after (ScrollDown count) screen) after e)
 quiet_takes does (ScrollUp count) held screen after b e t =
-    let calm = calm_of (screen.page.top == 0) (Some (stepped (ScrollUp count) screen)) after e in
+    let calm = calm_of (screen.page.top == 0) (Some (display_after (ScrollUp count) screen)) after e in
     let none : outgoing (ScrollUp count) screen ≡ [] =
     ap (λ (whole : Bool). if whole then take (min count (screen.page.bottom + 1)) screen.page.rows else []) calm.0 in
-    unsent does held screen (stepped (ScrollUp count) screen)
+    unsent does held screen (display_after (ScrollUp count) screen)
     (outgoing (ScrollUp count) screen) b none refl t.screen t.heard
-    ∙ ap (state held) (same_some (stepped (ScrollUp count) screen) after calm.1)
+    ∙ ap (state held) (same_some (display_after (ScrollUp count) screen) after calm.1)
 quiet_takes does EraseScrollback held screen after b e t = absurd (subst IsNone e tt)
 quiet_takes does (MoveRight count) held screen after b e t =
-    t ∙ ap (state held) (same_some (stepped (MoveRight count) screen) after e)
+    t ∙ ap (state held) (same_some (display_after (MoveRight count) screen) after e)
 quiet_takes does (MoveTo row col) held screen after b e t =
-    t ∙ ap (state held) (same_some (stepped (MoveTo row col) screen) after e)
+    t ∙ ap (state held) (same_some (display_after (MoveTo row col) screen) after e)
 quiet_takes does EraseBelow held screen after b e t =
-    t ∙ ap (state held) (same_some (stepped EraseBelow screen) after e)
-quiet_takes does EraseRest held screen after b e t = t ∙ ap (state held) (same_some (stepped EraseRest screen) after e)
+    t ∙ ap (state held) (same_some (display_after EraseBelow screen) after e)
+quiet_takes does EraseRest held screen after b e t = t ∙ ap (state held) (same_some (display_after EraseRest screen) after e)
 quiet_takes does (EraseChars count) held screen after b e t =
-    t ∙ ap (state held) (same_some (stepped (EraseChars count) screen) after e)
+    t ∙ ap (state held) (same_some (display_after (EraseChars count) screen) after e)
 quiet_takes does (Render setting) held screen after b e t =
-    t ∙ ap (state held) (same_some (stepped (Render setting) screen) after e)
+    t ∙ ap (state held) (same_some (display_after (Render setting) screen) after e)
 quiet_takes does (HideCursor hidden) held screen after b e t =
-    t ∙ ap (state held) (same_some (stepped (HideCursor hidden) screen) after e)
+    t ∙ ap (state held) (same_some (display_after (HideCursor hidden) screen) after e)
 quiet_takes does (UseApplicationCursor on) held screen after b e t =
-    t ∙ ap (state held) (same_some (stepped (UseApplicationCursor on) screen) after e)
+    t ∙ ap (state held) (same_some (display_after (UseApplicationCursor on) screen) after e)
 quiet_takes does (UseBracketedPaste on) held screen after b e t =
-    t ∙ ap (state held) (same_some (stepped (UseBracketedPaste on) screen) after e)
+    t ∙ ap (state held) (same_some (display_after (UseBracketedPaste on) screen) after e)
 quiet_takes does (SetMouseMode mode) held screen after b e t =
-    t ∙ ap (state held) (same_some (stepped (SetMouseMode mode) screen) after e)
+    t ∙ ap (state held) (same_some (display_after (SetMouseMode mode) screen) after e)
 quiet_takes does (ClearMouseMode mode) held screen after b e t =
-    t ∙ ap (state held) (same_some (stepped (ClearMouseMode mode) screen) after e)
+    t ∙ ap (state held) (same_some (display_after (ClearMouseMode mode) screen) after e)
 quiet_takes does (SetMouseEncoding form) held screen after b e t =
-    t ∙ ap (state held) (same_some (stepped (SetMouseEncoding form) screen) after e)
+    t ∙ ap (state held) (same_some (display_after (SetMouseEncoding form) screen) after e)
 quiet_takes does (ClearMouseEncoding form) held screen after b e t =
-    t ∙ ap (state held) (same_some (stepped (ClearMouseEncoding form) screen) after e)
+    t ∙ ap (state held) (same_some (display_after (ClearMouseEncoding form) screen) after e)
 quiet_takes does (SetCursorStyle look) held screen after b e t =
-    t ∙ ap (state held) (same_some (stepped (SetCursorStyle look) screen) after e)
+    t ∙ ap (state held) (same_some (display_after (SetCursorStyle look) screen) after e)
 quiet_takes does SaveCursor held screen after b e t =
-    t ∙ ap (state held) (same_some (stepped SaveCursor screen) after e)
+    t ∙ ap (state held) (same_some (display_after SaveCursor screen) after e)
 quiet_takes does RestoreCursor held screen after b e t =
-    t ∙ ap (state held) (same_some (stepped RestoreCursor screen) after e)
+    t ∙ ap (state held) (same_some (display_after RestoreCursor screen) after e)
 quiet_takes does LeaveAlternate held screen after b e t =
-    t ∙ ap (state held) (same_some (stepped LeaveAlternate screen) after e)
+    t ∙ ap (state held) (same_some (display_after LeaveAlternate screen) after e)
 quiet_takes does LeaveRestoring held screen after b e t =
-    t ∙ ap (state held) (same_some (stepped LeaveRestoring screen) after e)
-quiet_takes does Reset held screen after b e t = t ∙ ap (state held) (same_some (stepped Reset screen) after e)
+    t ∙ ap (state held) (same_some (display_after LeaveRestoring screen) after e)
+quiet_takes does Reset held screen after b e t = t ∙ ap (state held) (same_some (display_after Reset screen) after e)
 quiet_takes does (UseApplicationKeypad on) held screen after b e t =
-    t ∙ ap (state held) (same_some (stepped (UseApplicationKeypad on) screen) after e)
+    t ∙ ap (state held) (same_some (display_after (UseApplicationKeypad on) screen) after e)
 quiet_takes does EnterAlternate held screen after b e t =
     t
-    ∙ ap (state held) (same_some (stepped EnterAlternate screen) after
-    (there_of screen.other (Some (stepped EnterAlternate screen)) after e).1)
+    ∙ ap (state held) (same_some (display_after EnterAlternate screen) after
+    (there_of screen.other (Some (display_after EnterAlternate screen)) after e).1)
 quiet_takes does EnterFresh held screen after b e t =
     t
     ∙ ap (state held)
-    (same_some (stepped EnterFresh screen) after (there_of screen.other (Some (stepped EnterFresh screen)) after e).1)
+    (same_some (display_after EnterFresh screen) after (there_of screen.other (Some (display_after EnterFresh screen)) after e).1)
 
 quiet_folds : {S : Type 0} (does : CallValue → S → ScreenValue → S → ScreenValue → Type 0)
     (steps : List Step) (held : S) (screen after : ScreenValue) (b : act.State S) →
@@ -217,20 +217,20 @@ never_grows gone above none takes = let n : length gone ≡ 0 = ap length none i
 
 quiet_holds : (x : Step) (screen after : ScreenValue) → quiet_step x screen ≡ Some after → Grows x screen → ⊥
 quiet_holds (Print c) screen after e g =
-    let calm = calm_of (pushes c screen.page) (Some (stepped (Print c) screen)) after e in
+    let calm = calm_of (pushes c screen.page) (Some (display_after (Print c) screen)) after e in
     never_grows (outgoing (Print c) screen) (above_page screen)
     (ap (λ (pushed : Bool). if pushed then take 1 (left_by (columns_of c) screen.attrs screen.page).rows else [])
     calm.0)
     g
 quiet_holds LineFeed screen after e g =
-    let calm = calm_of (feeds_out screen.page) (Some (stepped LineFeed screen)) after e in
+    let calm = calm_of (feeds_out screen.page) (Some (display_after LineFeed screen)) after e in
     never_grows (outgoing LineFeed screen) (above_page screen)
     (ap (λ (fed : Bool). if fed then take 1 screen.page.rows else []) calm.0) g
 quiet_holds (ScrollUp count) screen after e g =
-    let calm = calm_of (screen.page.top == 0) (Some (stepped (ScrollUp count) screen)) after e in
+    let calm = calm_of (screen.page.top == 0) (Some (display_after (ScrollUp count) screen)) after e in
     never_grows (outgoing (ScrollUp count) screen) (above_page screen)
     (ap (λ (whole : Bool). if whole then take (min count (screen.page.bottom + 1)) screen.page.rows else []) calm.0) g
-quiet_holds (Tell call) screen after e g = never_grows [] (above_page screen) refl g
+quiet_holds (CallBack call) screen after e g = never_grows [] (above_page screen) refl g
 quiet_holds CarriageReturn screen after e g = never_grows [] (above_page screen) refl g
 quiet_holds ReverseIndex screen after e g = never_grows [] (above_page screen) refl g
 quiet_holds (MoveUp count) screen after e g = never_grows [] (above_page screen) refl g
@@ -274,9 +274,9 @@ quiet_holds LeaveRestoring screen after e g = never_grows [] (above_page screen)
 quiet_holds Reset screen after e g = never_grows [] (above_page screen) refl g
 quiet_holds (UseApplicationKeypad on) screen after e g = never_grows [] (above_page screen) refl g
 quiet_holds EnterAlternate screen after e g =
-    false≢true (ap is_some (sym g) ∙ (there_of screen.other (Some (stepped EnterAlternate screen)) after e).0)
+    false≢true (ap is_some (sym g) ∙ (there_of screen.other (Some (display_after EnterAlternate screen)) after e).0)
 quiet_holds EnterFresh screen after e g =
-    false≢true (ap is_some (sym g) ∙ (there_of screen.other (Some (stepped EnterFresh screen)) after e).0)
+    false≢true (ap is_some (sym g) ∙ (there_of screen.other (Some (display_after EnterFresh screen)) after e).0)
 
 quiet_stays : {S : Type 0} (does : CallValue → S → ScreenValue → S → ScreenValue → Type 0)
     (steps : List Step) (held : S) (screen after : ScreenValue) (b : act.State S) →

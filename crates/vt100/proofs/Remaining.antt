@@ -8,8 +8,8 @@ use Rattle.vt_screen.specs.Sgr.{group_read}
 use Rattle.vt_screen.specs.declared.sgr.Wanted.{Wanted}
 use Rattle.vt_screen.specs.declared.sgr.GroupRead.{GroupRead}
 use Rattle.vt_screen.specs.Controls.{mode_step, mode_steps, osc_steps, reading_steps, sgr_from}
-use Rattle.vt_screen.specs.Steps.{Step, Tell}
-use Rattle.vt100.specs.Keeping.{Does, Stops}
+use Rattle.vt_screen.specs.Steps.{Step, CallBack}
+use Rattle.vt100.specs.Internals.{Does, Stops}
 use Rattle.vt100.proofs.Deciding.{other_group, other_parts}
 use Rattle.vt100.proofs.Stepping.{Left, Rest, left_through, left_within, rest_on}
 
@@ -100,7 +100,7 @@ three_parts (a ∷ b ∷ c ∷ d ∷ rest) h = absurd (omega (arith, h))
 
 pub more_parts : (parts : List (Bor (List ℕ))) → length parts ≢ 2 → length parts ≢ 3 →
     osc_steps (map (λ (part : Bor (List ℕ)). part.now) parts)
-    ≡ Tell (UnhandledOsc (map (λ (part : Bor (List ℕ)). part.now) parts)) ∷ []
+    ≡ CallBack (UnhandledOsc (map (λ (part : Bor (List ℕ)). part.now) parts)) ∷ []
 more_parts parts h k =
     let same : length (map (λ (part : Bor (List ℕ)). part.now) parts) ≡ length parts =
     length-map parts (λ part. part.now) in

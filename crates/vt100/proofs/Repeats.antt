@@ -5,11 +5,11 @@ use Rattle.std.proofs.lemmas.List.{replicate-append-replicate}
 use Rattle.vt_screen.specs.Calls.{CallValue}
 use Rattle.vt_screen.specs.Run.{Refuses, state}
 use Rattle.vt_screen.specs.Screen.{ScreenValue}
-use Rattle.vt_screen.specs.Steps.{Step, Print, stepped}
+use Rattle.vt_screen.specs.Steps.{Step, Print, display_after}
 use Rattle.vt_screen.specs.Texts.{text_stepped}
 use Rattle.vt_screen.proofs.Sizes.{same_printed}
 use Rattle.vt_screen.proofs.TextSteps.{print_scrolls}
-use Rattle.vt100.specs.Keeping.{Does, Stops}
+use Rattle.vt100.specs.Internals.{Does, Stops}
 use Rattle.vt100.proofs.Plain.{column_printed}
 use Rattle.vt100.proofs.Stepping.{Left, left_through}
 
@@ -20,7 +20,7 @@ pub prints_done : {S : Type 0} (does : CallValue → S → ScreenValue → S →
 prints_done does zero c s screen low high room = refl
 prints_done does (suc n) c s screen low high room =
     let here : screen.page.column < screen.page.width = omega (arith, room) in
-    let next = stepped (Print c) screen in
+    let next = display_after (Print c) screen in
     let moved = column_printed c screen low high here in
     let same = same_printed c screen.attrs screen.page in
     let left : next.page.column + n ≤ next.page.width = omega (arith, moved, same.width, room) in

@@ -15,8 +15,8 @@ use Rattle.vt_screen.specs.Steps.{DeleteChars, InsertLines, DeleteLines, ScrollD
 use Rattle.vt_screen.specs.Steps.{EraseBelow, EraseRest, EraseChars, Render, HideCursor, UseApplicationCursor}
 use Rattle.vt_screen.specs.Steps.{UseBracketedPaste, SetMouseMode, ClearMouseMode, SetMouseEncoding, ClearMouseEncoding}
 use Rattle.vt_screen.specs.Steps.{SetCursorStyle, SaveCursor, RestoreCursor, EnterAlternate, EnterFresh, LeaveAlternate}
-use Rattle.vt_screen.specs.Steps.{LeaveRestoring, Reset, UseApplicationKeypad, Tell, Grows, stepped}
-use Rattle.vt100.specs.Keeping.{Does, Stops, is_own}
+use Rattle.vt_screen.specs.Steps.{LeaveRestoring, Reset, UseApplicationKeypad, CallBack, Grows, display_after}
+use Rattle.vt100.specs.Internals.{Does, Stops, is_own}
 use Rattle.vt_rows.proofs.Folds.{folds_then}
 use Rattle.vt100.proofs.Running.{stops_first, stops_then}
 
@@ -32,17 +32,17 @@ refused does x s t d e h = inl h
 
 pub told : {S : Type 0} (does : CallValue → S → ScreenValue → S → ScreenValue → Type 0)
     (call : CallValue) (s t : S) (d e : ScreenValue) →
-    does call s d t e → Does does s d (Tell call ∷ []) t e
+    does call s d t e → Does does s d (CallBack call ∷ []) t e
 told does call s t d e h = (state t e, h, refl)
 
 pub told_two : {S : Type 0} (does : CallValue → S → ScreenValue → S → ScreenValue → Type 0)
     (one two : CallValue) (s t u : S) (d e f : ScreenValue) →
-    does one s d t e → does two t e u f → Does does s d (Tell one ∷ Tell two ∷ []) u f
+    does one s d t e → does two t e u f → Does does s d (CallBack one ∷ CallBack two ∷ []) u f
 told_two does one two s t u d e f h k = (state t e, h, (state u f, k, refl))
 
 takes_own : {S : Type 0} (does : CallValue → S → ScreenValue → S → ScreenValue → Type 0)
     (x : Step) (s : S) (d e : ScreenValue) →
-    is_own x ≡ true → e ≡ stepped x d → Takes does (state s d) x (state s e)
+    is_own x ≡ true → e ≡ display_after x d → Takes does (state s d) x (state s e)
 takes_own does (Print c) s d e own h = absurd (false≢true own)
 takes_own does CarriageReturn s d e own h = ap (state s) h
 takes_own does LineFeed s d e own h = absurd (false≢true own)
@@ -90,11 +90,11 @@ takes_own does LeaveRestoring s d e own h = ap (state s) h
 takes_own does Reset s d e own h = ap (state s) h
 takes_own does (UseApplicationKeypad on) s d e own h = ap (state s) h
 takes_own does EraseScrollback s d e own h = absurd (false≢true own)
-takes_own does (Tell call) s d e own h = absurd (false≢true own)
+takes_own does (CallBack call) s d e own h = absurd (false≢true own)
 
 pub stepping : {S : Type 0} (does : CallValue → S → ScreenValue → S → ScreenValue → Type 0)
     (x : Step) (s : S) (d e : ScreenValue) →
-    is_own x ≡ true → e ≡ stepped x d → Does does s d (x ∷ []) s e
+    is_own x ≡ true → e ≡ display_after x d → Does does s d (x ∷ []) s e
 stepping does x s d e own h = (state s e, takes_own does x s d e own h, refl)
 
 -- ---- another page is shown, or that is refused
@@ -106,19 +106,19 @@ alone_refused does x s d e grows same = inl (grows, ap (state s) same)
 
 takes_alternate : {S : Type 0} (does : CallValue → S → ScreenValue → S → ScreenValue → Type 0)
     (on : Bool) (s : S) (d e : ScreenValue) →
-    e ≡ stepped (alternate_step on) d → Takes does (state s d) (alternate_step on) (state s e)
+    e ≡ display_after (alternate_step on) d → Takes does (state s d) (alternate_step on) (state s e)
 takes_alternate does true s d e h = ap (state s) h
 takes_alternate does false s d e h = ap (state s) h
 
 takes_fresh : {S : Type 0} (does : CallValue → S → ScreenValue → S → ScreenValue → Type 0)
     (on : Bool) (s : S) (d e : ScreenValue) →
-    e ≡ stepped (fresh_alternate_step on) d → Takes does (state s d) (fresh_alternate_step on) (state s e)
+    e ≡ display_after (fresh_alternate_step on) d → Takes does (state s d) (fresh_alternate_step on) (state s e)
 takes_fresh does true s d e h = ap (state s) h
 takes_fresh does false s d e h = ap (state s) h
 
 pub alternating : {S : Type 0} (does : CallValue → S → ScreenValue → S → ScreenValue → Type 0)
     (on : Bool) (s : S) (d e : ScreenValue) →
-    e ≡ stepped (alternate_step on) d → Does does s d (alternate_step on ∷ []) s e
+    e ≡ display_after (alternate_step on) d → Does does s d (alternate_step on ∷ []) s e
 alternating does on s d e h = (state s e, takes_alternate does on s d e h, refl)
 
 pub alternating_stops : {S : Type 0} (does : CallValue → S → ScreenValue → S → ScreenValue → Type 0)
@@ -128,7 +128,7 @@ alternating_stops does on s d e grows same = alone_refused does (alternate_step 
 
 pub freshening : {S : Type 0} (does : CallValue → S → ScreenValue → S → ScreenValue → Type 0)
     (on : Bool) (s : S) (d e : ScreenValue) →
-    e ≡ stepped (fresh_alternate_step on) d → Does does s d (fresh_alternate_step on ∷ []) s e
+    e ≡ display_after (fresh_alternate_step on) d → Does does s d (fresh_alternate_step on ∷ []) s e
 freshening does on s d e h = (state s e, takes_fresh does on s d e h, refl)
 
 pub freshening_stops : {S : Type 0} (does : CallValue → S → ScreenValue → S → ScreenValue → Type 0)

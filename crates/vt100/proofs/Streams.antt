@@ -14,9 +14,9 @@ use Rattle.vt_scan.proofs.Running.{run-append}
 use Rattle.vt_screen.specs.Calls.{CallValue}
 use Rattle.vt_screen.specs.Capture.{all_rows, basic_texts, written_after_all}
 use Rattle.vt_screen.specs.Screen.{ScreenValue, IsScreen, fresh_screen, scrolled_back}
-use Rattle.vt_screen.specs.Streamed.{AreAlike, HasNoRis, HasWideFlags, bare, ris}
+use Rattle.vt_screen.specs.Streamed.{AreSameTrimmed, HasNoRis, HasWideFlags, without_scrollback, ris}
 use Rattle.vt_screen.specs.Streamed.{row_told, rows_told, sent_off_in, streamed_text}
-use Rattle.vt_screen.specs.Telling.{Heard, LeavesScreen, calls_in, screen_in}
+use Rattle.vt_screen.specs.Telling.{CalledOnSomeScreen, LeavesScreen, calls_in, screen_in}
 use Rattle.vt_screen.proofs.Bare.{SameBare, bare_scrolled_back, both_screen_in, both_sent_in}
 use Rattle.vt_screen.proofs.EventSteps.{run_streams}
 use Rattle.vt_screen.proofs.Heard.{Hearing, heard_events}
@@ -39,7 +39,7 @@ ran_heard does leaves p q bytes scan stands ran =
 pub record HasHeard {S : Type 0} (does : CallValue → S → ScreenValue → S → ScreenValue → Type 0)
     (scan : State) (screen : ScreenValue) (calls : List ParserCall) (p q : Parsing S) : Type 0 where
   pub shown : q.screen ≡ screen_by scan screen calls
-  pub heard : FoldsTo (Heard does) p.callbacks (told_by scan screen calls) q.callbacks
+  pub heard : FoldsTo (CalledOnSomeScreen does) p.callbacks (told_by scan screen calls) q.callbacks
 
 pub calls_heard : {S : Type 0} (does : CallValue → S → ScreenValue → S → ScreenValue → Type 0)
     → LeavesScreen does → (calls : List ParserCall) (p q : Parsing S) (scan : State)
@@ -54,7 +54,7 @@ calls_heard does leaves (Process bytes ∷ calls) p q scan stands t =
     record {
       shown = rest.shown;
       heard =
-          folds_then (Heard does) (calls_in scan p.screen bytes)
+          folds_then (CalledOnSomeScreen does) (calls_in scan p.screen bytes)
           (told_by (run scan bytes).state (screen_in scan p.screen bytes) calls)
           p.callbacks t.0.callbacks q.callbacks one.heard rest.heard;
     }
@@ -116,32 +116,32 @@ calls_stream (Process bytes ∷ calls) scan s r e none k =
           subst (λ (rows : List RowValue). Streamed
           (calls_in scan s bytes ++ told_by next now calls) rows s (screen_by next now calls))
           gone both;
-      same = rest.same ∙ ap bare (sym (screen_in_then scan r bytes more));
+      same = rest.same ∙ ap without_scrollback (sym (screen_in_then scan r bytes more));
     }
 
 -- two parsers whose screens are the same but for scrollback
 pub ran_apart : {S : Type 0} (does : CallValue → S → ScreenValue → S → ScreenValue → Type 0) → LeavesScreen does
     → (p q r s : Parsing S) (bytes : List ℕ) (scan : State) → StandsFor p.scanner scan → StandsFor r.scanner scan
-    → bare p.screen ≡ bare r.screen → Ran does p bytes q → Ran does r bytes s
-    → (sent_off_in scan p.screen bytes ≡ sent_off_in scan r.screen bytes) × (bare q.screen ≡ bare s.screen)
+    → without_scrollback p.screen ≡ without_scrollback r.screen → Ran does p bytes q → Ran does r bytes s
+    → (sent_off_in scan p.screen bytes ≡ sent_off_in scan r.screen bytes) × (without_scrollback q.screen ≡ without_scrollback s.screen)
 ran_apart does leaves p q r s bytes scan stands others same ran runs = (
   both_sent_in scan p.screen r.screen bytes same,
-  ap bare (ran_heard does leaves p q bytes scan stands ran).shown
+  ap without_scrollback (ran_heard does leaves p q bytes scan stands ran).shown
       ∙ (both_screen_in scan p.screen r.screen bytes same
-      ∙ ap bare (sym (ran_heard does leaves r s bytes scan others runs).shown)),
+      ∙ ap without_scrollback (sym (ran_heard does leaves r s bytes scan others runs).shown)),
 )
 
 pub ran_keeps : {S : Type 0} (does : CallValue → S → ScreenValue → S → ScreenValue → Type 0) → LeavesScreen does
     → (p q : Parsing S) (bytes : List ℕ) (scan : State) → StandsFor p.scanner scan → Ran does p bytes q
     → IsScreen p.screen → HasWideFlags p.screen → HasNoRis scan bytes
-    → FoldsTo (Heard does) p.callbacks (calls_in scan p.screen bytes) q.callbacks
-    × AreAlike (rows_told (calls_in scan p.screen bytes) ++ q.screen.scrollback.rows)
+    → FoldsTo (CalledOnSomeScreen does) p.callbacks (calls_in scan p.screen bytes) q.callbacks
+    × AreSameTrimmed (rows_told (calls_in scan p.screen bytes) ++ q.screen.scrollback.rows)
     (p.screen.scrollback.rows ++ sent_off_in scan p.screen bytes)
 ran_keeps does leaves p q bytes scan stands ran is wide none =
     let hears = ran_heard does leaves p q bytes scan stands ran in
     let calls = calls_in scan p.screen bytes in (
       hears.heard,
-      subst (λ (t : ScreenValue). AreAlike (rows_told calls ++ t.scrollback.rows)
+      subst (λ (t : ScreenValue). AreSameTrimmed (rows_told calls ++ t.scrollback.rows)
           (p.screen.scrollback.rows ++ sent_off_in scan p.screen bytes))
           (sym hears.shown)
           (run_streams scan p.screen bytes none (held_screen p.screen is wide)).alike,
@@ -190,7 +190,7 @@ record HasRecorded {S : Type 0} (text_of : S → List ℕ) (state_of : S → Wri
 has_recorded : {S : Type 0} (does : CallValue → S → ScreenValue → S → ScreenValue → Type 0)
     (text_of : S → List ℕ) (state_of : S → Written) (is_whole : S → Bool)
     → IsRecorder does text_of state_of is_whole → (calls : List CallValue) (old new : S)
-    → FoldsTo (Heard does) old calls new → is_whole new ≡ true
+    → FoldsTo (CalledOnSomeScreen does) old calls new → is_whole new ≡ true
     → HasRecorded text_of state_of is_whole calls old new
 has_recorded does text_of state_of is_whole r [] old new e w =
     record {

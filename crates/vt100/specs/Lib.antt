@@ -1,4 +1,4 @@
 pub mod Parser
-pub mod Keeping
+pub mod Internals
 pub mod Pieces
 pub mod Streams

@@ -39,7 +39,7 @@ abbrev pub bytes_in : List Processing → List ℕ
 bytes_in [] = []
 bytes_in (call ∷ calls) = call.bytes ++ bytes_in calls
 
--- a parser that did not fail, is in the midst of nothing, and has a plain screen
+-- a parser that did not fail, is in ground state, and has a plain screen
 pub record IsPlainParser {S : Type 0} (parser : Parsing S) : Type 0 where
   pub is_failed : parser.is_failed ≡ false
   pub scanner : StandsFor parser.scanner start

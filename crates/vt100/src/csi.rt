@@ -2,12 +2,12 @@
 
 ghost use Rattle.std.specs.Prelude.{◌≡◌, ◌-◌, ◌<◌, IfOk, IsErr, None, Some, length};
 ghost use Rattle.vt_cells.specs.Refusals.{OnlyOutOfMemory};
-ghost use Rattle.vt100.specs.Keeping.{Does, MadeIf, Stops, report_of};
+ghost use Rattle.vt100.specs.Internals.{Does, MadeIf, Stops, report_of};
 ghost use Rattle.vt_screen.specs.Calls.{UnhandledCsi};
-ghost use Rattle.vt_screen.specs.Controls.{counted_step, csi_steps, marked_steps, number_at, number_or, other_steps};
+ghost use Rattle.vt_screen.specs.Controls.{counted_step, csi_steps, intermediate_steps, number_at, number_or, other_steps};
 ghost use Rattle.vt_screen.specs.Controls.{scrolling_steps, page_erasing, plain_steps, private_steps};
 ghost use Rattle.vt_screen.specs.Controls.{row_erasing, size_or, space_steps, style_of, window_steps, seen_of};
-ghost use Rattle.vt_screen.specs.Steps.{stepped};
+ghost use Rattle.vt_screen.specs.Steps.{display_after};
 ghost use Rattle.vt_screen.specs.Steps as step;
 
 use crate::repeating::repeat;
@@ -19,32 +19,32 @@ use vt_screen::{Callbacks, Screen};
 
 /// Does what a control sequence says, up to a step whose memory is refused.
 #[inline(always)]
-#[tactic(auto, using(crate::proofs::Dispatching::by_marks))]
+#[tactic(auto, using(crate::proofs::Dispatching::by_intermediates))]
 pub fn perform<CB: Callbacks>(
     screen: &mut Screen,
     callbacks: &mut CB,
     parameters: &Parameters,
-    marks: &[u8],
+    intermediates: &[u8],
     byte: u8,
 ) -> Result<(), Error>
     ensures done { IfOk result (λ _. Does CB.does callbacks.old screen.old
-        (csi_steps parameters.now.groups marks.now byte (seen_of screen.old))
+        (csi_steps parameters.now.groups intermediates.now byte (seen_of screen.old))
         callbacks.new screen.new) }
     ensures stopped { IsErr result →
         Stops CB.does callbacks.old screen.old
-        (csi_steps parameters.now.groups marks.now byte (seen_of screen.old)) callbacks.new screen.new }
+        (csi_steps parameters.now.groups intermediates.now byte (seen_of screen.old)) callbacks.new screen.new }
     ensures memory { OnlyOutOfMemory result }
 {
-    let Some(mark) = numbers::mark_at(marks, 0) else {
+    let Some(intermediate) = numbers::intermediate_at(intermediates, 0) else {
         return plain(screen, callbacks, parameters, byte);
     };
     let sequence = Sequence {
-        first: Some(mark),
-        second: numbers::mark_at(marks, 1),
+        first: Some(intermediate),
+        second: numbers::intermediate_at(intermediates, 1),
         parameters,
         byte,
     };
-    marked(screen, callbacks, mark, sequence)
+    with_intermediate(screen, callbacks, intermediate, sequence)
 }
 
 /// A control sequence without a marker or an intermediate. The two that are
@@ -187,7 +187,7 @@ fn other<CB: Callbacks>(screen: &mut Screen, callbacks: &mut CB, sequence: Seque
 #[inline(always)]
 fn move_to(screen: &mut Screen, parameters: &Parameters)
     ensures { screen.new
-        ≡ stepped (step.MoveTo (number_or 1 0 parameters.now.groups - 1)
+        ≡ display_after (step.MoveTo (number_or 1 0 parameters.now.groups - 1)
         (number_or 1 1 parameters.now.groups - 1))
         screen.old }
 {
@@ -199,7 +199,7 @@ fn move_to(screen: &mut Screen, parameters: &Parameters)
 /// DECSTBM, whose numbers count from 1; without the second one, to the last row.
 fn set_region(screen: &mut Screen, parameters: &Parameters)
     ensures { screen.new
-        ≡ stepped (step.SetRegion (number_or 1 0 parameters.now.groups - 1)
+        ≡ display_after (step.SetRegion (number_or 1 0 parameters.now.groups - 1)
         (number_or (length screen.old.page.rows) 1 parameters.now.groups - 1))
         screen.old }
 {
@@ -270,26 +270,26 @@ fn number_or_own(own: u16, parameters: &Parameters, i: usize) -> u16
 
 /// A control sequence with a marker or an intermediate.
 #[inline(never)]
-#[tactic(auto, using(crate::proofs::Stepping::tested_steps), unfolding(vt_screen::specs::Controls::marked_steps))]
-fn marked<CB: Callbacks>(
+#[tactic(auto, using(crate::proofs::Stepping::tested_steps), unfolding(vt_screen::specs::Controls::intermediate_steps))]
+fn with_intermediate<CB: Callbacks>(
     screen: &mut Screen,
     callbacks: &mut CB,
-    mark: u8,
+    intermediate: u8,
     sequence: Sequence<'_>,
 ) -> Result<(), Error>
-    requires { sequence.first ≡ Some mark }
+    requires { sequence.first ≡ Some intermediate }
     ensures done { IfOk result (λ _. Does CB.does callbacks.old screen.old
-        (marked_steps mark sequence.entry.second
+        (intermediate_steps intermediate sequence.entry.second
         sequence.entry.parameters.now.groups sequence.entry.byte)
         callbacks.new screen.new) }
     ensures stopped { IsErr result →
         Stops CB.does callbacks.old screen.old
-        (marked_steps mark sequence.entry.second
+        (intermediate_steps intermediate sequence.entry.second
         sequence.entry.parameters.now.groups sequence.entry.byte)
         callbacks.new screen.new }
     ensures memory { OnlyOutOfMemory result }
 {
-    match mark {
+    match intermediate {
         b'?' => private(screen, callbacks, sequence)?,
         b' ' => spaced(screen, callbacks, sequence),
         _ => sequence.report(screen, callbacks),
@@ -333,12 +333,12 @@ fn spaced<CB: Callbacks>(screen: &mut Screen, callbacks: &mut CB, sequence: Sequ
         callbacks.new screen.new }
 {
     if sequence.byte != b'q' {
-        let unmarked = Sequence {
+        let without_intermediates = Sequence {
             first: None,
             second: None,
             ..sequence
         };
-        unmarked.report(screen, callbacks);
+        without_intermediates.report(screen, callbacks);
         return;
     }
     match style(sequence.parameters.number(0)) {

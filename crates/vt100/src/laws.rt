@@ -16,9 +16,9 @@ ghost use Rattle.vt_screen.specs.Chain.{CanShowOn, chain_text, last_screen};
 ghost use Rattle.vt_screen.specs.Pages.{resized};
 ghost use Rattle.vt_screen.specs.Reading.{Terminal, read, terminal};
 ghost use Rattle.vt_screen.specs.Screen.{IsScreen, ScreenValue, fresh_screen};
-ghost use Rattle.vt_screen.specs.Streamed.{AreAlike, HasNoRis, HasWideFlags, bare, rows_told, sent_off_in};
+ghost use Rattle.vt_screen.specs.Streamed.{AreSameTrimmed, HasNoRis, HasWideFlags, without_scrollback, rows_told, sent_off_in};
 ghost use Rattle.vt_screen.specs.Streamed.{streamed_text};
-ghost use Rattle.vt_screen.specs.Telling.{Heard, LeavesScreen, calls_in};
+ghost use Rattle.vt_screen.specs.Telling.{CalledOnSomeScreen, LeavesScreen, calls_in};
 
 use vt_screen::Callbacks;
 
@@ -59,7 +59,7 @@ pub fn sizes<CB: Callbacks>()
 {}
 
 /// A new parser is a fresh one of the size and capacity that were asked for, and
-/// plain: it has not failed, is in the midst of nothing, its region is the whole
+/// plain: it has not failed, is in ground state, its region is the whole
 /// page, origin mode is off, and no scrollback is in view. Its screen has that
 /// size.
 ///
@@ -165,17 +165,17 @@ pub fn one_text<CB: Callbacks>()
     ensures heard { (p q : Parsing CB) (calls : List ParserCall) (scan : State) → LeavesScreen CB.does →
         StandsFor p.scanner scan → FoldsTo (MakesCall CB.does) p calls q →
         (q.screen ≡ screen_by scan p.screen calls)
-        × FoldsTo (Heard CB.does) p.callbacks (told_by scan p.screen calls) q.callbacks }
+        × FoldsTo (CalledOnSomeScreen CB.does) p.callbacks (told_by scan p.screen calls) q.callbacks }
     ensures kept { (p q : Parsing CB) (bytes : List ℕ) (scan : State) → LeavesScreen CB.does →
         StandsFor p.scanner scan → Ran CB.does p bytes q → IsScreen p.screen → HasWideFlags p.screen →
         HasNoRis scan bytes →
-        FoldsTo (Heard CB.does) p.callbacks (calls_in scan p.screen bytes) q.callbacks
-        × AreAlike (rows_told (calls_in scan p.screen bytes) ++ q.screen.scrollback.rows)
+        FoldsTo (CalledOnSomeScreen CB.does) p.callbacks (calls_in scan p.screen bytes) q.callbacks
+        × AreSameTrimmed (rows_told (calls_in scan p.screen bytes) ++ q.screen.scrollback.rows)
         (p.screen.scrollback.rows ++ sent_off_in scan p.screen bytes) }
     ensures apart { (p q r s : Parsing CB) (bytes : List ℕ) (scan : State) → LeavesScreen CB.does →
-        StandsFor p.scanner scan → StandsFor r.scanner scan → bare p.screen ≡ bare r.screen →
+        StandsFor p.scanner scan → StandsFor r.scanner scan → without_scrollback p.screen ≡ without_scrollback r.screen →
         Ran CB.does p bytes q → Ran CB.does r bytes s →
-        (sent_off_in scan p.screen bytes ≡ sent_off_in scan r.screen bytes) × (bare q.screen ≡ bare s.screen) }
+        (sent_off_in scan p.screen bytes ≡ sent_off_in scan r.screen bytes) × (without_scrollback q.screen ≡ without_scrollback s.screen) }
     ensures text { (rows cols capacity : ℕ) (p q : Parsing CB) (calls : List ParserCall) →
         LeavesScreen CB.does → IsFreshParser rows cols capacity p → HasNoRis start (bytes_of_calls calls) →
         FoldsTo (MakesCall CB.does) p calls q → q.screen.is_alternate ≡ false →

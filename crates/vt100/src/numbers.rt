@@ -1,7 +1,7 @@
-//! Numbers of a control sequence, and its marks.
+//! Numbers of a control sequence, and its intermediates.
 
 ghost use Rattle.std.specs.Prelude.{◌≡◌, ◌<◌};
-ghost use Rattle.vt_screen.specs.Controls.{mark_at, number_or};
+ghost use Rattle.vt_screen.specs.Controls.{intermediate_at, number_or};
 
 use vt_scan::Parameters;
 
@@ -18,10 +18,10 @@ pub fn number_or(default: u16, parameters: &Parameters, i: usize) -> u16
     number
 }
 
-/// One of the marks, if there are so many.
+/// One of the intermediates, if there are so many.
 #[inline(always)]
-pub fn mark_at(marks: &[u8], i: usize) -> Option<u8>
-    ensures { result ≡ mark_at i marks.now }
+pub fn intermediate_at(intermediates: &[u8], i: usize) -> Option<u8>
+    ensures { result ≡ intermediate_at i intermediates.now }
 {
-    marks.get(i).copied()
+    intermediates.get(i).copied()
 }

@@ -2,7 +2,7 @@
 
 ghost use Rattle.std.specs.Prelude.{◌≡◌, [], ◌∷◌, bytes_eq, map};
 ghost use Rattle.std.specs.List.{list_all};
-ghost use Rattle.vt100.specs.Keeping.{Does};
+ghost use Rattle.vt100.specs.Internals.{Does};
 ghost use Rattle.vt_screen.specs.Controls.{clipboard_steps, is_base64, is_clipboard_kind, named_steps, osc_steps};
 
 use vt_screen::{Callbacks, Screen};

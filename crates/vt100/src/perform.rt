@@ -3,7 +3,7 @@
 
 ghost use Rattle.std.specs.Prelude.{◌≡◌, ◌==◌, ◌&&◌, ◌||◌, [], IfOk, IsErr, false, nat_le};
 ghost use Rattle.vt_cells.specs.Refusals.{OnlyOutOfMemory};
-ghost use Rattle.vt100.specs.Keeping.{Does, Stops};
+ghost use Rattle.vt100.specs.Internals.{Does, Stops};
 ghost use Rattle.vt_scan.specs.Scanner.{event_of};
 ghost use Rattle.vt_scan.specs.declared.event.Event.{Event};
 ghost use Rattle.vt_screen.specs.Run.{Breaks, Performs, state};
@@ -33,7 +33,7 @@ pub fn perform<CB: Callbacks>(
         Event::Character(character) => print_apart(screen, callbacks, character),
         Event::Executed(byte) => execute(screen, callbacks, byte),
         Event::Escape(byte) => {
-            escape(screen, callbacks, scanner.marks(), byte);
+            escape(screen, callbacks, scanner.intermediates(), byte);
             Ok(())
         }
         Event::Csi(byte) => control_sequence(screen, callbacks, scanner, byte),
@@ -63,7 +63,7 @@ pub fn control_sequence<CB: Callbacks>(
         screen,
         callbacks,
         scanner.parameters(),
-        scanner.marks(),
+        scanner.intermediates(),
         byte,
     )
 }
@@ -164,15 +164,15 @@ fn execute_other<CB: Callbacks>(screen: &mut Screen, callbacks: &mut CB, byte: u
 
 /// An escape sequence.
 #[tactic(auto, using(crate::proofs::Stepping::steps_told), unfolding(vt_screen::specs::Controls::escape_steps))]
-fn escape<CB: Callbacks>(screen: &mut Screen, callbacks: &mut CB, marks: &[u8], byte: u8)
-    ensures { Does CB.does callbacks.old screen.old (escape_steps marks.now byte) callbacks.new screen.new }
+fn escape<CB: Callbacks>(screen: &mut Screen, callbacks: &mut CB, intermediates: &[u8], byte: u8)
+    ensures { Does CB.does callbacks.old screen.old (escape_steps intermediates.now byte) callbacks.new screen.new }
 {
-    if marks.is_empty() {
+    if intermediates.is_empty() {
         plain_escape(screen, callbacks, byte);
         return;
     }
-    let first = numbers::mark_at(marks, 0);
-    let second = numbers::mark_at(marks, 1);
+    let first = numbers::intermediate_at(intermediates, 0);
+    let second = numbers::intermediate_at(intermediates, 1);
     callbacks.unhandled_escape(screen, first, second, byte);
 }
 

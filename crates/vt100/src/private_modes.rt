@@ -2,10 +2,10 @@
 
 ghost use Rattle.std.specs.Prelude.{◌≡◌, ◌==◌, [], ◌∷◌, IfOk, IsErr, OnErr, OnOk, false};
 ghost use Rattle.vt_cells.specs.Refusals.{OnlyOutOfMemory};
-ghost use Rattle.vt100.specs.Keeping.{Does, Stops, report_of};
+ghost use Rattle.vt100.specs.Internals.{Does, Stops, report_of};
 ghost use Rattle.vt_screen.specs.Controls.{alternate_step, encoding_step, fresh_alternate_step};
 ghost use Rattle.vt_screen.specs.Controls.{mode_step, mode_steps, mouse_step};
-ghost use Rattle.vt_screen.specs.Steps.{Grows, stepped};
+ghost use Rattle.vt_screen.specs.Steps.{Grows, display_after};
 
 use crate::sequence::Sequence;
 use vt_cells::{Error, MouseProtocolEncoding, MouseProtocolMode};
@@ -119,7 +119,7 @@ fn set_other_mode<CB: Callbacks>(
 
 /// The alternate page as it was left, or the main page.
 fn show_alternate(screen: &mut Screen, on: bool) -> Result<(), Error>
-    ensures ok { OnOk result (screen.new ≡ stepped (alternate_step on) screen.old) }
+    ensures ok { OnOk result (screen.new ≡ display_after (alternate_step on) screen.old) }
     ensures err { OnErr result (screen.new ≡ screen.old) }
     ensures grows { IsErr result → Grows (alternate_step on) screen.old }
     ensures memory { OnlyOutOfMemory result }
@@ -134,7 +134,7 @@ fn show_alternate(screen: &mut Screen, on: bool) -> Result<(), Error>
 /// All saved and a fresh alternate page, or the main page with what was saved
 /// restored.
 fn show_fresh_alternate(screen: &mut Screen, on: bool) -> Result<(), Error>
-    ensures ok { OnOk result (screen.new ≡ stepped (fresh_alternate_step on) screen.old) }
+    ensures ok { OnOk result (screen.new ≡ display_after (fresh_alternate_step on) screen.old) }
     ensures err { OnErr result (screen.new ≡ screen.old) }
     ensures grows { IsErr result → Grows (fresh_alternate_step on) screen.old }
     ensures memory { OnlyOutOfMemory result }
@@ -148,7 +148,7 @@ fn show_fresh_alternate(screen: &mut Screen, on: bool) -> Result<(), Error>
 
 /// Reports of mouse events in this mode, or none where it is this one.
 fn set_mouse_mode(screen: &mut Screen, on: bool, mode: MouseProtocolMode)
-    ensures { screen.new ≡ stepped (mouse_step on mode) screen.old }
+    ensures { screen.new ≡ display_after (mouse_step on mode) screen.old }
 {
     if on {
         screen.set_mouse_mode(mode);
@@ -159,7 +159,7 @@ fn set_mouse_mode(screen: &mut Screen, on: bool, mode: MouseProtocolMode)
 
 /// This encoding of mouse events, or the default one where it is this one.
 fn set_mouse_encoding(screen: &mut Screen, on: bool, encoding: MouseProtocolEncoding)
-    ensures { screen.new ≡ stepped (encoding_step on encoding) screen.old }
+    ensures { screen.new ≡ display_after (encoding_step on encoding) screen.old }
 {
     if on {
         screen.set_mouse_encoding(encoding);

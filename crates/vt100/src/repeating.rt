@@ -2,7 +2,7 @@
 
 ghost use Rattle.std.specs.Prelude.{◌≡◌, ◌≢◌, ◌+◌, ◌<◌, ◌≤◌, IfOk, IsErr, replicate};
 ghost use Rattle.vt_cells.specs.Refusals.{OnlyOutOfMemory};
-ghost use Rattle.vt100.specs.Keeping.{Does, Stops};
+ghost use Rattle.vt100.specs.Internals.{Does, Stops};
 ghost use Rattle.vt_screen.specs.Controls.{repeated};
 ghost use Rattle.vt_screen.specs.Steps as step;
 ghost use Rattle.vt_screen.specs.Texts.{text_stepped};

@@ -1,6 +1,6 @@
 //! A control sequence as callbacks are told of it.
 
-ghost use Rattle.vt100.specs.Keeping.{report_of};
+ghost use Rattle.vt100.specs.Internals.{report_of};
 
 use vt_scan::Parameters;
 use vt_screen::{Callbacks, Screen};

@@ -2,7 +2,7 @@
 
 ghost use Rattle.std.specs.Prelude.{◌≡◌, [], ◌∷◌, None, map};
 ghost use Rattle.vt_screen.specs.Calls.{UnhandledCsi};
-ghost use Rattle.vt100.specs.Keeping.{Does};
+ghost use Rattle.vt100.specs.Internals.{Does};
 ghost use Rattle.vt_screen.specs.Controls.{reading_steps, sgr_steps};
 
 use crate::sequence::Sequence;

@@ -7,7 +7,7 @@ use Rattle.std.proofs.lemmas.List.{length-take, length-drop, get_or-take, get_or
 use Rattle.std.proofs.lemmas.Str.{chars-nil}
 use Rattle.std.specs.Str.{chars}
 use Rattle.vt_rows.specs.CaptureRows.{AreRowsFrom, AreRowsOf, IsBehindEnd, IsBehindFull, IsRowOf, IsUncut}
-use Rattle.vt_rows.specs.Pieces.{ArePiecesOf, Piece, end_of, texts_of}
+use Rattle.vt_rows.specs.Pieces.{ArePiecesOf, Piece, piece_end, texts_of}
 use Rattle.vt_rows.specs.Stretches.{ends_within}
 use Rattle.vt100_c.specs.Captures.{IsFirstRow, behind, no_place}
 
@@ -28,7 +28,7 @@ some_bytes [] ne = absurd (ne refl)
 some_bytes (b ∷ bytes) ne = omega arith
 
 pub piece_inside : (text : List ℕ) (piece : Piece) (pieces : List Piece) → ArePiecesOf text (piece ∷ pieces) →
-    end_of piece ≤ length text
+    piece_end piece ≤ length text
 piece_inside text piece pieces are =
     slice_inside piece.0 piece.1 text (some_bytes piece.1 are.apart.0.0) are.apart.0.1
 
@@ -113,11 +113,11 @@ false_from false n = refl
 -- the row behind another one begins behind a line feed there, or at its end
 next_place : (width : ℕ) (text : List ℕ) (row next : Piece) (rows : List Piece) →
     IsBehindEnd text row next ⊎ IsBehindFull width row next →
-    AreRowsFrom width text next.0 (next ∷ rows) → next.0 ≡ behind text (end_of row)
+    AreRowsFrom width text next.0 (next ∷ rows) → next.0 ≡ behind text (piece_end row)
 next_place width text row next rows (inl b) are =
     b.place
-    ∙ sym (ap (λ (is : Bool). if is then end_of row + 1 else end_of row)
-    (and_parts (not (ends_within (chars row.1))) (get_or text (end_of row) 0 == 10) b.ends).1)
+    ∙ sym (ap (λ (is : Bool). if is then piece_end row + 1 else piece_end row)
+    (and_parts (not (ends_within (chars row.1))) (get_or text (piece_end row) 0 == 10) b.ends).1)
 next_place width text row next rows (inr f) are =
     let r : IsRowOf width text next = is_row width next.0 text next rows are in
     let some : 0 < length next.1 = some_chars next.1 f.first f.rest f.begins in
@@ -125,12 +125,12 @@ next_place width text row next rows (inr f) are =
     let n : get_or next.1 0 0 ≢ 10 =
     no_lf next.1 f.first f.rest f.begins
     (eqb-false f.first 10 (first_uncut width (chars next.1) f.first f.rest f.begins r.uncut)) in
-    let other : (get_or text (end_of row) 0 == 10) ≡ false =
-    false_from (get_or text (end_of row) 0 == 10) (λ t.
-    n (sym e ∙ (ap (λ (at : ℕ). get_or text at 0) f.place ∙ eqb-true (get_or text (end_of row) 0) 10 t))) in
-    f.place ∙ sym (ap (λ (is : Bool). if is then end_of row + 1 else end_of row) other)
+    let other : (get_or text (piece_end row) 0 == 10) ≡ false =
+    false_from (get_or text (piece_end row) 0 == 10) (λ t.
+    n (sym e ∙ (ap (λ (at : ℕ). get_or text at 0) f.place ∙ eqb-true (get_or text (piece_end row) 0) 10 t))) in
+    f.place ∙ sym (ap (λ (is : Bool). if is then piece_end row + 1 else piece_end row) other)
 
-end_at : (at : ℕ) (row : Piece) (bytes : List ℕ) → row.0 ≡ 0 → row.1 ≡ bytes → at + length bytes ≡ at + end_of row
+end_at : (at : ℕ) (row : Piece) (bytes : List ℕ) → row.0 ≡ 0 → row.1 ≡ bytes → at + length bytes ≡ at + piece_end row
 end_at at row bytes z e = let l : length row.1 ≡ length bytes = ap length e in omega arith
 
 rest_of : List (List ℕ) → List (List ℕ)
@@ -168,7 +168,7 @@ row_before width at text (row ∷ next ∷ rows) bytes left are e some =
     let b : row.1 ≡ bytes = first_text (next ∷ rows) row bytes left e in
     let l : length row.1 ≡ length bytes = ap length b in
     let z : row.0 ≡ 0 = are.0 in
-    let n : length bytes ≡ end_of row = omega arith in (
+    let n : length bytes ≡ piece_end row = omega arith in (
       end_at at row bytes are.0 b,
       ap (λ (place : ℕ). at + place) (ap (behind text) n ∙ sym (next_place width text row next rows are.2 are.3)),
     )

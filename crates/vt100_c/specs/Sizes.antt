@@ -7,9 +7,9 @@ use Rattle.vt_grid.specs.Scrollback.{ViewTakesMemory}
 use Rattle.vt_mirror.specs.Calls.{Resizes}
 use Rattle.vt_mirror.specs.Mirror.{MirrorValue}
 use Rattle.vt_screen.specs.Pages.{calls_resized, has_size, resized}
-use Rattle.vt_screen.specs.Run.{Told}
+use Rattle.vt_screen.specs.Run.{CalledOnAnyScreen}
 use Rattle.vt_screen.specs.Screen.{ScreenValue, scrolled_back}
-use Rattle.vt_screen.specs.Steps.{EraseScrollback, scrolled}
+use Rattle.vt_screen.specs.Steps.{EraseScrollback, screen_after}
 use Rattle.vt100.specs.Parser.{Parsing}
 use Rattle.vt100_c.specs.Calls.{Either, Refuses, is_size}
 use Rattle.vt100_c.specs.Records.{Logged, Logs}
@@ -26,7 +26,7 @@ Outcome (suc (suc status)) Done Refused = ⊥
 -- a parser's screen gets another size, and the events tell of the rows that leave, the others as they were
 pub record HasResized (rows cols : ℕ) (old new : Parsing Logged) : Type 0 where
   pub screen : new ≡ record old { screen = resized rows cols old.screen; callbacks = new.callbacks }
-  pub told : FoldsTo (Told Logs) old.callbacks (calls_resized rows cols old.screen) new.callbacks
+  pub told : FoldsTo (CalledOnAnyScreen Logs) old.callbacks (calls_resized rows cols old.screen) new.callbacks
 
 abbrev pub ResizesParser : (rows cols : ℕ) → Parsing Logged → ℕ → Parsing Logged → Type 0
 ResizesParser rows cols old status new =
@@ -81,4 +81,4 @@ ScrollsBack rows old status new = Outcome status (new ≡ scrolled_back rows old
 
 -- scrollback is given up, which takes no memory
 abbrev pub Clears : ScreenValue → ℕ → ScreenValue → Type 0
-Clears old status new = (status ≡ ok) × (new ≡ scrolled EraseScrollback old)
+Clears old status new = (status ≡ ok) × (new ≡ screen_after EraseScrollback old)

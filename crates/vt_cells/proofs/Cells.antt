@@ -2,13 +2,13 @@
 use Rattle.std.proofs.Common.{◌≡◌, ◌≢◌, ℕ, Bool, true, false, [], ◌∷◌, Some, refl}
 use Rattle.std.specs.Char.{encode_utf8, IsScalar}
 use Rattle.vt_cells.specs.Cell.{CellValue, blank, glyph, right_half, IsCell, text_of, marked, widened}
-use Rattle.vt_cells.specs.Glyph.{IsMark, columns_of, first_columns, has_room}
+use Rattle.vt_cells.specs.Glyph.{IsMark, columns_of, glyph_columns, has_room}
 use Rattle.vt_cells.specs.Attrs.{Attrs}
 use Rattle.vt_cells.proofs.Glyphs.{IsGlyphText-first, IsGlyphText-marked, IsGlyphText-selector, IsGlyphText-space}
 
 -- what `Cell::glyph` makes is a cell
 pub IsCell-glyph : (c : ℕ) (wide : Bool) (attrs : Attrs) → IsScalar c → c ≢ 0xFFFD →
-    columns_of c ≡ Some (first_columns wide) → IsCell (glyph (encode_utf8 c) wide attrs)
+    columns_of c ≡ Some (glyph_columns wide) → IsCell (glyph (encode_utf8 c) wide attrs)
 IsCell-glyph c wide attrs scalar reported columns = IsGlyphText-first c wide scalar reported columns
 
 pub IsCell-space : (attrs : Attrs) → IsCell (glyph (0x20 ∷ []) false attrs)

@@ -7,8 +7,8 @@ use Rattle.std.proofs.lemmas.List.{drop-drop, length-drop}
 use Rattle.std.proofs.lemmas.List.Concat.{flat_map-append}
 use Rattle.std.proofs.lemmas.Str.{IsAscii-append, IsAscii-drop}
 use Rattle.vt_cells.specs.Attrs.{Attrs, same_bool, same_color, same_intensity}
-use Rattle.vt_cells.specs.AttrsKeeping.{same_style, style_of_attrs}
-use Rattle.vt_cells.specs.ChangeKeeping.{IsEnd, separated, separated_all, style_part, without_separator}
+use Rattle.vt_cells.specs.AttrsInternals.{same_style, style_of_attrs}
+use Rattle.vt_cells.specs.ChangeInternals.{IsEnd, separated, separated_all, style_part, without_separator}
 use Rattle.vt_cells.specs.Op.{change_numbers, joined, part}
 use Rattle.vt_cells.specs.declared.color.Color.{Color}
 use Rattle.vt_cells.proofs.Changes.{background_part, foreground_part, intensity_part}

@@ -6,7 +6,7 @@ use Rattle.std.proofs.lemmas.Bool.{cond_both}
 use Rattle.std.proofs.lemmas.Bool.Decides.{nat_tests}
 use Rattle.std.specs.List.{AllByRecursion}
 use Rattle.vt_cells.specs.Attrs.{default_attrs, same_attrs, same_bool, same_color, same_intensity, Attrs}
-use Rattle.vt_cells.specs.ChangeKeeping.{separated}
+use Rattle.vt_cells.specs.ChangeInternals.{separated}
 use Rattle.vt_cells.specs.Op.{FitsAttrs, FitsColor, background_numbers, change_numbers, change_text}
 use Rattle.vt_cells.specs.Op.{csi, foreground_numbers, intensity_number, joined, part}
 use Rattle.vt_cells.specs.declared.attrs.Intensity.{Intensity}

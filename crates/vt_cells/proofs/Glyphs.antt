@@ -14,7 +14,7 @@ use Rattle.std.proofs.lemmas.Str.{IsUtf8-encode, IsUtf8-append, chars-encodes}
 use Rattle.std.specs.Str.{chars, encode_utf8_all}
 use lib.Utf8.{scalars}
 use Rattle.vt_cells.specs.Glyph.{IsGlyphText, Joins, IsMark, columns_of, is_selector}
-use Rattle.vt_cells.specs.Glyph.{mark_limit, has_room, marked_text, first_columns}
+use Rattle.vt_cells.specs.Glyph.{mark_limit, has_room, marked_text, glyph_columns}
 
 -- a character takes one to four bytes
 pub encode_bounds : (c : ℕ) → (1 ≤ length (encode_utf8 c)) × (length (encode_utf8 c) ≤ 4)
@@ -35,13 +35,13 @@ list_any-push : (p : ℕ → Bool) (marks : List ℕ) (mark : ℕ) →
     list_any p (marks ++ mark ∷ []) ≡ false → list_any p marks ≡ false
 list_any-push p marks mark e = let both = list_any-append p marks (mark ∷ []) in grind (arith, both)
 
-some_columns : (wide : Bool) → Some (first_columns wide) ≡ Some 0 → ⊥
+some_columns : (wide : Bool) → Some (glyph_columns wide) ≡ Some 0 → ⊥
 some_columns true e = cc
 some_columns false e = cc
 
 -- the text of one character
 pub IsGlyphText-first : (c : ℕ) (wide : Bool) → IsScalar c → c ≢ 0xFFFD →
-    columns_of c ≡ Some (first_columns wide) → IsGlyphText (encode_utf8 c) wide
+    columns_of c ≡ Some (glyph_columns wide) → IsGlyphText (encode_utf8 c) wide
 IsGlyphText-first c wide scalar reported columns = record {
   first = c;
   marks = [];
@@ -57,7 +57,7 @@ IsGlyphText-first c wide scalar reported columns = record {
 -- one mark more, where the width is known
 pub longer : (text : List ℕ) (was wide : Bool) (mark : ℕ) (glyph : IsGlyphText text was)
     → IsMark mark → has_room text ≡ true
-    → (list_any is_selector (glyph.marks ++ mark ∷ []) ≡ false → columns_of glyph.first ≡ Some (first_columns wide))
+    → (list_any is_selector (glyph.marks ++ mark ∷ []) ≡ false → columns_of glyph.first ≡ Some (glyph_columns wide))
     → IsGlyphText (text ++ encode_utf8 mark) wide
 longer text was wide mark glyph is_mark room width = record {
   first = glyph.first;

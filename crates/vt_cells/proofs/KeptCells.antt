@@ -6,9 +6,9 @@ use Rattle.std.specs.Char.{encode_utf8, IsScalar}
 use Rattle.std.proofs.lemmas.Bool.Decides.{nat_tests}
 use Rattle.std.proofs.lemmas.Bool.{lt-ltb}
 use Rattle.vt_cells.specs.Cell.{glyph, cell_of, is_blank, is_right_half}
-use Rattle.vt_cells.specs.CellKeeping.{IsKept, IsStored, blank_shape, cell_of-text, half_shape}
-use Rattle.vt_cells.specs.CellKeeping.{text_room}
-use Rattle.vt_cells.specs.Glyph.{IsGlyphText, columns_of, first_columns, mark_limit, has_room}
+use Rattle.vt_cells.specs.CellInternals.{IsKept, IsStored, blank_shape, cell_of-text, half_shape}
+use Rattle.vt_cells.specs.CellInternals.{text_room}
+use Rattle.vt_cells.specs.Glyph.{IsGlyphText, columns_of, glyph_columns, mark_limit, has_room}
 use Rattle.vt_cells.specs.Attrs.{Attrs, default_attrs}
 use Rattle.vt_cells.proofs.Glyphs.{IsGlyphText-first, IsGlyphText-utf8, IsGlyphText-length}
 use Rattle.vt_cells.proofs.Glyphs.{IsGlyphText-push, encode_bounds}
@@ -46,7 +46,7 @@ IsKept-glyph len text wide attrs is_text e =
     }
 
 pub IsKept-first : (c len : ℕ) (text : List ℕ) (wide : Bool) (attrs : Attrs) →
-    IsScalar c → c ≢ 0xFFFD → columns_of c ≡ Some (first_columns wide) →
+    IsScalar c → c ≢ 0xFFFD → columns_of c ≡ Some (glyph_columns wide) →
     len ≡ length (encode_utf8 c) → text ≡ encode_utf8 c → IsKept len text wide false attrs
 IsKept-first c len text wide attrs scalar reported columns size e =
     rw e (IsKept-glyph len (encode_utf8 c) wide attrs (IsGlyphText-first c wide scalar reported columns) size)

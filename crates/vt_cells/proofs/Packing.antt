@@ -3,10 +3,10 @@ use Rattle.std.proofs.Common.{◌≡◌, ℕ, ◌+◌, ◌*◌, ◌/◌, ◌%◌
 use Rattle.std.proofs.Common.{Bool, true, false, refl, arith, ap, subst, sym, ◌∙◌, eqb-true, if◌then◌else◌}
 use Rattle.std.proofs.lemmas.Bool.Decides.{nat_tests}
 use Rattle.vt_cells.specs.Attrs.{Attrs, same_attrs, same_color}
-use Rattle.vt_cells.specs.AttrsKeeping.{StyleValue, same_style, style_bits, style_of, unpacked}
-use Rattle.vt_cells.specs.AttrsKeeping.{intensity_bits, color_bits, color_of, IsColorBits}
-use Rattle.vt_cells.specs.AttrsKeeping.{attrs_of_bits, attrs_of_word, attrs_word, word_of}
-use Rattle.vt_cells.specs.AttrsKeeping.{word_back, IsAttrsWord}
+use Rattle.vt_cells.specs.AttrsInternals.{StyleValue, same_style, style_bits, style_of, unpacked}
+use Rattle.vt_cells.specs.AttrsInternals.{intensity_bits, color_bits, color_of, IsColorBits}
+use Rattle.vt_cells.specs.AttrsInternals.{attrs_of_bits, attrs_of_word, attrs_word, word_of}
+use Rattle.vt_cells.specs.AttrsInternals.{word_back, IsAttrsWord}
 use Rattle.vt_cells.specs.Op.{FitsAttrs, FitsColor}
 use Rattle.vt_cells.specs.declared.color.Color.{Color}
 use Rattle.vt_cells.specs.declared.color.Color.TheVariants.{Idx, Rgb}

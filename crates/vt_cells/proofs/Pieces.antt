@@ -3,7 +3,7 @@ use Rattle.std.proofs.Common.{◌≡◌, ℕ, ◌+◌, ◌≤◌, List, [], ◌�
 use Rattle.std.proofs.Common.{IsUtf8, refl, sym, subst, ap, ◌∙◌, arith, length-append, append-nil}
 use Rattle.std.proofs.lemmas.Slice.{take-put_mid}
 use Rattle.std.proofs.lemmas.Str.{IsUtf8-append}
-use Rattle.vt_cells.specs.PieceKeeping.{IsPiece, gathered}
+use Rattle.vt_cells.specs.PieceInternals.{IsPiece, gathered}
 use borrow.Rule.Slice.PartMut.{put_mid}
 
 -- the only byte is set

@@ -9,9 +9,9 @@ use Rattle.std.proofs.lemmas.Cmp.{nat_list_eq_equiv}
 use Rattle.std.proofs.lemmas.Slice.Eq.{bytes_eq-Decides}
 use Rattle.vt_cells.specs.Cell.{CellValue, blank, glyph, right_half, cell_of, IsCell, is_blank}
 use Rattle.vt_cells.specs.Cell.{same_cell, text_of, attrs_of, is_wide, is_right_half}
-use Rattle.vt_cells.specs.CellKeeping.{IsKept, blank_shape, same_shape, shape_of_cell, cell_head}
-use Rattle.vt_cells.specs.CellKeeping.{cell_of_parts, front, head_of_cell, padded, same_head}
-use Rattle.vt_cells.specs.CellKeeping.{HeadValue, IsStored, stored_contents, stored_head}
+use Rattle.vt_cells.specs.CellInternals.{IsKept, blank_shape, same_shape, shape_of_cell, cell_head}
+use Rattle.vt_cells.specs.CellInternals.{cell_of_parts, front, head_of_cell, padded, same_head}
+use Rattle.vt_cells.specs.CellInternals.{HeadValue, IsStored, stored_contents, stored_head}
 use Rattle.vt_cells.specs.CellEq.{cell_eq}
 use Rattle.vt_cells.specs.Attrs.{Attrs}
 use Rattle.vt_cells.proofs.Glyphs.{IsGlyphText-length}

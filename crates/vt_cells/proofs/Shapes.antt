@@ -3,9 +3,9 @@ use Rattle.std.proofs.Common.{◌≡◌, ℕ, ◌+◌, ◌*◌, ◌/◌, ◌%◌
 use Rattle.std.proofs.Common.{refl, arith, ap, sym, ◌∙◌, eqb-true, if◌then◌else◌, nat_le}
 use Rattle.std.proofs.lemmas.Bool.Decides.{nat_tests}
 use Rattle.vt_cells.specs.Attrs.{Attrs}
-use Rattle.vt_cells.specs.AttrsKeeping.{attrs_of_word, IsAttrsWord}
-use Rattle.vt_cells.specs.CellKeeping.{HeadValue, IsHead, head_back, head_of, head_word, same_head}
-use Rattle.vt_cells.specs.CellKeeping.{ShapeValue, blank_shape, same_shape, shape_bits, shape_of}
+use Rattle.vt_cells.specs.AttrsInternals.{attrs_of_word, IsAttrsWord}
+use Rattle.vt_cells.specs.CellInternals.{HeadValue, IsHead, head_back, head_of, head_word, same_head}
+use Rattle.vt_cells.specs.CellInternals.{ShapeValue, blank_shape, same_shape, shape_bits, shape_of}
 use Rattle.vt_cells.proofs.Same.{attrs_of-same, same_attrs-itself, bool_of-same, same_bool-itself}
 use Rattle.vt_cells.proofs.Same.{two_parts}
 use Rattle.vt_cells.proofs.Packing.{alike, itself}

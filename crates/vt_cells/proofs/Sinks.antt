@@ -4,7 +4,7 @@ use Rattle.std.proofs.Common.{refl, sym, subst, ap, ◌∙◌, arith, append_ass
 use Rattle.std.specs.Result.{OnErr}
 use Rattle.std.specs.declared.result.Result.{Result}
 use Rattle.std.specs.declared.result.Result.TheVariants.{Ok, Err}
-use Rattle.vt_cells.specs.PieceKeeping.{gathered}
+use Rattle.vt_cells.specs.PieceInternals.{gathered}
 use Rattle.vt_cells.specs.Sinks.{IsStopped}
 
 -- what holds anyway holds after an error

@@ -9,8 +9,8 @@ use Rattle.std.proofs.lemmas.Nat.{from_le_bytes-to_le_bytes_8}
 use Rattle.std.proofs.lemmas.Nat.Bits.{bit_at-lt, bit_at-zero, bit_at_or, bit_at_xor}
 use Rattle.std.proofs.lemmas.Nat.Bits.{same_from_bits}
 use Rattle.vt_cells.specs.Cell.{CellValue, IsCell, text_of}
-use Rattle.vt_cells.specs.CellKeeping.{HeadValue, IsStored, cell_of_parts, front, head_of}
-use Rattle.vt_cells.specs.CellKeeping.{head_of_cell}
+use Rattle.vt_cells.specs.CellInternals.{HeadValue, IsStored, cell_of_parts, front, head_of}
+use Rattle.vt_cells.specs.CellInternals.{head_of_cell}
 use Rattle.vt_cells.proofs.Same.{false_of}
 use Rattle.vt_cells.proofs.SameCells.{cells_begin, head_stored, same_text-itself, short_texts}
 use Rattle.vt_cells.proofs.SameCells.{text_of-same}

@@ -43,8 +43,8 @@ Joins text [] whole = text ≡ whole
 Joins text (mark ∷ marks) whole = (has_room text ≡ true) × Joins (text ++ encode_utf8 mark) marks whole
 
 -- the columns of a narrow glyph, and of a wide one
-abbrev pub first_columns : Bool → ℕ
-first_columns wide = if wide then 2 else 1
+abbrev pub glyph_columns : Bool → ℕ
+glyph_columns wide = if wide then 2 else 1
 
 -- the text of a glyph: a first character that takes columns, then marks
 pub record IsGlyphText (text : List ℕ) (wide : Bool) : Type 0 where
@@ -57,4 +57,4 @@ pub record IsGlyphText (text : List ℕ) (wide : Bool) : Type 0 where
   pub are_marks : AllByRecursion IsMark marks
   pub spelled : Joins (encode_utf8 first) marks text
   -- its first character's width, unless U+FE0F is among its marks
-  pub width : list_any is_selector marks ≡ false → columns_of first ≡ Some (first_columns wide)
+  pub width : list_any is_selector marks ≡ false → columns_of first ≡ Some (glyph_columns wide)

@@ -2,9 +2,9 @@
 
 ghost use Rattle.std.specs.Prelude.{◌≡◌, ◌<◌, if◌then◌else◌};
 ghost use Rattle.vt_cells.specs.Attrs.{default_attrs, is_bold, is_dim, same_attrs, same_color};
-ghost use Rattle.vt_cells.specs.AttrsKeeping.{IsAttrsWord, attrs_of_word, attrs_word, same_style};
-ghost use Rattle.vt_cells.specs.AttrsKeeping.{style_of_attrs};
-ghost use Rattle.vt_cells.specs.AttrsKeeping.{intensity_bits, style_bits, style_of};
+ghost use Rattle.vt_cells.specs.AttrsInternals.{IsAttrsWord, attrs_of_word, attrs_word, same_style};
+ghost use Rattle.vt_cells.specs.AttrsInternals.{style_of_attrs};
+ghost use Rattle.vt_cells.specs.AttrsInternals.{intensity_bits, style_bits, style_of};
 
 use crate::color::Color;
 use crate::packed_color::PackedColor;
@@ -57,8 +57,8 @@ struct Parts {
 
 impl Model for Attrs {
     ghost use Rattle.vt_cells.specs.Attrs as specs;
-    ghost use Rattle.vt_cells.specs.AttrsKeeping.{IsAttrsWord, attrs_of_word, attrs_word};
-    ghost use Rattle.vt_cells.specs.AttrsKeeping.{word_back};
+    ghost use Rattle.vt_cells.specs.AttrsInternals.{IsAttrsWord, attrs_of_word, attrs_word};
+    ghost use Rattle.vt_cells.specs.AttrsInternals.{word_back};
 
     ghost Value = { specs.Attrs };
 

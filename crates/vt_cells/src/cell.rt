@@ -7,7 +7,7 @@ ghost use Rattle.std.specs.Int.{to_le_bytes, w64};
 ghost use Rattle.vt_cells.specs.Attrs.{default_attrs, is_bold, is_dim, same_attrs};
 ghost use Rattle.vt_cells.specs.Cell.{blank, glyph, right_half, cell_of, is_wide, is_blank, is_glyph, is_right_half};
 ghost use Rattle.vt_cells.specs.Cell.{text_of, attrs_of, same_cell, marked, widened, redrawn, IsCell};
-ghost use Rattle.vt_cells.specs.CellKeeping.{front, head_of_cell, same_head, spaced};
+ghost use Rattle.vt_cells.specs.CellInternals.{front, head_of_cell, same_head, spaced};
 ghost use Rattle.vt_cells.specs.Glyph.{columns_of, is_wide_text};
 
 use crate::attrs::Attrs;
@@ -35,8 +35,8 @@ pub struct Cell {
 
 impl Model for Cell {
     ghost use Rattle.vt_cells.specs.Cell.{CellValue, text_of};
-    ghost use Rattle.vt_cells.specs.CellKeeping.{IsStored, cell_of_parts, head_of_cell, padded};
-    ghost use Rattle.vt_cells.specs.CellKeeping.{stored_contents, stored_head};
+    ghost use Rattle.vt_cells.specs.CellInternals.{IsStored, cell_of_parts, head_of_cell, padded};
+    ghost use Rattle.vt_cells.specs.CellInternals.{stored_contents, stored_head};
 
     ghost Value = { CellValue };
 

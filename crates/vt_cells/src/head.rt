@@ -2,7 +2,7 @@
 
 ghost use Rattle.std.specs.Prelude.{◌≡◌, ◌<◌, false};
 ghost use Rattle.vt_cells.specs.Attrs.{default_attrs, same_attrs};
-ghost use Rattle.vt_cells.specs.CellKeeping.{blank_shape, half_shape, same_head, same_shape};
+ghost use Rattle.vt_cells.specs.CellInternals.{blank_shape, half_shape, same_head, same_shape};
 
 use crate::attrs::Attrs;
 use crate::shape::Shape;
@@ -16,7 +16,7 @@ pub struct Head {
 }
 
 impl Model for Head {
-    ghost use Rattle.vt_cells.specs.CellKeeping.{HeadValue, IsHead, head_back, head_of, head_word};
+    ghost use Rattle.vt_cells.specs.CellInternals.{HeadValue, IsHead, head_back, head_of, head_word};
 
     ghost Value = { HeadValue };
 

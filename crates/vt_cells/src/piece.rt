@@ -1,7 +1,7 @@
 //! Small texts, gathered before they are written.
 
 ghost use Rattle.std.specs.Prelude.{◌≡◌, ◌+◌, ◌++◌, ◌<◌, ◌≤◌, [], length, IsErr, OnErr, OnOk};
-ghost use Rattle.vt_cells.specs.PieceKeeping.{gathered};
+ghost use Rattle.vt_cells.specs.PieceInternals.{gathered};
 ghost use Rattle.vt_cells.specs.Sinks.{IsStopped};
 
 use crate::sink::Sink;
@@ -22,7 +22,7 @@ pub struct Piece {
 
 impl Model for Piece {
     ghost use Rattle.std.specs.Prelude.{ℕ, List, take};
-    ghost use Rattle.vt_cells.specs.PieceKeeping.{IsPiece};
+    ghost use Rattle.vt_cells.specs.PieceInternals.{IsPiece};
 
     ghost Value = { List ℕ };
 
@@ -48,7 +48,7 @@ impl Piece {
     ///
     /// An error is the sink's own; then part of the text may have been written.
     #[inline(always)]
-    #[tactic(auto, unfolding(crate::specs::PieceKeeping::gathered))]
+    #[tactic(auto, unfolding(crate::specs::PieceInternals::gathered))]
     pub fn add<S: Sink>(&mut self, sink: &mut S, text: &str) -> Result<(), S::Error>
         ensures text { OnOk result (gathered (S.text sink.new) self.new
             ≡ gathered (S.text sink.old) self.old ++ text.now) }
@@ -75,7 +75,7 @@ impl Piece {
     ///
     /// An error is the sink's own; then part of the text may have been written.
     #[inline(never)]
-    #[tactic(auto, unfolding(crate::specs::PieceKeeping::gathered))]
+    #[tactic(auto, unfolding(crate::specs::PieceInternals::gathered))]
     pub fn flush<S: Sink>(&mut self, sink: &mut S) -> Result<(), S::Error>
         ensures text { OnOk result (S.text sink.new ≡ gathered (S.text sink.old) self.old) }
         ensures empty { OnOk result (self.new ≡ []) }

@@ -1,7 +1,7 @@
 //! What a cell is, in one byte.
 
 ghost use Rattle.std.specs.Prelude.{◌≡◌, ◌<◌, false, true};
-ghost use Rattle.vt_cells.specs.CellKeeping.{blank_shape, same_shape, shape_bits, shape_of};
+ghost use Rattle.vt_cells.specs.CellInternals.{blank_shape, same_shape, shape_bits, shape_of};
 
 use std::marker::Model;
 
@@ -20,7 +20,7 @@ pub struct Shape {
 
 impl Model for Shape {
     ghost use Rattle.std.specs.Prelude.{◌≡◌};
-    ghost use Rattle.vt_cells.specs.CellKeeping.{ShapeValue, shape_bits, shape_of};
+    ghost use Rattle.vt_cells.specs.CellInternals.{ShapeValue, shape_bits, shape_of};
 
     ghost Value = { ShapeValue };
 

@@ -19,7 +19,7 @@ use Rattle.vt_rows.proofs.Steps.{at-set}
 use Rattle.vt_grid.specs.Page.{Page, IsPage, cursor_row, with_row}
 use Rattle.vt_grid.specs.Printing.{carries, lifted_page, wrapped_page, glyph_put, mark_column}
 use Rattle.vt_grid.specs.Printing.{takes_mark, mark_put, carried, mark_printed}
-use Rattle.vt_grid.specs.Keeping.{IsSized, IsMarkPlace}
+use Rattle.vt_grid.specs.Internals.{IsSized, IsMarkPlace}
 use Rattle.vt_grid.proofs.Pages.{page_cursor_cells, IsRow-cursor_row}
 use Rattle.vt_grid.proofs.Marks.{cursor_row_put, mark_place}
 use Rattle.vt_grid.proofs.Sized.{sized}

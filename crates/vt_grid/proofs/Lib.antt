@@ -1,4 +1,4 @@
-pub mod Flats
+pub mod CellStores
 pub mod Drawing
 pub mod Dispatch
 pub mod Carries

@@ -20,7 +20,7 @@ use Rattle.vt_rows.proofs.Columns.{at-past}
 use Rattle.vt_rows.proofs.Pairs.{is_right_half-marked, is_wide-marked, not_both}
 use Rattle.vt_cells.proofs.Cells.{IsCell-space, IsCell-marked}
 use Rattle.vt_rows.proofs.Rows.{IsRow-marked_at, IsRow-widened_at, IsRow-narrowed_at}
-use Rattle.vt_grid.specs.Keeping.{IsMarkPlace, IsSelected}
+use Rattle.vt_grid.specs.Internals.{IsMarkPlace, IsSelected}
 use Rattle.vt_grid.specs.Page.{Page, IsPage, cursor_row}
 use Rattle.vt_grid.specs.Printing.{with_cursor_cells, mark_column, takes_mark, mark_put}
 use Rattle.vt_grid.specs.Printing.{made_wide, made_narrow, width_followed}

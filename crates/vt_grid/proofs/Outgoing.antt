@@ -8,7 +8,7 @@ use Rattle.vt_grid.specs.Page.{Page}
 use Rattle.vt_grid.specs.Moves.{feeds_out}
 use Rattle.vt_grid.specs.Printing.{lacks_room, carries, pushes}
 use Rattle.vt_grid.specs.Outgoing.{fed_out, printed_out, left_by}
-use Rattle.vt_grid.specs.Keeping.{room_out, mark_out}
+use Rattle.vt_grid.specs.Internals.{room_out, mark_out}
 
 -- where no row is pushed off the page, none leaves
 pub unfed : (page : Page) → feeds_out page ≡ false → fed_out page ≡ []

@@ -5,7 +5,7 @@ use Rattle.std.specs.Prelude.{if◌then◌else◌, Option, Some, None}
 use Rattle.std.proofs.lemmas.Bool.{ltb-true}
 use Rattle.std.proofs.lemmas.Bool.Decides.{nat_tests}
 use Rattle.std.proofs.lemmas.List.{length-set}
-use Rattle.vt_cells.specs.Glyph.{IsGlyphText, first_columns}
+use Rattle.vt_cells.specs.Glyph.{IsGlyphText, glyph_columns}
 use Rattle.vt_cells.specs.Attrs.{Attrs}
 use Rattle.vt_rows.specs.Cells.{ends_blank, put_narrow, put_wide}
 use Rattle.vt_rows.specs.Row.{RowValue}
@@ -159,7 +159,7 @@ has_room_made n page h = by_room (lacks_room n page) refl where
 -- ---- a glyph at the cursor
 
 pub page_glyph_put : (text : List ℕ) (wide : Bool) (attrs : Attrs) (page : Page) → IsGlyphText text wide →
-    page.column + first_columns wide ≤ page.width → IsPage page → IsPage (glyph_put text wide attrs page)
+    page.column + glyph_columns wide ≤ page.width → IsPage page → IsPage (glyph_put text wide attrs page)
 page_glyph_put text false attrs page t h p =
     let cells = put_narrow page.column text attrs (cursor_row page).cells in
     let q = page_cursor_cells cells page p
@@ -173,10 +173,10 @@ page_glyph_put text true attrs page t h p =
 
 -- a character of one or two columns
 pub page_drawn : (text : List ℕ) (wide : Bool) (attrs : Attrs) (page : Page) →
-    IsGlyphText text wide → first_columns wide ≤ page.width → IsPage page →
-    IsPage (glyph_put text wide attrs (room_made (first_columns wide) page))
+    IsGlyphText text wide → glyph_columns wide ≤ page.width → IsPage page →
+    IsPage (glyph_put text wide attrs (room_made (glyph_columns wide) page))
 page_drawn text wide attrs page t h p =
-    let n = first_columns wide in
+    let n = glyph_columns wide in
     page_glyph_put text wide attrs (room_made n page) t
     (subst (λ (w : ℕ). (room_made n page).column + n ≤ w) (sym (width_room_made n page)) (has_room_made n page h))
     (page_room_made n page p)

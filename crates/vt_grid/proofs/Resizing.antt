@@ -20,12 +20,12 @@ use Rattle.vt_rows.proofs.Columns.{at-blanks}
 use Rattle.vt_rows.proofs.Moves.{IsRow-resized_row, moved_is}
 use Rattle.vt_rows.proofs.Rows.{IsRow-blank_row}
 use Rattle.vt_cells.specs.declared.pos.Pos.{Pos}
-use Rattle.vt_grid.specs.Keeping.{IsSized, page_of, refilled}
+use Rattle.vt_grid.specs.Internals.{IsSized, page_of, refilled}
 use Rattle.vt_grid.specs.Page.{Page, IsPage, blank_page, by_row, row_or}
 use Rattle.vt_grid.specs.Resize.{leaving, returning, window, rows_resized, row_resized}
 use Rattle.vt_grid.specs.Resize.{page_resized, out_of_view, taken_back, scrollback_resized}
 use Rattle.vt_grid.specs.Scrollback.{Scrollback, IsScrollback, kept_after, grown_in_view, pushed}
-use Rattle.vt_grid.specs.Sheet.{SheetValue}
+use Rattle.vt_grid.specs.PageRows.{SheetValue}
 use Rattle.vt_grid.specs.Shifts.{unflagged}
 use Rattle.vt_grid.proofs.Pages.{IsRow-row_or}
 use Rattle.vt_grid.proofs.Scrolling.{IsScrollback-pushed}
@@ -420,16 +420,16 @@ pushed_none : (h w n : ℕ) (rows : List RowValue) (above : Scrollback) →
 pushed_none h w n rows above z = ap (λ (m : ℕ). (pushed h w (take m rows) (out_of_view above)).rows) z
 
 pub page_by_steps : (h w r c down up : ℕ) (above mid : Scrollback)
-    (page : Page) (left sheet : SheetValue) (pos saved : Pos) (rows cols : ℕ) →
+    (page : Page) (left page_rows : SheetValue) (pos saved : Pos) (rows cols : ℕ) →
     rows ≡ h → cols ≡ w → down ≡ leaving h page → up ≡ returning h above page →
     mid ≡ pushed r c (take down page.rows) (out_of_view above) →
     left.width ≡ page.width → drop down left.rows ≡ drop down page.rows →
-    sheet.rows ≡ rows_resized w (window left.width h down up mid.rows left.rows) → sheet.width ≡ w →
+    page_rows.rows ≡ rows_resized w (window left.width h down up mid.rows left.rows) → page_rows.width ≡ w →
     pos.row ≡ row_resized rows down up page.row → pos.col ≡ min page.column (cols - 1) →
     saved.row ≡ row_resized rows down up page.saved_row → saved.col ≡ min page.saved_column (cols - 1) →
-    page_of sheet pos saved 0 (rows - 1) page.origin page.saved_origin ≡ page_resized h w above page
+    page_of page_rows pos saved 0 (rows - 1) page.origin page.saved_origin ≡ page_resized h w above page
 unfolding page_resized
-page_by_steps h w r c down up above mid page left sheet pos saved rows cols hr wc d u m lw ld sr sw pr pc qr qc =
+page_by_steps h w r c down up above mid page left page_rows pos saved rows cols hr wc d u m lw ld sr sw pr pc qr qc =
     let either : 0 < up → down ≡ 0 = λ s. omega (arith, d, u, s) in
     let kept : down ≡ 0 → mid.rows ≡ above.rows =
     λ z. ap (λ (s : Scrollback). s.rows) m ∙ pushed_none r c down page.rows above z in
@@ -438,7 +438,7 @@ page_by_steps h w r c down up above mid page left sheet pos saved rows cols hr w
     = ap (λ (v : ℕ). window v h down up mid.rows left.rows) lw
     ∙ (window_sent page.width h down up above.rows mid.rows page.rows left.rows either kept ld
     ∙ λ i. window page.width h (d i) (u i) above.rows page.rows) in
-    let all : sheet.rows
+    let all : page_rows.rows
     ≡ rows_resized w (window page.width h (leaving h page) (returning h above page) above.rows page.rows) =
     sr ∙ ap (rows_resized w) win in
     let row : pos.row ≡ row_resized h (leaving h page) (returning h above page) page.row =

@@ -4,7 +4,7 @@ use Rattle.vt_cells.specs.Attrs.{default_attrs, same_attrs, same_color}
 use Rattle.vt_cells.specs.Cell.{CellValue, glyph, right_half, default_blank}
 use Rattle.vt_rows.specs.Cells.{moved, resized}
 use Rattle.vt_rows.specs.Row.{RowValue}
-use Rattle.vt_grid.specs.Scrollback.{Scrollback, kept_after, grown_in_view, pushed, reported, viewed, visible}
+use Rattle.vt_grid.specs.Scrollback.{Scrollback, kept_after, grown_in_view, pushed, reported, with_view, visible}
 
 -- a row of a letter, and of that many blanks behind it
 abbrev n : ℕ → CellValue
@@ -64,15 +64,15 @@ unfolding kept_after grown_in_view resized moved same_attrs same_color
 view_at_its_end = refl
 
 -- a row that goes on is as long as the page was wide; grown, it goes on no more
-goes_on_no_more : viewed 5 3 1 (above (row (n 1 ∷ n 2 ∷ []) true ∷ []) 4 1 0)
+goes_on_no_more : with_view 5 3 1 (above (row (n 1 ∷ n 2 ∷ []) true ∷ []) 4 1 0)
     ≡ above (row (n 1 ∷ n 2 ∷ default_blank ∷ []) false ∷ []) 4 1 1
-unfolding viewed grown_in_view resized moved
+unfolding with_view grown_in_view resized moved
 goes_on_no_more = refl
 
 -- no more rows than there are come into view, and none of them is cut
-at_most_all : viewed 5 1 9 (above (one 1 ∷ row (w 2 ∷ right_half ∷ []) false ∷ []) 4 2 0)
+at_most_all : with_view 5 1 9 (above (one 1 ∷ row (w 2 ∷ right_half ∷ []) false ∷ []) 4 2 0)
     ≡ above (one 1 ∷ row (w 2 ∷ right_half ∷ []) false ∷ []) 4 2 2
-unfolding viewed grown_in_view
+unfolding with_view grown_in_view
 at_most_all = refl
 
 -- above the page stand the newest rows, as many as are in view

@@ -13,7 +13,7 @@ use Rattle.vt_rows.specs.Row.{RowValue, IsRow, blank_row, resized_row, trimmed_r
 use Rattle.vt_rows.proofs.Moves.{IsRow-resized_row}
 use Rattle.vt_rows.proofs.Rows.{IsRow-blank_row}
 use Rattle.vt_grid.specs.Scrollback.{Scrollback, IsScrollback, last_of, before_last, stacked, greatest, kept_after}
-use Rattle.vt_grid.specs.Scrollback.{grown_row, grown_in_view, pushed, reported, viewed, narrow_rows}
+use Rattle.vt_grid.specs.Scrollback.{grown_row, grown_in_view, pushed, reported, with_view, narrow_rows}
 use Rattle.vt_grid.specs.Spare.{AreSpare, window_from, grown_from, in_view}
 use Rattle.vt_grid.proofs.Stacking.{All-stacked, IsScrollback-kept_after, length-stacked}
 
@@ -67,8 +67,8 @@ IsScrollback-grown_in_view h w above a =
 
 -- ---- the offset is set
 
-pub IsScrollback-viewed : (h w n : ℕ) (above : Scrollback) → IsScrollback above → IsScrollback (viewed h w n above)
-unfolding viewed
+pub IsScrollback-viewed : (h w n : ℕ) (above : Scrollback) → IsScrollback above → IsScrollback (with_view h w n above)
+unfolding with_view
 IsScrollback-viewed h w n above a =
     IsScrollback-grown_in_view h w (record above { offset = min n (length above.rows) })
     (record { kept = a.kept; in_view = omega arith; sound = a.sound })
@@ -76,8 +76,8 @@ IsScrollback-viewed h w n above a =
 pub viewed_is : (h w n offset : ℕ) (above : Scrollback) (rows : List RowValue) →
     offset ≡ min n (length above.rows) → rows ≡ grown_from (length above.rows - offset) h w above.rows →
     record { rows = rows; capacity = above.capacity; theoretical = above.theoretical; offset = offset }
-    ≡ viewed h w n above
-unfolding viewed grown_in_view
+    ≡ with_view h w n above
+unfolding with_view grown_in_view
 viewed_is h w n offset above rows e f =
     let g : rows ≡ grown_from (length above.rows - min n (length above.rows)) h w above.rows =
     f ∙ ap (λ (m : ℕ). grown_from (length above.rows - m) h w above.rows) e in

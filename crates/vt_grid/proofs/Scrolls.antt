@@ -9,7 +9,7 @@ use Rattle.std.proofs.lemmas.List.{get_or-take, get_or-drop, get_or_append_left,
 use Rattle.std.proofs.lemmas.List.FromFn.{fill_by_all}
 use Rattle.vt_cells.specs.Attrs.{default_attrs, Attrs}
 use Rattle.vt_rows.specs.Row.{RowValue, blank_row}
-use Rattle.vt_rows.specs.Keeping.{turn_source}
+use Rattle.vt_rows.specs.Internals.{turn_source}
 use Rattle.vt_grid.specs.Page.{row_or, moved_rows, up_source, rows_up}
 use Rattle.vt_grid.specs.Shifts.{down_source}
 

@@ -5,18 +5,18 @@ use Rattle.std.specs.Prelude.{if◌then◌else◌, Option, Some, None, IfSome}
 use Rattle.std.proofs.lemmas.List.{length-set, length-append, length-take, length-replicate}
 use Rattle.vt_cells.specs.Attrs.{Attrs}
 use Rattle.vt_cells.specs.Cell.{CellValue}
-use Rattle.vt_cells.specs.Glyph.{IsGlyphText, IsMark, first_columns}
+use Rattle.vt_cells.specs.Glyph.{IsGlyphText, IsMark, glyph_columns}
 use Rattle.vt_cells.specs.declared.pos.Pos.{Pos}
 use Rattle.vt_rows.specs.Cells.{erased, ends_blank, put_narrow, put_wide, marked_at, widened_at, narrowed_at}
 use Rattle.vt_rows.specs.Row.{IsRow, blank_row, with_cells}
 use Rattle.vt_rows.proofs.Rows.{IsRow-erased}
-use Rattle.vt_grid.specs.Keeping.{IsSized, IsSelected, page_of}
+use Rattle.vt_grid.specs.Internals.{IsSized, IsSelected, page_of}
 use Rattle.vt_grid.specs.Page.{Page, IsPage, cursor_row, up_source, scrolled_up}
 use Rattle.vt_grid.specs.Erasing.{erased_columns, blanked_below}
 use Rattle.vt_grid.specs.Moves.{at_bottom, line_feed}
 use Rattle.vt_grid.specs.Printing.{with_cursor_cells, glyph_put, mark_put, made_narrow}
 use Rattle.vt_grid.specs.Printing.{flagged_left, left_row, goes_down}
-use Rattle.vt_grid.specs.Sheet.{SheetValue, sheet_flagged}
+use Rattle.vt_grid.specs.PageRows.{SheetValue, sheet_flagged}
 use Rattle.vt_grid.proofs.Prints.{page_glyph_put, page_left, width_flagged_left, height_line_feed, height_flagged_left}
 use Rattle.vt_grid.proofs.Marks.{page_mark_put, page_widened, page_made_narrow}
 use Rattle.vt_grid.proofs.Pages.{page_at, page_cursor_cells, page_scrolled_up}
@@ -64,7 +64,7 @@ sized_blanked_below rows cols attrs page s =
     (page_blanked_below attrs page p)
 
 pub sized_glyph_put : (rows cols : ℕ) (text : List ℕ) (wide : Bool) (attrs : Attrs) (page : Page) →
-    IsGlyphText text wide → page.column + first_columns wide ≤ page.width → IsSized rows cols page →
+    IsGlyphText text wide → page.column + glyph_columns wide ≤ page.width → IsSized rows cols page →
     IsSized rows cols (glyph_put text wide attrs page)
 sized_glyph_put rows cols text false attrs page t h s =
     sized rows cols page (glyph_put text false attrs page) s
@@ -81,13 +81,13 @@ sized_glyph_put rows cols text true attrs page t h s =
 
 -- ---- a wrap
 
--- the page of a grid whose sheet got a flag, and whose cursor went to the first column
-pub flagged_page : (left : Option ℕ) (goes_on : Bool) (sheet : SheetValue)
+-- the page of a grid whose page got a flag, and whose cursor went to the first column
+pub flagged_page : (left : Option ℕ) (goes_on : Bool) (page_rows : SheetValue)
     (pos saved : Pos) (top bottom : ℕ) (origin saved_origin : Bool) →
-    page_of (sheet_flagged left goes_on sheet) (record { row = pos.row; col = 0 }) saved top bottom origin saved_origin
-    ≡ record (flagged_left left goes_on (page_of sheet pos saved top bottom origin saved_origin)) { column = 0 }
-flagged_page (Some r) goes_on sheet pos saved top bottom origin saved_origin = refl
-flagged_page None goes_on sheet pos saved top bottom origin saved_origin = refl
+    page_of (sheet_flagged left goes_on page_rows) (record { row = pos.row; col = 0 }) saved top bottom origin saved_origin
+    ≡ record (flagged_left left goes_on (page_of page_rows pos saved top bottom origin saved_origin)) { column = 0 }
+flagged_page (Some r) goes_on page_rows pos saved top bottom origin saved_origin = refl
+flagged_page None goes_on page_rows pos saved top bottom origin saved_origin = refl
 
 pub sized_left : (rows cols : ℕ) (left : Option ℕ) (goes_on : Bool) (page : Page) → IsSized rows cols page →
     IsPage (flagged_left left goes_on page) → IsSized rows cols (record (flagged_left left goes_on page) { column = 0 })

@@ -12,7 +12,7 @@ use Rattle.vt_rows.specs.Row.{RowValue, IsRow, blank_row, with_cells}
 use Rattle.vt_rows.specs.Texts.{IsPrintableAscii, put_text}
 use Rattle.vt_rows.proofs.Rows.{ends_blank-put_narrow}
 use Rattle.vt_rows.proofs.Texts.{IsGlyphText-printable, IsRow-put_text, put_text_after}
-use Rattle.vt_grid.specs.Keeping.{IsSized}
+use Rattle.vt_grid.specs.Internals.{IsSized}
 use Rattle.vt_grid.specs.Page.{Page, IsPage, cursor_row}
 use Rattle.vt_grid.specs.Printing.{glyph_put, lacks_room, printed, room_made, with_cursor_cells}
 use Rattle.vt_grid.specs.Texts.{printed_text, text_put}

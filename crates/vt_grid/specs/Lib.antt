@@ -9,7 +9,7 @@ pub mod Resize
 pub mod Erasing
 pub mod Printing
 pub mod Canvas
-pub mod Keeping
-pub mod Sheet
+pub mod Internals
+pub mod PageRows
 pub mod Texts
-pub mod Flat
+pub mod CellStore

@@ -95,8 +95,8 @@ Sends leaves height width gone above old after new =
     (after ≡ pushed height width gone above) × FoldsTo leaves old (reported gone above) new
 
 -- a screen of this height and width is scrolled back by n rows, at most by all (the offset)
-unfoldable pub viewed : (height width : ℕ) → ℕ → Scrollback → Scrollback
-viewed height width n above = grown_in_view height width (record above { offset = min n (length above.rows) })
+unfoldable pub with_view : (height width : ℕ) → ℕ → Scrollback → Scrollback
+with_view height width n above = grown_in_view height width (record above { offset = min n (length above.rows) })
 
 -- scrolled back by n rows, one that a screen of this height and width shows has to grow, which takes memory
 abbrev pub ViewTakesMemory : (height width : ℕ) → ℕ → Scrollback → Type 0

@@ -11,7 +11,7 @@ mod resizing;
 mod scrolling;
 mod shifts;
 
-use crate::sheet::Sheet;
+use crate::page_rows::PageRows;
 use crate::size::Size;
 use std::alloc::Global;
 use std::marker::Model;
@@ -24,7 +24,7 @@ use vt_cells::{Attrs, Error, Pos};
 /// pending wrap.
 #[derive(Debug, Drop)]
 pub struct Grid {
-    sheet: Sheet,
+    page_rows: PageRows,
     size: Size,
     pos: Pos,
     saved_pos: Pos,
@@ -35,16 +35,16 @@ pub struct Grid {
 }
 
 impl Model for Grid {
-    ghost use Rattle.vt_grid.specs.Keeping.{IsSized, page_of};
+    ghost use Rattle.vt_grid.specs.Internals.{IsSized, page_of};
     ghost use Rattle.vt_grid.specs.Page.{Page};
 
     ghost Value = { Page };
 
-    ghost view = { λ g. page_of g.sheet g.pos g.saved_pos g.scroll_top
+    ghost view = { λ g. page_of g.page_rows g.pos g.saved_pos g.scroll_top
         g.scroll_bottom g.origin_mode g.saved_origin_mode };
 
     ghost invariant = { λ g. IsSized g.size.rows g.size.cols
-        (page_of g.sheet g.pos g.saved_pos g.scroll_top g.scroll_bottom g.origin_mode g.saved_origin_mode) };
+        (page_of g.page_rows g.pos g.saved_pos g.scroll_top g.scroll_bottom g.origin_mode g.saved_origin_mode) };
 }
 
 impl Grid {
@@ -58,9 +58,9 @@ impl Grid {
         ensures ok { IfOk result (λ grid. grid ≡ blank_page size.rows size.cols) }
         ensures memory { OnlyOutOfMemory result }
     {
-        let sheet = Sheet::new(alloc, size)?;
+        let page_rows = PageRows::new(alloc, size)?;
         Ok(Grid {
-            sheet,
+            page_rows,
             size,
             pos: Pos { row: 0, col: 0 },
             saved_pos: Pos { row: 0, col: 0 },
@@ -79,7 +79,7 @@ impl Grid {
         ensures memory { OnlyOutOfMemory result }
     {
         Ok(Grid {
-            sheet: self.sheet.try_clone(alloc)?,
+            page_rows: self.page_rows.try_clone(alloc)?,
             size: self.size,
             pos: self.pos,
             saved_pos: self.saved_pos,
@@ -94,7 +94,7 @@ impl Grid {
     pub fn clear(&mut self)
         ensures { self.new ≡ blank_page (length self.old.rows) self.old.width }
     {
-        self.sheet.clear_all(Attrs::new());
+        self.page_rows.clear_all(Attrs::new());
         self.pos = Pos { row: 0, col: 0 };
         self.saved_pos = Pos { row: 0, col: 0 };
         self.scroll_top = 0;
@@ -123,11 +123,11 @@ impl Grid {
 
     /// The rows, from the top.
     #[inline]
-    pub fn rows(&self) -> &Sheet
+    pub fn rows(&self) -> &PageRows
         ensures rows { result.now.rows ≡ self.now.rows }
         ensures width { result.now.width ≡ self.now.width }
     {
-        &self.sheet
+        &self.page_rows
     }
 
     /// Whether the text of a row goes on in the row below; false past the last row.
@@ -136,7 +136,7 @@ impl Grid {
         ensures { result ≡ (row_at self.now row).wrapped }
     {
         if row < self.size.rows {
-            self.sheet.wrapped(row)
+            self.page_rows.wrapped(row)
         } else {
             false
         }

@@ -1,15 +1,15 @@
 //! A page of rows with its cursor, and the scrollback above it.
 #![tactic(auto)]
 
-pub mod flat;
+pub mod cell_store;
 pub mod grid;
+pub mod page_rows;
 mod row_lists;
 pub mod scrollback;
-pub mod sheet;
 pub mod size;
 
-pub use flat::Flat;
+pub use cell_store::CellStore;
 pub use grid::Grid;
+pub use page_rows::PageRows;
 pub use scrollback::Scrollback;
-pub use sheet::Sheet;
 pub use size::Size;

@@ -8,7 +8,7 @@ ghost use Rattle.vt_cells.specs.Attrs.{default_attrs};
 ghost use Rattle.vt_cells.specs.Refusals.{OnlyOutOfMemory};
 ghost use Rattle.vt_rows.specs.Row.{IsRow, RowValue, blank_row, trimmed_row};
 
-use crate::sheet::Sheet;
+use crate::page_rows::PageRows;
 use std::alloc::Global;
 use std::collections::VecDeque;
 use vt_cells::Error;
@@ -30,7 +30,7 @@ pub fn blank_rows(alloc: Global, columns: usize, count: usize) -> Result<Vec<Row
 
 /// Copies of the first rows of a page, without the default blanks at their
 /// ends.
-pub fn trimmed_rows(alloc: Global, page: &Sheet, count: usize) -> Result<Vec<Row>, Error>
+pub fn trimmed_rows(alloc: Global, page: &PageRows, count: usize) -> Result<Vec<Row>, Error>
     requires inside { count ≤ length page.now.rows }
     requires sound { All (IsRow page.now.width) page.now.rows }
     ensures ok { IfOk result (λ copies. copies.items ≡ map trimmed_row (take count page.now.rows)) }
@@ -61,7 +61,7 @@ pub fn copied_rows(rows: &VecDeque<Row>, alloc: Global) -> Result<VecDeque<Row>,
 /// blanks at its end.
 ///
 /// Fails where memory for it is refused, and then nothing has changed.
-pub fn push_copy(alloc: Global, rows: &mut VecDeque<Row>, page: &Sheet) -> Result<(), Error>
+pub fn push_copy(alloc: Global, rows: &mut VecDeque<Row>, page: &PageRows) -> Result<(), Error>
     requires inside { 0 < length page.now.rows }
     requires sound { All (IsRow page.now.width) page.now.rows }
     ensures rows { OnOk result (rows.new.items ≡ rows.old.items ++ map trimmed_row (take 1 page.now.rows)) }
@@ -82,7 +82,7 @@ pub fn push_copy(alloc: Global, rows: &mut VecDeque<Row>, page: &Sheet) -> Resul
 /// refused; then nothing has changed and nothing was handed on.
 pub fn turn_over<L: Leaving>(
     rows: &mut VecDeque<Row>,
-    page: &Sheet,
+    page: &PageRows,
     leaving: &mut L,
 ) -> Result<(), Error>
     requires some { 0 < length rows.old.items }
@@ -114,7 +114,7 @@ pub fn report_all<L: Leaving>(rows: &mut VecDeque<Row>, leaving: &mut L)
 }
 
 /// Reports the first rows of a page without the default blanks at their ends.
-pub fn report_trimmed<L: Leaving>(page: &Sheet, count: usize, leaving: &mut L)
+pub fn report_trimmed<L: Leaving>(page: &PageRows, count: usize, leaving: &mut L)
     requires inside { count ≤ length page.now.rows }
     requires sound { All (IsRow page.now.width) page.now.rows }
     ensures { FoldsTo L.leaves leaving.old (map trimmed_row (take count page.now.rows)) leaving.new }

@@ -12,13 +12,13 @@ ghost use Rattle.vt_rows.specs.Row.{RowValue, IsRow, blank_row, resized_row};
 ghost use Rattle.vt_grid.specs.Resize.{out_of_view, taken_back};
 ghost use Rattle.vt_grid.specs.Scrollback.{IsScrollback, Sends, TakesMemory, ViewTakesMemory};
 ghost use Rattle.vt_grid.specs.Scrollback.{before_last, cleared, grown_row, kept_after, last_of};
-ghost use Rattle.vt_grid.specs.Scrollback.{narrow_rows, no_scrollback, viewed, visible};
+ghost use Rattle.vt_grid.specs.Scrollback.{narrow_rows, no_scrollback, with_view, visible};
 ghost use Rattle.vt_grid.specs.Spare.{AreSpare, grown_from, in_view, window_from};
 
 mod one;
 
+use crate::page_rows::PageRows;
 use crate::row_lists::{blank_rows, copied_rows, report_all, report_trimmed, trimmed_rows};
-use crate::sheet::Sheet;
 use crate::size::Size;
 use std::alloc::Global;
 use std::collections::VecDeque;
@@ -129,7 +129,7 @@ impl Scrollback {
     /// row that drives out one that is no shorter, where none is in view.
     pub fn push<L: Leaving>(
         &mut self,
-        page: &Sheet,
+        page: &PageRows,
         count: usize,
         size: Size,
         leaving: &mut L,
@@ -162,7 +162,7 @@ impl Scrollback {
     /// was reported.
     pub fn push_out_of_view<L: Leaving>(
         &mut self,
-        page: &Sheet,
+        page: &PageRows,
         count: usize,
         size: Size,
         leaving: &mut L,
@@ -191,7 +191,7 @@ impl Scrollback {
     ///
     /// All of them count as given back, also those that were not kept. The
     /// offset must be 0.
-    pub fn give_back(&mut self, page: &mut Sheet, up: usize)
+    pub fn give_back(&mut self, page: &mut PageRows, up: usize)
         requires hidden { self.old.offset ≡ 0 }
         requires inside { up ≤ length page.old.rows }
         requires blank { All (λ row. row ≡ blank_row default_attrs (length row.cells)) page.old.rows }
@@ -210,7 +210,7 @@ impl Scrollback {
     }
 
     /// Reports rows that leave, where no row is kept; see `push`.
-    fn pass<L: Leaving>(&mut self, page: &Sheet, count: usize, leaving: &mut L)
+    fn pass<L: Leaving>(&mut self, page: &PageRows, count: usize, leaving: &mut L)
         requires none { self.old.capacity ≡ 0 }
         requires some { 0 < count }
         requires inside { count ≤ length page.now.rows }
@@ -225,7 +225,7 @@ impl Scrollback {
     /// Takes over rows that leave, where some are kept; see `push`.
     fn keep<L: Leaving>(
         &mut self,
-        page: &Sheet,
+        page: &PageRows,
         count: usize,
         size: Size,
         leaving: &mut L,
@@ -278,7 +278,7 @@ impl Scrollback {
     /// Fails where memory is refused, and then nothing has changed. Where no
     /// row grows it takes no memory.
     pub fn set_offset(&mut self, n: usize, size: Size) -> Result<(), Error>
-        ensures ok { OnOk result (self.new ≡ viewed size.rows size.cols n self.old) }
+        ensures ok { OnOk result (self.new ≡ with_view size.rows size.cols n self.old) }
         ensures err { OnErr result (self.new ≡ self.old) }
         ensures grows { IsErr result → ViewTakesMemory size.rows size.cols n self.old }
         ensures memory { OnlyOutOfMemory result }
@@ -310,7 +310,7 @@ impl Scrollback {
 
     /// The row that is shown at a place, if there is one: above are the newest
     /// rows, as many as the offset, and below them those of the page.
-    pub fn visible_row<'a>(&'a self, page: &'a Sheet, row: u16) -> Option<RowContents<'a>>
+    pub fn visible_row<'a>(&'a self, page: &'a PageRows, row: u16) -> Option<RowContents<'a>>
         requires { All (IsRow page.now.width) page.now.rows }
         ensures inside { IsSome result ↔ (row < length page.now.rows) }
         ensures value { (d : RowValue) →
@@ -327,7 +327,7 @@ impl Scrollback {
     }
 
     /// How many rows there are with those of the page below.
-    pub fn stacked_len(&self, page: &Sheet) -> usize
+    pub fn stacked_len(&self, page: &PageRows) -> usize
         requires { length page.now.rows < 2 ^ 16 }
         ensures { result ≡ length self.now.rows + length page.now.rows }
     {
@@ -336,7 +336,7 @@ impl Scrollback {
 
     /// The row at a place, counted from the oldest one, with those of the page
     /// below.
-    pub fn stacked_row<'a>(&'a self, page: &'a Sheet, index: usize) -> RowContents<'a>
+    pub fn stacked_row<'a>(&'a self, page: &'a PageRows, index: usize) -> RowContents<'a>
         requires inside { index < length self.now.rows + length page.now.rows }
         requires sound { All (IsRow page.now.width) page.now.rows }
         ensures { (d : RowValue) → result ≡ slice_index_or (self.now.rows ++ page.now.rows) index d }
@@ -388,7 +388,7 @@ fn push_row<L: Leaving>(row: Row, kept: &mut VecDeque<Row>, capacity: usize, lea
 }
 
 /// Moves the newest rows into blank ones; see `Scrollback::give_back`.
-fn give_rows(kept: &mut VecDeque<Row>, page: &mut Sheet, up: usize)
+fn give_rows(kept: &mut VecDeque<Row>, page: &mut PageRows, up: usize)
     requires inside { up ≤ length page.old.rows }
     requires blank { All (λ row. row ≡ blank_row default_attrs (length row.cells)) page.old.rows }
     requires sound { All (λ row. IsRow (length row.cells) row) kept.old.items }

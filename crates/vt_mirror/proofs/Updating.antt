@@ -22,8 +22,8 @@ use Rattle.vt100.proofs.Running.{ran_then}
 use Rattle.vt100.proofs.Sizes.{quiet_leaves}
 use Rattle.vt100.proofs.Streams.{ran_heard}
 use Rattle.vt_mirror.specs.Calls.{Drawn, IsUpdate, MirrorProcesses, Tells}
-use Rattle.vt_mirror.specs.Keeping.{InStretch, IsBegun, IsWritten, ReadsAtMost, ReadsBytes, ReadsFewer, ReadsStretch}
-use Rattle.vt_mirror.specs.Keeping.{WritesUpdate, text_of_update}
+use Rattle.vt_mirror.specs.Internals.{InStretch, IsBegun, IsWritten, ReadsAtMost, ReadsBytes, ReadsFewer, ReadsStretch}
+use Rattle.vt_mirror.specs.Internals.{WritesUpdate, text_of_update}
 use Rattle.vt_mirror.specs.Mirror.{MirrorValue}
 use Rattle.vt_mirror.specs.Runs.{IsToldAfter, WritesBehind, WritesOnWay, WritesToEnd}
 use Rattle.vt_mirror.specs.Runs.{screens_on_way, screens_to_end, text_on_way, text_to_end}

@@ -5,4 +5,4 @@ pub mod Watching
 pub mod Arguments
 pub mod Endings
 pub mod Runs
-pub mod Keeping
+pub mod Internals

@@ -3,7 +3,7 @@
 ghost use Rattle.std.specs.Io.KnownBytes.{IsAtEnd, Keeps};
 ghost use Rattle.std.specs.Prelude.{◌≡◌, ◌≢◌, ◌<◌, ◌↔◌, Err, IfErr, IfOk, None, OnOk, Some, map, string_bytes, true};
 ghost use Rattle.vt_mirror.specs.Arguments.{AskFor, AskForNothing};
-ghost use Rattle.vt_mirror.specs.Keeping.{IsBegun, ReadsAtMost, ReadsFewer, ReadsStretch, WritesUpdate};
+ghost use Rattle.vt_mirror.specs.Internals.{IsBegun, ReadsAtMost, ReadsFewer, ReadsStretch, WritesUpdate};
 ghost use Rattle.vt_mirror.specs.Runs.{WritesOnWay, WritesSome, WritesToEnd};
 ghost use Rattle.vt_mirror.specs.Viewers.{is_viewer};
 ghost use Rattle.vt_screen.specs.Screen.{fresh_screen};

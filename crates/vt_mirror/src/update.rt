@@ -1,7 +1,7 @@
 //! What a viewer is to read.
 
 ghost use Rattle.std.specs.Prelude.{◌≡◌};
-ghost use Rattle.vt_mirror.specs.Keeping.{text_of_update};
+ghost use Rattle.vt_mirror.specs.Internals.{text_of_update};
 
 /// What a viewer is to read next.
 #[derive(PartialEq, Eq, Debug, Drop)]

@@ -10,7 +10,7 @@ use Rattle.vt_scan.specs.Scanner.{StandsFor}
 use Rattle.vt_screen.specs.Calls.{CallValue, OnScroll}
 use Rattle.vt_screen.specs.Screen.{ScreenValue}
 use Rattle.vt_screen.specs.Run as act
-use Rattle.vt_screen.specs.Run.{Hears, Performs, Scrolls, Takes, state}
+use Rattle.vt_screen.specs.Run.{CalledOnScroll, Performs, Scrolls, Takes, state}
 use Rattle.vt_screen.specs.Controls.{seen_of, steps_of}
 use Rattle.vt_screen.specs.Steps.{Step, Print, CarriageReturn, LineFeed, ReverseIndex, MoveUp, MoveDown, MoveRight}
 use Rattle.vt_screen.specs.Steps.{MoveLeft, NextLine, PreviousLine, Tab, MoveTo, MoveToColumn, MoveToRow, SetRegion}
@@ -19,7 +19,7 @@ use Rattle.vt_screen.specs.Steps.{EraseRow, EraseChars, InsertChars, DeleteChars
 use Rattle.vt_screen.specs.Steps.{ScrollDown, Render, HideCursor, UseApplicationCursor, UseBracketedPaste, SetMouseMode}
 use Rattle.vt_screen.specs.Steps.{ClearMouseMode, SetMouseEncoding, ClearMouseEncoding, SetCursorStyle, SaveCursor}
 use Rattle.vt_screen.specs.Steps.{RestoreCursor, EnterAlternate, EnterFresh, LeaveAlternate, LeaveRestoring, Reset}
-use Rattle.vt_screen.specs.Steps.{UseApplicationKeypad, Tell, reports, scrolled, stepped}
+use Rattle.vt_screen.specs.Steps.{UseApplicationKeypad, CallBack, reports, screen_after, display_after}
 use Rattle.vt_screen.specs.Telling.{calls_of, calls_of_all, stepped_all, steps_of_all, steps_in, calls_in, screen_in}
 use Rattle.vt100.specs.Parser.{Parsing, Ran, pieces_joined, parsing, stage}
 use Rattle.vt_rows.proofs.Folds.{folds_then}
@@ -78,7 +78,7 @@ done_telling call a b t = record {
 
 -- rows that are reported
 done_heard : (alternate : Bool) (rows : List RowValue) (old new : Noted) (screen : ScreenValue) →
-    FoldsTo (Hears NotesIt alternate) old rows new →
+    FoldsTo (CalledOnScroll NotesIt alternate) old rows new →
     Done (state old screen) (map (λ (row : RowValue). OnScroll row alternate) rows) screen (state new screen)
 done_heard alternate [] old new screen e =
     subst (λ (n : Noted). Done (state old screen) [] screen (state n screen)) e (done_nothing (state old screen))
@@ -89,61 +89,61 @@ done_heard alternate (row ∷ rows) old new screen t =
     (done_heard alternate rows t.0 new screen t.2)
 
 done_scrolled : (x : Step) (a b : act.State Noted) → Scrolls NotesIt a x b →
-    Done a (map (λ (row : RowValue). OnScroll row a.screen.is_alternate) (reports x a.screen)) (scrolled x a.screen) b
+    Done a (map (λ (row : RowValue). OnScroll row a.screen.is_alternate) (reports x a.screen)) (screen_after x a.screen) b
 done_scrolled x a b t =
     let heard = done_heard a.screen.is_alternate (reports x a.screen) a.callbacks b.callbacks a.screen t.heard in
     record { shown = t.screen; complete = heard.complete; noted = heard.noted }
 
 done_step : (x : Step) (a b : act.State Noted) → Takes NotesIt a x b →
-    Done a (calls_of x a.screen) (scrolled x a.screen) b
-done_step (Tell call) a b t = done_telling call a b t
+    Done a (calls_of x a.screen) (screen_after x a.screen) b
+done_step (CallBack call) a b t = done_telling call a b t
 done_step (Print c) a b t = done_scrolled (Print c) a b t
 done_step LineFeed a b t = done_scrolled LineFeed a b t
 done_step (ScrollUp count) a b t = done_scrolled (ScrollUp count) a b t
 done_step EraseScrollback a b t = done_scrolled EraseScrollback a b t
-done_step CarriageReturn a b t = done_quietly a b (stepped CarriageReturn a.screen) t
-done_step ReverseIndex a b t = done_quietly a b (stepped ReverseIndex a.screen) t
-done_step (MoveUp count) a b t = done_quietly a b (stepped (MoveUp count) a.screen) t
-done_step (MoveDown count) a b t = done_quietly a b (stepped (MoveDown count) a.screen) t
-done_step (MoveRight count) a b t = done_quietly a b (stepped (MoveRight count) a.screen) t
-done_step (MoveLeft count) a b t = done_quietly a b (stepped (MoveLeft count) a.screen) t
-done_step (NextLine count) a b t = done_quietly a b (stepped (NextLine count) a.screen) t
-done_step (PreviousLine count) a b t = done_quietly a b (stepped (PreviousLine count) a.screen) t
-done_step Tab a b t = done_quietly a b (stepped Tab a.screen) t
-done_step (MoveTo row col) a b t = done_quietly a b (stepped (MoveTo row col) a.screen) t
-done_step (MoveToColumn col) a b t = done_quietly a b (stepped (MoveToColumn col) a.screen) t
-done_step (MoveToRow row) a b t = done_quietly a b (stepped (MoveToRow row) a.screen) t
-done_step (SetRegion top bottom) a b t = done_quietly a b (stepped (SetRegion top bottom) a.screen) t
-done_step (UseOrigin on) a b t = done_quietly a b (stepped (UseOrigin on) a.screen) t
-done_step EraseBelow a b t = done_quietly a b (stepped EraseBelow a.screen) t
-done_step EraseAbove a b t = done_quietly a b (stepped EraseAbove a.screen) t
-done_step ErasePage a b t = done_quietly a b (stepped ErasePage a.screen) t
-done_step EraseRest a b t = done_quietly a b (stepped EraseRest a.screen) t
-done_step EraseStart a b t = done_quietly a b (stepped EraseStart a.screen) t
-done_step EraseRow a b t = done_quietly a b (stepped EraseRow a.screen) t
-done_step (EraseChars count) a b t = done_quietly a b (stepped (EraseChars count) a.screen) t
-done_step (InsertChars count) a b t = done_quietly a b (stepped (InsertChars count) a.screen) t
-done_step (DeleteChars count) a b t = done_quietly a b (stepped (DeleteChars count) a.screen) t
-done_step (InsertLines count) a b t = done_quietly a b (stepped (InsertLines count) a.screen) t
-done_step (DeleteLines count) a b t = done_quietly a b (stepped (DeleteLines count) a.screen) t
-done_step (ScrollDown count) a b t = done_quietly a b (stepped (ScrollDown count) a.screen) t
-done_step (Render setting) a b t = done_quietly a b (stepped (Render setting) a.screen) t
-done_step (HideCursor hidden) a b t = done_quietly a b (stepped (HideCursor hidden) a.screen) t
-done_step (UseApplicationCursor on) a b t = done_quietly a b (stepped (UseApplicationCursor on) a.screen) t
-done_step (UseBracketedPaste on) a b t = done_quietly a b (stepped (UseBracketedPaste on) a.screen) t
-done_step (SetMouseMode mode) a b t = done_quietly a b (stepped (SetMouseMode mode) a.screen) t
-done_step (ClearMouseMode mode) a b t = done_quietly a b (stepped (ClearMouseMode mode) a.screen) t
-done_step (SetMouseEncoding form) a b t = done_quietly a b (stepped (SetMouseEncoding form) a.screen) t
-done_step (ClearMouseEncoding form) a b t = done_quietly a b (stepped (ClearMouseEncoding form) a.screen) t
-done_step (SetCursorStyle look) a b t = done_quietly a b (stepped (SetCursorStyle look) a.screen) t
-done_step SaveCursor a b t = done_quietly a b (stepped SaveCursor a.screen) t
-done_step RestoreCursor a b t = done_quietly a b (stepped RestoreCursor a.screen) t
-done_step EnterAlternate a b t = done_quietly a b (stepped EnterAlternate a.screen) t
-done_step EnterFresh a b t = done_quietly a b (stepped EnterFresh a.screen) t
-done_step LeaveAlternate a b t = done_quietly a b (stepped LeaveAlternate a.screen) t
-done_step LeaveRestoring a b t = done_quietly a b (stepped LeaveRestoring a.screen) t
-done_step Reset a b t = done_quietly a b (stepped Reset a.screen) t
-done_step (UseApplicationKeypad on) a b t = done_quietly a b (stepped (UseApplicationKeypad on) a.screen) t
+done_step CarriageReturn a b t = done_quietly a b (display_after CarriageReturn a.screen) t
+done_step ReverseIndex a b t = done_quietly a b (display_after ReverseIndex a.screen) t
+done_step (MoveUp count) a b t = done_quietly a b (display_after (MoveUp count) a.screen) t
+done_step (MoveDown count) a b t = done_quietly a b (display_after (MoveDown count) a.screen) t
+done_step (MoveRight count) a b t = done_quietly a b (display_after (MoveRight count) a.screen) t
+done_step (MoveLeft count) a b t = done_quietly a b (display_after (MoveLeft count) a.screen) t
+done_step (NextLine count) a b t = done_quietly a b (display_after (NextLine count) a.screen) t
+done_step (PreviousLine count) a b t = done_quietly a b (display_after (PreviousLine count) a.screen) t
+done_step Tab a b t = done_quietly a b (display_after Tab a.screen) t
+done_step (MoveTo row col) a b t = done_quietly a b (display_after (MoveTo row col) a.screen) t
+done_step (MoveToColumn col) a b t = done_quietly a b (display_after (MoveToColumn col) a.screen) t
+done_step (MoveToRow row) a b t = done_quietly a b (display_after (MoveToRow row) a.screen) t
+done_step (SetRegion top bottom) a b t = done_quietly a b (display_after (SetRegion top bottom) a.screen) t
+done_step (UseOrigin on) a b t = done_quietly a b (display_after (UseOrigin on) a.screen) t
+done_step EraseBelow a b t = done_quietly a b (display_after EraseBelow a.screen) t
+done_step EraseAbove a b t = done_quietly a b (display_after EraseAbove a.screen) t
+done_step ErasePage a b t = done_quietly a b (display_after ErasePage a.screen) t
+done_step EraseRest a b t = done_quietly a b (display_after EraseRest a.screen) t
+done_step EraseStart a b t = done_quietly a b (display_after EraseStart a.screen) t
+done_step EraseRow a b t = done_quietly a b (display_after EraseRow a.screen) t
+done_step (EraseChars count) a b t = done_quietly a b (display_after (EraseChars count) a.screen) t
+done_step (InsertChars count) a b t = done_quietly a b (display_after (InsertChars count) a.screen) t
+done_step (DeleteChars count) a b t = done_quietly a b (display_after (DeleteChars count) a.screen) t
+done_step (InsertLines count) a b t = done_quietly a b (display_after (InsertLines count) a.screen) t
+done_step (DeleteLines count) a b t = done_quietly a b (display_after (DeleteLines count) a.screen) t
+done_step (ScrollDown count) a b t = done_quietly a b (display_after (ScrollDown count) a.screen) t
+done_step (Render setting) a b t = done_quietly a b (display_after (Render setting) a.screen) t
+done_step (HideCursor hidden) a b t = done_quietly a b (display_after (HideCursor hidden) a.screen) t
+done_step (UseApplicationCursor on) a b t = done_quietly a b (display_after (UseApplicationCursor on) a.screen) t
+done_step (UseBracketedPaste on) a b t = done_quietly a b (display_after (UseBracketedPaste on) a.screen) t
+done_step (SetMouseMode mode) a b t = done_quietly a b (display_after (SetMouseMode mode) a.screen) t
+done_step (ClearMouseMode mode) a b t = done_quietly a b (display_after (ClearMouseMode mode) a.screen) t
+done_step (SetMouseEncoding form) a b t = done_quietly a b (display_after (SetMouseEncoding form) a.screen) t
+done_step (ClearMouseEncoding form) a b t = done_quietly a b (display_after (ClearMouseEncoding form) a.screen) t
+done_step (SetCursorStyle look) a b t = done_quietly a b (display_after (SetCursorStyle look) a.screen) t
+done_step SaveCursor a b t = done_quietly a b (display_after SaveCursor a.screen) t
+done_step RestoreCursor a b t = done_quietly a b (display_after RestoreCursor a.screen) t
+done_step EnterAlternate a b t = done_quietly a b (display_after EnterAlternate a.screen) t
+done_step EnterFresh a b t = done_quietly a b (display_after EnterFresh a.screen) t
+done_step LeaveAlternate a b t = done_quietly a b (display_after LeaveAlternate a.screen) t
+done_step LeaveRestoring a b t = done_quietly a b (display_after LeaveRestoring a.screen) t
+done_step Reset a b t = done_quietly a b (display_after Reset a.screen) t
+done_step (UseApplicationKeypad on) a b t = done_quietly a b (display_after (UseApplicationKeypad on) a.screen) t
 
 -- ---- steps and events
 
@@ -154,8 +154,8 @@ done_steps (x ∷ steps) a b t =
     let one = done_step x a t.0 t.1 in
     let rest = subst (λ (screen : ScreenValue). Done t.0 (calls_of_all steps screen) (stepped_all steps screen) b)
     one.shown (done_steps steps t.0 b t.2) in
-    done_then a t.0 b (calls_of x a.screen) (calls_of_all steps (scrolled x a.screen))
-    (scrolled x a.screen) (stepped_all steps (scrolled x a.screen)) one rest
+    done_then a t.0 b (calls_of x a.screen) (calls_of_all steps (screen_after x a.screen))
+    (screen_after x a.screen) (stepped_all steps (screen_after x a.screen)) one rest
 
 -- the steps of all events are those that the model lists
 same_steps : (events : List Event) (a b : act.State Noted) → FoldsTo (Performs NotesIt) a events b →

@@ -41,13 +41,13 @@ fn write_event(text: &mut String, scanner: &Scanner, event: Event) -> Result<(),
         Event::Executed(byte) => write!(text, "execute {byte:X}")?,
         Event::Escape(byte) => {
             text.push_str("esc ")?;
-            write_bytes(text, scanner.marks())?;
+            write_bytes(text, scanner.intermediates())?;
             text.push(char::from(byte))?;
         }
         Event::Csi(byte) => {
             text.push_str("csi ")?;
             write_groups(text, scanner)?;
-            write_bytes(text, scanner.marks())?;
+            write_bytes(text, scanner.intermediates())?;
             text.push(char::from(byte))?;
         }
         Event::Osc => {

@@ -12,12 +12,12 @@ use Rattle.vt_cells.specs.Cell.{CellValue, blank, glyph, right_half, default_bla
 use Rattle.vt_cells.specs.Cell.{is_right_half, is_wide, attrs_of, text_of, same_cell}
 use Rattle.vt_cells.specs.Op.{Op, Print, bytes_of, bytes_of_all}
 use Rattle.vt_rows.specs.Cells.{at, IsPaired}
-use Rattle.vt_redraw.specs.Items.{begun, begun_over}
+use Rattle.vt_redraw.specs.Items.{with_whole_start, with_whole_start_over}
 use Rattle.vt_cells.proofs.SameCells.{same_cell-itself}
-use Rattle.vt_redraw.specs.Keeping.{Leads, IsRange, Passes, cells_from}
+use Rattle.vt_redraw.specs.Internals.{Leads, IsRange, Passes, cells_from}
 use Rattle.vt_redraw.proofs.Filling.{room}
-use Rattle.vt_cells.specs.Glyph.{first_columns}
-use Rattle.vt_redraw.specs.Script.{Scripted, after, nothing, doing, pen_at, blank_run}
+use Rattle.vt_cells.specs.Glyph.{glyph_columns}
+use Rattle.vt_redraw.specs.Script.{Scripted, ops_then, no_ops, placed_op, pen_at, blank_run}
 use Rattle.vt_redraw.specs.Script.{erase_run, flag_behind, flag_past, cells_written}
 use Rattle.vt_redraw.specs.declared.pen.Pen.{Pen}
 
@@ -31,9 +31,9 @@ leads_then t u v x y z p q = record { bytes = q.bytes ∙ p.bytes; pen = q.pen �
 
 -- the text of some operations was appended, and the rest is to write
 pub leads_after : (text longer : List ℕ) (ops : List Op) (rest whole : Scripted) →
-    longer ≡ text ++ bytes_of_all ops → whole ≡ after ops rest → Leads longer rest text whole
+    longer ≡ text ++ bytes_of_all ops → whole ≡ ops_then ops rest → Leads longer rest text whole
 leads_after text longer ops rest whole e f =
-    let bytes : longer ++ bytes_of_all rest.ops ≡ text ++ bytes_of_all (after ops rest).ops =
+    let bytes : longer ++ bytes_of_all rest.ops ≡ text ++ bytes_of_all (ops_then ops rest).ops =
     ap (λ (z : List ℕ). z ++ bytes_of_all rest.ops) e
     ∙ (append_assoc text (bytes_of_all ops) (bytes_of_all rest.ops)
     ∙ ap (λ (z : List ℕ). text ++ z) (sym (flat_map-append bytes_of ops rest.ops))) in
@@ -52,14 +52,14 @@ leads_same text rest whole f = record {
 
 -- at the end
 pub leads_text : (text start : List ℕ) (rest whole : Scripted) (pen : Pen) (flag : Bool) →
-    rest ≡ nothing pen flag → Leads text rest start whole → text ≡ start ++ bytes_of_all whole.ops
+    rest ≡ no_ops pen flag → Leads text rest start whole → text ≡ start ++ bytes_of_all whole.ops
 leads_text text start rest whole pen flag e h =
     sym (append-nil text) ∙ (ap (λ (w : Scripted). text ++ bytes_of_all w.ops) (sym e) ∙ h.bytes)
 
 -- ---- settled cells need nothing
 
 nothing_left : (r c : ℕ) (pen : Pen) (flag : Bool) (k : ℕ) (xs : List CellValue) →
-    cells_written r c pen flag k xs [] ≡ nothing pen flag
+    cells_written r c pen flag k xs [] ≡ no_ops pen flag
 unfolding cells_written
 nothing_left r c pen flag zero [] = refl
 nothing_left r c pen flag (suc k) [] = refl
@@ -104,17 +104,17 @@ glyph_printed : (r c : ℕ) (pen : Pen) (flag : Bool) (x : CellValue)
     (xs : List CellValue) (y : CellValue) (ys : List CellValue) →
     (is_right_half x || same_cell x y) ≡ false → is_blank x ≡ false →
     cells_written r c pen flag 0 (x ∷ xs) (y ∷ ys)
-    ≡ after (doing pen r c (attrs_of x) (Print (text_of x)))
-    (cells_written r (c + first_columns (is_wide x)) (pen_at r (c + first_columns (is_wide x)) (attrs_of x))
-    (flag_behind flag (is_wide x) (drop (first_columns (is_wide x)) (y ∷ ys))) 0
-    (drop (first_columns (is_wide x)) (x ∷ xs)) (drop (first_columns (is_wide x)) (y ∷ ys)))
+    ≡ ops_then (placed_op pen r c (attrs_of x) (Print (text_of x)))
+    (cells_written r (c + glyph_columns (is_wide x)) (pen_at r (c + glyph_columns (is_wide x)) (attrs_of x))
+    (flag_behind flag (is_wide x) (drop (glyph_columns (is_wide x)) (y ∷ ys))) 0
+    (drop (glyph_columns (is_wide x)) (x ∷ xs)) (drop (glyph_columns (is_wide x)) (y ∷ ys)))
 unfolding cells_written
 glyph_printed r c pen flag right_half xs y ys h b = absurd cc
 glyph_printed r c pen flag (blank a) xs y ys h b = absurd cc
 glyph_printed r c pen flag (glyph text false a) xs y ys h b = cond-false (same_cell (glyph text false a) y) _ _ h
 glyph_printed r c pen flag (glyph text true a) xs y ys h b =
     cond-false (same_cell (glyph text true a) y) _ _ h
-    ∙ ap (after (doing pen r c a (Print text)))
+    ∙ ap (ops_then (placed_op pen r c a (Print text)))
     (settled_passed r (c + 1) (pen_at r (c + 2) a) (flag_behind flag true (drop 1 ys)) 1 xs ys
     ∙ ap
     (λ (n : ℕ). cells_written r n (pen_at r (c + 2) a) (flag_behind flag true (drop 1 ys)) 0 (drop 1 xs) (drop 1 ys))
@@ -126,7 +126,7 @@ run_first a xs = cond-true (same_attrs a a) (1 + blank_run a xs) 0 (same_attrs-i
 run_here : (r c : ℕ) (pen : Pen) (flag : Bool) (a : Attrs) (xs : List CellValue) (y : CellValue) (ys : List CellValue) →
     same_cell (blank a) y ≡ false →
     cells_written r c pen flag 0 (blank a ∷ xs) (y ∷ ys)
-    ≡ after (doing pen r c a (erase_run (suc (blank_run a xs)) (drop (blank_run a xs) ys)))
+    ≡ ops_then (placed_op pen r c a (erase_run (suc (blank_run a xs)) (drop (blank_run a xs) ys)))
     (cells_written r (c + suc (blank_run a xs)) (pen_at r c a)
     (flag_past flag (drop (blank_run a xs) ys)) 0 (drop (blank_run a xs) xs) (drop (blank_run a xs) ys))
 unfolding cells_written
@@ -134,7 +134,7 @@ run_here r c pen flag a xs y ys h =
     let n = blank_run a xs in
     let f = flag_past flag (drop n ys) in
     cond-false (same_cell (blank a) y) _ _ h
-    ∙ ap (after (doing pen r c a (erase_run (suc n) (drop n ys))))
+    ∙ ap (ops_then (placed_op pen r c a (erase_run (suc n) (drop n ys))))
     (settled_passed r (c + 1) (pen_at r c a) f n xs ys
     ∙ ap (λ (k : ℕ). cells_written r k (pen_at r c a) f 0 (drop n xs) (drop n ys)) (omega arith))
 
@@ -147,13 +147,13 @@ run_erased : (r c : ℕ) (pen : Pen) (flag : Bool) (x : CellValue)
     (xs : List CellValue) (y : CellValue) (ys : List CellValue) (n : ℕ) →
     (is_right_half x || same_cell x y) ≡ false → is_blank x ≡ true → n ≡ blank_run (attrs_of x) (x ∷ xs) →
     cells_written r c pen flag 0 (x ∷ xs) (y ∷ ys)
-    ≡ after (doing pen r c (attrs_of x) (erase_run n (drop n (y ∷ ys))))
+    ≡ ops_then (placed_op pen r c (attrs_of x) (erase_run n (drop n (y ∷ ys))))
     (cells_written r (c + n) (pen_at r c (attrs_of x))
     (flag_past flag (drop n (y ∷ ys))) 0 (drop n (x ∷ xs)) (drop n (y ∷ ys)))
 run_erased r c pen flag (blank a) xs y ys n h b count =
     let e : suc (blank_run a xs) ≡ n = sym (count ∙ run_first a xs) in
     run_here r c pen flag a xs y ys h
-    ∙ ap (λ (m : ℕ). after (doing pen r c a (erase_run m (drop m (y ∷ ys))))
+    ∙ ap (λ (m : ℕ). ops_then (placed_op pen r c a (erase_run m (drop m (y ∷ ys))))
     (cells_written r (c + m) (pen_at r c a) (flag_past flag (drop m (y ∷ ys)))
     0 (drop m (blank a ∷ xs)) (drop m (y ∷ ys))))
     e
@@ -226,66 +226,66 @@ passes_leads c next r pen flag xs ys text p =
 pub next_glyph : (r c n : ℕ) (pen next : Pen) (flag then : Bool) (xs ys : List CellValue) (text longer : List ℕ) →
     c < length xs → length xs ≤ length ys →
     (is_right_half (at xs c) || same_cell (at xs c) (at ys c)) ≡ false →
-    is_blank (at xs c) ≡ false → n ≡ first_columns (is_wide (at xs c)) →
-    longer ≡ text ++ bytes_of_all (doing pen r c (attrs_of (at xs c)) (Print (text_of (at xs c)))) →
-    next ≡ pen_at r (c + first_columns (is_wide (at xs c))) (attrs_of (at xs c)) →
+    is_blank (at xs c) ≡ false → n ≡ glyph_columns (is_wide (at xs c)) →
+    longer ≡ text ++ bytes_of_all (placed_op pen r c (attrs_of (at xs c)) (Print (text_of (at xs c)))) →
+    next ≡ pen_at r (c + glyph_columns (is_wide (at xs c))) (attrs_of (at xs c)) →
     then ≡ flag_behind flag (is_wide (at xs c)) (drop (c + n) ys) →
     Leads longer (cells_from r (c + n) next then xs ys) text (cells_from r c pen flag xs ys)
 next_glyph r c n pen next flag then xs ys text longer h le other b count told pens flags =
     let x = at xs c in
-    let ops = doing pen r c (attrs_of x) (Print (text_of x)) in
-    let m = first_columns (is_wide x) in
+    let ops = placed_op pen r c (attrs_of x) (Print (text_of x)) in
+    let m = glyph_columns (is_wide x) in
     leads_after text longer ops (cells_from r (c + n) next then xs ys) (cells_from r c pen flag xs ys) told
     (at_column r c pen flag xs ys h le
     ∙ (glyph_printed r c pen flag x (drop (c + 1) xs) (at ys c) (drop (c + 1) ys) other b
-    ∙ (ap (λ (zs : List CellValue). after ops
+    ∙ (ap (λ (zs : List CellValue). ops_then ops
     (cells_written r (c + m) (pen_at r (c + m) (attrs_of x))
     (flag_behind flag (is_wide x) (drop m (at ys c ∷ drop (c + 1) ys))) 0 zs (drop m (at ys c ∷ drop (c + 1) ys))))
     (behind c m xs h)
-    ∙ (ap (λ (zs : List CellValue). after ops
+    ∙ (ap (λ (zs : List CellValue). ops_then ops
     (cells_written r (c + m) (pen_at r (c + m) (attrs_of x)) (flag_behind flag (is_wide x) zs) 0 (drop (c + m) xs) zs))
     (behind c m ys (omega arith))
-    ∙ (ap (λ (p : Pen). after ops
+    ∙ (ap (λ (p : Pen). ops_then ops
     (cells_written r (c + m) p (flag_behind flag (is_wide x) (drop (c + m) ys)) 0 (drop (c + m) xs) (drop (c + m) ys)))
     (sym pens)
-    ∙ (ap (λ (k : ℕ). after ops
+    ∙ (ap (λ (k : ℕ). ops_then ops
     (cells_written r (c + k) next (flag_behind flag (is_wide x) (drop (c + k) ys))
     0 (drop (c + k) xs) (drop (c + k) ys)))
     (sym count)
-    ∙ ap (λ (f : Bool). after ops (cells_from r (c + n) next f xs ys)) (sym flags)))))))
+    ∙ ap (λ (f : Bool). ops_then ops (cells_from r (c + n) next f xs ys)) (sym flags)))))))
 
 pub next_run : (r c n : ℕ) (pen next : Pen) (flag then : Bool)
     (xs ys : List CellValue) (a : Attrs) (text longer : List ℕ) →
     c < length xs → length xs ≤ length ys →
     (is_right_half (at xs c) || same_cell (at xs c) (at ys c)) ≡ false →
     is_blank (at xs c) ≡ true → a ≡ attrs_of (at xs c) → n ≡ blank_run a (drop c xs) →
-    longer ≡ text ++ bytes_of_all (doing pen r c a (erase_run n (drop (c + n) ys))) → next ≡ pen_at r c a →
+    longer ≡ text ++ bytes_of_all (placed_op pen r c a (erase_run n (drop (c + n) ys))) → next ≡ pen_at r c a →
     then ≡ flag_past flag (drop (c + n) ys) →
     Leads longer (cells_from r (c + n) next then xs ys) text (cells_from r c pen flag xs ys)
 next_run r c n pen next flag then xs ys a text longer h le other b same count told pens flags =
     let x = at xs c in
-    let ops = λ (zs : List CellValue). doing pen r c a (erase_run n zs) in
+    let ops = λ (zs : List CellValue). placed_op pen r c a (erase_run n zs) in
     let counted : n ≡ blank_run (attrs_of x) (x ∷ drop (c + 1) xs) =
     count ∙ (ap (blank_run a) (from_column xs c h) ∙ ap (λ (z : Attrs). blank_run z (x ∷ drop (c + 1) xs)) same) in
     leads_after text longer (ops (drop (c + n) ys))
     (cells_from r (c + n) next then xs ys) (cells_from r c pen flag xs ys) told
     (at_column r c pen flag xs ys h le
     ∙ (run_erased r c pen flag x (drop (c + 1) xs) (at ys c) (drop (c + 1) ys) n other b counted
-    ∙ (ap (λ (z : Attrs). after (doing pen r c z (erase_run n (drop n (at ys c ∷ drop (c + 1) ys))))
+    ∙ (ap (λ (z : Attrs). ops_then (placed_op pen r c z (erase_run n (drop n (at ys c ∷ drop (c + 1) ys))))
     (cells_written r (c + n) (pen_at r c z) (flag_past flag (drop n (at ys c ∷ drop (c + 1) ys)))
     0 (drop n (x ∷ drop (c + 1) xs)) (drop n (at ys c ∷ drop (c + 1) ys))))
     (sym same)
-    ∙ (ap (λ (zs : List CellValue). after (ops (drop n (at ys c ∷ drop (c + 1) ys)))
+    ∙ (ap (λ (zs : List CellValue). ops_then (ops (drop n (at ys c ∷ drop (c + 1) ys)))
     (cells_written r (c + n) (pen_at r c a) (flag_past flag (drop n (at ys c ∷ drop (c + 1) ys)))
     0 zs (drop n (at ys c ∷ drop (c + 1) ys))))
     (behind c n xs h)
-    ∙ (ap (λ (zs : List CellValue). after (ops zs)
+    ∙ (ap (λ (zs : List CellValue). ops_then (ops zs)
     (cells_written r (c + n) (pen_at r c a) (flag_past flag zs) 0 (drop (c + n) xs) zs))
     (behind c n ys (omega arith))
-    ∙ (ap (λ (p : Pen). after (ops (drop (c + n) ys))
+    ∙ (ap (λ (p : Pen). ops_then (ops (drop (c + n) ys))
     (cells_written r (c + n) p (flag_past flag (drop (c + n) ys)) 0 (drop (c + n) xs) (drop (c + n) ys)))
     (sym pens)
-    ∙ ap (λ (f : Bool). after (ops (drop (c + n) ys)) (cells_from r (c + n) next f xs ys)) (sym flags)))))))
+    ∙ ap (λ (f : Bool). ops_then (ops (drop (c + n) ys)) (cells_from r (c + n) next f xs ys)) (sym flags)))))))
 
 pub run_some : (a : Attrs) (xs : List CellValue) (c n : ℕ) → c < length xs →
     is_blank (at xs c) ≡ true → a ≡ attrs_of (at xs c) → n ≡ blank_run a (drop c xs) → 0 < n
@@ -299,16 +299,16 @@ run_some a xs c n h b same count =
 
 -- a glyph has its columns in the row that the reader shows
 pub glyph_inside : (xs ys : List CellValue) (c : ℕ) → c < length xs →
-    IsRange xs ys → c + first_columns (is_wide (at xs c)) ≤ length ys
+    IsRange xs ys → c + glyph_columns (is_wide (at xs c)) ≤ length ys
 glyph_inside xs ys c h range = by_width (is_wide (at xs c)) refl where
-  by_width : (w : Bool) → is_wide (at xs c) ≡ w → c + first_columns w ≤ length ys
+  by_width : (w : Bool) → is_wide (at xs c) ≡ w → c + glyph_columns w ≤ length ys
   by_width false e = let le = range.inside in omega arith
   by_width true e = let r = range.room c e in omega arith
 
 -- ---- the end of a row
 
 pub cells_end : (r c : ℕ) (pen : Pen) (flag : Bool) (xs ys : List CellValue) →
-    length xs ≤ c → cells_from r c pen flag xs ys ≡ nothing pen flag
+    length xs ≤ c → cells_from r c pen flag xs ys ≡ no_ops pen flag
 unfolding cells_written
 cells_end r c pen flag xs ys h =
     ap (λ (zs : List CellValue). cells_written r c pen flag 0 zs (drop c ys)) (drop_all c xs h)
@@ -319,22 +319,22 @@ pub glyph_leads : (r c n : ℕ) (pen next : Pen) (flag then : Bool)
     (xs ys : List CellValue) (x : CellValue) (text longer : List ℕ) →
     x ≡ at xs c → c < length xs → length xs ≤ length ys →
     (is_right_half (at xs c) || same_cell (at xs c) (at ys c)) ≡ false →
-    is_blank x ≡ false → n ≡ first_columns (is_wide x) →
-    longer ≡ text ++ bytes_of_all (doing pen r c (attrs_of x) (Print (text_of x))) →
-    next ≡ pen_at r (c + first_columns (is_wide x)) (attrs_of x) →
+    is_blank x ≡ false → n ≡ glyph_columns (is_wide x) →
+    longer ≡ text ++ bytes_of_all (placed_op pen r c (attrs_of x) (Print (text_of x))) →
+    next ≡ pen_at r (c + glyph_columns (is_wide x)) (attrs_of x) →
     then ≡ flag_behind flag (is_wide x) (drop (c + n) ys) →
     Leads longer (cells_from r (c + n) next then xs ys) text (cells_from r c pen flag xs ys)
 glyph_leads r c n pen next flag then xs ys x text longer e h le other =
-    subst (λ (z : CellValue). is_blank z ≡ false → n ≡ first_columns (is_wide z) →
-    longer ≡ text ++ bytes_of_all (doing pen r c (attrs_of z) (Print (text_of z))) →
-    next ≡ pen_at r (c + first_columns (is_wide z)) (attrs_of z) →
+    subst (λ (z : CellValue). is_blank z ≡ false → n ≡ glyph_columns (is_wide z) →
+    longer ≡ text ++ bytes_of_all (placed_op pen r c (attrs_of z) (Print (text_of z))) →
+    next ≡ pen_at r (c + glyph_columns (is_wide z)) (attrs_of z) →
     then ≡ flag_behind flag (is_wide z) (drop (c + n) ys) →
     Leads longer (cells_from r (c + n) next then xs ys) text (cells_from r c pen flag xs ys))
     (sym e) (λ b count told pens flags. next_glyph r c n pen next
     flag then xs ys text longer h le other b count told pens flags)
 
 pub over_end : (r c : ℕ) (pen : Pen) (flag : Bool) (xs ys : List CellValue) →
-    length ys ≤ c → cells_from r c pen flag xs ys ≡ nothing pen flag
+    length ys ≤ c → cells_from r c pen flag xs ys ≡ no_ops pen flag
 over_end r c pen flag xs ys h =
     ap (λ (zs : List CellValue). cells_written r c pen flag 0 (drop c xs) zs) (drop_all c ys h)
     ∙ nothing_left r c pen flag 0 (drop c xs)
@@ -353,19 +353,19 @@ range_of xs ys same paired = record {
 pub half_stands : (r c : ℕ) (pen : Pen) (flag : Bool) (xs ys : List CellValue) (text : List ℕ) →
     c < length xs → length xs ≤ length ys → is_right_half (at xs c) ≡ true → is_right_half (at ys c) ≡ true →
     Leads text (cells_from r (c + 1) pen flag xs ys) text
-    (cells_written r c pen flag 0 (begun (drop c xs)) (begun_over (drop c xs) (drop c ys)))
+    (cells_written r c pen flag 0 (with_whole_start (drop c xs)) (with_whole_start_over (drop c xs) (drop c ys)))
 half_stands r c pen flag xs ys text h le e f =
     leads_same text (cells_from r (c + 1) pen flag xs ys)
-    (cells_written r c pen flag 0 (begun (drop c xs)) (begun_over (drop c xs) (drop c ys)))
-    (ap (λ (zs : List CellValue). cells_written r c pen flag 0 (begun zs) (begun_over zs (drop c ys)))
+    (cells_written r c pen flag 0 (with_whole_start (drop c xs)) (with_whole_start_over (drop c xs) (drop c ys)))
+    (ap (λ (zs : List CellValue). cells_written r c pen flag 0 (with_whole_start zs) (with_whole_start_over zs (drop c ys)))
     (from_column xs c h)
     ∙ (ap (λ (zs : List CellValue). cells_written r c pen flag 0
-    (begun (at xs c ∷ drop (c + 1) xs)) (begun_over (at xs c ∷ drop (c + 1) xs) zs))
+    (with_whole_start (at xs c ∷ drop (c + 1) xs)) (with_whole_start_over (at xs c ∷ drop (c + 1) xs) zs))
     (from_column ys c (omega arith))
     ∙ both (at xs c) (drop (c + 1) xs) (at ys c) (drop (c + 1) ys) e f)) where
       both : (x : CellValue) (more : List CellValue) (y : CellValue) (rest : List CellValue) →
           is_right_half x ≡ true → is_right_half y ≡ true →
-          cells_written r c pen flag 0 (begun (x ∷ more)) (begun_over (x ∷ more) (y ∷ rest))
+          cells_written r c pen flag 0 (with_whole_start (x ∷ more)) (with_whole_start_over (x ∷ more) (y ∷ rest))
           ≡ cells_written r (c + 1) pen flag 0 more rest
       both right_half more right_half rest e f =
           passed r c pen flag default_blank more default_blank rest (same_cell-itself default_blank) (λ w. absurd cc)
@@ -378,23 +378,23 @@ half_stands r c pen flag xs ys text h le e f =
 pub begin_same : (r c : ℕ) (pen : Pen) (flag : Bool) (xs ys : List CellValue) (text : List ℕ) →
     is_right_half (at xs c) ≡ false →
     Leads text (cells_from r c pen flag xs ys) text
-    (cells_written r c pen flag 0 (begun (drop c xs)) (begun_over (drop c xs) (drop c ys)))
+    (cells_written r c pen flag 0 (with_whole_start (drop c xs)) (with_whole_start_over (drop c xs) (drop c ys)))
 begin_same r c pen flag xs ys text e =
     leads_same text (cells_from r c pen flag xs ys)
-    (cells_written r c pen flag 0 (begun (drop c xs)) (begun_over (drop c xs) (drop c ys)))
-    (ap (λ (zs : List CellValue). cells_written r c pen flag 0 zs (begun_over (drop c xs) (drop c ys)))
+    (cells_written r c pen flag 0 (with_whole_start (drop c xs)) (with_whole_start_over (drop c xs) (drop c ys)))
+    (ap (λ (zs : List CellValue). cells_written r c pen flag 0 zs (with_whole_start_over (drop c xs) (drop c ys)))
     (begun_is (drop c xs) other)
     ∙ ap (cells_written r c pen flag 0 (drop c xs)) (over_is (drop c xs) (drop c ys) other)) where
       other : is_right_half (at (drop c xs) 0) ≡ false
       other = ap is_right_half (head_at xs c) ∙ e
 
-      begun_is : (zs : List CellValue) → is_right_half (at zs 0) ≡ false → begun zs ≡ zs
+      begun_is : (zs : List CellValue) → is_right_half (at zs 0) ≡ false → with_whole_start zs ≡ zs
       begun_is [] h = refl
       begun_is (blank a ∷ zs) h = refl
       begun_is (glyph t w a ∷ zs) h = refl
       begun_is (right_half ∷ zs) h = absurd cc
 
-      over_is : (zs ws : List CellValue) → is_right_half (at zs 0) ≡ false → begun_over zs ws ≡ ws
+      over_is : (zs ws : List CellValue) → is_right_half (at zs 0) ≡ false → with_whole_start_over zs ws ≡ ws
       over_is [] ws h = refl
       over_is (blank a ∷ zs) ws h = refl
       over_is (glyph t w a ∷ zs) ws h = refl
@@ -403,13 +403,13 @@ begin_same r c pen flag xs ys text e =
 begun_erased : (r c m : ℕ) (pen : Pen) (flag : Bool) (more : List CellValue) (y : CellValue) (under : List CellValue) →
     m ≡ blank_run default_attrs (default_blank ∷ more) →
     cells_written r c pen flag 0 (default_blank ∷ more) (right_half ∷ under)
-    ≡ after (doing pen r c default_attrs (erase_run m (drop m (y ∷ under))))
+    ≡ ops_then (placed_op pen r c default_attrs (erase_run m (drop m (y ∷ under))))
     (cells_written r (c + m) (pen_at r c default_attrs) (flag_past flag (drop m (y ∷ under)))
     0 (drop m (right_half ∷ more)) (drop m (y ∷ under)))
 unfolding same_cell
 begun_erased r c m pen flag more y under e =
     subst (λ (j : ℕ). cells_written r c pen flag 0 (default_blank ∷ more) (right_half ∷ under)
-    ≡ after (doing pen r c default_attrs (erase_run j (drop j (y ∷ under))))
+    ≡ ops_then (placed_op pen r c default_attrs (erase_run j (drop j (y ∷ under))))
     (cells_written r (c + j) (pen_at r c default_attrs) (flag_past flag (drop j (y ∷ under)))
     0 (drop j (right_half ∷ more)) (drop j (y ∷ under))))
     (sym (e ∙ run_first default_attrs more))
@@ -419,8 +419,8 @@ begun_erased r c m pen flag more y under e =
 one_erased : (r c m : ℕ) (pen : Pen) (flag : Bool) (x : CellValue)
     (more : List CellValue) (y : CellValue) (under : List CellValue) →
     is_right_half x ≡ true → is_right_half y ≡ false → m ≡ blank_run default_attrs (default_blank ∷ more) →
-    cells_written r c pen flag 0 (begun (x ∷ more)) (begun_over (x ∷ more) (y ∷ under))
-    ≡ after (doing pen r c default_attrs (erase_run m (drop m (y ∷ under))))
+    cells_written r c pen flag 0 (with_whole_start (x ∷ more)) (with_whole_start_over (x ∷ more) (y ∷ under))
+    ≡ ops_then (placed_op pen r c default_attrs (erase_run m (drop m (y ∷ under))))
     (cells_written r (c + m) (pen_at r c default_attrs)
     (flag_past flag (drop m (y ∷ under))) 0 (drop m (x ∷ more)) (drop m (y ∷ under)))
 one_erased r c m pen flag right_half more (blank b) under e f k = begun_erased r c m pen flag more (blank b) under k
@@ -434,34 +434,34 @@ one_erased r c m pen flag (glyph text wide a) more y under e f k = absurd cc
 pub half_erased : (r c n m : ℕ) (pen next : Pen) (flag then : Bool) (xs ys : List CellValue) (text longer : List ℕ) →
     c < length xs → length xs ≤ length ys → is_right_half (at xs c) ≡ true → is_right_half (at ys c) ≡ false →
     n ≡ blank_run default_attrs (drop (c + 1) xs) → m ≡ n + 1 →
-    longer ≡ text ++ bytes_of_all (doing pen r c default_attrs (erase_run m (drop (c + m) ys))) →
+    longer ≡ text ++ bytes_of_all (placed_op pen r c default_attrs (erase_run m (drop (c + m) ys))) →
     next ≡ pen_at r c default_attrs → then ≡ flag_past flag (drop (c + m) ys) →
     Leads longer (cells_from r (c + m) next then xs ys) text
-    (cells_written r c pen flag 0 (begun (drop c xs)) (begun_over (drop c xs) (drop c ys)))
+    (cells_written r c pen flag 0 (with_whole_start (drop c xs)) (with_whole_start_over (drop c xs) (drop c ys)))
 half_erased r c n m pen next flag then xs ys text longer h le e f count more told pens flags =
-    let ops = λ (zs : List CellValue). doing pen r c default_attrs (erase_run m zs) in
+    let ops = λ (zs : List CellValue). placed_op pen r c default_attrs (erase_run m zs) in
     let x = at xs c in
     let y = at ys c in
     let rest = drop (c + 1) xs in
     let under = drop (c + 1) ys in
     leads_after text longer (ops (drop (c + m) ys)) (cells_from r (c + m) next then xs ys)
-    (cells_written r c pen flag 0 (begun (drop c xs)) (begun_over (drop c xs) (drop c ys))) told
-    (ap (λ (zs : List CellValue). cells_written r c pen flag 0 (begun zs) (begun_over zs (drop c ys)))
+    (cells_written r c pen flag 0 (with_whole_start (drop c xs)) (with_whole_start_over (drop c xs) (drop c ys))) told
+    (ap (λ (zs : List CellValue). cells_written r c pen flag 0 (with_whole_start zs) (with_whole_start_over zs (drop c ys)))
     (from_column xs c h)
-    ∙ (ap (λ (zs : List CellValue). cells_written r c pen flag 0 (begun (x ∷ rest)) (begun_over (x ∷ rest) zs))
+    ∙ (ap (λ (zs : List CellValue). cells_written r c pen flag 0 (with_whole_start (x ∷ rest)) (with_whole_start_over (x ∷ rest) zs))
     (from_column ys c (omega arith))
     ∙ (one_erased r c m pen flag x rest y under e f (more ∙ (ap (λ (k : ℕ). k + 1) count ∙ sym (run_first_one rest)))
-    ∙ (ap (λ (zs : List CellValue). after (ops (drop m (y ∷ under)))
+    ∙ (ap (λ (zs : List CellValue). ops_then (ops (drop m (y ∷ under)))
     (cells_written r (c + m) (pen_at r c default_attrs)
     (flag_past flag (drop m (y ∷ under))) 0 zs (drop m (y ∷ under))))
     (behind c m xs h)
-    ∙ (ap (λ (zs : List CellValue). after (ops zs)
+    ∙ (ap (λ (zs : List CellValue). ops_then (ops zs)
     (cells_written r (c + m) (pen_at r c default_attrs) (flag_past flag zs) 0 (drop (c + m) xs) zs))
     (behind c m ys (omega arith))
-    ∙ (ap (λ (p : Pen). after (ops (drop (c + m) ys))
+    ∙ (ap (λ (p : Pen). ops_then (ops (drop (c + m) ys))
     (cells_written r (c + m) p (flag_past flag (drop (c + m) ys)) 0 (drop (c + m) xs) (drop (c + m) ys)))
     (sym pens)
-    ∙ ap (λ (b : Bool). after (ops (drop (c + m) ys)) (cells_from r (c + m) next b xs ys)) (sym flags))))))) where
+    ∙ ap (λ (b : Bool). ops_then (ops (drop (c + m) ys)) (cells_from r (c + m) next b xs ys)) (sym flags))))))) where
       run_first_one : (zs : List CellValue) →
           blank_run default_attrs (default_blank ∷ zs) ≡ blank_run default_attrs zs + 1
       run_first_one zs = run_first default_attrs zs ∙ omega arith

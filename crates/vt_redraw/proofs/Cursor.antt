@@ -14,12 +14,12 @@ use Rattle.vt_rows.specs.Row.{RowValue, blank_row}
 use Rattle.vt_grid.specs.Page.{row_or}
 use Rattle.vt_grid.specs.Moves.{line_feed}
 use Rattle.vt_grid.specs.Canvas.{Canvas}
-use Rattle.vt_redraw.specs.Script.{pen_at, going, changing}
+use Rattle.vt_redraw.specs.Script.{pen_at, move_ops, attr_ops}
 use Rattle.vt_redraw.specs.declared.pen.Pen.{Pen}
 use Rattle.vt_grid.proofs.Drawing.{Draws, draws_then}
 use Rattle.vt_redraw.proofs.Steps.{at_pen, Reads, Within, going_draws, changing_draws}
 use Rattle.vt_redraw.specs.Picture.{Saved, with_saved}
-use Rattle.vt_redraw.specs.Script.{is_at, going_behind, last_column}
+use Rattle.vt_redraw.specs.Script.{is_at, behind_last_glyph, last_column}
 use Rattle.vt_redraw.specs.Locality.{placing_row}
 use Rattle.vt_redraw.proofs.Touched.{DrawsIn, in_then, in_to, quiet_in, going_quiet, changing_quiet, feeds_quiet}
 use Rattle.vt_redraw.specs.Redraw.{nearest, blank_passed, over_blank, under_last, pending_at, cursor_written}
@@ -154,7 +154,7 @@ under_last_draws May base rows pen i r height reads size all prints le low withi
     let v = split_row rows i d (omega arith) in
     let count = ap length v.is ∙ length-append v.done (x ∷ v.below) in
     let above = v.above in
-    let w = going_behind i pen x.cells in
+    let w = behind_last_glyph i pen x.cells in
     let goes = going_behind_draws May base v.done v.below x.cells x.wrapped i height pen reads
     v.above (omega arith) ok.columns ok.paired (sym (ends_is x.cells) ∙ full) p within (λ _. may) in
     let there : DrawsIn May w.ops (at_pen base rows pen) (at_pen base rows w.pen) =
@@ -163,11 +163,11 @@ under_last_draws May base rows pen i r height reads size all prints le low withi
     let middle = at_pen base rows (pen_at i base.page.width w.pen.attrs) in
     let end = at_pen base rows (pen_at r base.page.width pen.attrs) in
     let changed = at_pen base rows (pen_at i base.page.width pen.attrs) in
-    in_then May w.ops (changing w.pen.attrs pen.attrs ++ replicate (r - i) LineFeed) (at_pen base rows pen) middle end
+    in_then May w.ops (attr_ops w.pen.attrs pen.attrs ++ replicate (r - i) LineFeed) (at_pen base rows pen) middle end
     (in_to May w.ops (at_pen base rows pen) (at_pen base rows w.pen)
     middle there (ap (λ (q : Pen). at_pen base rows q) goes.there))
-    (in_then May (changing w.pen.attrs pen.attrs) (replicate (r - i) LineFeed) middle changed end
-    (quiet_in May (changing w.pen.attrs pen.attrs) middle changed (changing_quiet w.pen.attrs pen.attrs)
+    (in_then May (attr_ops w.pen.attrs pen.attrs) (replicate (r - i) LineFeed) middle changed end
+    (quiet_in May (attr_ops w.pen.attrs pen.attrs) middle changed (changing_quiet w.pen.attrs pen.attrs)
     (changing_draws base rows (pen_at i base.page.width w.pen.attrs) pen.attrs))
     (quiet_in May (replicate (r - i) LineFeed) changed end (feeds_quiet (r - i))
     (down_draws base rows (r - i) i base.page.width height pen.attrs reads.bottom size (omega arith)
@@ -200,22 +200,22 @@ blank_passed_draws May base done below pre r was b pos e w h may =
     let m5 = mid other done below row false (pen_at r width b) in
     let m6 = mid other done below row false (pen_at r width was) in
     in_then May (Print (0x20 ∷ []) ∷ [])
-    (changing was b ++ (SaveCursor ∷ Backspace ∷ EraseChars 1 ∷ RestoreCursor ∷ changing b was)) m1 m2 m6
+    (attr_ops was b ++ (SaveCursor ∷ Backspace ∷ EraseChars 1 ∷ RestoreCursor ∷ attr_ops b was)) m1 m2 m6
     (in_to May (Print (0x20 ∷ []) ∷ []) m1 (mid base done below spaced false (pen_at r (c + 1) was)) m2
     (print_bare May base done below pre (0x20 ∷ []) false b was r prints e w h may)
     (ap (λ (z : ℕ). mid base done below spaced false (pen_at r z was)) w))
-    (in_then May (changing was b) (SaveCursor ∷ Backspace ∷ EraseChars 1 ∷ RestoreCursor ∷ changing b was) m2 m3 m6
-    (quiet_in May (changing was b) m2 m3 (changing_quiet was b)
+    (in_then May (attr_ops was b) (SaveCursor ∷ Backspace ∷ EraseChars 1 ∷ RestoreCursor ∷ attr_ops b was) m2 m3 m6
+    (quiet_in May (attr_ops was b) m2 m3 (changing_quiet was b)
     (changing_draws base (done ++ row_of spaced false ∷ below) (pen_at r width was) b))
-    (in_then May (SaveCursor ∷ Backspace ∷ []) (EraseChars 1 ∷ RestoreCursor ∷ changing b was) m3 m4 m6
+    (in_then May (SaveCursor ∷ Backspace ∷ []) (EraseChars 1 ∷ RestoreCursor ∷ attr_ops b was) m3 m4 m6
     (quiet_in May (SaveCursor ∷ Backspace ∷ []) m3 m4 (refl, (refl, tt))
     (ap (λ (z : ℕ). Some (mid other done below spaced false (pen_at r z b))) col))
-    (in_then May (EraseChars 1 ∷ []) (RestoreCursor ∷ changing b was)
+    (in_then May (EraseChars 1 ∷ []) (RestoreCursor ∷ attr_ops b was)
     m4 (mid other done below row false (pen_at r c b)) m6
     (erase_last May other done below pre (0x20 ∷ []) false was b false r e w h may)
-    (in_then May (RestoreCursor ∷ []) (changing b was) (mid other done below row false (pen_at r c b)) m5 m6
+    (in_then May (RestoreCursor ∷ []) (attr_ops b was) (mid other done below row false (pen_at r c b)) m5 m6
     (quiet_in May (RestoreCursor ∷ []) (mid other done below row false (pen_at r c b)) m5 (refl, tt) refl)
-    (quiet_in May (changing b was) m5 m6 (changing_quiet b was)
+    (quiet_in May (attr_ops b was) m5 m6 (changing_quiet b was)
     (changing_draws other (done ++ row_of row false ∷ below) (pen_at r width b) was))))))
 
 over_blank_draws : (May : ℕ → ℕ → Type 0) (base : Canvas) (done below : List RowValue)
@@ -233,9 +233,9 @@ over_blank_draws May base done below pre pen r height b reads e rows w h within 
     let col : width - 1 ≡ length pre = omega arith in
     let m0 = mid base done below row false pen in
     let m1 = mid base done below row false (pen_at r (length pre) pen.attrs) in
-    in_then May (going pen r (width - 1)) (blank_passed pen.attrs b) m0 m1
+    in_then May (move_ops pen r (width - 1)) (blank_passed pen.attrs b) m0 m1
     (mid (saved_at base r width b) done below row false (pen_at r width pen.attrs))
-    (in_to May (going pen r (width - 1)) m0 (mid base done below row false (pen_at r (width - 1) pen.attrs)) m1
+    (in_to May (move_ops pen r (width - 1)) m0 (mid base done below row false (pen_at r (width - 1) pen.attrs)) m1
     (going_there May base done below row false r (width - 1) height pen reads e rows (omega arith) within)
     (ap (λ (z : ℕ). mid base done below row false (pen_at r z pen.attrs)) col))
     (blank_passed_draws May base done below pre r pen.attrs b reads.has_columns e w h may)
@@ -323,14 +323,14 @@ cursor_draws May base rows pen r c height reads size all prints low le within ma
     let width = base.page.width in
     let start = at_pen base rows pen in
     let P : List Op → Type 0 = λ ops. Puts May ops start (at_pen base rows (pen_at r c pen.attrs)) in
-    let rest = if nat_lt c width then going pen r c else pending_at (nearest width rows r) pen width rows r in
+    let rest = if nat_lt c width then move_ops pen r c else pending_at (nearest width rows r) pen width rows r in
     cond_both (is_at pen r c) [] rest P
     (λ (t : is_at pen r c ≡ true).
     (saved_of base, record { draws = ap (λ (q : Pen). Some (at_pen base rows q)) (same_pen pen r c t); touches = tt }))
-    (λ _. cond_both (nat_lt c width) (going pen r c) (pending_at (nearest width rows r) pen width rows r) P
+    (λ _. cond_both (nat_lt c width) (move_ops pen r c) (pending_at (nearest width rows r) pen width rows r) P
     (λ (t : nat_lt c width ≡ true). (
       saved_of base,
-      quiet_in May (going pen r c) start (at_pen base rows (pen_at r c pen.attrs)) (going_quiet pen r c)
+      quiet_in May (move_ops pen r c) start (at_pen base rows (pen_at r c pen.attrs)) (going_quiet pen r c)
           (going_draws base rows pen r c height width reads size within low (ltb-true c width t)),
     ))
     (λ (t : nat_lt c width ≡ false).

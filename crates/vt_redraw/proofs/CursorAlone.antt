@@ -15,8 +15,8 @@ use Rattle.vt_rows.specs.Row.{RowValue, IsRow, blank_row}
 use Rattle.vt_grid.specs.Page.{row_or}
 use Rattle.vt_grid.specs.Page.{IsPlainPage}
 use Rattle.vt_grid.specs.Canvas.{Canvas}
-use Rattle.vt_cells.specs.Glyph.{first_columns}
-use Rattle.vt_redraw.specs.Script.{pen_at, changing}
+use Rattle.vt_cells.specs.Glyph.{glyph_columns}
+use Rattle.vt_redraw.specs.Script.{pen_at, attr_ops}
 use Rattle.vt_redraw.specs.declared.pen.Pen.{Pen}
 use Rattle.vt_grid.proofs.Drawing.{Draws}
 use Rattle.vt_redraw.specs.Touching.{Touches}
@@ -44,14 +44,14 @@ printed_again : (May : ℕ → ℕ → Type 0) (base : Canvas) (done below : Lis
     Paired xs → ends xs ≡ false → PrintsCells base.page.width xs →
     ((k : ℕ) → last_column xs ≤ k → k < base.page.width → May r k) →
     DrawsIn May (MoveTo r (last_column xs)
-    ∷ (changing pen.attrs (attrs_of (last_glyph xs)) ++ Print (text_of (last_glyph xs)) ∷ []))
+    ∷ (attr_ops pen.attrs (attrs_of (last_glyph xs)) ++ Print (text_of (last_glyph xs)) ∷ []))
     (mid base done below xs flag pen)
     (mid base done below xs flag (pen_at r base.page.width (attrs_of (last_glyph xs))))
 printed_again May base done below xs flag r pen origin e w h full prints may =
     last_cases
     (λ z k x. PrintsCells base.page.width z → length z ≡ base.page.width →
     Sound flag z → ((j : ℕ) → k ≤ j → j < base.page.width → May r j) →
-    DrawsIn May (MoveTo r k ∷ (changing pen.attrs (attrs_of x) ++ Print (text_of x) ∷ []))
+    DrawsIn May (MoveTo r k ∷ (attr_ops pen.attrs (attrs_of x) ++ Print (text_of x) ∷ []))
     (mid base done below z flag pen) (mid base done below z flag (pen_at r base.page.width (attrs_of x))))
     (λ pre text wide a front p size sound mays.
     let n = length_glyph pre text wide a in
@@ -64,19 +64,19 @@ printed_again May base done below xs flag r pen origin e w h full prints may =
     let m1 = mid base done below row flag (pen_at r c pen.attrs) in
     let m2 = mid base done below row flag (pen_at r c a) in
     let m3 = mid base done below row flag (pen_at r base.page.width a) in
-    in_then May (MoveTo r c ∷ []) (changing pen.attrs a ++ Print text ∷ []) m0 m1 m3
+    in_then May (MoveTo r c ∷ []) (attr_ops pen.attrs a ++ Print text ∷ []) m0 m1 m3
     (quiet_in May (MoveTo r c ∷ []) m0 m1 (refl, tt)
     (move_to_draws base rows pen r c origin (omega arith) (omega arith)))
-    (in_then May (changing pen.attrs a) (Print text ∷ []) m1 m2 m3
-    (quiet_in May (changing pen.attrs a) m1 m2 (changing_quiet pen.attrs a)
+    (in_then May (attr_ops pen.attrs a) (Print text ∷ []) m1 m2 m3
+    (quiet_in May (attr_ops pen.attrs a) m1 m2 (changing_quiet pen.attrs a)
     (changing_draws base rows (pen_at r c pen.attrs) a))
-    (in_to May (Print text ∷ []) m2 (mid base done below row flag (pen_at r (c + first_columns wide) a)) m3
+    (in_to May (Print text ∷ []) m2 (mid base done below row flag (pen_at r (c + glyph_columns wide) a)) m3
     (print_again May base done below pre text wide a flag r
     (prints_last base.page.width pre text wide a p) e (sym n ∙ size) front sound mays)
     (ap (λ (k : ℕ). mid base done below row flag (pen_at r k a)) (sym n ∙ size)))))
     xs h full prints w (λ _. full) may
   where
-    some_columns : (wide : Bool) → 0 < first_columns wide
+    some_columns : (wide : Bool) → 0 < glyph_columns wide
     some_columns true = omega arith
     some_columns false = omega arith
 
@@ -99,7 +99,7 @@ alone_draws May base rows p r height (Some i) attrs reads size all prints low ne
     let v = split_row rows i d (omega arith) in
     let pen = pen_at p.row p.col default_attrs in
     let ops =
-    MoveTo i (last_column x.cells) ∷ (changing default_attrs a ++ Print (text_of (last_glyph x.cells)) ∷ []) in
+    MoveTo i (last_column x.cells) ∷ (attr_ops default_attrs a ++ Print (text_of (last_glyph x.cells)) ∷ []) in
     let n : i + (r - i) ≡ r = omega arith in
     let m0 = at_pen base rows pen in
     let m1 = at_pen base rows (pen_at i width a) in
@@ -109,8 +109,8 @@ alone_draws May base rows p r height (Some i) attrs reads size all prints low ne
     subst (λ (z : List RowValue). DrawsIn May ops (at_pen base z pen) (at_pen base z (pen_at i width a))) (sym v.is)
     (printed_again May base v.done v.below x.cells x.wrapped i pen reads.origin v.above ok.columns ok.paired
     (sym (ends_is x.cells) ∙ near.1) (all_row (PrintsRow width) rows i d (omega arith) prints) may) in
-    let tail = in_then May (changing a default_attrs) (replicate (r - i) LineFeed) m1 m2 m3
-    (quiet_in May (changing a default_attrs) m1 m2 (changing_quiet a default_attrs)
+    let tail = in_then May (attr_ops a default_attrs) (replicate (r - i) LineFeed) m1 m2 m3
+    (quiet_in May (attr_ops a default_attrs) m1 m2 (changing_quiet a default_attrs)
     (changing_draws base rows (pen_at i width a) default_attrs))
     (quiet_in May (replicate (r - i) LineFeed) m2 m3 (feeds_quiet (r - i))
     (down_draws base rows (r - i) i width height default_attrs reads.bottom size (omega arith)
@@ -120,9 +120,9 @@ alone_draws May base rows p r height (Some i) attrs reads size all prints low ne
           (at_pen base rows (pen_at p.row p.col c)) m3)
           (sym attrs)
           (subst (λ (z : List Op). DrawsIn May z m0 m3)
-          (regrouped (MoveTo i (last_column x.cells)) (changing default_attrs a)
-          (Print (text_of (last_glyph x.cells))) (changing a default_attrs ++ replicate (r - i) LineFeed))
-          (in_then May ops (changing a default_attrs ++ replicate (r - i) LineFeed) m0 m1 m3 again tail)),
+          (regrouped (MoveTo i (last_column x.cells)) (attr_ops default_attrs a)
+          (Print (text_of (last_glyph x.cells))) (attr_ops a default_attrs ++ replicate (r - i) LineFeed))
+          (in_then May ops (attr_ops a default_attrs ++ replicate (r - i) LineFeed) m0 m1 m3 again tail)),
     )
   where
     regrouped : (op : Op) (ops : List Op) (print : Op) (more : List Op) →

@@ -13,7 +13,7 @@ use Rattle.vt_rows.specs.Row.{RowValue, IsRow}
 use Rattle.vt_grid.specs.Page.{row_or}
 use Rattle.vt_grid.specs.Page.{IsPlainPage}
 use Rattle.vt_grid.specs.Canvas.{Canvas}
-use Rattle.vt_redraw.specs.Script.{pen_at, changing}
+use Rattle.vt_redraw.specs.Script.{pen_at, attr_ops}
 use Rattle.vt_grid.proofs.Drawing.{Draws}
 use Rattle.vt_redraw.proofs.Steps.{at_pen, Reads, Within, changing_draws}
 use Rattle.vt_redraw.specs.Picture.{Picture, IsPicture, picture_of, SamePictureSize, Saved, with_saved, with_picture}
@@ -139,12 +139,12 @@ script_draws self base is steady other plain size =
     (sym same) rule.1 in (
       rule.0,
       in_then May w.ops
-          (cursor_written w.pen self.width self.rows self.row self.column ++ changing w.pen.attrs self.attrs)
+          (cursor_written w.pen self.width self.rows self.row self.column ++ attr_ops w.pen.attrs self.attrs)
           base (at_pen base self.rows w.pen) (with_saved rule.0 (at_pen base self.rows (pen_of self))) rows.draws
           (in_then May (cursor_written w.pen self.width self.rows self.row self.column)
-          (changing w.pen.attrs self.attrs) (at_pen base self.rows w.pen)
+          (attr_ops w.pen.attrs self.attrs) (at_pen base self.rows w.pen)
           (with_saved rule.0 goal) (with_saved rule.0 (at_pen base self.rows (pen_of self))) moved
-          (quiet_in May (changing w.pen.attrs self.attrs) (with_saved rule.0 goal)
+          (quiet_in May (attr_ops w.pen.attrs self.attrs) (with_saved rule.0 goal)
           (with_saved rule.0 (at_pen base self.rows (pen_of self))) (changing_quiet w.pen.attrs self.attrs)
           (changing_draws (with_saved rule.0 base) self.rows (pen_at self.row self.column w.pen.attrs) self.attrs))),
     )

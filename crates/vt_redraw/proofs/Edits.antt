@@ -13,7 +13,7 @@ use Rattle.vt_grid.specs.Moves.{line_feed}
 use Rattle.vt_grid.specs.Erasing.{erased_chars, erased_rest, erased_columns}
 use Rattle.vt_grid.specs.Printing.{with_cursor_cells, glyph_put, room_made, lacks_room, wrapped_page}
 use Rattle.vt_grid.specs.Canvas.{Canvas}
-use Rattle.vt_cells.specs.Glyph.{first_columns}
+use Rattle.vt_cells.specs.Glyph.{glyph_columns}
 use Rattle.vt_redraw.specs.Script.{pen_at, erase_run}
 use Rattle.vt_redraw.specs.declared.pen.Pen.{Pen}
 use Rattle.vt_grid.proofs.Drawing.{Draws}
@@ -65,9 +65,9 @@ pub glyph_put_at : (base : Canvas) (done below : List RowValue) (pre rest : List
     length done ≡ r → length pre ≡ c → Paired pre →
     glyph_put text wide attrs (mid base done below (pre ++ rest) flag (pen_at r c attrs)).page
     ≡ (mid base done below
-    (pre ++ (glyph_cells text wide attrs ++ opened (orphan wide attrs) (drop (first_columns wide) rest)))
-    (kept flag (pre ++ (glyph_cells text wide attrs ++ opened (orphan wide attrs) (drop (first_columns wide) rest))))
-    (pen_at r (c + first_columns wide) attrs)).page
+    (pre ++ (glyph_cells text wide attrs ++ opened (orphan wide attrs) (drop (glyph_columns wide) rest)))
+    (kept flag (pre ++ (glyph_cells text wide attrs ++ opened (orphan wide attrs) (drop (glyph_columns wide) rest))))
+    (pen_at r (c + glyph_columns wide) attrs)).page
 glyph_put_at base done below pre rest flag r c text false attrs e l h =
     ap (λ (page : Page). record page { column = c + 1 })
     (edited_at base done below (pre ++ rest) flag (pen_at r c attrs) (put_narrow c text attrs)

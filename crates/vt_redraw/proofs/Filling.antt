@@ -18,7 +18,7 @@ use Rattle.vt_rows.proofs.Moves.{moved_is, length-resized}
 use Rattle.vt_rows.specs.Row.{RowValue}
 use Rattle.vt_grid.specs.Page.{row_or}
 use Rattle.vt_redraw.specs.Redraw.{nearest}
-use Rattle.vt_redraw.specs.Keeping.{filled, is_split, kept_len, end_of}
+use Rattle.vt_redraw.specs.Internals.{filled, is_split, kept_len, cell_past_cut}
 use Rattle.vt_redraw.specs.Script.{is_nil, is_torn, erase_run, starts_other}
 
 -- one right half is left from column k on
@@ -227,7 +227,7 @@ whole_columns cols cells paired whole k h =
 
 -- the cells that are kept where they lie and what stands behind them are the row cut or grown
 pub filled_resized : (cols : ℕ) (cells : List CellValue) → 0 < cols → IsPaired cells →
-    filled (take (kept_len cols cells) cells) cols (end_of cols cells) ≡ resized cols cells
+    filled (take (kept_len cols cells) cells) cols (cell_past_cut cols cells) ≡ resized cols cells
 unfolding resized
 filled_resized cols cells pos paired = by_split (is_split cols cells) refl where
   by_split : (b : Bool) → is_split cols cells ≡ b →

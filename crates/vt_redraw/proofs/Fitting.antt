@@ -15,15 +15,15 @@ use Rattle.vt_rows.specs.Cells.{at, ends_blank}
 use Rattle.vt_rows.specs.Row.{RowValue, IsRow}
 use Rattle.vt_grid.specs.Page.{row_or}
 use Rattle.vt_redraw.specs.Fits.{Fits, IsDrawnText}
-use Rattle.vt_cells.specs.Glyph.{first_columns}
-use Rattle.vt_redraw.specs.Script.{pen_at, going, changing, blank_run, erase_run}
+use Rattle.vt_cells.specs.Glyph.{glyph_columns}
+use Rattle.vt_redraw.specs.Script.{pen_at, move_ops, attr_ops, blank_run, erase_run}
 use Rattle.vt_redraw.specs.declared.pen.Pen.{Pen}
 use Rattle.vt_redraw.proofs.Runs.{run_bound}
 use Rattle.vt_redraw.proofs.Printable.{printable_text}
 use Rattle.vt_redraw.specs.Picture.{Picture, IsPicture, IsColoredPicture}
-use Rattle.vt_redraw.specs.Script.{Scripted, nothing, after, doing, cells_written, last_column, last_glyph}
-use Rattle.vt_redraw.specs.Script.{is_at, behind, going_behind, Linked, unlinked, first_written, starts_other}
-use Rattle.vt_redraw.specs.Script.{link_after, linked, breaking, broken, flag_behind, flag_past}
+use Rattle.vt_redraw.specs.Script.{Scripted, no_ops, ops_then, placed_op, cells_written, last_column, last_glyph}
+use Rattle.vt_redraw.specs.Script.{is_at, pen_behind, behind_last_glyph, Linked, no_link, first_written, starts_other}
+use Rattle.vt_redraw.specs.Script.{ops_then_link, row_link, break_ops, row_break, flag_behind, flag_past}
 use Rattle.vt_redraw.specs.Redraw.{row_written, link_of, rows_below, rows_written, nearest, over_blank}
 use Rattle.vt_redraw.specs.Redraw.{under_last, pending_at, cursor_written, pen_of, script, hiding}
 use Rattle.vt_redraw.specs.Redraw.{difference, blank_like, redraw, pending_alone, cursor_state}
@@ -37,16 +37,16 @@ pub fits_append : (xs ys : List Op) → AllFit xs → AllFit ys → AllFit (xs +
 fits_append [] ys p q = q
 fits_append (x ∷ xs) ys p q = (p.0, fits_append xs ys p.1 q)
 
-going_fits : (pen : Pen) (r c : ℕ) → r < 65535 → c < 65535 → AllFit (going pen r c)
-unfolding going
+going_fits : (pen : Pen) (r c : ℕ) → r < 65535 → c < 65535 → AllFit (move_ops pen r c)
+unfolding move_ops
 going_fits pen r c h l =
     cond_both ((r == pen.row + 1) && (c == 0)) (NextRow ∷ []) _ AllFit (λ _. (tt, tt))
     (λ _. cond_both ((r == pen.row) && nat_lt pen.col c)
     (MoveRight (c - pen.col) ∷ []) _ AllFit (λ _. (omega arith, tt))
     (λ _. cond_both ((r == pen.row) && (c == pen.col)) [] (MoveTo r c ∷ []) AllFit (λ _. tt) (λ _. ((h, l), tt))))
 
-changing_fits : (was new : Attrs) → FitsAttrs was → FitsAttrs new → AllFit (changing was new)
-unfolding changing
+changing_fits : (was new : Attrs) → FitsAttrs was → FitsAttrs new → AllFit (attr_ops was new)
+unfolding attr_ops
 changing_fits was new h l =
     cond_both (same_attrs was new) [] (ChangeAttrs was new ∷ []) AllFit (λ _. tt) (λ _. ((h, l), tt))
 
@@ -55,10 +55,10 @@ erase_run_fits n [] h = tt
 erase_run_fits n (x ∷ xs) h = h
 
 doing_fits : (pen : Pen) (r c : ℕ) (attrs : Attrs) (op : Op) → r < 65535 → c < 65535 →
-    FitsAttrs pen.attrs → FitsAttrs attrs → Fits op → AllFit (doing pen r c attrs op)
+    FitsAttrs pen.attrs → FitsAttrs attrs → Fits op → AllFit (placed_op pen r c attrs op)
 doing_fits pen r c attrs op h l was new fits =
-    fits_append (going pen r c) (changing pen.attrs attrs ++ op ∷ []) (going_fits pen r c h l)
-    (fits_append (changing pen.attrs attrs) (op ∷ []) (changing_fits pen.attrs attrs was new) (fits, tt))
+    fits_append (move_ops pen r c) (attr_ops pen.attrs attrs ++ op ∷ []) (going_fits pen r c h l)
+    (fits_append (attr_ops pen.attrs attrs) (op ∷ []) (changing_fits pen.attrs attrs was new) (fits, tt))
 
 feeds_fit : (n : ℕ) → AllFit (replicate n LineFeed)
 feeds_fit zero = tt
@@ -91,7 +91,7 @@ pub record FitsWritten (w : Scripted) : Type 0 where
   pub ops : AllFit w.ops
   pub attrs : FitsAttrs w.pen.attrs
 
-pub fits_after : (ops : List Op) (w : Scripted) → AllFit ops → FitsWritten w → FitsWritten (after ops w)
+pub fits_after : (ops : List Op) (w : Scripted) → AllFit ops → FitsWritten w → FitsWritten (ops_then ops w)
 fits_after ops w h k = record { ops = fits_append ops w.ops h k.ops; attrs = k.attrs }
 
 pub cells_fit : (r c : ℕ) (pen : Pen) (flag : Bool) (k : ℕ) (xs ys : List CellValue) →
@@ -110,20 +110,20 @@ cells_fit r c pen flag zero (blank a ∷ xs) (y ∷ ys) h l was fit =
     let op = erase_run (suc n) (drop n ys) in
     let rest = cells_written r (c + 1) (pen_at r c a) (flag_past flag (drop n ys)) n xs ys in
     cond_both (same_cell (blank a) y) (cells_written r (c + 1) pen flag zero xs ys)
-    (after (doing pen r c a op) rest) FitsWritten
+    (ops_then (placed_op pen r c a op) rest) FitsWritten
     (λ _. cells_fit r (c + 1) pen flag zero xs ys h (omega arith) was fit.1)
-    (λ _. fits_after (doing pen r c a op) rest
+    (λ _. fits_after (placed_op pen r c a op) rest
     (doing_fits pen r c a op h (omega arith) was fit.0.1 (erase_run_fits (suc n) (drop n ys) (omega arith)))
     (cells_fit r (c + 1) (pen_at r c a) (flag_past flag (drop n ys)) n xs ys h (omega arith) fit.0.1 fit.1))
 cells_fit r c pen flag zero (glyph text wide a ∷ xs) (y ∷ ys) h l was fit =
-    let k = first_columns wide - 1 in
-    let next = pen_at r (c + first_columns wide) a in
+    let k = glyph_columns wide - 1 in
+    let next = pen_at r (c + glyph_columns wide) a in
     let now = flag_behind flag wide (drop 1 ys) in
     let rest = cells_written r (c + 1) next now k xs ys in
     cond_both (same_cell (glyph text wide a) y) (cells_written r (c + 1) pen flag k xs ys)
-    (after (doing pen r c a (Print text)) rest) FitsWritten
+    (ops_then (placed_op pen r c a (Print text)) rest) FitsWritten
     (λ _. cells_fit r (c + 1) pen flag k xs ys h (omega arith) was fit.1)
-    (λ _. fits_after (doing pen r c a (Print text)) rest
+    (λ _. fits_after (placed_op pen r c a (Print text)) rest
     (doing_fits pen r c a (Print text) h (omega arith) was fit.0.1 (printable_text text wide fit.0.0))
     (cells_fit r (c + 1) next now k xs ys h (omega arith) fit.0.1 fit.1))
 
@@ -135,15 +135,15 @@ last_low cells some h =
     (length cells - 1) (λ (k : ℕ). k < 65535) (λ _. omega arith) (λ _. omega arith)
 
 pub behind_fits : (r : ℕ) (pen : Pen) (cells : List CellValue) → r < 65535 → 0 < length cells →
-    length cells < 2 ^ 16 → FitsAttrs pen.attrs → AllByRecursion IsFit cells → FitsWritten (going_behind r pen cells)
+    length cells < 2 ^ 16 → FitsAttrs pen.attrs → AllByRecursion IsFit cells → FitsWritten (behind_last_glyph r pen cells)
 behind_fits r pen cells h some l was fit =
     let last = at_fits cells (last_column cells) fit in
     let again : Scripted = record {
-      ops = doing pen r (last_column cells) (attrs_of (last_glyph cells)) (Print (text_of (last_glyph cells)));
-      pen = behind r cells;
+      ops = placed_op pen r (last_column cells) (attrs_of (last_glyph cells)) (Print (text_of (last_glyph cells)));
+      pen = pen_behind r cells;
       flag = true;
     } in
-    cond_both (is_at pen r (length cells)) (nothing pen true) again FitsWritten (λ _. record { ops = tt; attrs = was })
+    cond_both (is_at pen r (length cells)) (no_ops pen true) again FitsWritten (λ _. record { ops = tt; attrs = was })
     (λ _.
     record {
       ops =
@@ -163,46 +163,46 @@ first_fits r pen flag (x ∷ xs) [] was fit = record { ops = tt; attrs = was }
 first_fits r pen flag (right_half ∷ xs) (y ∷ ys) was fit = record { ops = tt; attrs = was }
 first_fits r pen flag (blank a ∷ xs) (y ∷ ys) was fit = record {
   ops =
-      fits_append (changing pen.attrs a) (Print (0x20 ∷ []) ∷ Backspace ∷ EraseChars 1 ∷ [])
+      fits_append (attr_ops pen.attrs a) (Print (0x20 ∷ []) ∷ Backspace ∷ EraseChars 1 ∷ [])
       (changing_fits pen.attrs a was fit.0.1) (space_fits, (tt, (omega arith, tt)));
   attrs = fit.0.1;
 }
 first_fits r pen flag (glyph text wide a ∷ xs) (y ∷ ys) was fit = record {
   ops =
-      fits_append (changing pen.attrs a) (Print text ∷ [])
+      fits_append (attr_ops pen.attrs a) (Print text ∷ [])
       (changing_fits pen.attrs a was fit.0.1) (printable_text text wide fit.0.0, tt);
   attrs = fit.0.1;
 }
 
 linked_fits : (r : ℕ) (pen : Pen) (above : List CellValue) (on flag : Bool) (xs ys : List CellValue) →
     r < 65535 → 0 < length above → length above < 2 ^ 16 → FitsAttrs pen.attrs →
-    AllByRecursion IsFit above → AllByRecursion IsFit xs → FitsLinked (linked r pen above on flag xs ys)
-unfolding linked
+    AllByRecursion IsFit above → AllByRecursion IsFit xs → FitsLinked (row_link r pen above on flag xs ys)
+unfolding row_link
 linked_fits r pen above on flag xs ys h some l was over fit =
-    let w = going_behind r pen above in
+    let w = behind_last_glyph r pen above in
     let one = behind_fits r pen above h some l was over in
     let two = first_fits (r + 1) w.pen flag xs ys one.attrs fit in
     cond_both (not on || (is_at pen r (length above) && starts_other xs ys))
-    (link_after w.ops (first_written (r + 1) w.pen flag xs ys)) (unlinked pen flag) FitsLinked
+    (ops_then_link w.ops (first_written (r + 1) w.pen flag xs ys)) (no_link pen flag) FitsLinked
     (λ _.
     record { ops = fits_append w.ops (first_written (r + 1) w.pen flag xs ys).ops one.ops two.ops; attrs = two.attrs })
     (λ _. record { ops = tt; attrs = was })
 
 pub broken_fits : (r : ℕ) (pen : Pen) (flag wanted : Bool) (cells : List CellValue) →
     r < 65535 → 0 < length cells → length cells < 2 ^ 16 → FitsAttrs pen.attrs →
-    AllByRecursion IsFit cells → FitsWritten (broken r pen flag wanted cells)
-unfolding broken
+    AllByRecursion IsFit cells → FitsWritten (row_break r pen flag wanted cells)
+unfolding row_break
 broken_fits r pen flag wanted cells h some l was fit =
     let last = at_fits cells (last_column cells) fit in
     let a = attrs_of (last_glyph cells) in
     let text = text_of (last_glyph cells) in
-    cond_both (flag && not wanted) (breaking r pen cells) (nothing pen flag) FitsWritten
+    cond_both (flag && not wanted) (break_ops r pen cells) (no_ops pen flag) FitsWritten
     (λ _. record {
       ops =
-          fits_append (going pen r (last_column cells)) (EraseChars 1 ∷ (changing pen.attrs a ++ Print text ∷ []))
+          fits_append (move_ops pen r (last_column cells)) (EraseChars 1 ∷ (attr_ops pen.attrs a ++ Print text ∷ []))
           (going_fits pen r (last_column cells) h (last_low cells some l)) (
             omega arith,
-            fits_append (changing pen.attrs a) (Print text ∷ [])
+            fits_append (attr_ops pen.attrs a) (Print text ∷ [])
                 (changing_fits pen.attrs a was last.1) (text_fits (last_glyph cells) last.0, tt),
           );
       attrs = last.1;
@@ -222,7 +222,7 @@ row_fits r k width pen flag x ys h some l was fit =
     let columns = fit.columns in
     let w = cells_written r 0 pen flag k x.cells ys in
     let one = cells_fit r 0 pen flag k x.cells ys h (omega arith) was fit.cells in
-    fits_after w.ops (broken r w.pen w.flag x.wrapped x.cells) one.ops
+    fits_after w.ops (row_break r w.pen w.flag x.wrapped x.cells) one.ops
     (broken_fits r w.pen w.flag x.wrapped x.cells h (omega arith) (omega arith) one.attrs fit.cells)
 
 below_fit : (r width : ℕ) (pen : Pen) (above : RowValue) (on : Bool) (xs ys : List RowValue) →
@@ -237,7 +237,7 @@ below_fit r width pen above on (x ∷ xs) (y ∷ ys) h some l was over fit =
     let link = link_of r pen above on x y in
     let row = row_written (r + 1) link.settled link.pen link.flag x y.cells in
     let one : FitsLinked link =
-    cond_both above.wrapped (linked r pen above.cells on y.wrapped x.cells y.cells) (unlinked pen y.wrapped) FitsLinked
+    cond_both above.wrapped (row_link r pen above.cells on y.wrapped x.cells y.cells) (no_link pen y.wrapped) FitsLinked
     (λ _. linked_fits r pen above.cells on y.wrapped x.cells y.cells
     (omega arith) (omega arith) (omega arith) was over.cells fit.0.cells)
     (λ _. record { ops = tt; attrs = was }) in
@@ -289,12 +289,12 @@ pending_fits None pen width rows r near lt h some l was fit =
     let row = row_at_fits width rows r fit lt in
     let last = at_fits (row_or width rows r).cells (width - 1) row.cells in
     let b = attrs_of (at (row_or width rows r).cells (width - 1)) in
-    fits_append (going pen r (width - 1))
+    fits_append (move_ops pen r (width - 1))
     (Print (0x20 ∷ [])
-    ∷ (changing pen.attrs b ++ (SaveCursor ∷ Backspace ∷ EraseChars 1 ∷ RestoreCursor ∷ changing b pen.attrs)))
+    ∷ (attr_ops pen.attrs b ++ (SaveCursor ∷ Backspace ∷ EraseChars 1 ∷ RestoreCursor ∷ attr_ops b pen.attrs)))
     (going_fits pen r (width - 1) (omega arith) (omega arith)) (
       space_fits,
-      fits_append (changing pen.attrs b) (SaveCursor ∷ Backspace ∷ EraseChars 1 ∷ RestoreCursor ∷ changing b pen.attrs)
+      fits_append (attr_ops pen.attrs b) (SaveCursor ∷ Backspace ∷ EraseChars 1 ∷ RestoreCursor ∷ attr_ops b pen.attrs)
           (changing_fits pen.attrs b was last.1)
           (tt, (tt, (omega arith, (tt, changing_fits b pen.attrs last.1 was)))),
     )
@@ -302,10 +302,10 @@ pending_fits (Some i) pen width rows r near lt h some l was fit =
     let row = row_at_fits width rows i fit (omega arith) in
     let columns = row.columns in
     let cells = (row_or width rows i).cells in
-    let w = going_behind i pen cells in
+    let w = behind_last_glyph i pen cells in
     let one = behind_fits i pen cells (omega arith) (omega arith) (omega arith) was row.cells in
-    fits_append w.ops (changing w.pen.attrs pen.attrs ++ replicate (r - i) LineFeed) one.ops
-    (fits_append (changing w.pen.attrs pen.attrs) (replicate (r - i) LineFeed)
+    fits_append w.ops (attr_ops w.pen.attrs pen.attrs ++ replicate (r - i) LineFeed) one.ops
+    (fits_append (attr_ops w.pen.attrs pen.attrs) (replicate (r - i) LineFeed)
     (changing_fits w.pen.attrs pen.attrs one.attrs was) (feeds_fit (r - i)))
 
 cursor_fits : (pen : Pen) (width : ℕ) (rows : List RowValue) (r c : ℕ) → r < length rows →
@@ -314,8 +314,8 @@ cursor_fits : (pen : Pen) (width : ℕ) (rows : List RowValue) (r c : ℕ) → r
 unfolding cursor_written
 cursor_fits pen width rows r c lt h some l was fit =
     cond_both (is_at pen r c) []
-    (if nat_lt c width then going pen r c else pending_at (nearest width rows r) pen width rows r) AllFit (λ _. tt)
-    (λ _. cond_both (nat_lt c width) (going pen r c) (pending_at (nearest width rows r) pen width rows r) AllFit
+    (if nat_lt c width then move_ops pen r c else pending_at (nearest width rows r) pen width rows r) AllFit (λ _. tt)
+    (λ _. cond_both (nat_lt c width) (move_ops pen r c) (pending_at (nearest width rows r) pen width rows r) AllFit
     (λ (t : nat_lt c width ≡ true). let low = ltb-true c width t in going_fits pen r c (omega arith) (omega arith))
     (λ _. pending_fits (nearest width rows r) pen width rows r (nearest_below width rows r) lt h some l was fit))
 
@@ -350,8 +350,8 @@ script_fits self prev is colors was =
     let rows =
     rows_fit self.width (pen_of prev) self.rows prev.rows colors.height is.has_columns colors.columns was fit in
     fits_append w.ops
-    (cursor_written w.pen self.width self.rows self.row self.column ++ changing w.pen.attrs self.attrs) rows.ops
-    (fits_append (cursor_written w.pen self.width self.rows self.row self.column) (changing w.pen.attrs self.attrs)
+    (cursor_written w.pen self.width self.rows self.row self.column ++ attr_ops w.pen.attrs self.attrs) rows.ops
+    (fits_append (cursor_written w.pen self.width self.rows self.row self.column) (attr_ops w.pen.attrs self.attrs)
     (cursor_fits w.pen self.width self.rows self.row self.column
     is.cursor_row colors.height is.has_columns colors.columns rows.attrs fit)
     (changing_fits w.pen.attrs self.attrs rows.attrs colors.attrs))
@@ -382,8 +382,8 @@ alone_fits None width rows r near lt h some l fit =
       (omega arith, omega arith),
       (
         space_fits,
-        fits_append (changing default_attrs b)
-            (SaveCursor ∷ Backspace ∷ EraseChars 1 ∷ RestoreCursor ∷ changing b default_attrs)
+        fits_append (attr_ops default_attrs b)
+            (SaveCursor ∷ Backspace ∷ EraseChars 1 ∷ RestoreCursor ∷ attr_ops b default_attrs)
             (changing_fits default_attrs b plain last.1)
             (tt, (tt, (omega arith, (tt, changing_fits b default_attrs last.1 plain)))),
       ),
@@ -396,11 +396,11 @@ alone_fits (Some i) width rows r near lt h some l fit =
     let a = attrs_of (last_glyph cells) in
     let plain : FitsAttrs default_attrs = (tt, tt) in (
       (omega arith, last_low cells (omega arith) (omega arith)),
-      fits_append (changing default_attrs a)
-          (Print (text_of (last_glyph cells)) ∷ (changing a default_attrs ++ replicate (r - i) LineFeed))
+      fits_append (attr_ops default_attrs a)
+          (Print (text_of (last_glyph cells)) ∷ (attr_ops a default_attrs ++ replicate (r - i) LineFeed))
           (changing_fits default_attrs a plain last.1) (
             text_fits (last_glyph cells) last.0,
-            fits_append (changing a default_attrs) (replicate (r - i) LineFeed)
+            fits_append (attr_ops a default_attrs) (replicate (r - i) LineFeed)
                 (changing_fits a default_attrs last.1 plain) (feeds_fit (r - i)),
           ),
     )

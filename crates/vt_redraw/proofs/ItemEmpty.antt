@@ -13,11 +13,11 @@ use Rattle.vt_cells.proofs.SameCells.{cell_of-same}
 use Rattle.vt_cells.proofs.Texts.{bytes_of_all-append}
 use Rattle.vt_rows.specs.Row.{RowValue, IsRow}
 use Rattle.vt_grid.specs.Page.{row_or}
-use Rattle.vt_redraw.specs.Items.{in_range, begun, begun_over, range_written, is_whole, item_of_difference}
+use Rattle.vt_redraw.specs.Items.{in_range, with_whole_start, with_whole_start_over, range_written, is_whole, item_of_difference}
 use Rattle.vt_redraw.specs.Picture.{Picture, IsPicture, SamePictureSize}
-use Rattle.vt_redraw.specs.Script.{Scripted, nothing, after, pen_at, going, changing, doing, blank_run}
+use Rattle.vt_redraw.specs.Script.{Scripted, no_ops, ops_then, pen_at, move_ops, attr_ops, placed_op, blank_run}
 use Rattle.vt_redraw.specs.Script.{erase_run, flag_past, flag_behind, cells_written, last_column}
-use Rattle.vt_redraw.specs.Script.{last_glyph, is_at, behind, going_behind, broken}
+use Rattle.vt_redraw.specs.Script.{last_glyph, is_at, pen_behind, behind_last_glyph, row_break}
 use Rattle.vt_redraw.specs.declared.pen.Pen.{Pen}
 use Rattle.vt_redraw.proofs.Edits.{glyph_cells}
 use Rattle.vt_redraw.proofs.Flags.{ends, ends_is}
@@ -35,10 +35,10 @@ none_of (x ∷ xs) ys h = absurd (cc)
 none_of_ops : (xs ys : List Op) → bytes_of_all (xs ++ ys) ≡ [] → (bytes_of_all xs ≡ []) × (bytes_of_all ys ≡ [])
 none_of_ops xs ys h = none_of (bytes_of_all xs) (bytes_of_all ys) (sym (bytes_of_all-append xs ys) ∙ h)
 
-no_doing : (pen : Pen) (r c : ℕ) (a : Attrs) (op : Op) → bytes_of_all (doing pen r c a op) ≡ [] → bytes_of op ≡ []
+no_doing : (pen : Pen) (r c : ℕ) (a : Attrs) (op : Op) → bytes_of_all (placed_op pen r c a op) ≡ [] → bytes_of op ≡ []
 no_doing pen r c a op h =
-    let one = none_of_ops (going pen r c) (changing pen.attrs a ++ op ∷ []) h in
-    let two = none_of_ops (changing pen.attrs a) (op ∷ []) one.1 in
+    let one = none_of_ops (move_ops pen r c) (attr_ops pen.attrs a ++ op ∷ []) h in
+    let two = none_of_ops (attr_ops pen.attrs a) (op ∷ []) one.1 in
     (none_of (bytes_of op) [] two.1).0
 
 some_chars : (n : ℕ) → bytes_of (EraseChars (suc n)) ≡ [] → ⊥
@@ -73,7 +73,7 @@ cells_none r c pen flag (blank a ∷ xs) (y ∷ ys) e h k is none =
         (t : Bool) →
         same_cell (blank a) y ≡ t →
         bytes_of_all (if t then cells_written r (c + 1) pen flag 0 xs ys
-        else after (doing pen r c a (erase_run (suc (blank_run a xs)) (drop (blank_run a xs) ys)))
+        else ops_then (placed_op pen r c a (erase_run (suc (blank_run a xs)) (drop (blank_run a xs) ys)))
         (cells_written r (c + 1) (pen_at r c a) (flag_past flag (drop (blank_run a xs) ys)) (blank_run a xs) xs ys)).ops
         ≡ [] →
         blank a ∷ xs ≡ y ∷ ys
@@ -83,7 +83,7 @@ cells_none r c pen flag (blank a ∷ xs) (y ∷ ys) e h k is none =
     by_test more false t none =
         let op = erase_run (suc (blank_run a xs)) (drop (blank_run a xs) ys) in
         absurd (some_run (blank_run a xs) (drop (blank_run a xs) ys)
-        (no_doing pen r c a op (none_of_ops (doing pen r c a op) _ none).0))
+        (no_doing pen r c a op (none_of_ops (placed_op pen r c a op) _ none).0))
 cells_none r c pen flag (glyph text false a ∷ xs) (y ∷ ys) e h k is none =
     by_test (λ p n. cells_none r (c + 1) pen flag xs ys (omega arith) h p is.1 n)
     (same_cell (glyph text false a) y) refl none
@@ -92,7 +92,7 @@ cells_none r c pen flag (glyph text false a ∷ xs) (y ∷ ys) e h k is none =
         (t : Bool) →
         same_cell (glyph text false a) y ≡ t →
         bytes_of_all (if t then cells_written r (c + 1) pen flag 0 xs ys
-        else after (doing pen r c a (Print text))
+        else ops_then (placed_op pen r c a (Print text))
         (cells_written r (c + 1) (pen_at r (c + 1) a) (flag_behind flag false (drop 1 ys)) 0 xs ys)).ops
         ≡ [] →
         glyph text false a ∷ xs ≡ y ∷ ys
@@ -102,7 +102,7 @@ cells_none r c pen flag (glyph text false a ∷ xs) (y ∷ ys) e h k is none =
         (more (subst (λ (z : CellValue). Paired (z ∷ ys)) (sym same) k) none)
     by_test more false t none =
         absurd (some_text text false a is.0
-        (no_doing pen r c a (Print text) (none_of_ops (doing pen r c a (Print text)) _ none).0))
+        (no_doing pen r c a (Print text) (none_of_ops (placed_op pen r c a (Print text)) _ none).0))
 cells_none r c pen flag (glyph text true a ∷ []) (y ∷ ys) e h k is none = absurd h
 cells_none r c pen flag (glyph text true a ∷ blank b ∷ xs) (y ∷ ys) e h k is none = absurd h
 cells_none r c pen flag (glyph text true a ∷ glyph other wide b ∷ xs) (y ∷ ys) e h k is none = absurd h
@@ -111,10 +111,10 @@ cells_none r c pen flag (glyph text true a ∷ right_half ∷ xs) (y ∷ z ∷ y
     by_test (λ p n. cells_none r (c + 1 + 1) pen flag xs ys (omega arith) h p is.1.1 n)
     (same_cell (glyph text true a) y) refl none
   where
-    behind : (z : CellValue) → Paired (glyph text true a ∷ z ∷ ys) → (right_half ≡ z) × Paired ys
-    behind right_half p = (refl, p)
-    behind (blank b) p = absurd p
-    behind (glyph other wide b) p = absurd p
+    pen_behind : (z : CellValue) → Paired (glyph text true a ∷ z ∷ ys) → (right_half ≡ z) × Paired ys
+    pen_behind right_half p = (refl, p)
+    pen_behind (blank b) p = absurd p
+    pen_behind (glyph other wide b) p = absurd p
 
     next : (z : CellValue) → right_half ≡ z →
         bytes_of_all (cells_written r (c + 1) pen flag 1 (right_half ∷ xs) (z ∷ ys)).ops ≡ [] →
@@ -127,19 +127,19 @@ cells_none r c pen flag (glyph text true a ∷ right_half ∷ xs) (y ∷ z ∷ y
         (t : Bool) →
         same_cell (glyph text true a) y ≡ t →
         bytes_of_all (if t then cells_written r (c + 1) pen flag 1 (right_half ∷ xs) (z ∷ ys)
-        else after (doing pen r c a (Print text))
+        else ops_then (placed_op pen r c a (Print text))
         (cells_written r (c + 1) (pen_at r (c + 2) a)
         (flag_behind flag true (drop 1 (z ∷ ys))) 1 (right_half ∷ xs) (z ∷ ys))).ops
         ≡ [] →
         glyph text true a ∷ right_half ∷ xs ≡ y ∷ z ∷ ys
     by_test more true t none =
         let same = cell_of-same (glyph text true a) y t in
-        let half = behind z (subst (λ (w : CellValue). Paired (w ∷ z ∷ ys)) (sym same) k) in
+        let half = pen_behind z (subst (λ (w : CellValue). Paired (w ∷ z ∷ ys)) (sym same) k) in
         same_ahead (glyph text true a) y (right_half ∷ xs) (z ∷ ys) same
         (same_ahead right_half z xs ys half.0 (more half.1 (next z half.0 none)))
     by_test more false t none =
         absurd (some_text text true a is.0
-        (no_doing pen r c a (Print text) (none_of_ops (doing pen r c a (Print text)) _ none).0))
+        (no_doing pen r c a (Print text) (none_of_ops (placed_op pen r c a (Print text)) _ none).0))
 
 -- ---- the flag
 
@@ -158,32 +158,32 @@ last_is_text cells h e is none =
 -- the operations behind cells that stand
 abbrev end_ops : ℕ → Bool → Bool → List CellValue → List Op
 end_ops r flag wanted cells =
-    let b = broken r (pen_at r 0 default_attrs) flag wanted cells in
-    if wanted && not b.flag then b.ops ++ (going_behind r b.pen cells).ops else b.ops
+    let b = row_break r (pen_at r 0 default_attrs) flag wanted cells in
+    if wanted && not b.flag then b.ops ++ (behind_last_glyph r b.pen cells).ops else b.ops
 
 end_none : (r : ℕ) (flag wanted : Bool) (cells : List CellValue) → 0 < length cells →
     Paired cells → AllByRecursion IsCell cells → (wanted ≡ true → ends cells ≡ false) →
     bytes_of_all (end_ops r flag wanted cells) ≡ [] → wanted ≡ flag
-unfolding broken
+unfolding row_break
 end_none r true true cells some h is full none = refl
 end_none r false false cells some h is full none = refl
 end_none r true false cells some h is full none =
     let pen = pen_at r 0 default_attrs in
     absurd (some_chars 0 (none_of (bytes_of (EraseChars 1)) _
-    (none_of_ops (going pen r (last_column cells))
-    (EraseChars 1 ∷ (changing pen.attrs (attrs_of (last_glyph cells)) ++ Print (text_of (last_glyph cells)) ∷ []))
+    (none_of_ops (move_ops pen r (last_column cells))
+    (EraseChars 1 ∷ (attr_ops pen.attrs (attrs_of (last_glyph cells)) ++ Print (text_of (last_glyph cells)) ∷ []))
     none).1).0)
 end_none r false true cells some h is full none =
     let pen = pen_at r 0 default_attrs in
     let t : is_at pen r (length cells) ≡ false = grind (arith, nat_tests) in
     let goes : bytes_of_all
-    (doing pen r (last_column cells) (attrs_of (last_glyph cells)) (Print (text_of (last_glyph cells))))
+    (placed_op pen r (last_column cells) (attrs_of (last_glyph cells)) (Print (text_of (last_glyph cells))))
     ≡ [] =
     ap (λ (b : Bool). bytes_of_all
-    (if b then nothing pen true
+    (if b then no_ops pen true
     else record {
-      ops = doing pen r (last_column cells) (attrs_of (last_glyph cells)) (Print (text_of (last_glyph cells)));
-      pen = behind r cells;
+      ops = placed_op pen r (last_column cells) (attrs_of (last_glyph cells)) (Print (text_of (last_glyph cells)));
+      pen = pen_behind r cells;
       flag = true;
     }).ops)
     (sym t)
@@ -192,7 +192,7 @@ end_none r false true cells some h is full none =
     (no_doing pen r (last_column cells) (attrs_of (last_glyph cells)) (Print (text_of (last_glyph cells))) goes))
 
 end_nothing : (r : ℕ) (flag : Bool) (cells : List CellValue) → end_ops r flag flag cells ≡ []
-unfolding broken
+unfolding row_break
 end_nothing r true cells = refl
 end_nothing r false cells = refl
 
@@ -208,17 +208,17 @@ whole_range w xs e = let n : w - 0 ≡ length xs = omega arith in ap (λ (k : �
 range_is : (r w : ℕ) (flag : Bool) (xs ys : List CellValue) → length xs ≡ w → Paired xs →
     range_written r 0 w flag xs ys ≡ cells_written r 0 (pen_at r 0 default_attrs) flag 0 xs ys
 range_is r w flag xs ys e h =
-    ap (λ (z : List CellValue). cells_written r 0 (pen_at r 0 default_attrs) flag 0 (begun z) (begun_over z ys))
+    ap (λ (z : List CellValue). cells_written r 0 (pen_at r 0 default_attrs) flag 0 (with_whole_start z) (with_whole_start_over z ys))
     (whole_range w xs e)
-    ∙ (ap (λ (z : List CellValue). cells_written r 0 (pen_at r 0 default_attrs) flag 0 z (begun_over xs ys))
+    ∙ (ap (λ (z : List CellValue). cells_written r 0 (pen_at r 0 default_attrs) flag 0 z (with_whole_start_over xs ys))
     (begun_paired xs h)
     ∙ ap (λ (z : List CellValue). cells_written r 0 (pen_at r 0 default_attrs) flag 0 xs z) (begun_over_paired xs ys h))
 
 -- the item behind cells that are written so
 abbrev item_behind : ℕ → Scripted → Bool → List CellValue → List Op
 item_behind r w wanted cells =
-    let b = broken r w.pen w.flag wanted cells in
-    if wanted && not b.flag then (w.ops ++ b.ops) ++ (going_behind r b.pen cells).ops else w.ops ++ b.ops
+    let b = row_break r w.pen w.flag wanted cells in
+    if wanted && not b.flag then (w.ops ++ b.ops) ++ (behind_last_glyph r b.pen cells).ops else w.ops ++ b.ops
 
 item_is : (r width : ℕ) (x y : RowValue) → length x.cells ≡ width → Paired x.cells →
     (item_of_difference r 0 width x y).ops
@@ -226,12 +226,12 @@ item_is : (r width : ℕ) (x y : RowValue) → length x.cells ≡ width → Pair
 item_is r width x y e h =
     let t : is_whole 0 width (length x.cells) ≡ true = grind (arith, nat_tests) in
     let w = range_written r 0 width y.wrapped x.cells y.cells in
-    let b = broken r w.pen w.flag x.wrapped x.cells in
-    rw t (ops_of (x.wrapped && not b.flag) w b (going_behind r b.pen x.cells)
+    let b = row_break r w.pen w.flag x.wrapped x.cells in
+    rw t (ops_of (x.wrapped && not b.flag) w b (behind_last_glyph r b.pen x.cells)
     ∙ ap (λ (z : Scripted). item_behind r z x.wrapped x.cells) (range_is r width y.wrapped x.cells y.cells e h))
   where
     ops_of : (t : Bool) (w b g : Scripted) →
-        (if t then record { ops = (w.ops ++ b.ops) ++ g.ops; pen = g.pen; flag = b.flag } else after w.ops b).ops
+        (if t then record { ops = (w.ops ++ b.ops) ++ g.ops; pen = g.pen; flag = b.flag } else ops_then w.ops b).ops
         ≡ (if t then (w.ops ++ b.ops) ++ g.ops else w.ops ++ b.ops)
     ops_of true w b g = refl
     ops_of false w b g = refl
@@ -252,12 +252,12 @@ item_none r width x y some hx hy none =
     let ey = hy.columns in
     let cells = recursion_from_All IsCell x.cells hx.sound in
     let w = cells_written r 0 (pen_at r 0 default_attrs) y.wrapped 0 x.cells y.cells in
-    let b = broken r w.pen w.flag x.wrapped x.cells in
+    let b = row_break r w.pen w.flag x.wrapped x.cells in
     let is = ap bytes_of_all (sym (item_is r width x y ex px)) ∙ none in
     let same = cells_none r 0 (pen_at r 0 default_attrs) y.wrapped
     x.cells y.cells (ex ∙ sym ey) px (paired_of y.cells hy.paired) cells
-    (front_none (x.wrapped && not b.flag) w.ops b.ops (going_behind r b.pen x.cells).ops is) in
-    let stands : w ≡ nothing (pen_at r 0 default_attrs) y.wrapped =
+    (front_none (x.wrapped && not b.flag) w.ops b.ops (behind_last_glyph r b.pen x.cells).ops is) in
+    let stands : w ≡ no_ops (pen_at r 0 default_attrs) y.wrapped =
     ap (λ (z : List CellValue). cells_written r 0 (pen_at r 0 default_attrs) y.wrapped 0 x.cells z) (sym same)
     ∙ cells_nothing r 0 0 (pen_at r 0 default_attrs) y.wrapped x.cells in
     let ends_none = ap (λ (z : Scripted). bytes_of_all (item_behind r z x.wrapped x.cells)) (sym stands) ∙ is in

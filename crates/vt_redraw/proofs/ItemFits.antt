@@ -11,10 +11,10 @@ use Rattle.vt_rows.specs.Cells.{blanks}
 use Rattle.vt_rows.specs.Row.{RowValue}
 use Rattle.vt_grid.specs.Page.{row_or}
 use Rattle.vt_redraw.specs.Fits.{Fits}
-use Rattle.vt_redraw.specs.Items.{in_range, begun, begun_over, range_written, is_whole}
+use Rattle.vt_redraw.specs.Items.{in_range, with_whole_start, with_whole_start_over, range_written, is_whole}
 use Rattle.vt_redraw.specs.Items.{item_of_difference, item_of_redraw, linked_item}
 use Rattle.vt_redraw.specs.Picture.{Picture, IsPicture, IsColoredPicture}
-use Rattle.vt_redraw.specs.Script.{Scripted, after, pen_at, first_written, cells_written, going_behind, broken}
+use Rattle.vt_redraw.specs.Script.{Scripted, ops_then, pen_at, first_written, cells_written, behind_last_glyph, row_break}
 use Rattle.vt_redraw.proofs.Fitting.{IsFit, IsFitRow, FitsWritten, fits_after, fits_append, cells_fit}
 use Rattle.vt_redraw.proofs.Fitting.{behind_fits, first_fits, broken_fits, row_at_fits, picture_fits}
 
@@ -31,13 +31,13 @@ drop_fits zero xs h = h
 drop_fits (suc n) [] h = tt
 drop_fits (suc n) (x ∷ xs) h = drop_fits n xs h.1
 
-begun_fits : (xs : List CellValue) → AllByRecursion IsFit xs → AllByRecursion IsFit (begun xs)
+begun_fits : (xs : List CellValue) → AllByRecursion IsFit xs → AllByRecursion IsFit (with_whole_start xs)
 begun_fits [] h = tt
 begun_fits (right_half ∷ xs) h = ((tt, plain), h.1)
 begun_fits (blank a ∷ xs) h = h
 begun_fits (glyph text wide a ∷ xs) h = h
 
-begun_length : (xs : List CellValue) → length (begun xs) ≡ length xs
+begun_length : (xs : List CellValue) → length (with_whole_start xs) ≡ length xs
 begun_length [] = refl
 begun_length (right_half ∷ xs) = refl
 begun_length (blank a ∷ xs) = refl
@@ -51,8 +51,8 @@ range_fits r start stop width flag x ys low le inside small fit =
     let l = length-drop start xs in
     let m = length-take (stop - start) (drop start xs) in
     let n = begun_length (in_range start stop xs) in
-    cells_fit r start (pen_at r start default_attrs) flag 0 (begun (in_range start stop xs))
-    (begun_over (in_range start stop xs) (drop start ys)) low (omega arith) plain
+    cells_fit r start (pen_at r start default_attrs) flag 0 (with_whole_start (in_range start stop xs))
+    (with_whole_start_over (in_range start stop xs) (drop start ys)) low (omega arith) plain
     (begun_fits (in_range start stop xs) (take_fits (stop - start) (drop start xs) (drop_fits start xs fit.cells)))
 
 item_fits : (r start stop width : ℕ) (x y : RowValue) → r < 65535 → start ≤ stop → stop ≤ width →
@@ -60,9 +60,9 @@ item_fits : (r start stop width : ℕ) (x y : RowValue) → r < 65535 → start 
 item_fits r start stop width x y low le inside some small fit =
     let e = fit.columns in
     let w = range_written r start stop y.wrapped x.cells y.cells in
-    let b = broken r w.pen w.flag x.wrapped x.cells in
-    let full = after w.ops b in
-    let g = going_behind r full.pen x.cells in
+    let b = row_break r w.pen w.flag x.wrapped x.cells in
+    let full = ops_then w.ops b in
+    let g = behind_last_glyph r full.pen x.cells in
     let one = range_fits r start stop width y.wrapped x y.cells low le inside small fit in
     let two = broken_fits r w.pen w.flag x.wrapped x.cells low (omega arith) (omega arith) one.attrs fit.cells in
     let both = fits_after w.ops b one.ops two in

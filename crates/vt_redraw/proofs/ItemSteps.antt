@@ -11,10 +11,10 @@ use Rattle.vt_cells.specs.Op.{Op, bytes_of, bytes_of_all}
 use Rattle.vt_rows.specs.Cells.{IsPaired, at, blanks}
 use Rattle.vt_rows.specs.Row.{RowValue}
 use Rattle.vt_grid.specs.Page.{row_or}
-use Rattle.vt_redraw.specs.Items.{begun, begun_over, in_range, is_linked, is_whole, item_of_difference}
+use Rattle.vt_redraw.specs.Items.{with_whole_start, with_whole_start_over, in_range, is_linked, is_whole, item_of_difference}
 use Rattle.vt_redraw.specs.Items.{item_of_redraw, linked_item, marked_on, range_written}
-use Rattle.vt_redraw.specs.Keeping.{IsRange, Links, cells_from, mark_of}
-use Rattle.vt_redraw.specs.Script.{Scripted, after, broken, cells_written, first_written, going_behind, pen_at}
+use Rattle.vt_redraw.specs.Internals.{IsRange, Links, cells_from, mark_of}
+use Rattle.vt_redraw.specs.Script.{Scripted, ops_then, row_break, cells_written, first_written, behind_last_glyph, pen_at}
 use Rattle.vt_redraw.specs.declared.links.Link.{Link}
 use Rattle.vt_redraw.specs.declared.pen.Pen.{Pen}
 use Rattle.vt_redraw.proofs.CellSteps.{settled_passed}
@@ -50,42 +50,42 @@ range_is start stop xs h =
     ap (λ (n : ℕ). drop start (take n xs)) (sym sum) ∙ drop-take start (stop - start) xs
 
 cut_written : (r start stop : ℕ) (pen : Pen) (flag : Bool) (xs ys : List CellValue) → start ≤ stop →
-    cells_written r start pen flag 0 (begun (drop start (take stop xs)))
-    (begun_over (drop start (take stop xs)) (drop start ys))
-    ≡ cells_written r start pen flag 0 (begun (in_range start stop xs))
-    (begun_over (in_range start stop xs) (drop start ys))
+    cells_written r start pen flag 0 (with_whole_start (drop start (take stop xs)))
+    (with_whole_start_over (drop start (take stop xs)) (drop start ys))
+    ≡ cells_written r start pen flag 0 (with_whole_start (in_range start stop xs))
+    (with_whole_start_over (in_range start stop xs) (drop start ys))
 cut_written r start stop pen flag xs ys h =
-    ap (λ (zs : List CellValue). cells_written r start pen flag 0 (begun zs) (begun_over zs (drop start ys)))
+    ap (λ (zs : List CellValue). cells_written r start pen flag 0 (with_whole_start zs) (with_whole_start_over zs (drop start ys)))
     (range_is start stop xs h)
 
 -- what the code's range is, with the row's cells cut
 pub range_wrote : (r start stop : ℕ) (pen : Pen) (flag : Bool) (cut xs ys : List CellValue) →
     start ≤ stop → cut ≡ take stop xs → pen ≡ pen_at r start default_attrs →
-    cells_written r start pen flag 0 (begun (drop start cut)) (begun_over (drop start cut) (drop start ys))
+    cells_written r start pen flag 0 (with_whole_start (drop start cut)) (with_whole_start_over (drop start cut) (drop start ys))
     ≡ range_written r start stop flag xs ys
 range_wrote r start stop pen flag cut xs ys h e p =
     ap (λ (zs : List CellValue). cells_written r start pen flag 0
-    (begun (drop start zs)) (begun_over (drop start zs) (drop start ys)))
+    (with_whole_start (drop start zs)) (with_whole_start_over (drop start zs) (drop start ys)))
     e
     ∙ (cut_written r start stop pen flag xs ys h
-    ∙ ap (λ (q : Pen). cells_written r start q flag 0 (begun (in_range start stop xs))
-    (begun_over (in_range start stop xs) (drop start ys)))
+    ∙ ap (λ (q : Pen). cells_written r start q flag 0 (with_whole_start (in_range start stop xs))
+    (with_whole_start_over (in_range start stop xs) (drop start ys)))
     p)
 
 -- ---- an item of a difference
 
 marked_ops : (r : ℕ) (w b : Scripted) (wanted : Bool) (cells : List CellValue) →
-    (marked_on r (after w.ops b) wanted cells).ops ≡ w.ops ++ (b.ops ++ mark_of r b.pen b.flag wanted cells)
+    (marked_on r (ops_then w.ops b) wanted cells).ops ≡ w.ops ++ (b.ops ++ mark_of r b.pen b.flag wanted cells)
 marked_ops r w b wanted cells = by_case (wanted && not b.flag) where
   by_case : (c : Bool) →
       (if c
       then record {
-        ops = (w.ops ++ b.ops) ++ (going_behind r b.pen cells).ops;
-        pen = (going_behind r b.pen cells).pen;
+        ops = (w.ops ++ b.ops) ++ (behind_last_glyph r b.pen cells).ops;
+        pen = (behind_last_glyph r b.pen cells).pen;
         flag = b.flag;
-      } else after w.ops b).ops
-      ≡ w.ops ++ (b.ops ++ (if c then (going_behind r b.pen cells).ops else []))
-  by_case true = append_assoc w.ops b.ops (going_behind r b.pen cells).ops
+      } else ops_then w.ops b).ops
+      ≡ w.ops ++ (b.ops ++ (if c then (behind_last_glyph r b.pen cells).ops else []))
+  by_case true = append_assoc w.ops b.ops (behind_last_glyph r b.pen cells).ops
   by_case false = ap (λ (zs : List Op). w.ops ++ zs) (sym (append-nil b.ops))
 
 pub part_item : (r start stop : ℕ) (x y : RowValue) (w : Scripted) (t0 t1 : List ℕ) →
@@ -97,22 +97,22 @@ part_item r start stop x y w t0 t1 part e t =
     t ∙ (ap (λ (z : Scripted). t0 ++ bytes_of_all z.ops) e
     ∙ ap (λ (z : Scripted). t0 ++ bytes_of_all z.ops)
     (sym (cond-false (is_whole start stop (length x.cells))
-    (marked_on r (after range.ops (broken r range.pen range.flag x.wrapped x.cells)) x.wrapped x.cells) range part)))
+    (marked_on r (ops_then range.ops (row_break r range.pen range.flag x.wrapped x.cells)) x.wrapped x.cells) range part)))
 
 pub whole_item : (r start stop : ℕ) (x y : RowValue) (w : Scripted) (pen : Pen) (flag : Bool) (t0 t1 t2 : List ℕ) →
     is_whole start stop (length x.cells) ≡ true → w ≡ range_written r start stop y.wrapped x.cells y.cells →
     t1 ≡ t0 ++ bytes_of_all w.ops → pen ≡ w.pen → flag ≡ w.flag →
     t2
     ≡ t1
-    ++ bytes_of_all ((broken r pen flag x.wrapped x.cells).ops
-    ++ mark_of r (broken r pen flag x.wrapped x.cells).pen
-    (broken r pen flag x.wrapped x.cells).flag x.wrapped x.cells) →
+    ++ bytes_of_all ((row_break r pen flag x.wrapped x.cells).ops
+    ++ mark_of r (row_break r pen flag x.wrapped x.cells).pen
+    (row_break r pen flag x.wrapped x.cells).flag x.wrapped x.cells) →
     t2 ≡ t0 ++ bytes_of_all (item_of_difference r start stop x y).ops
 whole_item r start stop x y w pen flag t0 t1 t2 whole e t p f more =
     let range = range_written r start stop y.wrapped x.cells y.cells in
-    let b = broken r range.pen range.flag x.wrapped x.cells in
-    let rest = λ (q : Pen) (g : Bool). (broken r q g x.wrapped x.cells).ops
-    ++ mark_of r (broken r q g x.wrapped x.cells).pen (broken r q g x.wrapped x.cells).flag x.wrapped x.cells in
+    let b = row_break r range.pen range.flag x.wrapped x.cells in
+    let rest = λ (q : Pen) (g : Bool). (row_break r q g x.wrapped x.cells).ops
+    ++ mark_of r (row_break r q g x.wrapped x.cells).pen (row_break r q g x.wrapped x.cells).flag x.wrapped x.cells in
     let same : rest pen flag ≡ rest range.pen range.flag =
     ap (λ (q : Pen). rest q flag) (p ∙ ap (λ (z : Scripted). z.pen) e)
     ∙ ap (λ (g : Bool). rest range.pen g) (f ∙ ap (λ (z : Scripted). z.flag) e) in
@@ -124,7 +124,7 @@ whole_item r start stop x y w pen flag t0 t1 t2 whole e t p f more =
     ∙ (ap (λ (ops : List Op). t0 ++ bytes_of_all ops) (sym (marked_ops r range b x.wrapped x.cells))
     ∙ ap (λ (z : Scripted). t0 ++ bytes_of_all z.ops)
     (sym (cond-true (is_whole start stop (length x.cells))
-    (marked_on r (after range.ops b) x.wrapped x.cells) range whole)))))))
+    (marked_on r (ops_then range.ops b) x.wrapped x.cells) range whole)))))))
 
 -- ---- an item of a redraw
 

@@ -9,12 +9,12 @@ use Rattle.vt_cells.specs.Attrs.{Attrs}
 use Rattle.vt_rows.specs.Cells.{at, opened}
 use Rattle.vt_rows.specs.Row.{RowValue}
 use Rattle.vt_grid.specs.Canvas.{Canvas}
-use Rattle.vt_cells.specs.Glyph.{first_columns}
-use Rattle.vt_redraw.specs.Script.{pen_at, changing}
+use Rattle.vt_cells.specs.Glyph.{glyph_columns}
+use Rattle.vt_redraw.specs.Script.{pen_at, attr_ops}
 use Rattle.vt_redraw.specs.declared.pen.Pen.{Pen}
 use Rattle.vt_redraw.proofs.Steps.{Reads, Within, changing_draws}
-use Rattle.vt_redraw.specs.Script.{is_nil, is_torn, flag_behind, Linked, unlinked, first_written}
-use Rattle.vt_redraw.specs.Script.{starts_other, link_after, linked, is_at, going_behind, last_column}
+use Rattle.vt_redraw.specs.Script.{is_nil, is_torn, flag_behind, Linked, no_link, first_written}
+use Rattle.vt_redraw.specs.Script.{starts_other, ops_then_link, row_link, is_at, behind_last_glyph, last_column}
 use Rattle.vt_redraw.proofs.Halves.{Paired, paired_loose, loose_step, opened_paired, opened_twice}
 use Rattle.vt_redraw.proofs.Flags.{ends, kept, Sound, sound_kept, flag_step}
 use Rattle.vt_redraw.proofs.Edits.{row_of, mid, two, two_mid, orphan, chars_erased}
@@ -44,18 +44,18 @@ first_glyph : (May : ℕ → ℕ → Type 0) (base : Canvas) (done below : List 
     (y : CellValue) (ys : List CellValue) (flag : Bool) (r : ℕ) (b : Attrs) (text : List ℕ) (wide : Bool) (a : Attrs) →
     length done ≡ r →
     base.page.bottom + 1 ≡ length done + suc (suc (length below)) → ends above ≡ false →
-    Paired (y ∷ ys) → Sound flag (y ∷ ys) → first_columns wide ≤ base.page.width →
+    Paired (y ∷ ys) → Sound flag (y ∷ ys) → glyph_columns wide ≤ base.page.width →
     Prints base.page.width text wide → MayGlyph May (r + 1) 0 wide ys →
-    DrawsIn May (changing b a ++ Print text ∷ [])
+    DrawsIn May (attr_ops b a ++ Print text ∷ [])
     (two base done below above on (y ∷ ys) flag (pen_at r base.page.width b))
     (mid base (done ++ row_of above true ∷ []) below (with_glyph [] text wide a ys)
-    (flag_behind flag wide (drop 1 ys)) (pen_at (r + 1) (0 + first_columns wide) a))
+    (flag_behind flag wide (drop 1 ys)) (pen_at (r + 1) (0 + glyph_columns wide) a))
 first_glyph May base done below above on y ys flag r b text wide a e bottom full paired sound fits prints may =
     let top = done ++ row_of above true ∷ [] in
     let n : length top ≡ r + 1 = let l = length-append done (row_of above true ∷ []) in omega arith in
     let whole = opened_paired default_blank (y ∷ ys) paired in
     let goal = mid base top below (with_glyph [] text wide a ys)
-    (flag_behind flag wide (drop 1 ys)) (pen_at (r + 1) (0 + first_columns wide) a) in
+    (flag_behind flag wide (drop 1 ys)) (pen_at (r + 1) (0 + glyph_columns wide) a) in
     let spot : Spot base top [] default_blank y ys flag (r + 1) 0 wide =
     record { row = n; col = refl; fits = omega arith; front = tt; sound = subst (Sound flag) (sym whole) sound } in
     let there : two base done below above (not (ends above)) (y ∷ ys) flag (pen_at (r + 1) 0 a)
@@ -65,8 +65,8 @@ first_glyph May base done below above on y ys flag r b text wide a e bottom full
     ∙ ap (λ (z : List CellValue). mid base top below z flag (pen_at (r + 1) 0 a)) (sym whole)) in
     let d1 = two base done below above on (y ∷ ys) flag (pen_at r base.page.width a) in
     let d0 = two base done below above on (y ∷ ys) flag (pen_at r base.page.width b) in
-    in_then May (changing b a) (Print text ∷ []) d0 d1 goal
-    (quiet_in May (changing b a) d0 d1 (changing_quiet b a)
+    in_then May (attr_ops b a) (Print text ∷ []) d0 d1 goal
+    (quiet_in May (attr_ops b a) d0 d1 (changing_quiet b a)
     (changing_draws base (done ++ row_of above on ∷ row_of (y ∷ ys) flag ∷ below) (pen_at r base.page.width b) a))
     (print_in_wraps May base done below above on (y ∷ ys) flag r a text wide goal e bottom prints
     (subst (λ (c : Canvas). DrawsIn May (Print text ∷ []) c goal) (sym there)
@@ -158,7 +158,7 @@ first_draws May base done below above (glyph text false a ∷ xs) (y ∷ ys) on 
     let now = flag_behind flag false (drop 1 ys) in
     record {
       torn = orphan false a;
-      draws = in_to May (changing b a ++ Print text ∷ []) _ _ _
+      draws = in_to May (attr_ops b a ++ Print text ∷ []) _ _ _
           (first_glyph May base done below above on y ys flag r b text
           false a e (omega arith) full k sound (omega arith) prints.0
           (record {
@@ -190,7 +190,7 @@ first_draws May base done below above (blank a ∷ xs) (y ∷ ys) on flag r
     record {
       torn = orphan false a;
       draws =
-          regrouped (changing b a) (Print (0x20 ∷ [])) (Backspace ∷ EraseChars 1 ∷ [])
+          regrouped (attr_ops b a) (Print (0x20 ∷ [])) (Backspace ∷ EraseChars 1 ∷ [])
           start spaced (two base done below above true goal now (pen_at (r + 1) 0 a))
           (first_glyph May base done below above on y ys flag r b (0x20 ∷ []) false a
           e (omega arith) full k sound (omega arith) (space_prints base.page.width pos)
@@ -233,7 +233,7 @@ first_draws May base done below above (glyph text true a ∷ right_half ∷ xs) 
     let now = flag_behind flag true ys in
     record {
       torn = orphan true a;
-      draws = in_to May (changing b a ++ Print text ∷ []) _ _ _
+      draws = in_to May (attr_ops b a ++ Print text ∷ []) _ _ _
           (first_glyph May base done below above on y (y2 ∷ ys) flag r b
           text true a e (omega arith) full k sound (omega arith) prints.0
           (record {
@@ -272,7 +272,7 @@ ready_start xs ys flag same h k sound = record {
 pub no_join : (May : ℕ → ℕ → Type 0) (base : Canvas) (done below : List RowValue)
     (above xs ys : List CellValue) (on to flag : Bool) (pen : Pen) (height : ℕ) →
     on ≡ to → length xs ≡ length ys → Paired xs → Paired ys → Sound flag ys → Within pen height base.page.width →
-    Joins May (unlinked pen flag) base done below (two base done below above on ys flag pen) above to xs ys height
+    Joins May (no_link pen flag) base done below (two base done below above on ys flag pen) above to xs ys height
 no_join May base done below above xs ys on to flag pen height t same h k sound within = record {
   torn = default_blank;
   draws = record {
@@ -289,7 +289,7 @@ no_join May base done below above xs ys on to flag pen height t same h k sound w
 joins_after : (May : ℕ → ℕ → Type 0) (ops : List Op) (j : Linked) (base : Canvas) (done below : List RowValue)
     (a b : Canvas) (above : List CellValue) (to : Bool) (xs ys : List CellValue) (height : ℕ) →
     DrawsIn May ops a b → Joins May j base done below b above to xs ys height →
-    Joins May (link_after ops j) base done below a above to xs ys height
+    Joins May (ops_then_link ops j) base done below a above to xs ys height
 joins_after May ops j base done below a b above to xs ys height h k = record {
   torn = k.torn;
   draws =
@@ -323,16 +323,16 @@ pub link_draws : (May : ℕ → ℕ → Type 0) (base : Canvas) (done below : Li
     Paired xs → Paired ys → Sound flag ys → PrintsCells base.page.width xs →
     Within pen height base.page.width → (on ≡ false → (k : ℕ) → last_column above ≤ k → k < base.page.width → May r k) →
     ((on ≡ false) ⊎ (xs ≢ ys) → Lets May (r + 1) 0 xs ys × May (r + 1) 0 × (is_wide (at xs 0) ≡ true → May (r + 1) 1)) →
-    Joins May (linked r pen above on flag xs ys) base done below
+    Joins May (row_link r pen above on flag xs ys) base done below
     (two base done below above on ys flag pen) above true xs ys height
-unfolding linked
+unfolding row_link
 link_draws May base done below above xs ys on flag r height pen reads e
     rows ha hx hy pa full above_prints h k sound prints within last near =
-    let behind = going_behind r pen above in
+    let behind = behind_last_glyph r pen above in
     let start = two base done below above on ys flag pen in
     let test = not on || (is_at pen r (length above) && starts_other xs ys) in
-    cond_both test (link_after behind.ops (first_written (r + 1) behind.pen flag xs ys))
-    (unlinked pen flag) (λ (j : Linked). Joins May j base done below start above true xs ys height)
+    cond_both test (ops_then_link behind.ops (first_written (r + 1) behind.pen flag xs ys))
+    (no_link pen flag) (λ (j : Linked). Joins May j base done below start above true xs ys height)
     (λ (t : test ≡ true).
     let goes = going_behind_draws May base done (row_of ys flag ∷ below) above on r height pen reads e rows ha pa
     full above_prints within (λ f. last (at_other on (is_at pen r (length above)) (starts_other xs ys) t f)) in

@@ -9,12 +9,12 @@ use Rattle.vt_cells.specs.Op.{Print, EraseChars}
 use Rattle.vt_cells.specs.Attrs.{Attrs}
 use Rattle.vt_rows.specs.Row.{RowValue}
 use Rattle.vt_grid.specs.Canvas.{Canvas}
-use Rattle.vt_cells.specs.Glyph.{first_columns}
-use Rattle.vt_redraw.specs.Script.{pen_at, going, changing}
+use Rattle.vt_cells.specs.Glyph.{glyph_columns}
+use Rattle.vt_redraw.specs.Script.{pen_at, move_ops, attr_ops}
 use Rattle.vt_redraw.specs.declared.pen.Pen.{Pen}
 use Rattle.vt_redraw.proofs.Steps.{Reads, Within, changing_draws}
-use Rattle.vt_redraw.specs.Script.{Scripted, nothing, doing, cells_written, last_column}
-use Rattle.vt_redraw.specs.Script.{last_glyph, is_at, behind, going_behind, breaking, broken}
+use Rattle.vt_redraw.specs.Script.{Scripted, no_ops, placed_op, cells_written, last_column}
+use Rattle.vt_redraw.specs.Script.{last_glyph, is_at, pen_behind, behind_last_glyph, break_ops, row_break}
 use Rattle.vt_redraw.specs.Redraw.{row_written}
 use Rattle.vt_redraw.proofs.Halves.{Paired, opened_paired}
 use Rattle.vt_redraw.proofs.Flags.{ends, ends_append, kept, Sound}
@@ -78,7 +78,7 @@ ends_glyph (glyph text true a ∷ right_half ∷ z ∷ zs) h e = longer_two text
 ends_glyph (right_half ∷ zs) h e = absurd h
 
 pub length_glyph : (pre : List CellValue) (text : List ℕ) (wide : Bool) (a : Attrs) →
-    length (pre ++ glyph_cells text wide a) ≡ length pre + first_columns wide
+    length (pre ++ glyph_cells text wide a) ≡ length pre + glyph_columns wide
 length_glyph pre text true a = length-append pre (glyph_cells text true a)
 length_glyph pre text false a = length-append pre (glyph_cells text false a)
 
@@ -121,11 +121,11 @@ still flag = grind (arith)
 -- over itself
 pub print_again : (May : ℕ → ℕ → Type 0) (base : Canvas) (done below : List RowValue)
     (pre : List CellValue) (text : List ℕ) (wide : Bool) (a : Attrs) (flag : Bool) (r : ℕ) →
-    Prints base.page.width text wide → length done ≡ r → length pre + first_columns wide ≡ base.page.width →
+    Prints base.page.width text wide → length done ≡ r → length pre + glyph_columns wide ≡ base.page.width →
     Paired pre →
     Sound flag (pre ++ glyph_cells text wide a) → ((k : ℕ) → length pre ≤ k → k < base.page.width → May r k) →
     DrawsIn May (Print text ∷ []) (mid base done below (pre ++ glyph_cells text wide a) flag (pen_at r (length pre) a))
-    (mid base done below (pre ++ glyph_cells text wide a) flag (pen_at r (length pre + first_columns wide) a))
+    (mid base done below (pre ++ glyph_cells text wide a) flag (pen_at r (length pre + glyph_columns wide) a))
 print_again May base done below pre text false a flag r prints e w h sound may =
     let row = pre ++ glyph text false a ∷ [] in
     in_to May (Print text ∷ []) (mid base done below row flag (pen_at r (length pre) a))
@@ -172,14 +172,14 @@ pub going_behind_draws : (May : ℕ → ℕ → Type 0) (base : Canvas) (done be
     length xs ≡ base.page.width →
     Paired xs → ends xs ≡ false → PrintsCells base.page.width xs → Within pen height base.page.width →
     (is_at pen r (length xs) ≡ false → (k : ℕ) → last_column xs ≤ k → k < base.page.width → May r k) →
-    GoesBehind May (going_behind r pen xs) base done below xs flag r pen
+    GoesBehind May (behind_last_glyph r pen xs) base done below xs flag r pen
 going_behind_draws May base done below xs flag r height pen reads e rows w h full prints within may =
     let again : Scripted = record {
-      ops = doing pen r (last_column xs) (attrs_of (last_glyph xs)) (Print (text_of (last_glyph xs)));
-      pen = behind r xs;
+      ops = placed_op pen r (last_column xs) (attrs_of (last_glyph xs)) (Print (text_of (last_glyph xs)));
+      pen = pen_behind r xs;
       flag = true;
     } in
-    cond_both (is_at pen r (length xs)) (nothing pen true) again
+    cond_both (is_at pen r (length xs)) (no_ops pen true) again
     (λ (v : Scripted). GoesBehind May v base done below xs flag r pen)
     (λ (t : is_at pen r (length xs) ≡ true).
     record {
@@ -190,7 +190,7 @@ going_behind_draws May base done below xs flag r height pen reads e rows w h ful
       draws = last_cases
           (λ z k x. PrintsCells base.page.width z → length z ≡ base.page.width →
           Sound flag z → ((j : ℕ) → k ≤ j → j < base.page.width → May r j) →
-          DrawsIn May (doing pen r k (attrs_of x) (Print (text_of x))) (mid base done below z flag pen)
+          DrawsIn May (placed_op pen r k (attrs_of x) (Print (text_of x))) (mid base done below z flag pen)
           (mid base done below z flag (pen_at r (length z) (attrs_of x))))
           (λ pre text wide a front p size sound mays.
           let n = length_glyph pre text wide a in
@@ -201,7 +201,7 @@ going_behind_draws May base done below xs flag r height pen reads e rows w h ful
           reads e rows (omega arith) within
           (in_to May (Print text ∷ [])
           (mid base done below (pre ++ glyph_cells text wide a) flag (pen_at r (length pre) a))
-          (mid base done below (pre ++ glyph_cells text wide a) flag (pen_at r (length pre + first_columns wide) a))
+          (mid base done below (pre ++ glyph_cells text wide a) flag (pen_at r (length pre + glyph_columns wide) a))
           (mid base done below (pre ++ glyph_cells text wide a) flag
           (pen_at r (length (pre ++ glyph_cells text wide a)) a))
           (print_again May base done below pre text wide a flag r
@@ -211,7 +211,7 @@ going_behind_draws May base done below xs flag r height pen reads e rows w h ful
       there = ap (λ (c : ℕ). pen_at r c (attrs_of (last_glyph xs))) w;
     })
   where
-    some_columns : (wide : Bool) → 0 < first_columns wide
+    some_columns : (wide : Bool) → 0 < glyph_columns wide
     some_columns true = omega arith
     some_columns false = omega arith
 
@@ -237,7 +237,7 @@ erase_touches May canvas c lt e h =
 
 pub erase_last : (May : ℕ → ℕ → Type 0) (base : Canvas) (done below : List RowValue)
     (pre : List CellValue) (text : List ℕ) (wide : Bool) (b a : Attrs) (flag : Bool) (r : ℕ) →
-    length done ≡ r → length pre + first_columns wide ≡ base.page.width → Paired pre →
+    length done ≡ r → length pre + glyph_columns wide ≡ base.page.width → Paired pre →
     ((k : ℕ) → length pre ≤ k → k < base.page.width → May r k) →
     DrawsIn May (EraseChars 1 ∷ [])
     (mid base done below (pre ++ glyph_cells text wide b) flag (pen_at r (length pre) a))
@@ -268,10 +268,10 @@ erase_last May base done below pre text true b a flag r e w h may =
 
 pub print_bare : (May : ℕ → ℕ → Type 0) (base : Canvas) (done below : List RowValue)
     (pre : List CellValue) (text : List ℕ) (wide : Bool) (b a : Attrs) (r : ℕ) →
-    Prints base.page.width text wide → length done ≡ r → length pre + first_columns wide ≡ base.page.width →
+    Prints base.page.width text wide → length done ≡ r → length pre + glyph_columns wide ≡ base.page.width →
     Paired pre → ((k : ℕ) → length pre ≤ k → k < base.page.width → May r k) →
     DrawsIn May (Print text ∷ []) (mid base done below (pre ++ bare wide b) false (pen_at r (length pre) a))
-    (mid base done below (pre ++ glyph_cells text wide a) false (pen_at r (length pre + first_columns wide) a))
+    (mid base done below (pre ++ glyph_cells text wide a) false (pen_at r (length pre + glyph_columns wide) a))
 print_bare May base done below pre text false b a r prints e w h may =
     print_in May base done below pre default_blank (blank b) [] false r (length pre) text false a
     prints (record { row = e; col = refl; fits = omega arith; front = h; sound = λ t. absurd (cc) })
@@ -302,12 +302,12 @@ breaking_draws : (May : ℕ → ℕ → Type 0) (base : Canvas) (done below : Li
     length xs ≡ base.page.width →
     Paired xs → ends xs ≡ false → PrintsCells base.page.width xs → Within pen height base.page.width →
     ((k : ℕ) → last_column xs ≤ k → k < base.page.width → May r k) →
-    Broke May (breaking r pen xs) base done below (mid base done below xs flag pen) xs wanted height
+    Broke May (break_ops r pen xs) base done below (mid base done below xs flag pen) xs wanted height
 breaking_draws May base done below xs flag wanted r height pen reads e rows w h full prints within may = record {
   draws = last_cases
       (λ z k x. PrintsCells base.page.width z → length z ≡ base.page.width →
       ((j : ℕ) → k ≤ j → j < base.page.width → May r j) →
-      DrawsIn May (going pen r k ++ (EraseChars 1 ∷ (changing pen.attrs (attrs_of x) ++ Print (text_of x) ∷ [])))
+      DrawsIn May (move_ops pen r k ++ (EraseChars 1 ∷ (attr_ops pen.attrs (attrs_of x) ++ Print (text_of x) ∷ [])))
       (mid base done below z flag pen) (mid base done below z false (pen_at r (length z) (attrs_of x))))
       (λ pre text wide a front p size mays.
       let n = length_glyph pre text wide a in
@@ -316,19 +316,19 @@ breaking_draws May base done below xs flag wanted r height pen reads e rows w h 
       let gone = pre ++ bare wide pen.attrs in
       let c = length pre in
       let goal = mid base done below row false (pen_at r (length row) a) in
-      in_then May (going pen r c) (EraseChars 1 ∷ (changing pen.attrs a ++ Print text ∷ []))
+      in_then May (move_ops pen r c) (EraseChars 1 ∷ (attr_ops pen.attrs a ++ Print text ∷ []))
       (mid base done below row flag pen) (mid base done below row flag (pen_at r c pen.attrs)) goal
       (going_there May base done below row flag r c height pen reads e rows (omega arith) within)
-      (in_then May (EraseChars 1 ∷ []) (changing pen.attrs a ++ Print text ∷ [])
+      (in_then May (EraseChars 1 ∷ []) (attr_ops pen.attrs a ++ Print text ∷ [])
       (mid base done below row flag (pen_at r c pen.attrs)) (mid base done below gone false (pen_at r c pen.attrs)) goal
       (erase_last May base done below pre text wide a pen.attrs flag r e (sym n ∙ size) front mays)
-      (in_then May (changing pen.attrs a) (Print text ∷ [])
+      (in_then May (attr_ops pen.attrs a) (Print text ∷ [])
       (mid base done below gone false (pen_at r c pen.attrs)) (mid base done below gone false (pen_at r c a)) goal
-      (quiet_in May (changing pen.attrs a) (mid base done below gone false (pen_at r c pen.attrs))
+      (quiet_in May (attr_ops pen.attrs a) (mid base done below gone false (pen_at r c pen.attrs))
       (mid base done below gone false (pen_at r c a)) (changing_quiet pen.attrs a)
       (changing_draws base (done ++ row_of gone false ∷ below) (pen_at r c pen.attrs) a))
       (in_to May (Print text ∷ []) (mid base done below gone false (pen_at r c a))
-      (mid base done below row false (pen_at r (c + first_columns wide) a)) goal
+      (mid base done below row false (pen_at r (c + glyph_columns wide) a)) goal
       (print_bare May base done below pre text wide pen.attrs a r
       (prints_last base.page.width pre text wide a p) e (sym n ∙ size) front mays)
       (ap (λ (k : ℕ). mid base done below row false (pen_at r k a)) (sym n))))))
@@ -337,7 +337,7 @@ breaking_draws May base done below xs flag wanted r height pen reads e rows w h 
   keeps = λ t. absurd (cc);
 }
   where
-    some_columns : (wide : Bool) → 0 < first_columns wide
+    some_columns : (wide : Bool) → 0 < glyph_columns wide
     some_columns true = omega arith
     some_columns false = omega arith
 
@@ -354,10 +354,10 @@ pub broken_draws : (May : ℕ → ℕ → Type 0) (base : Canvas) (done below : 
     length xs ≡ base.page.width →
     Paired xs → Sound flag xs → PrintsCells base.page.width xs → Within pen height base.page.width →
     ((k : ℕ) → last_column xs ≤ k → k < base.page.width → May r k) →
-    Broke May (broken r pen flag wanted xs) base done below (mid base done below xs flag pen) xs wanted height
-unfolding broken
+    Broke May (row_break r pen flag wanted xs) base done below (mid base done below xs flag pen) xs wanted height
+unfolding row_break
 broken_draws May base done below xs flag wanted r height pen reads e rows w h sound prints within may =
-    cond_both (flag && not wanted) (breaking r pen xs) (nothing pen flag)
+    cond_both (flag && not wanted) (break_ops r pen xs) (no_ops pen flag)
     (λ (v : Scripted). Broke May v base done below (mid base done below xs flag pen) xs wanted height)
     (λ (t : (flag && not wanted) ≡ true). breaking_draws May base done below xs flag wanted
     r height pen reads e rows w h (sound (and_true flag (not wanted) t)) prints within may)
@@ -405,7 +405,7 @@ differing_draws May base done below x y o r k height pen flag reads e rows w h v
     (cells_draw May base done below x.cells y.cells [] o r 0 k pen flag height place ready prints within may.lets) in
     let two = broken_draws May base done below x.cells cells.flag x.wrapped r
     height cells.pen reads e rows w h one.sound prints one.within may.last in
-    let last = broken r cells.pen cells.flag x.wrapped x.cells in
+    let last = row_break r cells.pen cells.flag x.wrapped x.cells in
     record {
       draws =
           in_then May cells.ops last.ops start (mid base done below x.cells cells.flag cells.pen)

@@ -10,11 +10,11 @@ use Rattle.vt_cells.proofs.Same.{same_attrs-itself, same_bool-itself}
 use Rattle.vt_rows.specs.Row.{RowValue}
 use Rattle.vt_grid.specs.Canvas.{Canvas, drawn_all}
 use Rattle.vt_grid.specs.Page.{IsPlainPage}
-use Rattle.vt_redraw.specs.Script.{changing}
+use Rattle.vt_redraw.specs.Script.{attr_ops}
 use Rattle.vt_redraw.specs.declared.pen.Pen.{Pen}
 use Rattle.vt_redraw.specs.Picture.{Picture, IsPicture, SamePictureSize, picture_of}
 use Rattle.vt_redraw.specs.Steady.{IsSteady}
-use Rattle.vt_redraw.specs.Script.{Linked, unlinked, starts_other, linked, is_at}
+use Rattle.vt_redraw.specs.Script.{Linked, no_link, starts_other, link, is_at}
 use Rattle.vt_redraw.specs.Redraw.{link_of, rows_below, rows_written, pen_of, cursor_written, script, difference}
 use Rattle.vt_redraw.proofs.Standing.{row_nothing, starts_none}
 use Rattle.vt_redraw.proofs.Difference.{difference_draws}
@@ -25,14 +25,14 @@ neither : (b c : Bool) → c ≡ false → (not true || (b && c)) ≡ false
 neither b c h = grind (arith, h)
 
 link_nothing : (r : ℕ) (pen : Pen) (above : List CellValue) (flag : Bool) (xs : List CellValue) →
-    linked r pen above true flag xs xs ≡ unlinked pen flag
-unfolding linked
+    link r pen above true flag xs xs ≡ no_link pen flag
+unfolding link
 link_nothing r pen above flag xs = rw (neither (is_at pen r (length above)) (starts_other xs xs) (starts_none xs)) refl
 
-join_nothing : (r : ℕ) (pen : Pen) (above x : RowValue) → link_of r pen above above.wrapped x x ≡ unlinked pen x.wrapped
+join_nothing : (r : ℕ) (pen : Pen) (above x : RowValue) → link_of r pen above above.wrapped x x ≡ no_link pen x.wrapped
 join_nothing r pen above x =
-    cond_both above.wrapped (linked r pen above.cells above.wrapped x.wrapped x.cells x.cells)
-    (unlinked pen x.wrapped) (λ (j : Linked). j ≡ unlinked pen x.wrapped)
+    cond_both above.wrapped (link r pen above.cells above.wrapped x.wrapped x.cells x.cells)
+    (no_link pen x.wrapped) (λ (j : Linked). j ≡ no_link pen x.wrapped)
     (λ (t : above.wrapped ≡ true). rw t (link_nothing r pen above.cells x.wrapped x.cells)) (λ _. refl)
 
 below_nothing : (r : ℕ) (pen : Pen) (above : RowValue) (xs : List RowValue) →
@@ -49,7 +49,7 @@ rows_nothing pen [] = (refl, refl)
 rows_nothing pen (x ∷ xs) = rw (row_nothing 0 0 pen x) (below_nothing 0 pen x xs)
 
 pub difference_self : (picture : Picture) → difference picture picture ≡ []
-unfolding difference script cursor_written changing
+unfolding difference script cursor_written attr_ops
 difference_self picture =
     let pen = pen_of picture in
     let n = rows_nothing pen picture.rows in

@@ -9,11 +9,11 @@ use Rattle.vt_cells.specs.Attrs.{Attrs}
 use Rattle.vt_rows.specs.Cells.{at, blanks, opened}
 use Rattle.vt_rows.specs.Row.{RowValue}
 use Rattle.vt_grid.specs.Canvas.{Canvas}
-use Rattle.vt_redraw.specs.Script.{pen_at, going, changing, erase_run}
+use Rattle.vt_redraw.specs.Script.{pen_at, move_ops, attr_ops, erase_run}
 use Rattle.vt_redraw.specs.declared.pen.Pen.{Pen}
 use Rattle.vt_grid.proofs.Drawing.{Draws}
 use Rattle.vt_redraw.proofs.Steps.{at_pen, Reads, Within, going_draws, changing_draws}
-use Rattle.vt_redraw.specs.Script.{Scripted, after, doing, is_nil, is_torn, flag_past}
+use Rattle.vt_redraw.specs.Script.{Scripted, ops_then, placed_op, is_nil, is_torn, flag_past}
 use Rattle.vt_redraw.proofs.Halves.{Paired, Loose, drop_opened}
 use Rattle.vt_redraw.proofs.Flags.{ends_append, ends_blanks, kept, Sound, flag_step}
 use Rattle.vt_redraw.proofs.Edits.{row_of, mid, run_erased}
@@ -86,7 +86,7 @@ pub record Wrote (May : ℕ → ℕ → Type 0) (w : Scripted) (base : Canvas) (
 pub wrote_after : (May : ℕ → ℕ → Type 0) (ops : List Op) (w : Scripted) (base : Canvas)
     (done below : List RowValue) (a b : Canvas) (goal : List CellValue) (height : ℕ) →
     DrawsIn May ops a b → Wrote May w base done below b goal height →
-    Wrote May (after ops w) base done below a goal height
+    Wrote May (ops_then ops w) base done below a goal height
 wrote_after May ops w base done below a b goal height h k = record {
   draws = in_then May ops w.ops a b (mid base done below goal w.flag w.pen) h k.draws;
   within = k.within;
@@ -115,17 +115,17 @@ pub doing_draws : (May : ℕ → ℕ → Type 0) (base : Canvas) (done below : L
     Reads base height base.page.width →
     length done ≡ r → r + suc (length below) ≡ height → c < base.page.width → Within pen height base.page.width →
     DrawsIn May (op ∷ []) (mid base done below row flag (pen_at r c attrs)) goal →
-    DrawsIn May (doing pen r c attrs op) (mid base done below row flag pen) goal
+    DrawsIn May (placed_op pen r c attrs op) (mid base done below row flag pen) goal
 doing_draws May base done below row flag r c height pen attrs op goal reads e h lt within draws =
     let rows = done ++ row_of row flag ∷ below in
-    in_then May (going pen r c) (changing pen.attrs attrs ++ op ∷ [])
+    in_then May (move_ops pen r c) (attr_ops pen.attrs attrs ++ op ∷ [])
     (at_pen base rows pen) (at_pen base rows (pen_at r c pen.attrs)) goal
-    (quiet_in May (going pen r c) (at_pen base rows pen) (at_pen base rows (pen_at r c pen.attrs)) (going_quiet pen r c)
+    (quiet_in May (move_ops pen r c) (at_pen base rows pen) (at_pen base rows (pen_at r c pen.attrs)) (going_quiet pen r c)
     (going_draws base rows pen r c height base.page.width reads
     (rows_size done below (row_of row flag) r height e h) within (omega arith) lt))
-    (in_then May (changing pen.attrs attrs) (op ∷ [])
+    (in_then May (attr_ops pen.attrs attrs) (op ∷ [])
     (at_pen base rows (pen_at r c pen.attrs)) (at_pen base rows (pen_at r c attrs)) goal
-    (quiet_in May (changing pen.attrs attrs) (at_pen base rows (pen_at r c pen.attrs))
+    (quiet_in May (attr_ops pen.attrs attrs) (at_pen base rows (pen_at r c pen.attrs))
     (at_pen base rows (pen_at r c attrs)) (changing_quiet pen.attrs attrs)
     (changing_draws base rows (pen_at r c pen.attrs) attrs))
     draws)
@@ -134,9 +134,9 @@ pub going_there : (May : ℕ → ℕ → Type 0) (base : Canvas) (done below : L
     (row : List CellValue) (flag : Bool) (r c height : ℕ) (pen : Pen) →
     Reads base height base.page.width →
     length done ≡ r → r + suc (length below) ≡ height → c < base.page.width → Within pen height base.page.width →
-    DrawsIn May (going pen r c) (mid base done below row flag pen) (mid base done below row flag (pen_at r c pen.attrs))
+    DrawsIn May (move_ops pen r c) (mid base done below row flag pen) (mid base done below row flag (pen_at r c pen.attrs))
 going_there May base done below row flag r c height pen reads e h lt within =
-    quiet_in May (going pen r c) (mid base done below row flag pen)
+    quiet_in May (move_ops pen r c) (mid base done below row flag pen)
     (mid base done below row flag (pen_at r c pen.attrs)) (going_quiet pen r c)
     (going_draws base (done ++ row_of row flag ∷ below) pen r c height base.page.width
     reads (rows_size done below (row_of row flag) r height e h) within (omega arith) lt)

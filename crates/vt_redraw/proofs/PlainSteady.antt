@@ -19,7 +19,7 @@ use Rattle.vt_cells.specs.Attrs.{Attrs, default_attrs}
 use Rattle.vt_rows.specs.Cells.{blanks}
 use Rattle.vt_grid.specs.Page.{Page}
 use Rattle.vt_grid.specs.Canvas.{Canvas, and_then, drawn_text, drawn_all}
-use Rattle.vt_cells.specs.Glyph.{first_columns}
+use Rattle.vt_cells.specs.Glyph.{glyph_columns}
 use Rattle.vt_redraw.specs.Steady.{blank_line, has_selector, HasNoSelector, heart_text}
 use Rattle.vt_redraw.specs.Steady.{IsSteady, IsSteadyCell, IsSteadyGlyph}
 use Rattle.vt_redraw.proofs.Spots.{Spot, glyph_put_here}
@@ -68,7 +68,7 @@ grows_plain width wide text (m ∷ ms) whole marks joins none =
     )
 
 pub plain_steady : (n : ℕ) (text : List ℕ) (wide : Bool) (attrs : Attrs) (g : IsGlyphText text wide) →
-    list_any is_selector g.marks ≡ false → first_columns wide ≤ suc n → IsSteadyGlyph (suc n) text wide attrs
+    list_any is_selector g.marks ≡ false → glyph_columns wide ≤ suc n → IsSteadyGlyph (suc n) text wide attrs
 plain_steady n text wide attrs g none le = prints_steady n text wide attrs (record {
   first = g.first;
   marks = g.marks;
@@ -120,7 +120,7 @@ heart_steady n attrs =
 
 -- a cell without it, that fits, is steady
 plain_cell : (n : ℕ) (text : List ℕ) (wide : Bool) (attrs : Attrs) → IsGlyphText text wide →
-    has_selector (glyph text wide attrs) ≡ false → first_columns wide ≤ suc n → IsSteadyGlyph (suc n) text wide attrs
+    has_selector (glyph text wide attrs) ≡ false → glyph_columns wide ≤ suc n → IsSteadyGlyph (suc n) text wide attrs
 plain_cell n text wide attrs g none le =
     let spelled : list_any is_selector (g.first ∷ g.marks) ≡ false =
     ap (list_any is_selector) (sym (IsGlyphText-chars text wide g)) ∙ none in

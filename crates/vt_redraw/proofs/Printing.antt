@@ -5,7 +5,7 @@ use Rattle.std.specs.Prelude.{if◌then◌else◌, chars}
 use Rattle.std.specs.Char.{encode_utf8}
 use Rattle.std.proofs.lemmas.Bool.{lt-ltb, ne_eqb}
 use Rattle.vt_cells.specs.Cell.{CellValue, blank, glyph, right_half, widened}
-use Rattle.vt_cells.specs.Glyph.{columns_of, first_columns, is_selector, is_wide_text, has_room, IsMark}
+use Rattle.vt_cells.specs.Glyph.{columns_of, glyph_columns, is_selector, is_wide_text, has_room, IsMark}
 use Rattle.vt_cells.specs.Op.{Print}
 use Rattle.vt_cells.specs.Attrs.{Attrs}
 use Rattle.vt_rows.specs.Cells.{opened, put_cells, widened_at}
@@ -74,7 +74,7 @@ settled page c attrs true true false h made = made refl
 
 pub wider_spot : (base : Canvas) (done : List RowValue) (pre : List CellValue)
     (o y : CellValue) (ys : List CellValue) (flag : Bool) (r c : ℕ) (w v : Bool) →
-    first_columns w ≤ first_columns v → Spot base done pre o y ys flag r c v → Spot base done pre o y ys flag r c w
+    glyph_columns w ≤ glyph_columns v → Spot base done pre o y ys flag r c v → Spot base done pre o y ys flag r c w
 wider_spot base done pre o y ys flag r c w v le at_spot = let fits = at_spot.fits in
     record { row = at_spot.row; col = at_spot.col; fits = omega arith; front = at_spot.front; sound = at_spot.sound }
 
@@ -83,13 +83,13 @@ at_true : (n : Bool) (base : Canvas) (done : List RowValue) (pre : List CellValu
     n ≡ true → Spot base done pre o y ys flag r c n → Spot base done pre o y ys flag r c true
 at_true n base done pre o y ys flag r c e at_spot = subst (Spot base done pre o y ys flag r c) e at_spot
 
-widths_grow : (w v : Bool) → (w ≡ true → v ≡ true) → first_columns w ≤ first_columns v
+widths_grow : (w v : Bool) → (w ≡ true → v ≡ true) → glyph_columns w ≤ glyph_columns v
 widths_grow false false h = omega arith
 widths_grow false true h = omega arith
 widths_grow true true h = omega arith
 widths_grow true false h = let k = h refl in absurd (cc)
 
-some_column : (wide : Bool) (c : ℕ) → (c + first_columns wide == 0) ≡ false
+some_column : (wide : Bool) (c : ℕ) → (c + glyph_columns wide == 0) ≡ false
 some_column true c = ne_eqb (c + 2) 0 (λ same. omega arith)
 some_column false c = ne_eqb (c + 1) 0 (λ same. omega arith)
 
@@ -118,9 +118,9 @@ mark_follows base done below pre o y ys flag r c text wide attrs m is_mark room 
     stays m canvas.page c text wide attrs
     (mark_column_is base done below pre text wide attrs rest flagged r c at_spot.row at_spot.col)
     (marked_cell base done below pre text wide attrs rest flagged r c at_spot.row at_spot.col) room
-    (λ narrow t. ne_eqb (c + first_columns wide) base.page.width
-    (λ same. let k : first_columns wide ≡ 1 =
-    ap first_columns narrow in let l = place narrow t in absurd (omega arith))) in
+    (λ narrow t. ne_eqb (c + glyph_columns wide) base.page.width
+    (λ same. let k : glyph_columns wide ≡ 1 =
+    ap glyph_columns narrow in let l = place narrow t in absurd (omega arith))) in
     let again : flagged ≡ kept flagged (with_glyph pre longer wide attrs ys) =
     let one = glyph_flag pre o y ys flag longer wide attrs at_spot.sound in
     sym (ap (λ (f : Bool). kept f (with_glyph pre longer wide attrs ys)) (sym one)
@@ -132,10 +132,10 @@ mark_follows base done below pre o y ys flag r c text wide attrs m is_mark room 
     (rw some (
     mark_printed_is base done below pre text wide attrs rest flagged r c m at_spot.row at_spot.col room never made
     (ap (λ (f : Bool).
-    (mid base done below (with_glyph pre longer wide attrs ys) f (pen_at r (c + first_columns wide) attrs)).page)
+    (mid base done below (with_glyph pre longer wide attrs ys) f (pen_at r (c + glyph_columns wide) attrs)).page)
     again)))
 
-room_for : (n : Bool) (c width : ℕ) → c + first_columns n ≤ width → n ≡ true → c + 2 ≤ width
+room_for : (n : Bool) (c width : ℕ) → c + glyph_columns n ≤ width → n ≡ true → c + 2 ≤ width
 room_for true c width h e = h
 room_for false c width h e = absurd (cc)
 
@@ -162,7 +162,7 @@ mark_drawn base done below pre o y ys flag r c text wide attrs m is_mark room gr
 -- ---- the whole text
 
 pub grows_le : (width : ℕ) (wide : Bool) (text : List ℕ) (ms : List ℕ) (last : Bool) (whole : List ℕ) →
-    Grows width wide text ms last whole → first_columns wide ≤ first_columns last
+    Grows width wide text ms last whole → glyph_columns wide ≤ glyph_columns last
 grows_le width wide text [] last whole h = widths_grow wide last (λ e. sym h.0 ∙ e)
 grows_le width wide text (m ∷ ms) last whole h =
     let one = widths_grow wide (next width wide text m) h.1.0 in
@@ -213,7 +213,7 @@ wrapped_room n page other t h = rw t h
 pub first_wraps : (base : Canvas) (done below : List RowValue) (above : List CellValue) (on : Bool)
     (cells : List CellValue) (flag : Bool) (r : ℕ) (attrs : Attrs) (first : ℕ) (wide : Bool) →
     length done ≡ r → base.page.bottom + 1 ≡ length done + suc (suc (length below)) →
-    columns_of first ≡ Some (first_columns wide) → first_columns wide ≤ base.page.width →
+    columns_of first ≡ Some (glyph_columns wide) → glyph_columns wide ≤ base.page.width →
     drawn_char first (two base done below above on cells flag (pen_at r base.page.width attrs))
     ≡ drawn_char first (two base done below above (not (ends above)) cells flag (pen_at (r + 1) 0 attrs))
 first_wraps base done below above on cells flag r attrs first false e b c fits =

@@ -10,7 +10,7 @@ use Rattle.vt_grid.specs.Canvas.{Canvas}
 use Rattle.vt_redraw.specs.Script.{pen_at}
 use Rattle.vt_redraw.proofs.Steps.{Reads, Within}
 use Rattle.vt_redraw.specs.Script.{cells_written}
-use Rattle.vt_redraw.specs.Items.{in_range, begun, begun_over, range_written, with_range}
+use Rattle.vt_redraw.specs.Items.{in_range, with_whole_start, with_whole_start_over, range_written, with_range}
 use Rattle.vt_redraw.proofs.Halves.{Paired, paired_loose, opened_paired}
 use Rattle.vt_redraw.proofs.Flags.{Sound}
 use Rattle.vt_redraw.proofs.Edits.{mid}
@@ -29,13 +29,13 @@ lets_any r c (blank a ∷ xs) (y ∷ ys) = (tt, lets_any r (c + 1) xs ys)
 lets_any r c (glyph text wide a ∷ xs) (y ∷ ys) = (λ _. (tt, λ _. tt), lets_any r (c + 1) xs ys)
 lets_any r c (right_half ∷ xs) (y ∷ ys) = lets_any r (c + 1) xs ys
 
-pub begun_paired : (xs : List CellValue) → Paired xs → begun xs ≡ xs
+pub begun_paired : (xs : List CellValue) → Paired xs → with_whole_start xs ≡ xs
 begun_paired [] h = refl
 begun_paired (blank a ∷ xs) h = refl
 begun_paired (glyph text wide a ∷ xs) h = refl
 begun_paired (right_half ∷ xs) h = absurd h
 
-pub begun_over_paired : (xs ys : List CellValue) → Paired xs → begun_over xs ys ≡ ys
+pub begun_over_paired : (xs ys : List CellValue) → Paired xs → with_whole_start_over xs ys ≡ ys
 begun_over_paired [] ys h = refl
 begun_over_paired (blank a ∷ xs) ys h = refl
 begun_over_paired (glyph text wide a ∷ xs) ys h = refl
@@ -128,7 +128,7 @@ range_draws base done below r start stop height flag xs ys item sound =
     (subst (λ (z : List CellValue). Wrote Any (range_written r start stop flag xs ys) base done below
     (mid base done below (pre ++ opened default_blank rest) flag pen) (pre ++ (range ++ z)) height)
     tail
-    (subst (λ (z : List CellValue). Wrote Any (cells_written r start pen flag 0 z (begun_over range rest))
+    (subst (λ (z : List CellValue). Wrote Any (cells_written r start pen flag 0 z (with_whole_start_over range rest))
     base done below (mid base done below (pre ++ opened default_blank rest) flag pen)
     (pre ++ (range ++ drop (length range) rest)) height)
     (sym (begun_paired range clean.range))

@@ -5,13 +5,13 @@ use Rattle.std.proofs.Common.{append-nil, append_assoc, length-append, replicate
 use Rattle.std.proofs.lemmas.List.Concat.{flat_map-append}
 use Rattle.vt_cells.proofs.Sinks.{some_among}
 use Rattle.vt_cells.specs.Op.{Op, LineFeed, bytes_of, bytes_of_all}
-use Rattle.vt_cells.specs.PieceKeeping.{gathered}
+use Rattle.vt_cells.specs.PieceInternals.{gathered}
 use Rattle.vt_cells.specs.Cell.{CellValue}
 use Rattle.vt_rows.specs.Row.{RowValue}
 use Rattle.vt_redraw.specs.Items.{is_whole, item_of_difference, range_written}
-use Rattle.vt_redraw.specs.Keeping.{Leads, Links, Writes, cells_from, mark_of}
+use Rattle.vt_redraw.specs.Internals.{Leads, Links, Writes, cells_from, mark_of}
 use Rattle.vt_redraw.specs.Redraw.{row_written, under_last}
-use Rattle.vt_redraw.specs.Script.{Linked, Scripted, broken, cells_written, changing, going_behind}
+use Rattle.vt_redraw.specs.Script.{Linked, Scripted, row_break, cells_written, attr_ops, behind_last_glyph}
 use Rattle.vt_redraw.specs.declared.links.Link.{Link}
 use Rattle.vt_redraw.specs.declared.pen.Pen.{Pen}
 use Rattle.vt_redraw.proofs.ItemSteps.{part_item, whole_item}
@@ -127,7 +127,7 @@ pub row_some : (r k : ℕ) (pen : Pen) (flag : Bool) (x : RowValue) (ys : List C
 unfolding row_written
 row_some r k pen flag x ys some =
     let cells = cells_written r 0 pen flag k x.cells ys in
-    ops_first cells.ops (broken r cells.pen cells.flag x.wrapped x.cells).ops
+    ops_first cells.ops (row_break r cells.pen cells.flag x.wrapped x.cells).ops
     (subst (λ (w : Scripted). 0 < length (bytes_of_all w.ops)) (from_settled r k pen flag x.cells ys) some)
 
 -- ---- one row for itself
@@ -142,9 +142,9 @@ range_some r start stop x y w e some = by_case (is_whole start stop (length x.ce
       subst (λ (xs : List ℕ). 0 < length xs)
       (part_item r start stop x y w [] (bytes_of_all w.ops) part e refl) some
   by_case true whole =
-      let more = bytes_of_all ((broken r w.pen w.flag x.wrapped x.cells).ops
-      ++ mark_of r (broken r w.pen w.flag x.wrapped x.cells).pen
-      (broken r w.pen w.flag x.wrapped x.cells).flag x.wrapped x.cells) in
+      let more = bytes_of_all ((row_break r w.pen w.flag x.wrapped x.cells).ops
+      ++ mark_of r (row_break r w.pen w.flag x.wrapped x.cells).pen
+      (row_break r w.pen w.flag x.wrapped x.cells).flag x.wrapped x.cells) in
       subst (λ (xs : List ℕ). 0 < length xs)
       (whole_item r start stop x y w w.pen w.flag [] (bytes_of_all w.ops) (bytes_of_all w.ops ++ more)
       whole e refl refl refl refl)
@@ -153,35 +153,35 @@ range_some r start stop x y w e some = by_case (is_whole start stop (length x.ce
 -- ---- a wrap that is pending under the last glyph
 
 pub under_last_text : (pen last : Pen) (i r : ℕ) (cells : List CellValue) (t0 t1 t2 t3 : List ℕ) →
-    t1 ≡ t0 ++ bytes_of_all (going_behind i pen cells).ops → last ≡ (going_behind i pen cells).pen →
-    t2 ≡ t1 ++ bytes_of_all (changing last.attrs pen.attrs) →
+    t1 ≡ t0 ++ bytes_of_all (behind_last_glyph i pen cells).ops → last ≡ (behind_last_glyph i pen cells).pen →
+    t2 ≡ t1 ++ bytes_of_all (attr_ops last.attrs pen.attrs) →
     t3 ≡ t2 ++ bytes_of_all (replicate (r - i) LineFeed) → t3 ≡ t0 ++ bytes_of_all (under_last pen i r cells)
 unfolding under_last
 under_last_text pen last i r cells t0 t1 t2 t3 e p f g =
-    let went = going_behind i pen cells in
+    let went = behind_last_glyph i pen cells in
     let feeds = replicate (r - i) LineFeed in
-    let change = changing went.pen.attrs pen.attrs in
+    let change = attr_ops went.pen.attrs pen.attrs in
     g ∙ (ap (λ (xs : List ℕ). xs ++ bytes_of_all feeds)
-    (f ∙ (ap (λ (q : Pen). t1 ++ bytes_of_all (changing q.attrs pen.attrs)) p
+    (f ∙ (ap (λ (q : Pen). t1 ++ bytes_of_all (attr_ops q.attrs pen.attrs)) p
     ∙ ap (λ (xs : List ℕ). xs ++ bytes_of_all change) e))
     ∙ (append_assoc (t0 ++ bytes_of_all went.ops) (bytes_of_all change) (bytes_of_all feeds)
     ∙ (ap (λ (xs : List ℕ). (t0 ++ bytes_of_all went.ops) ++ xs) (sym (flat_map-append bytes_of change feeds))
     ∙ (append_assoc t0 (bytes_of_all went.ops) (bytes_of_all (change ++ feeds))
     ∙ ap (λ (xs : List ℕ). t0 ++ xs) (sym (flat_map-append bytes_of went.ops (change ++ feeds)))))))
 
-pub under_last_some : (pen last : Pen) (i r : ℕ) (cells : List CellValue) → last ≡ (going_behind i pen cells).pen →
-    0 < length (bytes_of_all (changing last.attrs pen.attrs)) → 0 < length (bytes_of_all (under_last pen i r cells))
+pub under_last_some : (pen last : Pen) (i r : ℕ) (cells : List CellValue) → last ≡ (behind_last_glyph i pen cells).pen →
+    0 < length (bytes_of_all (attr_ops last.attrs pen.attrs)) → 0 < length (bytes_of_all (under_last pen i r cells))
 unfolding under_last
 under_last_some pen last i r cells p some =
-    let went = going_behind i pen cells in
-    ops_behind went.ops (changing went.pen.attrs pen.attrs ++ replicate (r - i) LineFeed)
-    (ops_first (changing went.pen.attrs pen.attrs) (replicate (r - i) LineFeed)
-    (subst (λ (q : Pen). 0 < length (bytes_of_all (changing q.attrs pen.attrs))) p some))
+    let went = behind_last_glyph i pen cells in
+    ops_behind went.ops (attr_ops went.pen.attrs pen.attrs ++ replicate (r - i) LineFeed)
+    (ops_first (attr_ops went.pen.attrs pen.attrs) (replicate (r - i) LineFeed)
+    (subst (λ (q : Pen). 0 < length (bytes_of_all (attr_ops q.attrs pen.attrs))) p some))
 
 pub feeds_some : (pen : Pen) (i r : ℕ) (cells : List CellValue) →
     0 < length (bytes_of_all (replicate (r - i) LineFeed)) → 0 < length (bytes_of_all (under_last pen i r cells))
 unfolding under_last
 feeds_some pen i r cells some =
-    let went = going_behind i pen cells in
-    ops_behind went.ops (changing went.pen.attrs pen.attrs ++ replicate (r - i) LineFeed)
-    (ops_behind (changing went.pen.attrs pen.attrs) (replicate (r - i) LineFeed) some)
+    let went = behind_last_glyph i pen cells in
+    ops_behind went.ops (attr_ops went.pen.attrs pen.attrs ++ replicate (r - i) LineFeed)
+    (ops_behind (attr_ops went.pen.attrs pen.attrs) (replicate (r - i) LineFeed) some)

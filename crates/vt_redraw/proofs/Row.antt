@@ -11,12 +11,12 @@ use Rattle.vt_cells.proofs.SameCells.{cell_of-same}
 use Rattle.vt_rows.specs.Cells.{blanks, opened}
 use Rattle.vt_rows.specs.Row.{RowValue}
 use Rattle.vt_grid.specs.Canvas.{Canvas}
-use Rattle.vt_cells.specs.Glyph.{first_columns}
+use Rattle.vt_cells.specs.Glyph.{glyph_columns}
 use Rattle.vt_redraw.specs.Script.{pen_at, blank_run, erase_run, is_blank_of}
 use Rattle.vt_redraw.specs.declared.pen.Pen.{Pen}
 use Rattle.vt_redraw.proofs.Steps.{Within}
 use Rattle.vt_redraw.proofs.Runs.{run_bound, run_blanks, blank_of_is}
-use Rattle.vt_redraw.specs.Script.{Scripted, after, doing, flag_behind, flag_past, cells_written}
+use Rattle.vt_redraw.specs.Script.{Scripted, ops_then, placed_op, flag_behind, flag_past, cells_written}
 use Rattle.vt_redraw.proofs.Halves.{Paired, paired_append, paired_blanks, Loose}
 use Rattle.vt_redraw.proofs.Halves.{paired_loose, loose_step, loose_drop, opened_paired}
 use Rattle.vt_redraw.proofs.Flags.{Sound, sound_kept}
@@ -56,7 +56,7 @@ pen_within base done below pre r c height left col a at h =
 -- where a glyph is printed
 glyph_spot : (base : Canvas) (done below : List RowValue) (pre : List CellValue)
     (o y : CellValue) (ys : List CellValue) (flag : Bool) (r c height left : ℕ) (wide : Bool) →
-    Place base done below pre r c height left → first_columns wide ≤ left → Paired pre →
+    Place base done below pre r c height left → glyph_columns wide ≤ left → Paired pre →
     Sound flag (pre ++ opened o (y ∷ ys)) → Spot base done pre o y ys flag r c wide
 glyph_spot base done below pre o y ys flag r c height left wide at h front sound =
     let columns = at.columns in
@@ -147,7 +147,7 @@ cells_draw May base done below (blank a ∷ xs) (y ∷ ys) pre o r c zero pen fl
     let more = lets.1 in
     let next = next_place base done below pre (blank a) r c height (length ys) at in
     cond_both (same_cell (blank a) y) (cells_written r (c + 1) pen flag 0 xs ys)
-    (after (doing pen r c a (erase_run (suc n) (drop n ys)))
+    (ops_then (placed_op pen r c a (erase_run (suc n) (drop n ys)))
     (cells_written r (c + 1) (pen_at r c a) (flag_past flag (drop n ys)) n xs ys))
     (λ (w : Scripted). Wrote May w base done below
     (mid base done below (pre ++ opened o (y ∷ ys)) flag pen) goal height)
@@ -173,7 +173,7 @@ cells_draw May base done below (blank a ∷ xs) (y ∷ ys) pre o r c zero pen fl
     let sound : Sound now (row (take n xs)) =
     subst (λ (z : List CellValue). Sound now (row z)) taken
     (sound_kept flag (row (blanks a n)) now (run_flagged pre o y ys flag n a h.sound)) in
-    wrote_after May (doing pen r c a (erase_run (suc n) (drop n ys))) (cells_written r (c + 1) q now n xs ys)
+    wrote_after May (placed_op pen r c a (erase_run (suc n) (drop n ys))) (cells_written r (c + 1) q now n xs ys)
     base done below (mid base done below (pre ++ opened o (y ∷ ys)) flag pen)
     (mid base done below (row (take n xs)) now q) goal height
     (doing_draws May base done below (pre ++ opened o (y ∷ ys)) flag r c height pen a (erase_run (suc n) (drop n ys))
@@ -205,7 +205,7 @@ cells_draw May base done below (glyph text false a ∷ xs) (y ∷ ys)
     let q = pen_at r (c + 1) a in
     let next = next_place base done below pre x r c height (length ys) at in
     cond_both (same_cell x y) (cells_written r (c + 1) pen flag 0 xs ys)
-    (after (doing pen r c a (Print text)) (cells_written r (c + 1) q now 0 xs ys))
+    (ops_then (placed_op pen r c a (Print text)) (cells_written r (c + 1) q now 0 xs ys))
     (λ (w : Scripted). Wrote May w base done below
     (mid base done below (pre ++ opened o (y ∷ ys)) flag pen) goal height)
     (λ (t : same_cell x y ≡ true).
@@ -225,7 +225,7 @@ cells_draw May base done below (glyph text false a ∷ xs) (y ∷ ys)
     (λ (f : same_cell x y ≡ false).
     let spot =
     glyph_spot base done below pre o y ys flag r c height (suc (length ys)) false at (omega arith) front h.sound in
-    wrote_after May (doing pen r c a (Print text)) (cells_written r (c + 1) q now 0 xs ys)
+    wrote_after May (placed_op pen r c a (Print text)) (cells_written r (c + 1) q now 0 xs ys)
     base done below (mid base done below (pre ++ opened o (y ∷ ys)) flag pen)
     (mid base done below (with_glyph pre text false a ys) now q) goal height
     (doing_draws May base done below (pre ++ opened o (y ∷ ys)) flag r c height pen a (Print text)
@@ -261,7 +261,7 @@ cells_draw May base done below (glyph text true a ∷ right_half ∷ xs)
     let next = next_place base done below pre x r c height (suc (length ys)) at in
     let w1 = cells_written r (c + 1) pen flag 1 xr (y2 ∷ ys) in
     let w2 = cells_written r (c + 1) q now 1 xr (y2 ∷ ys) in
-    cond_both (same_cell x y) w1 (after (doing pen r c a (Print text)) w2)
+    cond_both (same_cell x y) w1 (ops_then (placed_op pen r c a (Print text)) w2)
     (λ (w : Scripted). Wrote May w base done below
     (mid base done below (pre ++ opened o (y ∷ y2 ∷ ys)) flag pen) goal height)
     (λ (t : same_cell x y ≡ true).
@@ -281,7 +281,7 @@ cells_draw May base done below (glyph text true a ∷ right_half ∷ xs)
     (λ (f : same_cell x y ≡ false).
     let spot = glyph_spot base done below pre o y (y2 ∷ ys) flag r c
     height (suc (suc (length ys))) true at (omega arith) front h.sound in
-    wrote_after May (doing pen r c a (Print text)) w2 base done below
+    wrote_after May (placed_op pen r c a (Print text)) w2 base done below
     (mid base done below (pre ++ opened o (y ∷ y2 ∷ ys)) flag pen)
     (mid base done below (with_glyph pre text true a (y2 ∷ ys)) now q) goal height
     (doing_draws May base done below (pre ++ opened o (y ∷ y2 ∷ ys)) flag r c height pen a (Print text)

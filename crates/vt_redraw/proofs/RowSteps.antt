@@ -8,8 +8,8 @@ use Rattle.vt_cells.specs.Cell.{CellValue}
 use Rattle.vt_cells.specs.Op.{Op, bytes_of, bytes_of_all}
 use Rattle.vt_rows.specs.Row.{RowValue, blank_row}
 use Rattle.vt_grid.specs.Page.{row_or}
-use Rattle.vt_redraw.specs.Keeping.{Leads, Links, Writes, cells_from, rows_under}
-use Rattle.vt_redraw.specs.Script.{Scripted, after, nothing, broken, cells_written}
+use Rattle.vt_redraw.specs.Internals.{Leads, Links, Writes, cells_from, rows_under}
+use Rattle.vt_redraw.specs.Script.{Scripted, ops_then, no_ops, row_break, cells_written}
 use Rattle.vt_redraw.specs.Redraw.{link_of, row_written, rows_below, rows_written}
 use Rattle.vt_redraw.specs.declared.links.Link.{Link}
 use Rattle.vt_redraw.specs.declared.pen.Pen.{Pen}
@@ -35,18 +35,18 @@ pub row_writes : (r k : ℕ) (pen p1 p2 : Pen) (flag f1 on : Bool)
     (x : RowValue) (ys : List CellValue) (t0 t1 t2 : List ℕ) →
     t1 ≡ t0 ++ bytes_of_all (cells_from r k pen flag x.cells ys).ops →
     p1 ≡ (cells_from r k pen flag x.cells ys).pen → f1 ≡ (cells_from r k pen flag x.cells ys).flag →
-    Writes t1 t2 p2 on (broken r p1 f1 x.wrapped x.cells) → Writes t0 t2 p2 on (row_written r k pen flag x ys)
+    Writes t1 t2 p2 on (row_break r p1 f1 x.wrapped x.cells) → Writes t0 t2 p2 on (row_written r k pen flag x ys)
 unfolding row_written
 row_writes r k pen p1 p2 flag f1 on x ys t0 t1 t2 e f g h =
     let same = from_settled r k pen flag x.cells ys in
     let cells = cells_written r 0 pen flag k x.cells ys in
     let text : t1 ≡ t0 ++ bytes_of_all cells.ops = e ∙ ap (λ (w : Scripted). t0 ++ bytes_of_all w.ops) same in
-    let end : broken r p1 f1 x.wrapped x.cells ≡ broken r cells.pen cells.flag x.wrapped x.cells =
-    ap (λ (p : Pen). broken r p f1 x.wrapped x.cells) (f ∙ ap (λ (w : Scripted). w.pen) same)
-    ∙ ap (λ (b : Bool). broken r cells.pen b x.wrapped x.cells) (g ∙ ap (λ (w : Scripted). w.flag) same) in
+    let end : row_break r p1 f1 x.wrapped x.cells ≡ row_break r cells.pen cells.flag x.wrapped x.cells =
+    ap (λ (p : Pen). row_break r p f1 x.wrapped x.cells) (f ∙ ap (λ (w : Scripted). w.pen) same)
+    ∙ ap (λ (b : Bool). row_break r cells.pen b x.wrapped x.cells) (g ∙ ap (λ (w : Scripted). w.flag) same) in
     let last = subst (Writes t1 t2 p2 on) end h in
     record {
-      bytes = joined_bytes t0 t1 t2 cells.ops (broken r cells.pen cells.flag x.wrapped x.cells).ops text last.bytes;
+      bytes = joined_bytes t0 t1 t2 cells.ops (row_break r cells.pen cells.flag x.wrapped x.cells).ops text last.bytes;
       stands = last.stands;
       goes_on = last.goes_on;
     }
@@ -72,8 +72,8 @@ first_leads width pen p1 on xs ys t0 t1 some same h =
     leads_after t0 t1 row.ops (rows_under 0 width p1 on xs ys) (rows_written pen xs ys) h.bytes
     (ap (λ (zs : List RowValue). rows_written pen zs ys) (first_row width xs some)
     ∙ (ap (λ (zs : List RowValue). rows_written pen (x ∷ drop 1 xs) zs) (first_row width ys (omega arith))
-    ∙ (ap (λ (p : Pen). after row.ops (rows_below 0 p x row.flag (drop 1 xs) (drop 1 ys))) (sym h.stands)
-    ∙ ap (λ (b : Bool). after row.ops (rows_below 0 p1 x b (drop 1 xs) (drop 1 ys))) (sym h.goes_on))))
+    ∙ (ap (λ (p : Pen). ops_then row.ops (rows_below 0 p x row.flag (drop 1 xs) (drop 1 ys))) (sym h.stands)
+    ∙ ap (λ (b : Bool). ops_then row.ops (rows_below 0 p1 x b (drop 1 xs) (drop 1 ys))) (sym h.goes_on))))
 
 pub top_leads : (width : ℕ) (pen p1 : Pen) (on : Bool) (xs ys : List RowValue) (x y : RowValue) (t0 t1 : List ℕ) →
     0 < length xs → length xs ≡ length ys → x ≡ row_or width xs 0 → y ≡ row_or width ys 0 →
@@ -117,12 +117,12 @@ below_leads width r pen p1 p2 on next link xs ys above x y t0 t1 t2 inside same 
     (ap (λ (z : RowValue). rows_below r pen z on (drop (r + 1) xs) (drop (r + 1) ys)) (sym ea)
     ∙ (ap (λ (zs : List RowValue). rows_below r pen above on zs (drop (r + 1) ys)) here
     ∙ (ap (λ (zs : List RowValue). rows_below r pen above on (x ∷ drop (r + 2) xs) zs) there
-    ∙ (ap (λ (p : Pen). after (whole.ops ++ row.ops) (rest p row.flag)) (sym wrote.stands)
-    ∙ (ap (λ (b : Bool). after (whole.ops ++ row.ops) (rest p2 b)) (sym wrote.goes_on)
-    ∙ ap (after (whole.ops ++ row.ops)) (sym after_it))))))
+    ∙ (ap (λ (p : Pen). ops_then (whole.ops ++ row.ops) (rest p row.flag)) (sym wrote.stands)
+    ∙ (ap (λ (b : Bool). ops_then (whole.ops ++ row.ops) (rest p2 b)) (sym wrote.goes_on)
+    ∙ ap (ops_then (whole.ops ++ row.ops)) (sym after_it))))))
 
 pub rows_end : (width r : ℕ) (pen : Pen) (on : Bool) (xs ys : List RowValue) →
-    length xs ≤ r + 1 → rows_under r width pen on xs ys ≡ nothing pen on
+    length xs ≤ r + 1 → rows_under r width pen on xs ys ≡ no_ops pen on
 unfolding rows_below
 rows_end width r pen on xs ys h =
     ap (λ (zs : List RowValue). rows_below r pen (row_or width xs r) on zs (drop (r + 1) ys)) (drop_all (r + 1) xs h)

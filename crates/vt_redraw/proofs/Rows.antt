@@ -10,8 +10,8 @@ use Rattle.vt_rows.specs.Row.{RowValue}
 use Rattle.vt_grid.specs.Canvas.{Canvas}
 use Rattle.vt_redraw.specs.declared.pen.Pen.{Pen}
 use Rattle.vt_redraw.proofs.Steps.{at_pen, Reads, Within}
-use Rattle.vt_redraw.specs.Script.{Scripted, after, is_torn, Linked, unlinked, first_written, starts_other}
-use Rattle.vt_redraw.specs.Script.{link_after, linked, is_at, going_behind, last_column}
+use Rattle.vt_redraw.specs.Script.{Scripted, ops_then, is_torn, Linked, no_link, first_written, starts_other}
+use Rattle.vt_redraw.specs.Script.{ops_then_link, row_link, is_at, behind_last_glyph, last_column}
 use Rattle.vt_redraw.specs.Redraw.{row_written, link_of, rows_below, rows_written}
 use Rattle.vt_redraw.proofs.Halves.{Paired, opened_paired}
 use Rattle.vt_redraw.proofs.Flags.{Sound}
@@ -43,7 +43,7 @@ pub record Drew (May : ℕ → ℕ → Type 0) (w : Scripted) (base : Canvas)
 
 drew_after : (May : ℕ → ℕ → Type 0) (ops : List Op) (w : Scripted)
     (base a b : Canvas) (rows : List RowValue) (height : ℕ) →
-    DrawsIn May ops a b → Drew May w base b rows height → Drew May (after ops w) base a rows height
+    DrawsIn May ops a b → Drew May w base b rows height → Drew May (ops_then ops w) base a rows height
 drew_after May ops w base a b rows height h k =
     record { draws = in_then May ops w.ops a b (at_pen base rows w.pen) h k.draws; within = k.within }
 
@@ -64,10 +64,10 @@ step_joins : (May : ℕ → ℕ → Type 0) (base : Canvas) (done below : List R
 step_joins May base done below above x y on r height pen reads
     e rows ha hx hy above_prints prints keeps within last near =
     let start = two base done below above.cells on y.cells y.wrapped pen in
-    cond_both above.wrapped (linked r pen above.cells on y.wrapped x.cells y.cells) (unlinked pen y.wrapped)
+    cond_both above.wrapped (row_link r pen above.cells on y.wrapped x.cells y.cells) (no_link pen y.wrapped)
     (λ (j : Linked). Joins May j base done below start above.cells above.wrapped x.cells y.cells height)
     (λ (t : above.wrapped ≡ true).
-    subst (λ (z : Bool). Joins May (linked r pen above.cells on y.wrapped x.cells y.cells)
+    subst (λ (z : Bool). Joins May (row_link r pen above.cells on y.wrapped x.cells y.cells)
     base done below start above.cells z x.cells y.cells height)
     (sym t)
     (link_draws May base done below above.cells x.cells y.cells on y.wrapped r height pen reads e rows ha.columns
@@ -104,20 +104,20 @@ first_same r pen flag (glyph text true a ∷ glyph other wide b ∷ xs) h sound 
 first_same r pen flag (glyph text true a ∷ right_half ∷ xs) h sound = let t = not_torn xs h in grind (arith, t)
 
 linked_same : (r : ℕ) (pen : Pen) (above : List CellValue) (on flag : Bool) (xs : List CellValue) →
-    Paired xs → Sound flag xs → (linked r pen above on flag xs xs).flag ≡ flag
-unfolding linked
+    Paired xs → Sound flag xs → (row_link r pen above on flag xs xs).flag ≡ flag
+unfolding row_link
 linked_same r pen above on flag xs h sound =
     cond_both (not on || (is_at pen r (length above) && starts_other xs xs))
-    (link_after (going_behind r pen above).ops (first_written (r + 1) (going_behind r pen above).pen flag xs xs))
-    (unlinked pen flag) (λ (j : Linked). j.flag ≡ flag)
-    (λ _. first_same (r + 1) (going_behind r pen above).pen flag xs h sound) (λ _. refl)
+    (ops_then_link (behind_last_glyph r pen above).ops (first_written (r + 1) (behind_last_glyph r pen above).pen flag xs xs))
+    (no_link pen flag) (λ (j : Linked). j.flag ≡ flag)
+    (λ _. first_same (r + 1) (behind_last_glyph r pen above).pen flag xs h sound) (λ _. refl)
 
 link_same : (r : ℕ) (pen : Pen) (above : RowValue) (on : Bool) (x y : RowValue) → Paired x.cells →
     Sound y.wrapped x.cells → x ≡ y → (link_of r pen above on x y).flag ≡ y.wrapped
 link_same r pen above on x y h sound e =
-    cond_both above.wrapped (linked r pen above.cells on y.wrapped x.cells y.cells)
-    (unlinked pen y.wrapped) (λ (j : Linked). j.flag ≡ y.wrapped)
-    (λ _. subst (λ (z : List CellValue). (linked r pen above.cells on y.wrapped x.cells z).flag ≡ y.wrapped)
+    cond_both above.wrapped (row_link r pen above.cells on y.wrapped x.cells y.cells)
+    (no_link pen y.wrapped) (λ (j : Linked). j.flag ≡ y.wrapped)
+    (λ _. subst (λ (z : List CellValue). (row_link r pen above.cells on y.wrapped x.cells z).flag ≡ y.wrapped)
     (ap (λ (z : RowValue). z.cells) e) (linked_same r pen above.cells on y.wrapped x.cells h sound))
     (λ _. refl)
 

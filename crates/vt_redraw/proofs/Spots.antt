@@ -4,7 +4,7 @@ use Rattle.std.proofs.Common.{[], ◌∷◌, ◌++◌, length, drop, Option, Som
 use Rattle.std.proofs.lemmas.Bool.{lt-ltb}
 use Rattle.std.specs.Char.{encode_utf8}
 use Rattle.vt_cells.specs.Cell.{CellValue, glyph, right_half}
-use Rattle.vt_cells.specs.Glyph.{columns_of, first_columns}
+use Rattle.vt_cells.specs.Glyph.{columns_of, glyph_columns}
 use Rattle.vt_cells.specs.Attrs.{Attrs}
 use Rattle.vt_rows.specs.Cells.{opened}
 use Rattle.vt_rows.specs.Row.{RowValue}
@@ -33,7 +33,7 @@ pub record Spot (base : Canvas) (done : List RowValue) (pre : List CellValue) (o
     (ys : List CellValue) (flag : Bool) (r c : ℕ) (wide : Bool) : Type 0 where
   pub row : length done ≡ r
   pub col : length pre ≡ c
-  pub fits : c + first_columns wide ≤ base.page.width
+  pub fits : c + glyph_columns wide ≤ base.page.width
   pub front : Paired pre
   pub sound : Sound flag (pre ++ opened o (y ∷ ys))
 
@@ -46,7 +46,7 @@ abbrev pub put : Canvas → (done below : List RowValue) → (pre : List CellVal
     (ys : List CellValue) → Bool → (r c : ℕ) → (text : List ℕ) → (wide : Bool) → Attrs → Canvas
 put base done below pre ys flag r c text wide attrs =
     mid base done below (with_glyph pre text wide attrs ys)
-    (flag_behind flag wide (drop 1 ys)) (pen_at r (c + first_columns wide) attrs)
+    (flag_behind flag wide (drop 1 ys)) (pen_at r (c + glyph_columns wide) attrs)
 
 narrow_flag : (f n t : Bool) → (f && not ((n && false) || (t && false))) ≡ (f && not false)
 narrow_flag f n t = grind (arith)
@@ -68,7 +68,7 @@ glyph_flag pre o y ys flag text true attrs sound =
     ∙ wide_flag flag (is_nil (drop 1 ys)) (is_torn (drop 1 ys))
 
 behind_opened : (wide : Bool) (o y : CellValue) (ys : List CellValue) →
-    drop (first_columns wide) (opened o (y ∷ ys)) ≡ rest_behind wide ys
+    drop (glyph_columns wide) (opened o (y ∷ ys)) ≡ rest_behind wide ys
 behind_opened false o y ys = drop_opened 0 o (y ∷ ys)
 behind_opened true o y ys = drop_opened 1 o (y ∷ ys)
 
@@ -78,7 +78,7 @@ pub glyph_put_here : (base : Canvas) (done below : List RowValue) (pre : List Ce
     glyph_put text wide attrs (spot base done below pre o y ys flag r c attrs).page
     ≡ (put base done below pre ys flag r c text wide attrs).page
 glyph_put_here base done below pre o y ys flag r c text wide attrs at =
-    let pen = pen_at r (c + first_columns wide) attrs in
+    let pen = pen_at r (c + glyph_columns wide) attrs in
     let row = λ (rest : List CellValue). pre ++ (glyph_cells text wide attrs ++ opened (orphan wide attrs) rest) in
     glyph_put_at base done below pre (opened o (y ∷ ys)) flag r c text wide attrs at.row at.col at.front
     ∙ (ap (λ (rest : List CellValue). (mid base done below (row rest) (kept flag (row rest)) pen).page)
@@ -106,7 +106,7 @@ char_drawn-mark c canvas page e f h = char_drawn c (Some 0) canvas page e f h
 
 pub first_drawn : (base : Canvas) (done below : List RowValue) (pre : List CellValue) (o y : CellValue)
     (ys : List CellValue) (flag : Bool) (r c : ℕ) (first : ℕ) (wide : Bool) (attrs : Attrs) →
-    columns_of first ≡ Some (first_columns wide) → Spot base done pre o y ys flag r c wide →
+    columns_of first ≡ Some (glyph_columns wide) → Spot base done pre o y ys flag r c wide →
     drawn_char first (spot base done below pre o y ys flag r c attrs)
     ≡ Some (put base done below pre ys flag r c (encode_utf8 first) wide attrs)
 first_drawn base done below pre o y ys flag r c first false attrs e at =

@@ -4,24 +4,24 @@ use Rattle.std.proofs.Common.{not, List, [], ◌∷◌, inl, inr, refl, sym, ap,
 use Rattle.vt_cells.specs.Cell.{CellValue, blank, glyph, right_half, same_cell}
 use Rattle.vt_cells.proofs.SameCells.{cell_of-same, same_cell-itself}
 use Rattle.vt_rows.specs.Row.{RowValue}
-use Rattle.vt_cells.specs.Glyph.{first_columns}
+use Rattle.vt_cells.specs.Glyph.{glyph_columns}
 use Rattle.vt_redraw.specs.declared.pen.Pen.{Pen}
-use Rattle.vt_redraw.specs.Script.{nothing, starts_other, cells_written, broken}
+use Rattle.vt_redraw.specs.Script.{no_ops, starts_other, cells_written, row_break}
 use Rattle.vt_redraw.specs.Redraw.{row_written}
 
 pub cells_nothing : (r c k : ℕ) (pen : Pen) (flag : Bool) (xs : List CellValue) →
-    cells_written r c pen flag k xs xs ≡ nothing pen flag
+    cells_written r c pen flag k xs xs ≡ no_ops pen flag
 unfolding cells_written
 cells_nothing r c zero pen flag [] = refl
 cells_nothing r c (suc k) pen flag [] = refl
 cells_nothing r c (suc k) pen flag (x ∷ xs) = cells_nothing r (c + 1) k pen flag xs
 cells_nothing r c zero pen flag (blank a ∷ xs) = rw (same_cell-itself (blank a)) (cells_nothing r (c + 1) 0 pen flag xs)
 cells_nothing r c zero pen flag (glyph text wide a ∷ xs) =
-    rw (same_cell-itself (glyph text wide a)) (cells_nothing r (c + 1) (first_columns wide - 1) pen flag xs)
+    rw (same_cell-itself (glyph text wide a)) (cells_nothing r (c + 1) (glyph_columns wide - 1) pen flag xs)
 cells_nothing r c zero pen flag (right_half ∷ xs) = cells_nothing r (c + 1) 0 pen flag xs
 
-pub row_nothing : (r k : ℕ) (pen : Pen) (x : RowValue) → row_written r k pen x.wrapped x x.cells ≡ nothing pen x.wrapped
-unfolding row_written broken
+pub row_nothing : (r k : ℕ) (pen : Pen) (x : RowValue) → row_written r k pen x.wrapped x x.cells ≡ no_ops pen x.wrapped
+unfolding row_written row_break
 row_nothing r k pen x =
     let t : (x.wrapped && not x.wrapped) ≡ false = grind (arith) in
     rw (cells_nothing r 0 k pen x.wrapped x.cells, t) refl

@@ -6,7 +6,7 @@ use Rattle.std.specs.Char.{encode_utf8}
 use Rattle.std.specs.List.{AllByRecursion}
 use Rattle.std.proofs.lemmas.Bool.{cond_both, ltb-true}
 use Rattle.vt_cells.specs.Cell.{blank, glyph, default_blank, is_wide}
-use Rattle.vt_cells.specs.Glyph.{columns_of, first_columns, is_selector, is_wide_text}
+use Rattle.vt_cells.specs.Glyph.{columns_of, glyph_columns, is_selector, is_wide_text}
 use Rattle.vt_cells.specs.Glyph.{has_room, IsMark, Joins, IsGlyphText}
 use Rattle.vt_cells.proofs.Glyphs.{IsGlyphText-chars}
 use Rattle.vt_cells.proofs.Widths.{columns_of-le}
@@ -32,7 +32,7 @@ use Rattle.vt_redraw.proofs.Past.{is_narrow, Past, past_marks}
 abbrev alone : ℕ → List ℕ → Bool → Attrs → Canvas
 alone n text wide attrs = put (blank_line (suc n) attrs) [] [] [] (blanks default_attrs n) false 0 0 text wide attrs
 
-line_spot : (n : ℕ) (attrs : Attrs) (wide : Bool) → first_columns wide ≤ suc n →
+line_spot : (n : ℕ) (attrs : Attrs) (wide : Bool) → glyph_columns wide ≤ suc n →
     Spot (blank_line (suc n) attrs) [] [] default_blank default_blank (blanks default_attrs n) false 0 0 wide
 line_spot n attrs wide h = record { row = refl; col = refl; fits = omega arith; front = tt; sound = λ t. absurd (cc) }
 
@@ -46,12 +46,12 @@ alone_not_past : (n : ℕ) (text : List ℕ) (wide : Bool) (attrs : Attrs) →
     Past (suc n) attrs (alone n text wide attrs) → ⊥
 alone_not_past n text wide attrs p =
     let far = p.past.far in
-    let col : 0 + first_columns wide ≡ p.col = ap (λ (c : Canvas). c.page.column) p.is in
+    let col : 0 + glyph_columns wide ≡ p.col = ap (λ (c : Canvas). c.page.column) p.is in
     let cell : glyph text wide attrs ≡ at p.cells 0 =
     sym (first_cell n text wide attrs) ∙ ap (λ (c : Canvas). at (row_at c.page 0).cells 0) p.is in
     by_width wide col (ap is_narrow cell ∙ p.past.first) far
   where
-    by_width : (wide : Bool) → 0 + first_columns wide ≡ p.col → not wide ≡ true → 2 ≤ p.col → ⊥
+    by_width : (wide : Bool) → 0 + glyph_columns wide ≡ p.col → not wide ≡ true → 2 ≤ p.col → ⊥
     by_width true e h far = absurd (cc)
     by_width false e h far = omega arith
 
@@ -84,13 +84,13 @@ narrowed n text attrs h =
 -- ---- a steady text grows
 
 next_fits : (width : ℕ) (wide : Bool) (text : List ℕ) (m : ℕ) → 0 < width →
-    first_columns wide ≤ width → first_columns (next width wide text m) ≤ width
+    glyph_columns wide ≤ width → glyph_columns (next width wide text m) ≤ width
 next_fits width wide text m pos h =
     cond_both (is_selector m) (is_wide_text (text ++ encode_utf8 m) && nat_lt 1 width)
-    wide (λ (v : Bool). first_columns v ≤ width)
+    wide (λ (v : Bool). glyph_columns v ≤ width)
     (λ _. both (is_wide_text (text ++ encode_utf8 m)) (nat_lt 1 width) (λ t. ltb-true 1 width t)) (λ _. h)
   where
-    both : (x y : Bool) → (y ≡ true → 1 < width) → first_columns (x && y) ≤ width
+    both : (x y : Bool) → (y ≡ true → 1 < width) → glyph_columns (x && y) ≤ width
     both true true g = let k = g refl in omega arith
     both true false g = omega arith
     both false true g = omega arith
@@ -125,7 +125,7 @@ some_same a b e = ap (canvas_or a) e
     canvas_or other None = other
 
 steady_grows : (ms : List ℕ) (n : ℕ) (text : List ℕ) (wide : Bool) (attrs : Attrs) (whole : List ℕ) (last : Bool) →
-    AllByRecursion IsMark ms → Joins text ms whole → first_columns wide ≤ suc n → first_columns last ≤ suc n →
+    AllByRecursion IsMark ms → Joins text ms whole → glyph_columns wide ≤ suc n → glyph_columns last ≤ suc n →
     drawn_text ms (alone n text wide attrs) ≡ Some (alone n whole last attrs) → Grows (suc n) wide text ms last whole
 steady_grows [] n text wide attrs whole last marks joins le last_le h =
     let e = ap (λ (c : Canvas). is_wide (at (row_at c.page 0).cells 0))
@@ -146,7 +146,7 @@ steady_grows (m ∷ ms) n text wide attrs whole last marks joins le last_le h =
       ),
     )
   where
-    never : (wide : Bool) → first_columns wide ≤ suc n →
+    never : (wide : Bool) → glyph_columns wide ≤ suc n →
         and_then (drawn_text ms) (drawn_char m (alone n text wide attrs)) ≡ Some (alone n whole last attrs) →
         wide ≡ true → next (suc n) wide text m ≡ true
     never false le h t = absurd (cc)
@@ -181,7 +181,7 @@ too_wide c k width attrs e h =
 
 -- a steady glyph prints on every screen of its width
 pub steady_prints : (n : ℕ) (text : List ℕ) (wide : Bool) (attrs : Attrs) → IsGlyphText text wide →
-    first_columns wide ≤ suc n → IsSteadyGlyph (suc n) text wide attrs → Prints (suc n) text wide
+    glyph_columns wide ≤ suc n → IsSteadyGlyph (suc n) text wide attrs → Prints (suc n) text wide
 steady_prints n text wide attrs g le steady = by_columns (columns_of g.first) refl
   where
     goal : drawn_text (g.first ∷ g.marks) (blank_line (suc n) attrs) ≡ Some (alone n text wide attrs)
@@ -191,8 +191,8 @@ steady_prints n text wide attrs g le steady = by_columns (columns_of g.first) re
         (glyph_put_here (blank_line (suc n) attrs) [] [] [] default_blank default_blank
         (blanks default_attrs n) false 0 0 text wide attrs (line_spot n attrs wide le)))
 
-    from : (start : Bool) → columns_of g.first ≡ Some (first_columns start) →
-        first_columns start ≤ suc n → Prints (suc n) text wide
+    from : (start : Bool) → columns_of g.first ≡ Some (glyph_columns start) →
+        glyph_columns start ≤ suc n → Prints (suc n) text wide
     from start e fits = record {
       first = g.first;
       marks = g.marks;
@@ -217,10 +217,10 @@ steady_prints n text wide attrs g le steady = by_columns (columns_of g.first) re
         (sym (marks_nothing g.marks (suc n) attrs g.are_marks)
         ∙ (sym (ap (λ (z : Option Canvas). and_then (drawn_text g.marks) z) (too_wide g.first k (suc n) attrs e t))
         ∙ goal)) in
-        let col : 0 ≡ 0 + first_columns wide = ap (λ (c : Canvas). c.page.column) blank in
+        let col : 0 ≡ 0 + glyph_columns wide = ap (λ (c : Canvas). c.page.column) blank in
         absurd (never wide col)
       where
-        never : (wide : Bool) → 0 ≡ 0 + first_columns wide → ⊥
+        never : (wide : Bool) → 0 ≡ 0 + glyph_columns wide → ⊥
         never true h = omega arith
         never false h = omega arith
 

@@ -8,7 +8,7 @@ use Rattle.vt_cells.specs.Op.{Op, MoveTo, MoveRight, NextRow, ChangeAttrs}
 use Rattle.vt_rows.specs.Row.{RowValue}
 use Rattle.vt_grid.specs.Moves.{line_feed, moved_right}
 use Rattle.vt_grid.specs.Canvas.{Canvas, and_then, drawn, drawn_all}
-use Rattle.vt_redraw.specs.Script.{pen_at, going, changing}
+use Rattle.vt_redraw.specs.Script.{pen_at, move_ops, attr_ops}
 use Rattle.vt_redraw.specs.declared.pen.Pen.{Pen}
 use Rattle.vt_grid.proofs.Drawing.{Draws}
 
@@ -69,8 +69,8 @@ move_to_draws base rows pen r c o h l =
 pub going_draws : (base : Canvas) (rows : List RowValue) (pen : Pen) (r c height width : ℕ) →
     Reads base height width → length rows ≡ height →
     Within pen height width → r < height → c < width →
-    Draws (going pen r c) (at_pen base rows pen) (at_pen base rows (pen_at r c pen.attrs))
-unfolding going
+    Draws (move_ops pen r c) (at_pen base rows pen) (at_pen base rows (pen_at r c pen.attrs))
+unfolding move_ops
 going_draws base rows pen r c height width reads size within h l =
     let P = λ (ops : List Op). Draws ops (at_pen base rows pen) (at_pen base rows (pen_at r c pen.attrs)) in
     let bottom = reads.bottom in
@@ -103,8 +103,8 @@ going_draws base rows pen r c height width reads size within h l =
 -- ---- attributes
 
 pub changing_draws : (base : Canvas) (rows : List RowValue) (pen : Pen) (attrs : Attrs) →
-    Draws (changing pen.attrs attrs) (at_pen base rows pen) (at_pen base rows (pen_at pen.row pen.col attrs))
-unfolding changing
+    Draws (attr_ops pen.attrs attrs) (at_pen base rows pen) (at_pen base rows (pen_at pen.row pen.col attrs))
+unfolding attr_ops
 changing_draws base rows pen attrs =
     let P = λ (ops : List Op). Draws ops (at_pen base rows pen) (at_pen base rows (pen_at pen.row pen.col attrs)) in
     cond_both (same_attrs pen.attrs attrs) [] (ChangeAttrs pen.attrs attrs ∷ []) P

@@ -5,7 +5,7 @@ use Rattle.std.specs.Prelude.{if◌then◌else◌, chars}
 use Rattle.std.specs.Char.{encode_utf8}
 use Rattle.std.proofs.lemmas.List.{get_or_at, set_at}
 use Rattle.vt_cells.specs.Cell.{CellValue, glyph, right_half, default_blank, is_wide, is_right_half, text_of, marked}
-use Rattle.vt_cells.specs.Glyph.{columns_of, first_columns, is_selector, is_wide_text, has_room, IsMark}
+use Rattle.vt_cells.specs.Glyph.{columns_of, glyph_columns, is_selector, is_wide_text, has_room, IsMark}
 use Rattle.vt_cells.specs.Attrs.{Attrs}
 use Rattle.vt_rows.specs.Cells.{at, marked_at}
 use Rattle.vt_rows.specs.Row.{RowValue}
@@ -35,8 +35,8 @@ pub record Prints (width : ℕ) (text : List ℕ) (wide : Bool) : Type 0 where
   pub marks : List ℕ
   pub start : Bool
   pub is : chars text ≡ first ∷ marks
-  pub columns : columns_of first ≡ Some (first_columns start)
-  pub fits : first_columns wide ≤ width
+  pub columns : columns_of first ≡ Some (glyph_columns start)
+  pub fits : glyph_columns wide ≤ width
   pub grows : Grows width start (encode_utf8 first) marks wide text
 
 -- ---- where a mark goes
@@ -57,8 +57,8 @@ glyph_at pre text true attrs rest c e = get_or_at pre (glyph text true attrs) (r
 pub mark_column_at : (pre : List CellValue) (text : List ℕ)
     (wide : Bool) (attrs : Attrs) (rest : List CellValue) (c : ℕ) →
     length pre ≡ c →
-    (if is_right_half (at (pre ++ (glyph_cells text wide attrs ++ rest)) (c + first_columns wide - 1))
-    then c + first_columns wide - 2 else c + first_columns wide - 1)
+    (if is_right_half (at (pre ++ (glyph_cells text wide attrs ++ rest)) (c + glyph_columns wide - 1))
+    then c + glyph_columns wide - 2 else c + glyph_columns wide - 1)
     ≡ c
 mark_column_at pre text false attrs rest c e =
     let i : c + 1 - 1 ≡ c = omega arith in
@@ -72,16 +72,16 @@ abbrev pub marking : Canvas → (done below : List RowValue) → (pre : List Cel
     (wide : Bool) → Attrs → (rest : List CellValue) → (flag : Bool) → (r c : ℕ) → Page
 marking base done below pre text wide attrs rest flag r c =
     (mid base done below (pre ++ (glyph_cells text wide attrs ++ rest))
-    flag (pen_at r (c + first_columns wide) attrs)).page
+    flag (pen_at r (c + glyph_columns wide) attrs)).page
 
 pub mark_column_is : (base : Canvas) (done below : List RowValue) (pre : List CellValue)
     (text : List ℕ) (wide : Bool) (attrs : Attrs) (rest : List CellValue) (flag : Bool) (r c : ℕ) →
     length done ≡ r → length pre ≡ c →
     mark_column (marking base done below pre text wide attrs rest flag r c) ≡ c
 mark_column_is base done below pre text wide attrs rest flag r c e l =
-    let pen = pen_at r (c + first_columns wide) attrs in
-    ap (λ (row : RowValue). if is_right_half (at row.cells (c + first_columns wide - 1))
-    then c + first_columns wide - 2 else c + first_columns wide - 1)
+    let pen = pen_at r (c + glyph_columns wide) attrs in
+    ap (λ (row : RowValue). if is_right_half (at row.cells (c + glyph_columns wide - 1))
+    then c + glyph_columns wide - 2 else c + glyph_columns wide - 1)
     (cursor_row_is base done below (pre ++ (glyph_cells text wide attrs ++ rest)) flag pen e)
     ∙ mark_column_at pre text wide attrs rest c l
 
@@ -92,7 +92,7 @@ pub marked_cell : (base : Canvas) (done below : List RowValue) (pre : List CellV
 marked_cell base done below pre text wide attrs rest flag r c e l =
     ap (λ (row : RowValue). at row.cells c)
     (cursor_row_is base done below (pre ++ (glyph_cells text wide attrs ++ rest))
-    flag (pen_at r (c + first_columns wide) attrs) e)
+    flag (pen_at r (c + glyph_columns wide) attrs) e)
     ∙ glyph_at pre text wide attrs rest c l
 
 -- ---- nothing is carried to the next row
@@ -123,7 +123,7 @@ pub put_marked : (base : Canvas) (done below : List RowValue) (pre : List CellVa
     (kept flag (pre ++ (glyph_cells (text ++ encode_utf8 m) wide attrs ++ rest))) r c
 put_marked base done below pre text wide attrs rest flag r c m e l room =
     edited_at base done below (pre ++ (glyph_cells text wide attrs ++ rest))
-    flag (pen_at r (c + first_columns wide) attrs) (marked_at c m)
+    flag (pen_at r (c + glyph_columns wide) attrs) (marked_at c m)
     (pre ++ (glyph_cells (text ++ encode_utf8 m) wide attrs ++ rest)) e
     (ap (λ (x : CellValue). set (pre ++ (glyph_cells text wide attrs ++ rest)) c (marked m x))
     (glyph_at pre text wide attrs rest c l)

@@ -13,7 +13,7 @@ use Rattle.vt_cells.specs.Op.{EraseRest, EraseChars, SaveCursor, RestoreCursor, 
 use Rattle.vt_rows.specs.Cells.{at}
 use Rattle.vt_rows.specs.Row.{RowValue}
 use Rattle.vt_grid.specs.Canvas.{Canvas, and_then, drawn_all}
-use Rattle.vt_redraw.specs.Script.{pen_at, going, changing}
+use Rattle.vt_redraw.specs.Script.{pen_at, move_ops, attr_ops}
 use Rattle.vt_redraw.specs.declared.pen.Pen.{Pen}
 use Rattle.vt_grid.proofs.Drawing.{Draws, draws_then}
 use Rattle.vt_redraw.specs.Touching.{is_touched, Changes, OpTouches, Touches}
@@ -99,15 +99,15 @@ pub quiet_in : (May : ℕ → ℕ → Type 0) (ops : List Op) (a b : Canvas) →
     AllQuiet ops → Draws ops a b → DrawsIn May ops a b
 quiet_in May ops a b h d = record { draws = d; touches = quiet_touches May ops a h }
 
-pub going_quiet : (pen : Pen) (r c : ℕ) → AllQuiet (going pen r c)
-unfolding going
+pub going_quiet : (pen : Pen) (r c : ℕ) → AllQuiet (move_ops pen r c)
+unfolding move_ops
 going_quiet pen r c =
     cond_both ((r == pen.row + 1) && (c == 0)) (NextRow ∷ []) _ AllQuiet (λ _. (refl, tt))
     (λ _. cond_both ((r == pen.row) && nat_lt pen.col c) (MoveRight (c - pen.col) ∷ []) _ AllQuiet (λ _. (refl, tt))
     (λ _. cond_both ((r == pen.row) && (c == pen.col)) [] (MoveTo r c ∷ []) AllQuiet (λ _. tt) (λ _. (refl, tt))))
 
-pub changing_quiet : (was new : Attrs) → AllQuiet (changing was new)
-unfolding changing
+pub changing_quiet : (was new : Attrs) → AllQuiet (attr_ops was new)
+unfolding attr_ops
 changing_quiet was new =
     cond_both (same_attrs was new) [] (ChangeAttrs was new ∷ []) AllQuiet (λ _. tt) (λ _. (refl, tt))
 

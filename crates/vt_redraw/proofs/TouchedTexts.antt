@@ -6,7 +6,7 @@ use Rattle.std.specs.Char.{encode_utf8}
 use Rattle.std.proofs.lemmas.Bool.{lt-ltb}
 use Rattle.std.proofs.lemmas.Bool.Decides.{nat_tests}
 use Rattle.vt_cells.specs.Cell.{CellValue, blank, glyph, right_half, is_wide, is_right_half, text_of}
-use Rattle.vt_cells.specs.Glyph.{columns_of, first_columns, is_selector, is_wide_text, has_room, IsMark}
+use Rattle.vt_cells.specs.Glyph.{columns_of, glyph_columns, is_selector, is_wide_text, has_room, IsMark}
 use Rattle.vt_cells.specs.Op.{Print}
 use Rattle.vt_cells.specs.Attrs.{Attrs}
 use Rattle.vt_rows.specs.Cells.{at, opened}
@@ -29,7 +29,7 @@ use Rattle.vt_redraw.proofs.Touched.{DrawsIn, some_same, changes_at}
 pub record MayGlyph (May : ℕ → ℕ → Type 0) (r c : ℕ) (wide : Bool) (ys : List CellValue) : Type 0 where
   pub first : May r c
   pub second : wide ≡ true → May r (c + 1)
-  pub torn : is_right_half (at (rest_behind wide ys) 0) ≡ true → May r (c + first_columns wide)
+  pub torn : is_right_half (at (rest_behind wide ys) 0) ≡ true → May r (c + glyph_columns wide)
 
 at_opened : (o y : CellValue) (ys : List CellValue) (k : ℕ) → at (opened o (y ∷ ys)) (suc k) ≡ at ys k
 at_opened o (blank a) ys k = refl
@@ -59,7 +59,7 @@ within_two May r c k h g le lt = by_test (k == c) refl where
 -- the first character, of one column or two
 first_touches : (May : ℕ → ℕ → Type 0) (base : Canvas) (done below : List RowValue) (pre : List CellValue)
     (o y : CellValue) (ys : List CellValue) (flag : Bool) (r c first : ℕ) (start wide : Bool) (attrs : Attrs) →
-    columns_of first ≡ Some (first_columns start) → (start ≡ true → wide ≡ true) →
+    columns_of first ≡ Some (glyph_columns start) → (start ≡ true → wide ≡ true) →
     Spot base done pre o y ys flag r c wide → MayGlyph May r c wide ys →
     CharTouches May (columns_of first) first attrs (spot base done below pre o y ys flag r c attrs).page
 first_touches May base done below pre o y ys flag r c first false false attrs e grows at_spot may =
@@ -218,7 +218,7 @@ room_same May n page other e f h = subst (λ (p : Page). Changes May p.column n 
 first_touches_wrapped : (May : ℕ → ℕ → Type 0) (base : Canvas) (done below : List RowValue) (above : List CellValue)
     (on : Bool) (cells : List CellValue) (flag : Bool) (r : ℕ) (attrs : Attrs) (first : ℕ) (wide : Bool) →
     length done ≡ r → base.page.bottom + 1 ≡ length done + suc (suc (length below)) →
-    columns_of first ≡ Some (first_columns wide) → first_columns wide ≤ base.page.width →
+    columns_of first ≡ Some (glyph_columns wide) → glyph_columns wide ≤ base.page.width →
     CharTouches May (columns_of first) first attrs
     (two base done below above (not (ends above)) cells flag (pen_at (r + 1) 0 attrs)).page →
     CharTouches May (columns_of first) first attrs

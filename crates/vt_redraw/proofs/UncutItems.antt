@@ -11,9 +11,9 @@ use Rattle.vt_rows.specs.Row.{RowValue, blank_row}
 use Rattle.vt_grid.specs.Page.{row_or}
 use Rattle.vt_redraw.specs.Items.{range_written, is_whole, item_of_difference, linked_item, CutsNone}
 use Rattle.vt_redraw.specs.Picture.{Picture, IsPicture}
-use Rattle.vt_cells.specs.Glyph.{first_columns}
-use Rattle.vt_redraw.specs.Script.{Scripted, after, pen_at, blank_run, doing, erase_run, flag_past}
-use Rattle.vt_redraw.specs.Script.{flag_behind, cells_written, first_written, broken, going_behind}
+use Rattle.vt_cells.specs.Glyph.{glyph_columns}
+use Rattle.vt_redraw.specs.Script.{Scripted, ops_then, pen_at, blank_run, placed_op, erase_run, flag_past}
+use Rattle.vt_redraw.specs.Script.{flag_behind, cells_written, first_written, row_break, behind_last_glyph}
 use Rattle.vt_redraw.specs.declared.pen.Pen.{Pen}
 use Rattle.vt_redraw.proofs.Halves.{Paired, paired_of}
 use Rattle.vt_redraw.proofs.RangeDraws.{IsClean}
@@ -93,14 +93,14 @@ cells_off r c pen zero (blank a ∷ xs) (y ∷ ys) =
     let n = blank_run a xs in
     let rest = cells_written r (c + 1) (pen_at r c a) (flag_past false (drop n ys)) n xs ys in
     cond_both (same_cell (blank a) y) (cells_written r (c + 1) pen false zero xs ys)
-    (after (doing pen r c a (erase_run (suc n) (drop n ys))) rest) (λ (w : Scripted). w.flag ≡ false)
+    (ops_then (placed_op pen r c a (erase_run (suc n) (drop n ys))) rest) (λ (w : Scripted). w.flag ≡ false)
     (λ _. cells_off r (c + 1) pen zero xs ys) (λ _. cells_off r (c + 1) (pen_at r c a) n xs ys)
 cells_off r c pen zero (glyph text wide a ∷ xs) (y ∷ ys) =
-    let k = first_columns wide - 1 in
-    let next = pen_at r (c + first_columns wide) a in
+    let k = glyph_columns wide - 1 in
+    let next = pen_at r (c + glyph_columns wide) a in
     let rest = cells_written r (c + 1) next (flag_behind false wide (drop 1 ys)) k xs ys in
     cond_both (same_cell (glyph text wide a) y) (cells_written r (c + 1) pen false k xs ys)
-    (after (doing pen r c a (Print text)) rest) (λ (w : Scripted). w.flag ≡ false)
+    (ops_then (placed_op pen r c a (Print text)) rest) (λ (w : Scripted). w.flag ≡ false)
     (λ _. cells_off r (c + 1) pen k xs ys) (λ _. cells_off r (c + 1) next k xs ys)
 
 first_off : (r : ℕ) (pen : Pen) (xs ys : List CellValue) → (first_written r pen false xs ys).flag ≡ false
@@ -118,8 +118,8 @@ linked_off r xs =
     (first_off r (pen_at r 0 default_attrs) xs ys)
     ∙ cells_off r 0 first.pen first.settled xs ys
 
-broken_off : (r : ℕ) (pen : Pen) (flag : Bool) (cells : List CellValue) → (broken r pen flag false cells).flag ≡ false
-unfolding broken
+broken_off : (r : ℕ) (pen : Pen) (flag : Bool) (cells : List CellValue) → (row_break r pen flag false cells).flag ≡ false
+unfolding row_break
 broken_off r pen true cells = refl
 broken_off r pen false cells = refl
 
@@ -128,15 +128,15 @@ pub item_off : (r width : ℕ) (x y : RowValue) → length x.cells ≡ width →
     x.wrapped ≡ false → (item_of_difference r 0 width x y).flag ≡ false
 item_off r width x y e off =
     let w = range_written r 0 width y.wrapped x.cells y.cells in
-    let b = broken r w.pen w.flag x.wrapped x.cells in
+    let b = row_break r w.pen w.flag x.wrapped x.cells in
     let t : is_whole 0 width (length x.cells) ≡ true = grind (arith, nat_tests) in
     let none : b.flag ≡ false =
-    ap (λ (f : Bool). (broken r w.pen w.flag f x.cells).flag) off ∙ broken_off r w.pen w.flag x.cells in
+    ap (λ (f : Bool). (row_break r w.pen w.flag f x.cells).flag) off ∙ broken_off r w.pen w.flag x.cells in
     rw t (cond_both (x.wrapped && not b.flag)
     (record {
-      ops = (after w.ops b).ops ++ (going_behind r (after w.ops b).pen x.cells).ops;
-      pen = (going_behind r (after w.ops b).pen x.cells).pen;
+      ops = (ops_then w.ops b).ops ++ (behind_last_glyph r (ops_then w.ops b).pen x.cells).ops;
+      pen = (behind_last_glyph r (ops_then w.ops b).pen x.cells).pen;
       flag = b.flag;
     })
-    (after w.ops b) (λ (v : Scripted). v.flag ≡ false)
+    (ops_then w.ops b) (λ (v : Scripted). v.flag ≡ false)
     (λ _. none) (λ _. none))

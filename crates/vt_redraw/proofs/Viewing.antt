@@ -16,7 +16,7 @@ use Rattle.vt_grid.proofs.Pages.{IsRow-row_or}
 use Rattle.vt_grid.specs.Page.{Page, IsPage, row_or}
 use Rattle.vt_grid.specs.Scrollback.{Scrollback, IsScrollback, last_of, visible}
 use Rattle.vt_grid.specs.Canvas.{Canvas}
-use Rattle.vt_redraw.specs.Keeping.{IsSource, cut_row, row_seen, viewed}
+use Rattle.vt_redraw.specs.Internals.{IsSource, cut_row, row_seen, picture_of_source}
 use Rattle.vt_redraw.specs.Moved.{band_source, last_moved, moved, rows_moved}
 use Rattle.vt_redraw.specs.declared.band.Band.{Band}
 use Rattle.vt_redraw.specs.declared.view.Source.{Source}
@@ -56,7 +56,7 @@ viewed_is above canvas is page =
     (visible_sound above canvas.page.rows canvas.page.width is page.rows)
 
 pub viewed_height : (s : Source) (above : Scrollback) (rows : List RowValue) (width : ℕ) (pen : Pen) (hidden : Bool) →
-    length (viewed s above rows width pen hidden).rows ≡ length rows
+    length (picture_of_source s above rows width pen hidden).rows ≡ length rows
 viewed_height Blank above rows width pen hidden = length-replicate (length rows) (blank_row default_attrs width)
 viewed_height InView above rows width pen hidden = length_cut width (visible above rows) ∙ visible_length above rows
 viewed_height (Moved band) above rows width pen hidden =
@@ -132,16 +132,16 @@ pub new_is : (above : Scrollback) (page : Page) (rows : List RowValue)
     (width row column : ℕ) (attrs : Attrs) (hidden : Bool) →
     IsScrollback above → IsPage page →
     rows ≡ page.rows → width ≡ page.width → row ≡ page.row → column ≡ page.column →
-    IsPicture (viewed InView above rows width (pen_at row column attrs) hidden)
+    IsPicture (picture_of_source InView above rows width (pen_at row column attrs) hidden)
 new_is above page rows width row column attrs hidden is sound e f g h =
     let canvas : Canvas = record { page = page; attrs = attrs; saved_attrs = attrs; hidden = hidden } in
     rw (e, f, g, h) (viewed_is above canvas is sound)
 
 pub blanked_is : (s : Source) (above : Scrollback) (rows : List RowValue) (width : ℕ) (pen new : Pen) (hidden : Bool) →
     new ≡ pen_at 0 0 default_attrs →
-    viewed Blank above rows width new hidden ≡ blank_like (viewed s above rows width pen hidden)
+    picture_of_source Blank above rows width new hidden ≡ blank_like (picture_of_source s above rows width pen hidden)
 blanked_is s above rows width pen new hidden e =
-    ap (λ (p : Pen). viewed Blank above rows width p hidden) e
+    ap (λ (p : Pen). picture_of_source Blank above rows width p hidden) e
     ∙ ap (λ (n : ℕ).
     record {
       rows = replicate n (blank_row default_attrs width);
@@ -155,13 +155,13 @@ blanked_is s above rows width pen new hidden e =
 
 pub viewed_row : (s : Source) (above : Scrollback) (rows : List RowValue) (width : ℕ) (pen : Pen) (hidden : Bool) →
     IsSource above rows width pen →
-    pen.row < length (viewed s above rows width pen hidden).rows
+    pen.row < length (picture_of_source s above rows width pen hidden).rows
 viewed_row s above rows width pen hidden is =
     let e = viewed_height s above rows width pen hidden in let h = is.row in omega arith
 
 pub row_sound : (s : Source) (above : Scrollback) (rows : List RowValue) (width : ℕ) (pen : Pen) (hidden : Bool) (r : ℕ)
     → IsSource above rows width pen → r < length rows
-    → IsRow width (row_or width (viewed s above rows width pen hidden).rows r)
+    → IsRow width (row_or width (picture_of_source s above rows width pen hidden).rows r)
 row_sound Blank above rows width pen hidden r is h =
     subst (IsRow width) (sym (blank_at (length rows) width r h)) (IsRow-blank_row default_attrs width)
 row_sound InView above rows width pen hidden r is h = shown_sound above rows width r is.scrollback is.page h
@@ -242,19 +242,19 @@ free_is above rows width band r row h f g =
 pub row_in_view : (s : Source) (above : Scrollback) (rows : List RowValue) (width : ℕ)
     (pen : Pen) (hidden : Bool) (r : ℕ) (row : RowValue) →
     s ≡ InView → row ≡ row_seen false width (visible above rows) r →
-    row ≡ row_or width (viewed s above rows width pen hidden).rows r
+    row ≡ row_or width (picture_of_source s above rows width pen hidden).rows r
 row_in_view s above rows width pen hidden r row e f = rw e (f ∙ sym (seen_at width (visible above rows) r))
 
 pub row_blank : (s : Source) (above : Scrollback) (rows : List RowValue) (width : ℕ)
     (pen : Pen) (hidden : Bool) (r : ℕ) (row : RowValue) →
     s ≡ Blank → r < length rows → row ≡ blank_row default_attrs width →
-    row ≡ row_or width (viewed s above rows width pen hidden).rows r
+    row ≡ row_or width (picture_of_source s above rows width pen hidden).rows r
 row_blank s above rows width pen hidden r row e h f = rw e (f ∙ sym (blank_at (length rows) width r h))
 
 pub row_after : (s : Source) (above : Scrollback) (rows : List RowValue) (width : ℕ) (pen : Pen)
     (hidden : Bool) (band : Band) (r : ℕ) (row : RowValue) →
     s ≡ Moved band → row ≡ row_or width (rows_moved width band (cut_rows width (visible above rows))) r →
-    row ≡ row_or width (viewed s above rows width pen hidden).rows r
+    row ≡ row_or width (picture_of_source s above rows width pen hidden).rows r
 row_after s above rows width pen hidden band r row e f = rw e f
 
 -- the view of a picture of which a band has moved
@@ -262,7 +262,7 @@ pub moved_is : (above : Scrollback) (page : Page) (rows : List RowValue) (width 
     (attrs drawn : Attrs) (hidden : Bool) (band : Band) →
     rows ≡ page.rows → width ≡ page.width → height ≡ length page.rows →
     row ≡ last_moved height band → drawn ≡ default_attrs →
-    viewed (Moved band) above rows width (pen_at row 0 drawn) hidden
+    picture_of_source (Moved band) above rows width (pen_at row 0 drawn) hidden
     ≡ moved band (picture_over (visible above page.rows)
     (record { page = page; attrs = attrs; saved_attrs = attrs; hidden = hidden }))
 moved_is above page rows width height row attrs drawn hidden band e f g h k =

@@ -11,13 +11,13 @@ use Rattle.vt_cells.specs.Op.{Print, Backspace, EraseChars}
 use Rattle.vt_rows.specs.Cells.{blanks, opened}
 use Rattle.vt_rows.specs.Row.{RowValue}
 use Rattle.vt_grid.specs.Canvas.{Canvas}
-use Rattle.vt_cells.specs.Glyph.{first_columns}
-use Rattle.vt_redraw.specs.Script.{pen_at, changing}
+use Rattle.vt_cells.specs.Glyph.{glyph_columns}
+use Rattle.vt_redraw.specs.Script.{pen_at, attr_ops}
 use Rattle.vt_redraw.specs.declared.pen.Pen.{Pen}
 use Rattle.vt_grid.proofs.Drawing.{Draws}
 use Rattle.vt_redraw.proofs.Steps.{Reads, Within, changing_draws}
-use Rattle.vt_redraw.specs.Script.{Scripted, after, is_nil, flag_behind, Linked}
-use Rattle.vt_redraw.specs.Script.{first_written, cells_written, going_behind, broken}
+use Rattle.vt_redraw.specs.Script.{Scripted, ops_then, is_nil, flag_behind, Linked}
+use Rattle.vt_redraw.specs.Script.{first_written, cells_written, behind_last_glyph, row_break}
 use Rattle.vt_redraw.specs.Items.{range_written, with_range, is_whole, marked_on, item_of_difference, linked_item}
 use Rattle.vt_redraw.proofs.Halves.{Paired, paired_loose, paired_blanks, loose_step, opened_paired}
 use Rattle.vt_redraw.proofs.Flags.{ends, Sound}
@@ -62,8 +62,8 @@ whole_item_draws base done below r height x y item hx hy =
     let width = base.page.width in
     let start = mid base done below y.cells y.wrapped (pen_at r 0 default_attrs) in
     let w = range_written r 0 width y.wrapped x.cells y.cells in
-    let b = broken r w.pen w.flag x.wrapped x.cells in
-    let full = after w.ops b in
+    let b = row_break r w.pen w.flag x.wrapped x.cells in
+    let full = ops_then w.ops b in
     let one = subst (λ (z : List CellValue). Wrote Any w base done below start z height)
     (range_all x.cells y.cells width hx.columns hy.columns)
     (range_draws base done below r 0 width height y.wrapped x.cells y.cells item hy.sound) in
@@ -76,8 +76,8 @@ whole_item_draws base done below r height x y item hx hy =
     subst (λ (t : Bool). DrewRow (if t then marked_on r full x.wrapped x.cells else w) base done below start x) (sym t)
     (cond_both (x.wrapped && not full.flag)
     (record {
-      ops = full.ops ++ (going_behind r full.pen x.cells).ops;
-      pen = (going_behind r full.pen x.cells).pen;
+      ops = full.ops ++ (behind_last_glyph r full.pen x.cells).ops;
+      pen = (behind_last_glyph r full.pen x.cells).pen;
       flag = full.flag;
     })
     full (λ (v : Scripted). DrewRow v base done below start x)
@@ -85,9 +85,9 @@ whole_item_draws base done below r height x y item hx hy =
     let goes = going_behind_draws Any base done below x.cells full.flag r
     height full.pen item.reads item.above item.rows hx.columns hx.paired
     (hx.sound (and_true x.wrapped (not full.flag) u)) item.prints two.within (λ f k low high. tt) in
-    let all = in_then Any full.ops (going_behind r full.pen x.cells).ops
+    let all = in_then Any full.ops (behind_last_glyph r full.pen x.cells).ops
     start (mid base done below x.cells b.flag b.pen)
-    (mid base done below x.cells full.flag (going_behind r full.pen x.cells).pen) both goes.draws in
+    (mid base done below x.cells full.flag (behind_last_glyph r full.pen x.cells).pen) both goes.draws in
     record { draws = all.draws; keeps = two.keeps })
     (λ _. record { draws = both.draws; keeps = two.keeps }))
   where
@@ -118,21 +118,21 @@ begin_draws base done below (right_half ∷ xs) (y ∷ ys) flag r height b e row
 begin_draws base done below (glyph text wide a ∷ xs) (y ∷ ys) flag r height b e rows hx hy pos h k sound prints =
     by_width wide xs ys h hx hy k sound prints
   where
-    printed : (wide : Bool) (ys : List CellValue) → first_columns wide ≤ base.page.width →
+    printed : (wide : Bool) (ys : List CellValue) → glyph_columns wide ≤ base.page.width →
         Paired (y ∷ ys) → Sound flag (y ∷ ys) → Prints base.page.width text wide →
-        DrawsIn Any (changing b a ++ Print text ∷ []) (mid base done below (y ∷ ys) flag (pen_at r 0 b))
+        DrawsIn Any (attr_ops b a ++ Print text ∷ []) (mid base done below (y ∷ ys) flag (pen_at r 0 b))
         (mid base done below (with_glyph [] text wide a ys)
-        (flag_behind flag wide (drop 1 ys)) (pen_at r (0 + first_columns wide) a))
+        (flag_behind flag wide (drop 1 ys)) (pen_at r (0 + glyph_columns wide) a))
     printed wide ys fits k sound p =
         let whole = opened_paired default_blank (y ∷ ys) k in
         let d0 = mid base done below (y ∷ ys) flag (pen_at r 0 b) in
         let d1 = mid base done below (y ∷ ys) flag (pen_at r 0 a) in
         let goal = mid base done below (with_glyph [] text wide a ys)
-        (flag_behind flag wide (drop 1 ys)) (pen_at r (0 + first_columns wide) a) in
+        (flag_behind flag wide (drop 1 ys)) (pen_at r (0 + glyph_columns wide) a) in
         let spot : Spot base done [] default_blank y ys flag r 0 wide =
         record { row = e; col = refl; fits = omega arith; front = tt; sound = subst (Sound flag) (sym whole) sound } in
-        in_then Any (changing b a) (Print text ∷ []) d0 d1 goal
-        (quiet_in Any (changing b a) d0 d1 (changing_quiet b a)
+        in_then Any (attr_ops b a) (Print text ∷ []) d0 d1 goal
+        (quiet_in Any (attr_ops b a) d0 d1 (changing_quiet b a)
         (changing_draws base (done ++ row_of (y ∷ ys) flag ∷ below) (pen_at r 0 b) a))
         (subst
         (λ (z : List CellValue). DrawsIn Any (Print text ∷ []) (mid base done below z flag (pen_at r 0 a)) goal) whole
@@ -187,8 +187,8 @@ begin_draws base done below (blank a ∷ xs) (y ∷ ys) flag r height b e rows h
     record { row = e; col = refl; fits = omega arith; front = tt; sound = subst (Sound flag) (sym whole) sound } in
     record {
       torn = orphan false a;
-      draws = in_then Any (changing b a) (Print (0x20 ∷ []) ∷ Backspace ∷ EraseChars 1 ∷ []) d0 d1 goal
-          (quiet_in Any (changing b a) d0 d1 (changing_quiet b a)
+      draws = in_then Any (attr_ops b a) (Print (0x20 ∷ []) ∷ Backspace ∷ EraseChars 1 ∷ []) d0 d1 goal
+          (quiet_in Any (attr_ops b a) d0 d1 (changing_quiet b a)
           (changing_draws base (done ++ row_of (y ∷ ys) flag ∷ below) (pen_at r 0 b) a))
           (in_then Any (Print (0x20 ∷ []) ∷ []) (Backspace ∷ EraseChars 1 ∷ []) d1 spaced goal
           (subst (λ (z : List CellValue). DrawsIn Any (Print (0x20 ∷ []) ∷ [])

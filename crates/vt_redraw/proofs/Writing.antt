@@ -6,7 +6,7 @@ use Rattle.vt_cells.proofs.Same.{two_parts}
 use Rattle.vt_cells.specs.Attrs.{same_attrs, Attrs}
 use Rattle.vt_cells.specs.Cell.{CellValue, blank, glyph, right_half, is_blank, attrs_of}
 use Rattle.vt_cells.specs.Op.{Op, ChangeAttrs, bytes_of_all, change_text, moving}
-use Rattle.vt_redraw.specs.Script.{changing, going, is_at, is_blank_of}
+use Rattle.vt_redraw.specs.Script.{attr_ops, move_ops, is_at, is_blank_of}
 use Rattle.vt_redraw.specs.declared.pen.Pen.{Pen}
 
 no_change : (was new : Attrs) → same_attrs was new ≡ true → [] ≡ change_text was new
@@ -14,27 +14,27 @@ unfolding change_text
 no_change was new t = rw t refl
 
 -- a change of attributes in a script has the text of the change
-pub changing_bytes : (was new : Attrs) → bytes_of_all (changing was new) ≡ change_text was new
-unfolding changing
+pub changing_bytes : (was new : Attrs) → bytes_of_all (attr_ops was new) ≡ change_text was new
+unfolding attr_ops
 changing_bytes was new =
     cond_both (same_attrs was new) [] (ChangeAttrs was new ∷ [])
     (λ (ops : List Op). bytes_of_all ops ≡ change_text was new)
     (no_change was new) (λ _. append-nil (change_text was new))
 
-pub change_written : (was new : Attrs) → change_text was new ≡ bytes_of_all (changing was new)
+pub change_written : (was new : Attrs) → change_text was new ≡ bytes_of_all (attr_ops was new)
 change_written was new = sym (changing_bytes was new)
 
 -- attributes that are the same need no change
-pub change_none : (was new : Attrs) → same_attrs was new ≡ true → bytes_of_all (changing was new) ≡ []
-unfolding changing
+pub change_none : (was new : Attrs) → same_attrs was new ≡ true → bytes_of_all (attr_ops was new) ≡ []
+unfolding attr_ops
 change_none was new t = rw t refl
 
 here : (r c row col : ℕ) → r ≡ row → c ≡ col → moving r c row col ≡ []
 here r c row col e f = grind (arith, nat_tests)
 
 -- and where the pen is already no move
-pub going_none : (pen : Pen) (row col : ℕ) → is_at pen row col ≡ true → bytes_of_all (going pen row col) ≡ []
-unfolding going
+pub going_none : (pen : Pen) (row col : ℕ) → is_at pen row col ≡ true → bytes_of_all (move_ops pen row col) ≡ []
+unfolding move_ops
 going_none pen row col t =
     let (rows, cols) = two_parts _ _ t in
     ap bytes_of_all (here pen.row pen.col row col (eqb-true pen.row row rows) (eqb-true pen.col col cols))

@@ -11,30 +11,30 @@ use Rattle.vt_grid.specs.Page.{IsPlainPage, row_at, row_or, with_row}
 use Rattle.vt_redraw.specs.Picture.{Picture, IsPicture, SamePictureSize, picture_of}
 use Rattle.vt_redraw.specs.Script.{pen_at}
 use Rattle.vt_redraw.specs.declared.pen.Pen.{Pen}
-use Rattle.vt_redraw.specs.Script.{Scripted, after, cells_written, first_written, going_behind, broken}
+use Rattle.vt_redraw.specs.Script.{Scripted, ops_then, cells_written, first_written, behind_last_glyph, row_break}
 
 -- the columns of a row in a range
 abbrev pub in_range : (start stop : ℕ) → List CellValue → List CellValue
 in_range start stop cells = take (stop - start) (drop start cells)
 
 -- a right half in the first column counts as a default blank, which differs from all but a right half
-abbrev pub begun : List CellValue → List CellValue
-begun [] = []
-begun (right_half ∷ xs) = default_blank ∷ xs
-begun (blank a ∷ xs) = blank a ∷ xs
-begun (glyph text wide a ∷ xs) = glyph text wide a ∷ xs
+abbrev pub with_whole_start : List CellValue → List CellValue
+with_whole_start [] = []
+with_whole_start (right_half ∷ xs) = default_blank ∷ xs
+with_whole_start (blank a ∷ xs) = blank a ∷ xs
+with_whole_start (glyph text wide a ∷ xs) = glyph text wide a ∷ xs
 
-abbrev pub begun_over : (xs ys : List CellValue) → List CellValue
-begun_over (right_half ∷ xs) (right_half ∷ ys) = default_blank ∷ ys
-begun_over (right_half ∷ xs) (blank a ∷ ys) = right_half ∷ ys
-begun_over (right_half ∷ xs) (glyph text wide a ∷ ys) = right_half ∷ ys
-begun_over _ ys = ys
+abbrev pub with_whole_start_over : (xs ys : List CellValue) → List CellValue
+with_whole_start_over (right_half ∷ xs) (right_half ∷ ys) = default_blank ∷ ys
+with_whole_start_over (right_half ∷ xs) (blank a ∷ ys) = right_half ∷ ys
+with_whole_start_over (right_half ∷ xs) (glyph text wide a ∷ ys) = right_half ∷ ys
+with_whole_start_over _ ys = ys
 
 -- the cells of the range
 abbrev pub range_written : (r start stop : ℕ) → Bool → (xs ys : List CellValue) → Scripted
 range_written r start stop flag xs ys =
     cells_written r start (pen_at r start default_attrs) flag 0
-    (begun (in_range start stop xs)) (begun_over (in_range start stop xs) (drop start ys))
+    (with_whole_start (in_range start stop xs)) (with_whole_start_over (in_range start stop xs) (drop start ys))
 
 abbrev pub is_whole : (start stop width : ℕ) → Bool
 is_whole start stop width = (start == 0) && (stop == width)
@@ -44,8 +44,8 @@ abbrev pub marked_on : ℕ → Scripted → Bool → List CellValue → Scripted
 marked_on r w wanted cells =
     if wanted && not w.flag
     then record {
-      ops = w.ops ++ (going_behind r w.pen cells).ops;
-      pen = (going_behind r w.pen cells).pen;
+      ops = w.ops ++ (behind_last_glyph r w.pen cells).ops;
+      pen = (behind_last_glyph r w.pen cells).pen;
       flag = w.flag;
     } else w
 
@@ -58,14 +58,14 @@ is_linked width rows (suc r) = (row_or width rows r).wrapped
 abbrev pub item_of_difference : (r start stop : ℕ) → (x y : RowValue) → Scripted
 item_of_difference r start stop x y =
     let w = range_written r start stop y.wrapped x.cells y.cells in
-    let b = broken r w.pen w.flag x.wrapped x.cells in
-    if is_whole start stop (length x.cells) then marked_on r (after w.ops b) x.wrapped x.cells else w
+    let b = row_break r w.pen w.flag x.wrapped x.cells in
+    if is_whole start stop (length x.cells) then marked_on r (ops_then w.ops b) x.wrapped x.cells else w
 
 -- a whole row under a row that goes on: its first cell as in a link
 abbrev pub linked_item : ℕ → List CellValue → Scripted
 linked_item r xs =
     let first = first_written r (pen_at r 0 default_attrs) false xs (blanks default_attrs (length xs)) in
-    after first.ops (cells_written r 0 first.pen first.flag first.settled xs (blanks default_attrs (length xs)))
+    ops_then first.ops (cells_written r 0 first.pen first.flag first.settled xs (blanks default_attrs (length xs)))
 
 -- an item of a redraw; linked: the row above goes on
 abbrev pub item_of_redraw : (r start stop : ℕ) → (linked : Bool) → RowValue → Scripted

@@ -8,4 +8,4 @@ pub mod Touching
 pub mod Locality
 pub mod Items
 pub mod Moved
-pub mod Keeping
+pub mod Internals

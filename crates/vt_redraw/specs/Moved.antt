@@ -8,7 +8,7 @@ use Rattle.vt_grid.specs.Page.{moved_rows}
 use Rattle.vt_grid.specs.Shifts.{unflagged}
 use Rattle.vt_redraw.specs.Picture.{Picture}
 use Rattle.vt_redraw.specs.Redraw.{difference}
-use Rattle.vt_redraw.specs.Script.{changing}
+use Rattle.vt_redraw.specs.Script.{attr_ops}
 use Rattle.vt_redraw.specs.declared.band.Band.{Band}
 
 -- a band of a picture of this many rows, of which some row is left when it has moved
@@ -76,7 +76,7 @@ band_text height band = if band.up then up_text height band else down_text heigh
 
 -- before them the attributes become the default ones
 abbrev pub moving_text : Band → Picture → List ℕ
-moving_text band prev = bytes_of_all (changing prev.attrs default_attrs) ++ band_text (length prev.rows) band
+moving_text band prev = bytes_of_all (attr_ops prev.attrs default_attrs) ++ band_text (length prev.rows) band
 
 -- the band moves, and then the rest is drawn
 abbrev pub scrolling_text : Band → (self prev : Picture) → List ℕ

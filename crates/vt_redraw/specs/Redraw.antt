@@ -8,11 +8,11 @@ use Rattle.vt_cells.specs.Op.{LineFeed, Backspace, SaveCursor, RestoreCursor, Pr
 use Rattle.vt_rows.specs.Cells.{at, ends_blank}
 use Rattle.vt_rows.specs.Row.{RowValue, blank_row}
 use Rattle.vt_grid.specs.Page.{row_or}
-use Rattle.vt_redraw.specs.Script.{pen_at, going, changing}
+use Rattle.vt_redraw.specs.Script.{pen_at, move_ops, attr_ops}
 use Rattle.vt_redraw.specs.declared.pen.Pen.{Pen}
 use Rattle.vt_redraw.specs.Picture.{Picture}
-use Rattle.vt_redraw.specs.Script.{Scripted, nothing, after, is_at, going_behind, last_column}
-use Rattle.vt_redraw.specs.Script.{last_glyph, cells_written, Linked, unlinked, linked, broken}
+use Rattle.vt_redraw.specs.Script.{Scripted, no_ops, ops_then, is_at, behind_last_glyph, last_column}
+use Rattle.vt_redraw.specs.Script.{last_glyph, cells_written, Linked, no_link, row_link, row_break}
 
 -- ---- the rows from the top
 
@@ -20,28 +20,28 @@ use Rattle.vt_redraw.specs.Script.{last_glyph, cells_written, Linked, unlinked, 
 unfoldable pub row_written : (r settled : ℕ) → Pen → Bool → RowValue → List CellValue → Scripted
 row_written r settled pen flag x ys =
     let cells = cells_written r 0 pen flag settled x.cells ys in
-    after cells.ops (broken r cells.pen cells.flag x.wrapped x.cells)
+    ops_then cells.ops (row_break r cells.pen cells.flag x.wrapped x.cells)
 
 -- the link with row r
 abbrev pub link_of : ℕ → Pen → RowValue → Bool → RowValue → RowValue → Linked
 link_of r pen above on x y =
-    if above.wrapped then linked r pen above.cells on y.wrapped x.cells y.cells else unlinked pen y.wrapped
+    if above.wrapped then row_link r pen above.cells on y.wrapped x.cells y.cells else no_link pen y.wrapped
 
 -- the rows under row r, which is `above`; on: the reader's row r goes on below
 unfoldable pub rows_below : ℕ → Pen → RowValue → Bool → (xs ys : List RowValue) → Scripted
-rows_below r pen above on [] ys = nothing pen on
-rows_below r pen above on (x ∷ xs) [] = nothing pen on
+rows_below r pen above on [] ys = no_ops pen on
+rows_below r pen above on (x ∷ xs) [] = no_ops pen on
 rows_below r pen above on (x ∷ xs) (y ∷ ys) =
     let link = link_of r pen above on x y in
     let row = row_written (r + 1) link.settled link.pen link.flag x y.cells in
-    after (link.ops ++ row.ops) (rows_below (r + 1) row.pen x row.flag xs ys)
+    ops_then (link.ops ++ row.ops) (rows_below (r + 1) row.pen x row.flag xs ys)
 
 unfoldable pub rows_written : Pen → (xs ys : List RowValue) → Scripted
-rows_written pen [] ys = nothing pen false
-rows_written pen (x ∷ xs) [] = nothing pen false
+rows_written pen [] ys = no_ops pen false
+rows_written pen (x ∷ xs) [] = no_ops pen false
 rows_written pen (x ∷ xs) (y ∷ ys) =
     let row = row_written 0 0 pen y.wrapped x y.cells in
-    after row.ops (rows_below 0 row.pen x row.flag xs ys)
+    ops_then row.ops (rows_below 0 row.pen x row.flag xs ys)
 
 -- ---- the cursor
 
@@ -54,17 +54,17 @@ nearest width rows (suc n) = if ends_blank (row_or width rows (suc n)).cells the
 abbrev pub blank_passed : (was attrs : Attrs) → List Op
 blank_passed was attrs =
     Print (0x20 ∷ [])
-    ∷ (changing was attrs ++ (SaveCursor ∷ Backspace ∷ EraseChars 1 ∷ RestoreCursor ∷ changing attrs was))
+    ∷ (attr_ops was attrs ++ (SaveCursor ∷ Backspace ∷ EraseChars 1 ∷ RestoreCursor ∷ attr_ops attrs was))
 
 -- a wrap pending at the end of row r, whose last column is blank in these attributes
 unfoldable pub over_blank : Pen → (r width : ℕ) → Attrs → List Op
-over_blank pen r width attrs = going pen r (width - 1) ++ blank_passed pen.attrs attrs
+over_blank pen r width attrs = move_ops pen r (width - 1) ++ blank_passed pen.attrs attrs
 
 -- a wrap pending at the end of row r: behind the last glyph of row i, and down from there
 unfoldable pub under_last : Pen → (i r : ℕ) → List CellValue → List Op
 under_last pen i r cells =
-    (going_behind i pen cells).ops
-    ++ (changing (going_behind i pen cells).pen.attrs pen.attrs ++ replicate (r - i) LineFeed)
+    (behind_last_glyph i pen cells).ops
+    ++ (attr_ops (behind_last_glyph i pen cells).pen.attrs pen.attrs ++ replicate (r - i) LineFeed)
 
 abbrev pub pending_at : Option ℕ → Pen → ℕ → List RowValue → ℕ → List Op
 pending_at None pen width rows r = over_blank pen r width (attrs_of (at (row_or width rows r).cells (width - 1)))
@@ -74,7 +74,7 @@ pending_at (Some i) pen width rows r = under_last pen i r (row_or width rows i).
 unfoldable pub cursor_written : Pen → ℕ → List RowValue → (row column : ℕ) → List Op
 cursor_written pen width rows row column =
     if is_at pen row column then []
-    else if nat_lt column width then going pen row column
+    else if nat_lt column width then move_ops pen row column
     else pending_at (nearest width rows row) pen width rows row
 
 -- ---- the whole
@@ -87,7 +87,7 @@ unfoldable pub script : (self prev : Picture) → List Op
 script self prev =
     let written = rows_written (pen_of prev) self.rows prev.rows in
     written.ops
-    ++ (cursor_written written.pen self.width self.rows self.row self.column ++ changing written.pen.attrs self.attrs)
+    ++ (cursor_written written.pen self.width self.rows self.row self.column ++ attr_ops written.pen.attrs self.attrs)
 
 abbrev pub hiding : (self prev : Picture) → List Op
 hiding self prev = if same_bool self.hidden prev.hidden then [] else Hide self.hidden ∷ []
@@ -117,9 +117,9 @@ pending_alone None width rows r =
 pending_alone (Some i) width rows r =
     let cells = (row_or width rows i).cells in
     MoveTo i (last_column cells)
-    ∷ (changing default_attrs (attrs_of (last_glyph cells))
+    ∷ (attr_ops default_attrs (attrs_of (last_glyph cells))
     ++ Print (text_of (last_glyph cells))
-    ∷ (changing (attrs_of (last_glyph cells)) default_attrs ++ replicate (r - i) LineFeed))
+    ∷ (attr_ops (attrs_of (last_glyph cells)) default_attrs ++ replicate (r - i) LineFeed))
 
 abbrev pub cursor_alone : Picture → List Op
 cursor_alone self =

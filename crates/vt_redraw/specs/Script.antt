@@ -2,7 +2,7 @@
 -- and the break to the row below.
 use Rattle.std.specs.Prelude.{ℕ, suc, zero, ◌+◌, ◌-◌, ◌==◌, ◌&&◌, ◌||◌, not, Bool, true}
 use Rattle.std.specs.Prelude.{false, List, [], ◌∷◌, ◌++◌, length, drop, if◌then◌else◌}
-use Rattle.vt_cells.specs.Glyph.{first_columns}
+use Rattle.vt_cells.specs.Glyph.{glyph_columns}
 use Rattle.vt_cells.specs.Cell.{CellValue, blank, glyph, right_half, is_glyph}
 use Rattle.vt_cells.specs.Cell.{is_right_half, same_cell, text_of, attrs_of}
 use Rattle.std.specs.List.{prefix_len}
@@ -15,11 +15,11 @@ abbrev pub pen_at : ℕ → ℕ → Attrs → Pen
 pen_at row col attrs = record { row = row; col = col; attrs = attrs }
 
 -- from the pen to a position, and to other attributes
-unfoldable pub going : Pen → ℕ → ℕ → List Op
-going pen row col = moving pen.row pen.col row col
+unfoldable pub move_ops : Pen → ℕ → ℕ → List Op
+move_ops pen row col = moving pen.row pen.col row col
 
-unfoldable pub changing : Attrs → Attrs → List Op
-changing was new = if same_attrs was new then [] else ChangeAttrs was new ∷ []
+unfoldable pub attr_ops : Attrs → Attrs → List Op
+attr_ops was new = if same_attrs was new then [] else ChangeAttrs was new ∷ []
 
 -- the cell is a blank in these attributes
 abbrev pub is_blank_of : Attrs → CellValue → Bool
@@ -43,15 +43,15 @@ pub record Scripted : Type 0 where
   pub pen : Pen
   pub flag : Bool
 
-abbrev pub nothing : Pen → Bool → Scripted
-nothing pen flag = record { ops = []; pen = pen; flag = flag }
+abbrev pub no_ops : Pen → Bool → Scripted
+no_ops pen flag = record { ops = []; pen = pen; flag = flag }
 
-abbrev pub after : List Op → Scripted → Scripted
-after ops written = record { ops = ops ++ written.ops; pen = written.pen; flag = written.flag }
+abbrev pub ops_then : List Op → Scripted → Scripted
+ops_then ops written = record { ops = ops ++ written.ops; pen = written.pen; flag = written.flag }
 
 -- one operation at a place and in attributes
-abbrev pub doing : Pen → ℕ → ℕ → Attrs → Op → List Op
-doing pen row col attrs op = going pen row col ++ (changing pen.attrs attrs ++ op ∷ [])
+abbrev pub placed_op : Pen → ℕ → ℕ → Attrs → Op → List Op
+placed_op pen row col attrs op = move_ops pen row col ++ (attr_ops pen.attrs attrs ++ op ∷ [])
 
 -- ---- the flag of the reader's row, by what is left of the cells that stood there
 
@@ -77,19 +77,19 @@ flag_past flag rest = flag && not (is_nil rest || is_torn rest)
 -- from column c on; the first `settled` cells need nothing,
 -- xs are the row's cells from there and ys those that the reader shows
 unfoldable pub cells_written : (r c : ℕ) → Pen → (flag : Bool) → (settled : ℕ) → (xs ys : List CellValue) → Scripted
-cells_written r c pen flag settled [] ys = nothing pen flag
-cells_written r c pen flag settled (x ∷ xs) [] = nothing pen flag
+cells_written r c pen flag settled [] ys = no_ops pen flag
+cells_written r c pen flag settled (x ∷ xs) [] = no_ops pen flag
 cells_written r c pen flag (suc settled) (x ∷ xs) (y ∷ ys) = cells_written r (c + 1) pen flag settled xs ys
 cells_written r c pen flag zero (right_half ∷ xs) (y ∷ ys) = cells_written r (c + 1) pen flag zero xs ys
 cells_written r c pen flag zero (blank a ∷ xs) (y ∷ ys) =
     if same_cell (blank a) y then cells_written r (c + 1) pen flag zero xs ys
-    else after (doing pen r c a (erase_run (suc (blank_run a xs)) (drop (blank_run a xs) ys)))
+    else ops_then (placed_op pen r c a (erase_run (suc (blank_run a xs)) (drop (blank_run a xs) ys)))
     (cells_written r (c + 1) (pen_at r c a) (flag_past flag (drop (blank_run a xs) ys)) (blank_run a xs) xs ys)
 cells_written r c pen flag zero (glyph text wide a ∷ xs) (y ∷ ys) =
-    if same_cell (glyph text wide a) y then cells_written r (c + 1) pen flag (first_columns wide - 1) xs ys
-    else after (doing pen r c a (Print text))
-    (cells_written r (c + 1) (pen_at r (c + first_columns wide) a)
-    (flag_behind flag wide (drop 1 ys)) (first_columns wide - 1) xs ys)
+    if same_cell (glyph text wide a) y then cells_written r (c + 1) pen flag (glyph_columns wide - 1) xs ys
+    else ops_then (placed_op pen r c a (Print text))
+    (cells_written r (c + 1) (pen_at r (c + glyph_columns wide) a)
+    (flag_behind flag wide (drop 1 ys)) (glyph_columns wide - 1) xs ys)
 
 -- ---- the last glyph of a row that does not end blank
 
@@ -103,15 +103,15 @@ abbrev pub is_at : Pen → ℕ → ℕ → Bool
 is_at pen row col = (pen.row == row) && (pen.col == col)
 
 -- the pen behind the last glyph of row r, which is printed again where the pen isn't there
-abbrev pub behind : ℕ → List CellValue → Pen
-behind r cells = pen_at r (length cells) (attrs_of (last_glyph cells))
+abbrev pub pen_behind : ℕ → List CellValue → Pen
+pen_behind r cells = pen_at r (length cells) (attrs_of (last_glyph cells))
 
-abbrev pub going_behind : ℕ → Pen → List CellValue → Scripted
-going_behind r pen cells =
-    if is_at pen r (length cells) then nothing pen true
+abbrev pub behind_last_glyph : ℕ → Pen → List CellValue → Scripted
+behind_last_glyph r pen cells =
+    if is_at pen r (length cells) then no_ops pen true
     else record {
-      ops = doing pen r (last_column cells) (attrs_of (last_glyph cells)) (Print (text_of (last_glyph cells)));
-      pen = behind r cells;
+      ops = placed_op pen r (last_column cells) (attrs_of (last_glyph cells)) (Print (text_of (last_glyph cells)));
+      pen = pen_behind r cells;
       flag = true;
     }
 
@@ -124,25 +124,25 @@ pub record Linked : Type 0 where
   pub flag : Bool
   pub settled : ℕ
 
-abbrev pub unlinked : Pen → Bool → Linked
-unlinked pen flag = record { ops = []; pen = pen; flag = flag; settled = 0 }
+abbrev pub no_link : Pen → Bool → Linked
+no_link pen flag = record { ops = []; pen = pen; flag = flag; settled = 0 }
 
 -- the first cell, with the cursor pending at the end of the row above: a blank is drawn as a space, which is erased
 abbrev pub first_written : ℕ → Pen → Bool → (xs ys : List CellValue) → Linked
-first_written r pen flag [] ys = unlinked pen flag
-first_written r pen flag (x ∷ xs) [] = unlinked pen flag
-first_written r pen flag (right_half ∷ xs) (y ∷ ys) = unlinked pen flag
+first_written r pen flag [] ys = no_link pen flag
+first_written r pen flag (x ∷ xs) [] = no_link pen flag
+first_written r pen flag (right_half ∷ xs) (y ∷ ys) = no_link pen flag
 first_written r pen flag (blank a ∷ xs) (y ∷ ys) = record {
-  ops = changing pen.attrs a ++ Print (0x20 ∷ []) ∷ Backspace ∷ EraseChars 1 ∷ [];
+  ops = attr_ops pen.attrs a ++ Print (0x20 ∷ []) ∷ Backspace ∷ EraseChars 1 ∷ [];
   pen = pen_at r 0 a;
   flag = flag && not (is_nil ys);
   settled = 1;
 }
 first_written r pen flag (glyph text wide a ∷ xs) (y ∷ ys) = record {
-  ops = changing pen.attrs a ++ Print text ∷ [];
-  pen = pen_at r (first_columns wide) a;
+  ops = attr_ops pen.attrs a ++ Print text ∷ [];
+  pen = pen_at r (glyph_columns wide) a;
   flag = flag_behind flag wide (drop 1 ys);
-  settled = first_columns wide;
+  settled = glyph_columns wide;
 }
 
 -- the row begins with a glyph that the reader does not show there
@@ -151,29 +151,29 @@ starts_other [] ys = false
 starts_other (x ∷ xs) [] = false
 starts_other (x ∷ xs) (y ∷ ys) = is_glyph x && not (same_cell x y)
 
-abbrev pub link_after : List Op → Linked → Linked
-link_after ops linked =
-    record { ops = ops ++ linked.ops; pen = linked.pen; flag = linked.flag; settled = linked.settled }
+abbrev pub ops_then_link : List Op → Linked → Linked
+ops_then_link ops link =
+    record { ops = ops ++ link.ops; pen = link.pen; flag = link.flag; settled = link.settled }
 
 -- row r + 1 under the cells `above` of a row that goes on, of which the reader shows whether it goes on
-unfoldable pub linked : ℕ → Pen → (above : List CellValue) →
+unfoldable pub row_link : ℕ → Pen → (above : List CellValue) →
     (on : Bool) → (flag : Bool) → (xs ys : List CellValue) → Linked
-linked r pen above on flag xs ys =
+row_link r pen above on flag xs ys =
     if not on || (is_at pen r (length above) && starts_other xs ys)
-    then link_after (going_behind r pen above).ops (first_written (r + 1) (going_behind r pen above).pen flag xs ys)
-    else unlinked pen flag
+    then ops_then_link (behind_last_glyph r pen above).ops (first_written (r + 1) (behind_last_glyph r pen above).pen flag xs ys)
+    else no_link pen flag
 
 -- ---- the break to the row below
 
 -- the reader's row goes on below and is not to: its last glyph is erased and printed again
-abbrev pub breaking : ℕ → Pen → List CellValue → Scripted
-breaking r pen cells = record {
+abbrev pub break_ops : ℕ → Pen → List CellValue → Scripted
+break_ops r pen cells = record {
   ops =
-      going pen r (last_column cells)
-      ++ (EraseChars 1 ∷ (changing pen.attrs (attrs_of (last_glyph cells)) ++ Print (text_of (last_glyph cells)) ∷ []));
-  pen = behind r cells;
+      move_ops pen r (last_column cells)
+      ++ (EraseChars 1 ∷ (attr_ops pen.attrs (attrs_of (last_glyph cells)) ++ Print (text_of (last_glyph cells)) ∷ []));
+  pen = pen_behind r cells;
   flag = false;
 }
 
-unfoldable pub broken : ℕ → Pen → (flag wanted : Bool) → List CellValue → Scripted
-broken r pen flag wanted cells = if flag && not wanted then breaking r pen cells else nothing pen flag
+unfoldable pub row_break : ℕ → Pen → (flag wanted : Bool) → List CellValue → Scripted
+row_break r pen flag wanted cells = if flag && not wanted then break_ops r pen cells else no_ops pen flag

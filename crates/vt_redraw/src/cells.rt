@@ -4,12 +4,12 @@ ghost use Rattle.std.specs.Prelude.{◌≡◌, ◌++◌, ◌+◌, ◌-◌, ◌<�
 ghost use Rattle.std.specs.Prelude.{false, [], ◌∷◌, IfOk, OnOk, drop, length};
 ghost use Rattle.vt_cells.specs.Cell.{attrs_of, is_right_half, is_wide, same_cell, text_of};
 ghost use Rattle.vt_cells.specs.Op.{Print, bytes_of, bytes_of_all};
-ghost use Rattle.vt_cells.specs.PieceKeeping.{gathered};
+ghost use Rattle.vt_cells.specs.PieceInternals.{gathered};
 ghost use Rattle.vt_rows.specs.Cells.{at};
-ghost use Rattle.vt_redraw.specs.Keeping.{IsRange, Leads, Passes, cells_from};
-ghost use Rattle.vt_cells.specs.Glyph.{first_columns};
+ghost use Rattle.vt_redraw.specs.Internals.{IsRange, Leads, Passes, cells_from};
+ghost use Rattle.vt_cells.specs.Glyph.{glyph_columns};
 ghost use Rattle.vt_redraw.specs.Refusals.{RefusedOnlyIfSome};
-ghost use Rattle.vt_redraw.specs.Script.{doing, erase_run, flag_behind, flag_past, pen_at};
+ghost use Rattle.vt_redraw.specs.Script.{placed_op, erase_run, flag_behind, flag_past, pen_at};
 
 use crate::pen::Pen;
 use crate::picture_row::PictureRow;
@@ -19,7 +19,7 @@ use vt_cells::{Attrs, Cell, Piece, Pos, Sink};
 /// How many columns a glyph takes.
 #[inline]
 pub fn columns(cell: &Cell) -> u16
-    ensures { result ≡ first_columns (is_wide cell.now) }
+    ensures { result ≡ glyph_columns (is_wide cell.now) }
 {
     if cell.is_wide() { 2 } else { 1 }
 }
@@ -40,10 +40,10 @@ pub fn write_text<S: Sink>(sink: &mut S, text: &str) -> Result<(), S::Error>
 pub fn print_at<S: Sink>(sink: &mut S, pen: &mut Pen, pos: Pos, cell: &Cell) -> Result<(), S::Error>
     ensures text { OnOk result (S.text sink.new
         ≡ S.text sink.old
-        ++ bytes_of_all (doing pen.old pos.row pos.col (attrs_of cell.now) (Print (text_of cell.now)))) }
+        ++ bytes_of_all (placed_op pen.old pos.row pos.col (attrs_of cell.now) (Print (text_of cell.now)))) }
     ensures pen { OnOk result (pen.new ≡ pen_at pos.row pos.col (attrs_of cell.now)) }
     ensures some { RefusedOnlyIfSome result
-        (bytes_of_all (doing pen.old pos.row pos.col (attrs_of cell.now) (Print (text_of cell.now)))) }
+        (bytes_of_all (placed_op pen.old pos.row pos.col (attrs_of cell.now) (Print (text_of cell.now)))) }
 {
     pen.move_to(sink, pos)?;
     pen.change_attrs(sink, cell.attrs())?;
@@ -61,11 +61,11 @@ fn gather_at<S: Sink>(
 ) -> Result<(), S::Error>
     ensures text { OnOk result (gathered (S.text sink.new) piece.new
         ≡ gathered (S.text sink.old) piece.old
-        ++ bytes_of_all (doing pen.old pos.row pos.col (attrs_of cell.now) (Print (text_of cell.now)))) }
+        ++ bytes_of_all (placed_op pen.old pos.row pos.col (attrs_of cell.now) (Print (text_of cell.now)))) }
     ensures pen { OnOk result (pen.new ≡ pen_at pos.row pos.col (attrs_of cell.now)) }
     ensures grows { OnOk result (length (S.text sink.old) ≤ length (S.text sink.new)) }
     ensures some { RefusedOnlyIfSome result (piece.old
-        ++ bytes_of_all (doing pen.old pos.row pos.col (attrs_of cell.now) (Print (text_of cell.now)))) }
+        ++ bytes_of_all (placed_op pen.old pos.row pos.col (attrs_of cell.now) (Print (text_of cell.now)))) }
 {
     pen.move_behind(sink, piece, pos)?;
     pen.draw_as(sink, piece, cell)?;
@@ -81,15 +81,15 @@ fn gather_glyph<S: Sink>(
     pos: Pos,
     cell: &Cell,
 ) -> Result<(), S::Error>
-    requires { pos.col + first_columns (is_wide cell.now) < 65536 }
+    requires { pos.col + glyph_columns (is_wide cell.now) < 65536 }
     ensures text { OnOk result (gathered (S.text sink.new) piece.new
         ≡ gathered (S.text sink.old) piece.old
-        ++ bytes_of_all (doing pen.old pos.row pos.col (attrs_of cell.now) (Print (text_of cell.now)))) }
+        ++ bytes_of_all (placed_op pen.old pos.row pos.col (attrs_of cell.now) (Print (text_of cell.now)))) }
     ensures pen { OnOk result
-        (pen.new ≡ pen_at pos.row (pos.col + first_columns (is_wide cell.now)) (attrs_of cell.now)) }
+        (pen.new ≡ pen_at pos.row (pos.col + glyph_columns (is_wide cell.now)) (attrs_of cell.now)) }
     ensures grows { OnOk result (length (S.text sink.old) ≤ length (S.text sink.new)) }
     ensures some { RefusedOnlyIfSome result (piece.old
-        ++ bytes_of_all (doing pen.old pos.row pos.col (attrs_of cell.now) (Print (text_of cell.now)))) }
+        ++ bytes_of_all (placed_op pen.old pos.row pos.col (attrs_of cell.now) (Print (text_of cell.now)))) }
 {
     gather_at(sink, piece, pen, pos, cell)?;
     pen.col = pos.col + columns(cell);
@@ -130,10 +130,10 @@ pub fn write_run<S: Sink>(
     ensures text { OnOk result (S.text sink.new
         ≡ S.text sink.old
         ++ bytes_of_all
-        (doing pen.old pos.row pos.col attrs (erase_run count (drop (pos.col + count) over.now.cells)))) }
+        (placed_op pen.old pos.row pos.col attrs (erase_run count (drop (pos.col + count) over.now.cells)))) }
     ensures pen { OnOk result (pen.new ≡ pen_at pos.row pos.col attrs) }
     ensures some { RefusedOnlyIfSome result (bytes_of_all
-        (doing pen.old pos.row pos.col attrs (erase_run count (drop (pos.col + count) over.now.cells)))) }
+        (placed_op pen.old pos.row pos.col attrs (erase_run count (drop (pos.col + count) over.now.cells)))) }
 {
     pen.move_to(sink, pos)?;
     pen.change_attrs(sink, attrs)?;
@@ -157,11 +157,11 @@ fn write_run_behind<S: Sink>(
     ensures text { OnOk result (gathered (S.text sink.new) piece.new
         ≡ gathered (S.text sink.old) piece.old
         ++ bytes_of_all
-        (doing pen.old pos.row pos.col attrs (erase_run count (drop (pos.col + count) over.now.cells)))) }
+        (placed_op pen.old pos.row pos.col attrs (erase_run count (drop (pos.col + count) over.now.cells)))) }
     ensures pen { OnOk result (pen.new ≡ pen_at pos.row pos.col attrs) }
     ensures grows { OnOk result (length (S.text sink.old) ≤ length (S.text sink.new)) }
     ensures some { RefusedOnlyIfSome result (piece.old ++ bytes_of_all
-        (doing pen.old pos.row pos.col attrs (erase_run count (drop (pos.col + count) over.now.cells)))) }
+        (placed_op pen.old pos.row pos.col attrs (erase_run count (drop (pos.col + count) over.now.cells)))) }
 {
     piece.flush(sink)?;
     write_run(sink, pen, pos, attrs, count, over)

@@ -9,12 +9,12 @@ ghost use Rattle.vt_cells.specs.Cell.{is_right_half};
 ghost use Rattle.vt_cells.specs.Op.{bytes_of_all};
 ghost use Rattle.vt_rows.specs.Cells.{IsPaired, blanks};
 ghost use Rattle.vt_grid.specs.Page.{row_or};
-ghost use Rattle.vt_redraw.specs.Items.{begun, begun_over, is_linked, is_whole, item_of_difference};
+ghost use Rattle.vt_redraw.specs.Items.{with_whole_start, with_whole_start_over, is_linked, is_whole, item_of_difference};
 ghost use Rattle.vt_redraw.specs.Items.{item_of_redraw, linked_item, range_written};
-ghost use Rattle.vt_redraw.specs.Keeping.{IsRange, Leads, cells_from, mark_of};
+ghost use Rattle.vt_redraw.specs.Internals.{IsRange, Leads, cells_from, mark_of};
 ghost use Rattle.vt_redraw.specs.Picture.{SamePictureSize};
 ghost use Rattle.vt_redraw.specs.Refusals.{RefusedOnlyIfSome};
-ghost use Rattle.vt_redraw.specs.Script.{after, broken, cells_written, pen_at};
+ghost use Rattle.vt_redraw.specs.Script.{ops_then, row_break, cells_written, pen_at};
 
 use crate::cells::{flag_past, write_cells, write_run};
 use crate::links::{write_break, write_first, write_last};
@@ -37,12 +37,12 @@ fn write_begin<S: Sink>(
     requires range { IsRange cells.now.cells over.now.cells }
     ensures leads { IfOk result (λ col. Leads (S.text sink.new)
         (cells_from pos.row col pen.new flag.new cells.now.cells over.now.cells) (S.text sink.old)
-        (cells_written pos.row pos.col pen.old flag.old 0 (begun (drop pos.col cells.now.cells))
-        (begun_over (drop pos.col cells.now.cells) (drop pos.col over.now.cells)))) }
+        (cells_written pos.row pos.col pen.old flag.old 0 (with_whole_start (drop pos.col cells.now.cells))
+        (with_whole_start_over (drop pos.col cells.now.cells) (drop pos.col over.now.cells)))) }
     ensures grows { IfOk result (λ _. length (S.text sink.old) ≤ length (S.text sink.new)) }
     ensures some { RefusedOnlyIfSome result (bytes_of_all
-        (cells_written pos.row pos.col pen.old flag.old 0 (begun (drop pos.col cells.now.cells))
-        (begun_over (drop pos.col cells.now.cells) (drop pos.col over.now.cells))).ops) }
+        (cells_written pos.row pos.col pen.old flag.old 0 (with_whole_start (drop pos.col cells.now.cells))
+        (with_whole_start_over (drop pos.col cells.now.cells) (drop pos.col over.now.cells))).ops) }
 {
     let Pos { row: _, col } = pos;
     if col >= cells.cols().min(over.cols()) {
@@ -74,17 +74,17 @@ fn write_range<S: Sink>(
     requires range { IsRange cells.now.cells over.now.cells }
     ensures text { OnOk result (S.text sink.new
         ≡ S.text sink.old
-        ++ bytes_of_all (cells_written pos.row pos.col pen.old flag.old 0 (begun (drop pos.col cells.now.cells))
-        (begun_over (drop pos.col cells.now.cells) (drop pos.col over.now.cells))).ops) }
+        ++ bytes_of_all (cells_written pos.row pos.col pen.old flag.old 0 (with_whole_start (drop pos.col cells.now.cells))
+        (with_whole_start_over (drop pos.col cells.now.cells) (drop pos.col over.now.cells))).ops) }
     ensures pen { OnOk result (pen.new
-        ≡ (cells_written pos.row pos.col pen.old flag.old 0 (begun (drop pos.col cells.now.cells))
-        (begun_over (drop pos.col cells.now.cells) (drop pos.col over.now.cells))).pen) }
+        ≡ (cells_written pos.row pos.col pen.old flag.old 0 (with_whole_start (drop pos.col cells.now.cells))
+        (with_whole_start_over (drop pos.col cells.now.cells) (drop pos.col over.now.cells))).pen) }
     ensures flag { OnOk result (flag.new
-        ≡ (cells_written pos.row pos.col pen.old flag.old 0 (begun (drop pos.col cells.now.cells))
-        (begun_over (drop pos.col cells.now.cells) (drop pos.col over.now.cells))).flag) }
+        ≡ (cells_written pos.row pos.col pen.old flag.old 0 (with_whole_start (drop pos.col cells.now.cells))
+        (with_whole_start_over (drop pos.col cells.now.cells) (drop pos.col over.now.cells))).flag) }
     ensures some { RefusedOnlyIfSome result (bytes_of_all
-        (cells_written pos.row pos.col pen.old flag.old 0 (begun (drop pos.col cells.now.cells))
-        (begun_over (drop pos.col cells.now.cells) (drop pos.col over.now.cells))).ops) }
+        (cells_written pos.row pos.col pen.old flag.old 0 (with_whole_start (drop pos.col cells.now.cells))
+        (with_whole_start_over (drop pos.col cells.now.cells) (drop pos.col over.now.cells))).ops) }
 {
     let row = pos.row;
     let col = write_begin(sink, pen, flag, pos, cells, over)?;
@@ -129,13 +129,13 @@ fn write_end<S: Sink>(
     requires paired { IsPaired cells.now.cells }
     ensures text { OnOk result (S.text sink.new
         ≡ S.text sink.old
-        ++ bytes_of_all ((broken row pen.old flag cells.now.wrapped cells.now.cells).ops
-        ++ mark_of row (broken row pen.old flag cells.now.wrapped cells.now.cells).pen
-        (broken row pen.old flag cells.now.wrapped cells.now.cells).flag cells.now.wrapped cells.now.cells)) }
+        ++ bytes_of_all ((row_break row pen.old flag cells.now.wrapped cells.now.cells).ops
+        ++ mark_of row (row_break row pen.old flag cells.now.wrapped cells.now.cells).pen
+        (row_break row pen.old flag cells.now.wrapped cells.now.cells).flag cells.now.wrapped cells.now.cells)) }
     ensures some { RefusedOnlyIfSome result
-        (bytes_of_all ((broken row pen.old flag cells.now.wrapped cells.now.cells).ops
-        ++ mark_of row (broken row pen.old flag cells.now.wrapped cells.now.cells).pen
-        (broken row pen.old flag cells.now.wrapped cells.now.cells).flag cells.now.wrapped cells.now.cells)) }
+        (bytes_of_all ((row_break row pen.old flag cells.now.wrapped cells.now.cells).ops
+        ++ mark_of row (row_break row pen.old flag cells.now.wrapped cells.now.cells).pen
+        (row_break row pen.old flag cells.now.wrapped cells.now.cells).flag cells.now.wrapped cells.now.cells)) }
 {
     let on = write_break(sink, pen, row, flag, cells)?;
     write_mark(sink, pen, row, on, cells)

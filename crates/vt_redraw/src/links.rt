@@ -4,10 +4,10 @@ ghost use Rattle.std.specs.Prelude.{◌≡◌, ◌++◌, ◌+◌, ◌<◌, ◌&&
 ghost use Rattle.vt_cells.specs.Cell.{attrs_of, is_blank, is_right_half, text_of};
 ghost use Rattle.vt_cells.specs.Op.{bytes_of_all};
 ghost use Rattle.vt_rows.specs.Cells.{IsPaired, at};
-ghost use Rattle.vt_redraw.specs.Keeping.{Links, Writes};
+ghost use Rattle.vt_redraw.specs.Internals.{Links, Writes};
 ghost use Rattle.vt_redraw.specs.Redraw.{link_of};
 ghost use Rattle.vt_redraw.specs.Refusals.{RefusedOnlyIfSome};
-ghost use Rattle.vt_redraw.specs.Script.{broken, first_written, going_behind, is_at, starts_other};
+ghost use Rattle.vt_redraw.specs.Script.{row_break, first_written, behind_last_glyph, is_at, starts_other};
 
 use crate::cells::{columns, flag_behind, print_at, write_text};
 use crate::pen::Pen;
@@ -37,9 +37,9 @@ pub fn write_last<S: Sink>(
     requires some { 0 < length cells.now.cells }
     requires paired { IsPaired cells.now.cells }
     ensures text { OnOk result
-        (S.text sink.new ≡ S.text sink.old ++ bytes_of_all (going_behind row pen.old cells.now.cells).ops) }
-    ensures pen { OnOk result (pen.new ≡ (going_behind row pen.old cells.now.cells).pen) }
-    ensures some { RefusedOnlyIfSome result (bytes_of_all (going_behind row pen.old cells.now.cells).ops) }
+        (S.text sink.new ≡ S.text sink.old ++ bytes_of_all (behind_last_glyph row pen.old cells.now.cells).ops) }
+    ensures pen { OnOk result (pen.new ≡ (behind_last_glyph row pen.old cells.now.cells).pen) }
+    ensures some { RefusedOnlyIfSome result (bytes_of_all (behind_last_glyph row pen.old cells.now.cells).ops) }
 {
     if pen.is_at(row, cells.cols()) {
         return Ok(());
@@ -179,7 +179,7 @@ fn needs_link(
 
 /// Links a row with the row above it, `row`, where that goes on; the reader's
 /// row `row` goes on below or not. The reader wraps into the row then.
-#[tactic(auto, unfolding(crate::specs::Script::linked))]
+#[tactic(auto, unfolding(crate::specs::Script::row_link))]
 pub fn write_link<S: Sink>(
     sink: &mut S,
     pen: &mut Pen,
@@ -215,7 +215,7 @@ pub fn write_link<S: Sink>(
 
 /// Takes the flag of the reader's row where it goes on and is not to: its last
 /// glyph is erased and printed again. Answers the flag that stands then.
-#[tactic(auto, unfolding(crate::specs::Script::broken))]
+#[tactic(auto, unfolding(crate::specs::Script::row_break))]
 pub fn write_break<S: Sink>(
     sink: &mut S,
     pen: &mut Pen,
@@ -226,9 +226,9 @@ pub fn write_break<S: Sink>(
     requires some { 0 < length cells.now.cells }
     requires paired { IsPaired cells.now.cells }
     ensures writes { IfOk result (λ on. Writes (S.text sink.old) (S.text sink.new)
-        pen.new on (broken row pen.old flag cells.now.wrapped cells.now.cells)) }
+        pen.new on (row_break row pen.old flag cells.now.wrapped cells.now.cells)) }
     ensures some { RefusedOnlyIfSome result
-        (bytes_of_all (broken row pen.old flag cells.now.wrapped cells.now.cells).ops) }
+        (bytes_of_all (row_break row pen.old flag cells.now.wrapped cells.now.cells).ops) }
 {
     if !flag {
         return Ok(flag);

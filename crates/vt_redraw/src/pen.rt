@@ -4,9 +4,9 @@ ghost use Rattle.std.specs.Prelude.{◌≡◌, ◌≤◌, ◌++◌, OnOk, length
 ghost use Rattle.vt_cells.specs.Attrs.{default_attrs};
 ghost use Rattle.vt_cells.specs.Cell.{attrs_of};
 ghost use Rattle.vt_cells.specs.Op.{bytes_of_all};
-ghost use Rattle.vt_cells.specs.PieceKeeping.{gathered};
+ghost use Rattle.vt_cells.specs.PieceInternals.{gathered};
 ghost use Rattle.vt_redraw.specs.Refusals.{RefusedOnlyIfSome};
-ghost use Rattle.vt_redraw.specs.Script.{changing, going, is_at, pen_at};
+ghost use Rattle.vt_redraw.specs.Script.{attr_ops, move_ops, is_at, pen_at};
 
 use vt_cells::term::{BufWrite, ChangeAttrs, MoveFromTo};
 use vt_cells::{Attrs, Cell, Piece, Pos, Sink};
@@ -50,9 +50,9 @@ impl Pen {
     /// Moves to a position, and writes the move.
     #[inline]
     pub fn move_to<S: Sink>(&mut self, sink: &mut S, to: Pos) -> Result<(), S::Error>
-        ensures text { OnOk result (S.text sink.new ≡ S.text sink.old ++ bytes_of_all (going self.old to.row to.col)) }
+        ensures text { OnOk result (S.text sink.new ≡ S.text sink.old ++ bytes_of_all (move_ops self.old to.row to.col)) }
         ensures pen { OnOk result (self.new ≡ pen_at to.row to.col self.old.attrs) }
-        ensures some { RefusedOnlyIfSome result (bytes_of_all (going self.old to.row to.col)) }
+        ensures some { RefusedOnlyIfSome result (bytes_of_all (move_ops self.old to.row to.col)) }
     {
         if self.is_at(to.row, to.col) {
             return Ok(());
@@ -62,11 +62,11 @@ impl Pen {
 
     /// Moves to another position, and writes the move.
     #[inline(never)]
-    #[tactic(auto, unfolding(crate::specs::Script::going))]
+    #[tactic(auto, unfolding(crate::specs::Script::move_ops))]
     fn jump<S: Sink>(&mut self, sink: &mut S, to: Pos) -> Result<(), S::Error>
-        ensures text { OnOk result (S.text sink.new ≡ S.text sink.old ++ bytes_of_all (going self.old to.row to.col)) }
+        ensures text { OnOk result (S.text sink.new ≡ S.text sink.old ++ bytes_of_all (move_ops self.old to.row to.col)) }
         ensures pen { OnOk result (self.new ≡ pen_at to.row to.col self.old.attrs) }
-        ensures some { RefusedOnlyIfSome result (bytes_of_all (going self.old to.row to.col)) }
+        ensures some { RefusedOnlyIfSome result (bytes_of_all (move_ops self.old to.row to.col)) }
     {
         let from = Pos {
             row: self.row,
@@ -81,9 +81,9 @@ impl Pen {
     /// Takes other attributes, and writes the change.
     #[inline]
     pub fn change_attrs<S: Sink>(&mut self, sink: &mut S, new: Attrs) -> Result<(), S::Error>
-        ensures text { OnOk result (S.text sink.new ≡ S.text sink.old ++ bytes_of_all (changing self.old.attrs new)) }
+        ensures text { OnOk result (S.text sink.new ≡ S.text sink.old ++ bytes_of_all (attr_ops self.old.attrs new)) }
         ensures pen { OnOk result (self.new ≡ pen_at self.old.row self.old.col new) }
-        ensures some { RefusedOnlyIfSome result (bytes_of_all (changing self.old.attrs new)) }
+        ensures some { RefusedOnlyIfSome result (bytes_of_all (attr_ops self.old.attrs new)) }
     {
         if self.attrs.is_same(&new) {
             return Ok(());
@@ -102,10 +102,10 @@ impl Pen {
         to: Pos,
     ) -> Result<(), S::Error>
         ensures text { OnOk result (gathered (S.text sink.new) piece.new
-            ≡ gathered (S.text sink.old) piece.old ++ bytes_of_all (going self.old to.row to.col)) }
+            ≡ gathered (S.text sink.old) piece.old ++ bytes_of_all (move_ops self.old to.row to.col)) }
         ensures pen { OnOk result (self.new ≡ pen_at to.row to.col self.old.attrs) }
         ensures grows { OnOk result (length (S.text sink.old) ≤ length (S.text sink.new)) }
-        ensures some { RefusedOnlyIfSome result (piece.old ++ bytes_of_all (going self.old to.row to.col)) }
+        ensures some { RefusedOnlyIfSome result (piece.old ++ bytes_of_all (move_ops self.old to.row to.col)) }
     {
         if self.is_at(to.row, to.col) {
             return Ok(());
@@ -123,10 +123,10 @@ impl Pen {
         to: Pos,
     ) -> Result<(), S::Error>
         ensures text { OnOk result (gathered (S.text sink.new) piece.new
-            ≡ gathered (S.text sink.old) piece.old ++ bytes_of_all (going self.old to.row to.col)) }
+            ≡ gathered (S.text sink.old) piece.old ++ bytes_of_all (move_ops self.old to.row to.col)) }
         ensures pen { OnOk result (self.new ≡ pen_at to.row to.col self.old.attrs) }
         ensures grows { OnOk result (length (S.text sink.old) ≤ length (S.text sink.new)) }
-        ensures some { RefusedOnlyIfSome result (piece.old ++ bytes_of_all (going self.old to.row to.col)) }
+        ensures some { RefusedOnlyIfSome result (piece.old ++ bytes_of_all (move_ops self.old to.row to.col)) }
     {
         piece.flush(sink)?;
         self.jump(sink, to)
@@ -141,10 +141,10 @@ impl Pen {
         cell: &Cell,
     ) -> Result<(), S::Error>
         ensures text { OnOk result (gathered (S.text sink.new) piece.new
-            ≡ gathered (S.text sink.old) piece.old ++ bytes_of_all (changing self.old.attrs (attrs_of cell.now))) }
+            ≡ gathered (S.text sink.old) piece.old ++ bytes_of_all (attr_ops self.old.attrs (attrs_of cell.now))) }
         ensures pen { OnOk result (self.new ≡ pen_at self.old.row self.old.col (attrs_of cell.now)) }
         ensures grows { OnOk result (length (S.text sink.old) ≤ length (S.text sink.new)) }
-        ensures some { RefusedOnlyIfSome result (bytes_of_all (changing self.old.attrs (attrs_of cell.now))) }
+        ensures some { RefusedOnlyIfSome result (bytes_of_all (attr_ops self.old.attrs (attrs_of cell.now))) }
     {
         if cell.has_attrs(&self.attrs) {
             return Ok(());
@@ -166,9 +166,9 @@ fn add_change<S: Sink>(
     new: Attrs,
 ) -> Result<(), S::Error>
     ensures text { OnOk result (gathered (S.text sink.new) piece.new
-        ≡ gathered (S.text sink.old) piece.old ++ bytes_of_all (changing was new)) }
+        ≡ gathered (S.text sink.old) piece.old ++ bytes_of_all (attr_ops was new)) }
     ensures grows { OnOk result (length (S.text sink.old) ≤ length (S.text sink.new)) }
-    ensures some { RefusedOnlyIfSome result (bytes_of_all (changing was new)) }
+    ensures some { RefusedOnlyIfSome result (bytes_of_all (attr_ops was new)) }
 {
     ChangeAttrs { was, new }.add(sink, piece)
 }
@@ -177,8 +177,8 @@ fn add_change<S: Sink>(
 #[inline(never)]
 #[tactic(auto, using(crate::proofs::Writing::change_written))]
 pub fn write_change<S: Sink>(sink: &mut S, was: Attrs, new: Attrs) -> Result<(), S::Error>
-    ensures text { OnOk result (S.text sink.new ≡ S.text sink.old ++ bytes_of_all (changing was new)) }
-    ensures some { RefusedOnlyIfSome result (bytes_of_all (changing was new)) }
+    ensures text { OnOk result (S.text sink.new ≡ S.text sink.old ++ bytes_of_all (attr_ops was new)) }
+    ensures some { RefusedOnlyIfSome result (bytes_of_all (attr_ops was new)) }
 {
     ChangeAttrs { was, new }.write_buf(sink)
 }

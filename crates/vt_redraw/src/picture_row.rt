@@ -6,7 +6,7 @@ ghost use Rattle.vt_cells.specs.Attrs.{default_attrs};
 ghost use Rattle.vt_cells.specs.Cell.{attrs_of, blank, default_blank, is_blank, is_right_half, is_wide};
 ghost use Rattle.vt_rows.specs.Cells.{IsPaired, at, ends_blank, resized};
 ghost use Rattle.vt_rows.specs.Row.{RowValue, blank_row, with_cells};
-ghost use Rattle.vt_redraw.specs.Keeping.{cut_row, end_of, kept_len};
+ghost use Rattle.vt_redraw.specs.Internals.{cut_row, cell_past_cut, kept_len};
 ghost use Rattle.vt_redraw.specs.Script.{is_blank_of, is_torn, last_column, blank_run};
 
 use std::marker::Model;
@@ -29,7 +29,7 @@ pub struct PictureRow<'a> {
 }
 
 impl<'a> Model for PictureRow<'a> {
-    ghost use Rattle.vt_redraw.specs.Keeping.{IsFilled, filled};
+    ghost use Rattle.vt_redraw.specs.Internals.{IsFilled, filled};
     ghost use Rattle.vt_rows.specs.Row.{RowValue};
 
     ghost Value = { RowValue };
@@ -231,7 +231,7 @@ fn kept_cells<'a>(cells: &'a [Cell], cols: u16) -> &'a [Cell]
 /// in its attributes, or else default blanks.
 fn end_cell(cells: &[Cell], cols: u16) -> Cell
     requires { 0 < cols }
-    ensures { result ≡ end_of cols cells.now }
+    ensures { result ≡ cell_past_cut cols cells.now }
 {
     let cols = usize::from(cols);
     if cols < cells.len() && cells[cols - 1].is_wide() {

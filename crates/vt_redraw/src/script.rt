@@ -4,7 +4,7 @@ ghost use Rattle.std.specs.Prelude.{◌≡◌, ◌++◌, ◌+◌, ◌<◌, ◌�
 ghost use Rattle.vt_cells.specs.Op.{bytes_of_all};
 ghost use Rattle.vt_rows.specs.Cells.{IsPaired};
 ghost use Rattle.vt_grid.specs.Page.{row_or};
-ghost use Rattle.vt_redraw.specs.Keeping.{Leads, Writes, rows_under};
+ghost use Rattle.vt_redraw.specs.Internals.{Leads, Writes, rows_under};
 ghost use Rattle.vt_redraw.specs.Picture.{SamePictureSize};
 ghost use Rattle.vt_redraw.specs.Refusals.{RefusedOnlyIfSome};
 ghost use Rattle.vt_redraw.specs.Redraw.{row_written, rows_written, script};

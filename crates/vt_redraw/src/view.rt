@@ -4,7 +4,7 @@ ghost use Rattle.std.specs.Prelude.{◌≡◌, ◌<◌, ◌+◌, ◌==◌, All, 
 ghost use Rattle.vt_grid.specs.Page.{IsPage, row_or};
 ghost use Rattle.vt_grid.specs.Scrollback.{IsScrollback, visible};
 ghost use Rattle.vt_rows.specs.Row.{IsRow};
-ghost use Rattle.vt_redraw.specs.Keeping.{row_seen};
+ghost use Rattle.vt_redraw.specs.Internals.{row_seen};
 ghost use Rattle.vt_redraw.specs.Moved.{IsBand, moved, rows_moved};
 ghost use Rattle.vt_redraw.specs.Picture.{IsPicture, cut_rows, picture_over};
 ghost use Rattle.vt_redraw.specs.Redraw.{blank_like, pen_of};
@@ -14,7 +14,7 @@ use crate::pen::Pen;
 use crate::picture_row::PictureRow;
 use std::marker::Model;
 use vt_cells::Attrs;
-use vt_grid::{Grid, Scrollback, Sheet};
+use vt_grid::{Grid, PageRows, Scrollback};
 
 /// Which rows a picture has.
 #[derive(Clone, Copy, PartialEq, Eq, Debug)]
@@ -35,7 +35,7 @@ pub(crate) enum Source {
 #[derive(Drop)]
 pub struct View<'a> {
     above: &'a Scrollback,
-    rows: &'a Sheet,
+    rows: &'a PageRows,
     cols: u16,
     pen: Pen,
     hidden: bool,
@@ -44,12 +44,12 @@ pub struct View<'a> {
 
 impl<'a> Model for View<'a> {
     ghost use Rattle.std.specs.Prelude.{◌≡◌};
-    ghost use Rattle.vt_redraw.specs.Keeping.{IsSource, viewed};
+    ghost use Rattle.vt_redraw.specs.Internals.{IsSource, picture_of_source};
     ghost use Rattle.vt_redraw.specs.Picture.{Picture};
 
     ghost Value = { Picture };
 
-    ghost view = { λ v. viewed v.source v.above.now v.rows.now.rows v.cols v.pen v.hidden };
+    ghost view = { λ v. picture_of_source v.source v.above.now v.rows.now.rows v.cols v.pen v.hidden };
 
     ghost invariant = { λ v. IsSource v.above.now v.rows.now.rows v.cols v.pen × (v.rows.now.width ≡ v.cols) };
 }
@@ -175,7 +175,7 @@ impl<'a> View<'a> {
 /// row. As the last one of a picture it does not go on below.
 fn row_seen<'a>(
     above: &'a Scrollback,
-    rows: &'a Sheet,
+    rows: &'a PageRows,
     cols: u16,
     row: u16,
     is_last: bool,
@@ -194,7 +194,7 @@ fn row_seen<'a>(
 }
 
 /// Whether this is the last row of a page.
-fn ends(rows: &Sheet, row: u16) -> bool
+fn ends(rows: &PageRows, row: u16) -> bool
     ensures { result ≡ (row + 1 == length rows.now.rows) }
 {
     usize::from(row) + 1 == rows.len()
@@ -203,7 +203,7 @@ fn ends(rows: &Sheet, row: u16) -> bool
 /// A row of a picture of which a band has moved, read where it was.
 fn row_moved<'a>(
     above: &'a Scrollback,
-    rows: &'a Sheet,
+    rows: &'a PageRows,
     cols: u16,
     band: Band,
     row: u16,

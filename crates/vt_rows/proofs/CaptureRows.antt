@@ -13,7 +13,7 @@ use Rattle.std.proofs.lemmas.Bool.Decides.{nat_tests}
 use Rattle.std.proofs.lemmas.Str.{length-encode, len_utf8_ascii, IsUtf8-past_char, chars_past_char}
 use Rattle.std.proofs.lemmas.Str.{encodes-append, drop_past_char, IsCharBoundary-from_drop, chars-nil}
 use Rattle.vt_rows.specs.CaptureRows.{ends_row, is_beyond, overflows}
-use Rattle.vt_rows.specs.Keeping.{rows_behind, rows_of}
+use Rattle.vt_rows.specs.Internals.{rows_behind, rows_of}
 use Rattle.vt_rows.specs.Stretches.{begins_stretch, shown_columns, shown_columns_or, is_within_after}
 use Rattle.vt_rows.specs.Stretches.{ends_within, columns_added, columns_from, columns_in}
 

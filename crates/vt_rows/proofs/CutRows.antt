@@ -12,8 +12,8 @@ use Rattle.std.proofs.lemmas.Str.{chars_past_char, IsUtf8-past_char, IsUtf8-drop
 use Rattle.std.proofs.Math.Seq.{take-append_seam, get_or-append_seam}
 use Rattle.vt_rows.specs.CaptureRows.{ends_row, overflows, IsUncut, IsRowOf, IsBehindEnd}
 use Rattle.vt_rows.specs.CaptureRows.{IsBehindFull, AreRowsFrom, AreRowsOf}
-use Rattle.vt_rows.specs.Keeping.{rows_behind}
-use Rattle.vt_rows.specs.Pieces.{Piece, end_of, texts_of}
+use Rattle.vt_rows.specs.Internals.{rows_behind}
+use Rattle.vt_rows.specs.Pieces.{Piece, piece_end, texts_of}
 use Rattle.vt_rows.specs.Stretches.{ends_within, columns_in}
 use Rattle.vt_rows.proofs.CaptureRows.{beyond_outside, line_end}
 use Rattle.vt_rows.proofs.Outside.{Place, StandsAt, place, stands_later}
@@ -288,8 +288,8 @@ module _ (width : ℕ) (capture : List ℕ) (at : ℕ) (row : Piece)
   behind_utf8 : IsUtf8 behind
   behind_utf8 = utf8_behind text (length row.1) utf8 (subst IsUtf8 (sym front_is) is.utf8) fits_in
 
-  behind_stands : StandsAt capture (end_of row) behind
-  behind_stands = stands_later capture at row.1 behind (end_of row) (stands ∙ sym text_parts) (omega (arith, begin))
+  behind_stands : StandsAt capture (piece_end row) behind
+  behind_stands = stands_later capture at row.1 behind (piece_end row) (stands ∙ sym text_parts) (omega (arith, begin))
 
   characters : chars text ≡ own ++ chars behind
   characters = ap chars (sym text_parts) ∙ chars-append row.1 behind is.utf8
@@ -300,9 +300,9 @@ module _ (width : ℕ) (capture : List ℕ) (at : ℕ) (row : Piece)
   rows_on : slices_behind width at [] (chars text) ≡ slices_behind width at own (chars behind)
   rows_on = ap (slices_behind width at []) characters ∙ read_on width at [] own (chars behind) is.uncut
 
-  only_row : end_of row ≡ length capture → row ∷ [] ≡ slices_behind width at [] (chars text)
+  only_row : piece_end row ≡ length capture → row ∷ [] ≡ slices_behind width at [] (chars text)
   only_row end =
-      let left = length-drop (end_of row) capture in
+      let left = length-drop (piece_end row) capture in
       let none : length behind ≡ 0 = omega (arith, left, ap length behind_stands, end) in
       sym (rows_on ∙ nothing behind none ∙ ap (λ only. only ∷ []) row_at) where
         nothing : (rest : List ℕ) → length rest ≡ 0 →
@@ -310,7 +310,7 @@ module _ (width : ℕ) (capture : List ℕ) (at : ℕ) (row : Piece)
         nothing [] e = ap (slices_behind width at own) chars-nil
         nothing (b ∷ rest) e = absurd (omega (arith, e))
 
-  row_with : (size : ℕ) → size ≡ length (encode_utf8_all own) → at + size ≡ end_of row
+  row_with : (size : ℕ) → size ≡ length (encode_utf8_all own) → at + size ≡ piece_end row
   row_with size e =
       let same = ap length (encodes-chars row.1 is.utf8) in
       omega (arith, e, same, begin)
@@ -320,14 +320,14 @@ module _ (width : ℕ) (capture : List ℕ) (at : ℕ) (row : Piece)
       → next ∷ rows ≡ slices_behind width next.0 [] (chars rest))
       → row ∷ next ∷ rows ≡ slices_behind width at [] (chars text)
   row_behind_end next rows cut others = by behind refl where
-    lf : get_or capture (end_of row) 0 ≡ 0x0A
-    lf = line_end own (get_or capture (end_of row) 0) cut.ends
+    lf : get_or capture (piece_end row) 0 ≡ 0x0A
+    lf = line_end own (get_or capture (piece_end row) 0) cut.ends
 
     first : (bytes : List ℕ) → behind ≡ bytes → get_or bytes 0 0 ≡ 0x0A
     first bytes e =
-        let here : end_of row + 0 ≡ end_of row = omega arith in
+        let here : piece_end row + 0 ≡ piece_end row = omega arith in
         ap (λ (l : List ℕ). get_or l 0 0) (sym (behind_stands ∙ e))
-        ∙ get_or-drop (end_of row) capture 0 0 ∙ ap (λ n. get_or capture n 0) here ∙ lf
+        ∙ get_or-drop (piece_end row) capture 0 0 ∙ ap (λ n. get_or capture n 0) here ∙ lf
 
     by : (bytes : List ℕ) → behind ≡ bytes → row ∷ next ∷ rows ≡ slices_behind width at [] (chars text)
     by [] e = absurd (omega (arith, first [] e))
@@ -335,7 +335,7 @@ module _ (width : ℕ) (capture : List ℕ) (at : ℕ) (row : Piece)
         let same : b ≡ 0x0A = first (b ∷ rest) e in
         let spelt : behind ≡ encode_utf8 0x0A ++ rest =
         e ∙ ap (λ (c : ℕ). c ∷ rest) same ∙ ap (λ (l : List ℕ). l ++ rest) (sym (line_end_text 0x0A refl)) in
-        let later = stands_later capture (end_of row) (b ∷ []) rest next.0 (behind_stands ∙ e) cut.place in
+        let later = stands_later capture (piece_end row) (b ∷ []) rest next.0 (behind_stands ∙ e) cut.place in
         let ih = others rest later (IsUtf8-past_char behind rest 0x0A behind_utf8 spelt) in
         let ends : ends_row own 0x0A ≡ true = rw lf at cut.ends in
         let step : slices_behind width at own (0x0A ∷ chars rest)

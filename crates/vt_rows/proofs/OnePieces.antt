@@ -2,14 +2,14 @@
 use Rattle.std.proofs.Common.{◌≡◌, ◌≢◌, ◌↔◌, inl, inr, ℕ, ◌+◌, ◌<◌, ◌≤◌, List, [], ◌∷◌}
 use Rattle.std.proofs.Common.{length, take, drop, refl, sym, ap, ap₂, ◌∙◌, arith}
 use Rattle.std.proofs.lemmas.List.{length-drop, length-take}
-use Rattle.vt_rows.specs.Pieces.{Piece, end_of, IsInSome, IsPieceOf, AreApart, ArePiecesOf}
+use Rattle.vt_rows.specs.Pieces.{Piece, piece_end, IsInSome, IsPieceOf, AreApart, ArePiecesOf}
 
 has_text : (text : List ℕ) → text ≢ [] → 0 < length text
 has_text [] some = absurd (some refl)
 has_text (b ∷ text) some = omega arith
 
 begins_in : (capture : List ℕ) (piece : Piece) → IsPieceOf capture piece →
-    (0 < length piece.1) × (end_of piece ≤ length capture)
+    (0 < length piece.1) × (piece_end piece ≤ length capture)
 begins_in capture piece is =
     let some = has_text piece.1 is.0 in
     let cut = length-take (length piece.1) (drop piece.0 capture) in
@@ -22,7 +22,7 @@ not_later : (capture : List ℕ) (at k : ℕ) (pieces : List Piece) →
 not_later capture at k [] apart h = absurd h
 not_later capture at k (piece ∷ pieces) apart (inl h) = omega (arith, apart.1, h.0)
 not_later capture at k (piece ∷ pieces) apart (inr h) =
-    omega (arith, apart.1, not_later capture (end_of piece + 1) k pieces apart.2 h)
+    omega (arith, apart.1, not_later capture (piece_end piece + 1) k pieces apart.2 h)
 
 -- lists of pieces that have the same bytes from byte `at` on
 abbrev Agree : List ℕ → ℕ → List Piece → List Piece → Type 0
@@ -41,22 +41,22 @@ module _ (capture : List ℕ) (at : ℕ) (p : Piece) (ps : List Piece) (q : Piec
       not_later capture q.0 p.0 (q ∷ qs) (yours.0, omega arith, yours.2) there
 
   -- the byte behind the shorter one would be in none
-  no_shorter : p.0 ≡ q.0 → end_of p < end_of q → ⊥
+  no_shorter : p.0 ≡ q.0 → piece_end p < piece_end q → ⊥
   no_shorter same less =
       let mine_in = begins_in capture p mine.0 in
       let yours_in = begins_in capture q yours.0 in
-      behind ((agree (end_of p) (omega (arith, mine.1, mine_in)) (omega (arith, less, yours_in))).1
+      behind ((agree (piece_end p) (omega (arith, mine.1, mine_in)) (omega (arith, less, yours_in))).1
       (inl (omega (arith, same, mine_in), less))) where
-        behind : IsInSome (end_of p) (p ∷ ps) → ⊥
+        behind : IsInSome (piece_end p) (p ∷ ps) → ⊥
         behind (inl h) = omega (arith, h.1)
-        behind (inr h) = omega (arith, not_later capture (end_of p + 1) (end_of p) ps mine.2 h)
+        behind (inr h) = omega (arith, not_later capture (piece_end p + 1) (piece_end p) ps mine.2 h)
 
-  others : p ≡ q → Agree capture (end_of p + 1) ps qs
+  others : p ≡ q → Agree capture (piece_end p + 1) ps qs
   others same k low lt =
       let mine_in = begins_in capture p mine.0 in
       let both = agree k (omega (arith, mine.1, mine_in, low)) lt in
       (λ h. behind q qs (rw same at low) (both.0 (inr h)), λ h. behind p ps low (both.1 (inr h))) where
-        behind : (r : Piece) (rs : List Piece) → end_of r + 1 ≤ k → IsInSome k (r ∷ rs) → IsInSome k rs
+        behind : (r : Piece) (rs : List Piece) → piece_end r + 1 ≤ k → IsInSome k (r ∷ rs) → IsInSome k rs
         behind r rs past (inl h) = absurd (omega (arith, h.1, past))
         behind r rs past (inr h) = h
 
@@ -79,8 +79,8 @@ same_pieces capture at (p ∷ ps) (q ∷ qs) mine yours agree =
     let long : length p.1 ≡ length q.1 = omega (arith, more, less, begin) in
     let text : p.1 ≡ q.1 = sym mine.0.1 ∙ ap₂ (λ n m. take n (drop m capture)) long begin ∙ yours.0.1 in
     let same : p ≡ q = ap₂ (λ n t. (n, t)) begin text in
-    let end : end_of q + 1 ≡ end_of p + 1 = omega (arith, begin, long) in
-    ap₂ (λ r rs. r ∷ rs) same (same_pieces capture (end_of p + 1) ps qs mine.2
+    let end : piece_end q + 1 ≡ piece_end p + 1 = omega (arith, begin, long) in
+    ap₂ (λ r rs. r ∷ rs) same (same_pieces capture (piece_end p + 1) ps qs mine.2
     (rw end at yours.2) (others capture at p ps q qs mine yours agree same))
 
 pub pieces_are_one : (capture : List ℕ) (ps qs : List Piece) → ArePiecesOf capture ps → ArePiecesOf capture qs → ps ≡ qs

@@ -7,8 +7,8 @@ use Rattle.std.proofs.lemmas.Bool.{eqb-true, ne_eqb}
 use Rattle.std.proofs.lemmas.Bool.Decides.{nat_tests}
 use Rattle.std.proofs.lemmas.List.{length-append, drop-drop}
 use Rattle.std.proofs.Math.Seq.{take-append_seam, drop-append_seam}
-use Rattle.vt_rows.specs.Keeping.{piece_at, pieces_behind, pieces_within, pieces_from}
-use Rattle.vt_rows.specs.Pieces.{Piece, end_of, IsInSome, AreApart, ArePiecesOf, texts_of}
+use Rattle.vt_rows.specs.Internals.{piece_at, pieces_behind, pieces_within, pieces_from}
+use Rattle.vt_rows.specs.Pieces.{Piece, piece_end, IsInSome, AreApart, ArePiecesOf, texts_of}
 use Rattle.vt_rows.specs.Pieces.{plain_from, without_stretches}
 use Rattle.vt_rows.specs.Stretches.{IsInStretch, begins_stretch, ends_stretch, ends_within, is_within_after}
 
@@ -121,7 +121,7 @@ none_before : (capture : List ℕ) (at k : ℕ) (pieces : List Piece) →
 none_before capture at k [] apart lt h = h
 none_before capture at k (piece ∷ pieces) apart lt (inl h) = absurd (omega (arith, apart.1, lt, h.0))
 none_before capture at k (piece ∷ pieces) apart lt (inr h) =
-    none_before capture (end_of piece + 1) k pieces apart.2 (omega (arith, apart.1, lt)) h
+    none_before capture (piece_end piece + 1) k pieces apart.2 (omega (arith, apart.1, lt)) h
 
 apart_later : (capture : List ℕ) (at low : ℕ) (pieces : List Piece) →
     low ≤ at → AreApart capture at pieces → AreApart capture low pieces

@@ -2,7 +2,7 @@
 use Rattle.std.proofs.Common.{◌≡◌, ◌≢◌, ℕ, suc, ◌+◌, ◌<◌, false, List, [], ◌∷◌, ◌++◌, length}
 use Rattle.std.proofs.Common.{get_or, refl, sym, ap, ◌∙◌, append_assoc, append-nil, arith}
 use Rattle.std.proofs.lemmas.Bool.{ne_eqb}
-use Rattle.vt_rows.specs.Keeping.{piece_at, pieces_behind, pieces_within, pieces_from}
+use Rattle.vt_rows.specs.Internals.{piece_at, pieces_behind, pieces_within, pieces_from}
 use Rattle.vt_rows.specs.Pieces.{Piece}
 use Rattle.vt_rows.specs.Stretches.{begins_stretch, ends_stretch}
 

@@ -8,7 +8,7 @@ use Rattle.vt_cells.specs.Attrs.{default_attrs, Attrs}
 use Rattle.vt_cells.specs.Cell.{CellValue, blank, glyph, right_half, default_blank, is_glyph, is_right_half}
 use Rattle.vt_rows.specs.Basic.{shown_text}
 use Rattle.vt_rows.specs.Cells.{opened}
-use Rattle.vt_rows.specs.Keeping.{plain_behind}
+use Rattle.vt_rows.specs.Internals.{plain_behind}
 use Rattle.vt_rows.specs.Plain.{up_to_last_glyph}
 
 -- where no glyph begins nothing is left

@@ -11,7 +11,7 @@ use Rattle.vt_cells.specs.Attrs.{default_attrs}
 use Rattle.vt_cells.specs.Cell.{CellValue, blank, glyph, right_half, default_blank, is_wide, is_right_half, attrs_of}
 use Rattle.vt_rows.specs.Cells.{at, IsPaired, blanks, moved, moved_at, inserted, deleted}
 use Rattle.vt_rows.specs.Cells.{resized, insert_source, delete_source, insert_column}
-use Rattle.vt_rows.specs.Keeping.{left_blanked, right_replaced, end_blanked, turn_source}
+use Rattle.vt_rows.specs.Internals.{left_blanked, right_replaced, end_blanked, turn_source}
 use Rattle.vt_rows.proofs.Columns.{at-past, at-blanks}
 use Rattle.vt_rows.proofs.Pairs.{not_both, wide_mended}
 use Rattle.vt_rows.proofs.Steps.{HasRoom-paired, at-set, at-put_mid, length-put_mid}

@@ -11,7 +11,7 @@ use Rattle.std.proofs.lemmas.List.{get_or-drop, length-set, get_or-set_same, get
 use Rattle.vt_cells.specs.Cell.{CellValue, blank, glyph, right_half, default_blank}
 use Rattle.vt_cells.specs.Cell.{is_wide, is_right_half, attrs_of, text_of}
 use Rattle.vt_rows.specs.Cells.{at, IsPaired, put_cells, column_of}
-use Rattle.vt_rows.specs.Keeping.{left_blanked, right_replaced, HasRoom}
+use Rattle.vt_rows.specs.Internals.{left_blanked, right_replaced, HasRoom}
 use Rattle.vt_rows.proofs.Columns.{put_columns, length-put_cells, same_columns, at-past}
 use Rattle.vt_rows.proofs.Pairs.{wide_mended}
 

@@ -1,7 +1,7 @@
 -- The rows of a capture on a terminal of some width.
 use Rattle.std.specs.Prelude.{◌≡◌, ◌⊎◌, ℕ, Bool, true, false, not, ◌==◌, ◌&&◌, nat_lt, List, []}
 use Rattle.std.specs.Prelude.{◌∷◌, ◌+◌, ◌<◌, IsUtf8, chars, get_or, length, take, drop}
-use Rattle.vt_rows.specs.Pieces.{Piece, end_of}
+use Rattle.vt_rows.specs.Pieces.{Piece, piece_end}
 use Rattle.vt_rows.specs.Stretches.{columns_added, columns_in, ends_within}
 
 -- the character is a line end behind the row: LF outside a stretch
@@ -29,12 +29,12 @@ pub record IsRowOf (width : ℕ) (capture : List ℕ) (row : Piece) : Type 0 whe
 
 -- the next row begins behind the one byte that ends this one
 pub record IsBehindEnd (capture : List ℕ) (row next : Piece) : Type 0 where
-  pub place : next.0 ≡ end_of row + 1
-  pub ends : ends_row (chars row.1) (get_or capture (end_of row) 0) ≡ true
+  pub place : next.0 ≡ piece_end row + 1
+  pub ends : ends_row (chars row.1) (get_or capture (piece_end row) 0) ≡ true
 
 -- the next row begins at the end of this one, with a character that overflows it
 pub record IsBehindFull (width : ℕ) (row next : Piece) : Type 0 where
-  pub place : next.0 ≡ end_of row
+  pub place : next.0 ≡ piece_end row
   pub first : ℕ
   pub rest : List ℕ
   pub begins : chars next.1 ≡ first ∷ rest
@@ -43,7 +43,7 @@ pub record IsBehindFull (width : ℕ) (row next : Piece) : Type 0 where
 -- rows from byte `at` on, one behind the other; the last one goes to the end of the capture
 abbrev pub AreRowsFrom : ℕ → List ℕ → ℕ → List Piece → Type 0
 AreRowsFrom width capture at [] = ⊥
-AreRowsFrom width capture at (row ∷ []) = (row.0 ≡ at) × IsRowOf width capture row × (end_of row ≡ length capture)
+AreRowsFrom width capture at (row ∷ []) = (row.0 ≡ at) × IsRowOf width capture row × (piece_end row ≡ length capture)
 AreRowsFrom width capture at (row ∷ next ∷ rows) =
     (row.0 ≡ at) × IsRowOf width capture row × (IsBehindEnd capture row next ⊎ IsBehindFull width row next)
     × AreRowsFrom width capture next.0 (next ∷ rows)

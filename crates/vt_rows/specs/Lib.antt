@@ -6,4 +6,4 @@ pub mod Plain
 pub mod Stretches
 pub mod Pieces
 pub mod CaptureRows
-pub mod Keeping
+pub mod Internals

@@ -8,12 +8,12 @@ abbrev pub Piece : Type 0
 Piece = ℕ × List ℕ
 
 -- the number of bytes before its end
-abbrev pub end_of : Piece → ℕ
-end_of piece = piece.0 + length piece.1
+abbrev pub piece_end : Piece → ℕ
+piece_end piece = piece.0 + length piece.1
 
 -- byte k of the capture stands in the piece, or in one of the pieces
 abbrev pub IsIn : ℕ → Piece → Type 0
-IsIn k piece = (piece.0 ≤ k) × (k < end_of piece)
+IsIn k piece = (piece.0 ≤ k) × (k < piece_end piece)
 
 abbrev pub IsInSome : ℕ → List Piece → Type 0
 IsInSome k [] = ⊥
@@ -27,7 +27,7 @@ IsPieceOf capture piece = (piece.1 ≢ []) × (take (length piece.1) (drop piece
 abbrev pub AreApart : List ℕ → ℕ → List Piece → Type 0
 AreApart capture at [] = ⊤
 AreApart capture at (piece ∷ pieces) =
-    IsPieceOf capture piece × (at ≤ piece.0) × AreApart capture (end_of piece + 1) pieces
+    IsPieceOf capture piece × (at ≤ piece.0) × AreApart capture (piece_end piece + 1) pieces
 
 -- the pieces of a capture: a byte stands in one of them exactly if it stands in no stretch
 pub record ArePiecesOf (capture : List ℕ) (pieces : List Piece) : Type 0 where

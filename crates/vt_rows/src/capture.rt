@@ -5,7 +5,7 @@ ghost use Rattle.std.specs.Prelude.{length, true, IfOk, IfSome, IsErr, IsSome, O
 ghost use Rattle.vt_rows.specs.Cells.{at};
 ghost use Rattle.vt_cells.specs.Cell.{attrs_of};
 ghost use Rattle.vt_cells.specs.Op.{change_text};
-ghost use Rattle.vt_cells.specs.PieceKeeping.{gathered};
+ghost use Rattle.vt_cells.specs.PieceInternals.{gathered};
 ghost use Rattle.vt_cells.specs.Sinks.{IsStopped};
 ghost use Rattle.vt_rows.specs.Basic.{attrs_after, attrs_after_all, basic_text, cells_text};
 ghost use Rattle.vt_rows.specs.Basic.{shown_text, unwritten, written_after};

@@ -12,7 +12,7 @@ ghost use Rattle.vt_cells.specs.Cell.{is_right_half, is_wide, text_of, widened};
 ghost use Rattle.vt_cells.specs.Glyph.{columns_of};
 ghost use Rattle.vt_rows.specs.Cells.{IsPaired, at, blanks, ends_blank, erased, marked_at};
 ghost use Rattle.vt_rows.specs.Cells.{narrowed_at, put_narrow, put_wide, widened_at};
-ghost use Rattle.vt_rows.specs.Keeping.{HasRoom, left_blanked, right_replaced};
+ghost use Rattle.vt_rows.specs.Internals.{HasRoom, left_blanked, right_replaced};
 ghost use Rattle.vt_rows.specs.Texts.{IsPrintableAscii, glyphs_of, put_text};
 
 use std::mem;
@@ -276,7 +276,7 @@ pub fn flag_left(cells: &[Cell], wrapped: bool) -> bool
 }
 
 /// Before a column is overwritten: blanks the left half of a right half there.
-#[tactic(auto, unfolding(crate::specs::Keeping::left_blanked))]
+#[tactic(auto, unfolding(crate::specs::Internals::left_blanked))]
 #[inline]
 pub(crate) fn blank_left(cells: &mut [Cell], column: usize)
     requires paired { IsPaired cells.old }
@@ -291,7 +291,7 @@ pub(crate) fn blank_left(cells: &mut [Cell], column: usize)
 
 /// Before a column is overwritten: makes the right half of a left half there a
 /// space.
-#[tactic(auto, unfolding(crate::specs::Keeping::right_replaced))]
+#[tactic(auto, unfolding(crate::specs::Internals::right_replaced))]
 #[inline]
 fn space_right(cells: &mut [Cell], column: usize, attrs: Attrs)
     requires room { HasRoom column cells.old }
@@ -304,7 +304,7 @@ fn space_right(cells: &mut [Cell], column: usize, attrs: Attrs)
 }
 
 /// Before a column is overwritten: blanks the right half of a left half there.
-#[tactic(auto, unfolding(crate::specs::Keeping::right_replaced))]
+#[tactic(auto, unfolding(crate::specs::Internals::right_replaced))]
 #[inline]
 pub(crate) fn blank_right(cells: &mut [Cell], column: usize, attrs: Attrs)
     requires room { HasRoom column cells.old }

@@ -4,7 +4,7 @@ ghost use Rattle.std.specs.Prelude.{◌≡◌, ◌≤◌, IsTrue, length, take};
 ghost use Rattle.vt_cells.specs.Attrs.{default_attrs};
 ghost use Rattle.vt_cells.specs.Cell.{is_default_blank};
 ghost use Rattle.vt_rows.specs.Cells.{IsPaired, blanks, resized};
-ghost use Rattle.vt_rows.specs.Keeping.{end_blanked};
+ghost use Rattle.vt_rows.specs.Internals.{end_blanked};
 ghost use Rattle.vt_rows.specs.Row.{trimmed};
 
 use crate::copies::copy_over;
@@ -60,7 +60,7 @@ pub fn refit(cells: &mut [Cell], from: &[Cell])
 }
 
 /// Blanks a left half in the last column, in its own attributes.
-#[tactic(auto, unfolding(crate::specs::Keeping::end_blanked))]
+#[tactic(auto, unfolding(crate::specs::Internals::end_blanked))]
 pub fn blank_end(cells: &mut [Cell])
     ensures { cells.new ≡ end_blanked cells.old }
 {

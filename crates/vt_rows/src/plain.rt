@@ -1,8 +1,8 @@
 //! The plain text of columns of a row.
 
 ghost use Rattle.std.specs.Prelude.{◌≡◌, ◌<◌, ◌≤◌, ◌+◌, ◌++◌, drop, length, replicate, take, IfOk, IsErr, OnErr, OnOk};
-ghost use Rattle.vt_cells.specs.PieceKeeping.{gathered};
-ghost use Rattle.vt_rows.specs.Keeping.{gap_behind, plain_behind, text_behind};
+ghost use Rattle.vt_cells.specs.PieceInternals.{gathered};
+ghost use Rattle.vt_rows.specs.Internals.{gap_behind, plain_behind, text_behind};
 ghost use Rattle.vt_rows.specs.Plain.{has_glyph, plain_text};
 
 use vt_cells::{Cell, Piece, Sink};

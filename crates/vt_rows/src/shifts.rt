@@ -3,7 +3,7 @@
 ghost use Rattle.std.specs.Prelude.{◌≡◌, ◌≤◌, ◌+◌, ℕ, All, length, slice_index_or};
 ghost use Rattle.vt_cells.specs.Cell.{IsCell};
 ghost use Rattle.vt_rows.specs.Cells.{IsPaired, deleted, insert_column, inserted};
-ghost use Rattle.vt_rows.specs.Keeping.{turn_source};
+ghost use Rattle.vt_rows.specs.Internals.{turn_source};
 
 use crate::{cells, cuts};
 use vt_cells::{Attrs, Cell};

@@ -5,10 +5,10 @@ use Rattle.std.proofs.Math.Logic.{⊎_elim}
 use Rattle.vt_scan.specs.Table.{turn_of, class_of}
 use Rattle.vt_scan.specs.Parameters.{GroupTable, table_of}
 use Rattle.vt_scan.specs.Automaton.{State, Step, EscDispatch, CsiDispatch, OscDispatch, Executed, is_parameter}
-use Rattle.vt_scan.specs.Automaton.{parameter_text, marks_of, parts_of, given, after, step_in}
+use Rattle.vt_scan.specs.Automaton.{parameter_text, intermediates_of, parts_of, given, after, step_in}
 use Rattle.vt_scan.specs.Run.{run}
 use Rattle.vt_scan.specs.Scanner.{Held, Reads, ReadsSequence, StandsFor}
-use Rattle.vt_scan.specs.Keeping.{Fits, FitsEnding}
+use Rattle.vt_scan.specs.Internals.{Fits, FitsEnding}
 use Rattle.vt_scan.specs.declared.table.Kind.{Kind}
 use Rattle.vt_scan.specs.declared.table.Kind.TheVariants.{Ground, Escape, EscapeIntermediate, CsiEntry, CsiParam}
 use Rattle.vt_scan.specs.declared.table.Kind.TheVariants.{CsiIntermediate, CsiIgnore, OscString, Skip}
@@ -30,7 +30,7 @@ held_of state = record {
   kind = state.kind;
   unfinished = state.collected;
   table = table_of (parameter_text state.collected);
-  marks = marks_of state.collected;
+  intermediates = intermediates_of state.collected;
   text = state.collected;
 }
 
@@ -43,11 +43,11 @@ AlikeIn kind a b = Reads (held_of (at kind a)) kind b
 
 reads_itself : (kind : Kind) (a : List ℕ) → AlikeIn kind a a
 reads_itself Ground a = refl
-reads_itself Escape a = record { table = refl; marks = refl }
-reads_itself EscapeIntermediate a = record { table = refl; marks = refl }
-reads_itself CsiEntry a = record { table = refl; marks = refl }
-reads_itself CsiParam a = record { table = refl; marks = refl }
-reads_itself CsiIntermediate a = record { table = refl; marks = refl }
+reads_itself Escape a = record { table = refl; intermediates = refl }
+reads_itself EscapeIntermediate a = record { table = refl; intermediates = refl }
+reads_itself CsiEntry a = record { table = refl; intermediates = refl }
+reads_itself CsiParam a = record { table = refl; intermediates = refl }
+reads_itself CsiIntermediate a = record { table = refl; intermediates = refl }
 reads_itself CsiIgnore a = tt
 reads_itself OscString a = refl
 reads_itself Skip a = tt
@@ -57,22 +57,22 @@ itself s = record { kind = refl; reads = reads_itself s.kind s.collected }
 
 both_read : (kind : Kind) (held : Held) (a b : List ℕ) → Reads held kind a → Reads held kind b → AlikeIn kind a b
 both_read Ground held a b r q = sym r ∙ q
-both_read Escape held a b r q = record { table = sym r.table ∙ q.table; marks = sym r.marks ∙ q.marks }
-both_read EscapeIntermediate held a b r q = record { table = sym r.table ∙ q.table; marks = sym r.marks ∙ q.marks }
-both_read CsiEntry held a b r q = record { table = sym r.table ∙ q.table; marks = sym r.marks ∙ q.marks }
-both_read CsiParam held a b r q = record { table = sym r.table ∙ q.table; marks = sym r.marks ∙ q.marks }
-both_read CsiIntermediate held a b r q = record { table = sym r.table ∙ q.table; marks = sym r.marks ∙ q.marks }
+both_read Escape held a b r q = record { table = sym r.table ∙ q.table; intermediates = sym r.intermediates ∙ q.intermediates }
+both_read EscapeIntermediate held a b r q = record { table = sym r.table ∙ q.table; intermediates = sym r.intermediates ∙ q.intermediates }
+both_read CsiEntry held a b r q = record { table = sym r.table ∙ q.table; intermediates = sym r.intermediates ∙ q.intermediates }
+both_read CsiParam held a b r q = record { table = sym r.table ∙ q.table; intermediates = sym r.intermediates ∙ q.intermediates }
+both_read CsiIntermediate held a b r q = record { table = sym r.table ∙ q.table; intermediates = sym r.intermediates ∙ q.intermediates }
 both_read CsiIgnore held a b r q = tt
 both_read OscString held a b r q = sym r ∙ q
 both_read Skip held a b r q = tt
 
 other_reads : (kind : Kind) (held : Held) (a b : List ℕ) → AlikeIn kind a b → Reads held kind a → Reads held kind b
 other_reads Ground held a b e r = r ∙ e
-other_reads Escape held a b e r = record { table = r.table ∙ e.table; marks = r.marks ∙ e.marks }
-other_reads EscapeIntermediate held a b e r = record { table = r.table ∙ e.table; marks = r.marks ∙ e.marks }
-other_reads CsiEntry held a b e r = record { table = r.table ∙ e.table; marks = r.marks ∙ e.marks }
-other_reads CsiParam held a b e r = record { table = r.table ∙ e.table; marks = r.marks ∙ e.marks }
-other_reads CsiIntermediate held a b e r = record { table = r.table ∙ e.table; marks = r.marks ∙ e.marks }
+other_reads Escape held a b e r = record { table = r.table ∙ e.table; intermediates = r.intermediates ∙ e.intermediates }
+other_reads EscapeIntermediate held a b e r = record { table = r.table ∙ e.table; intermediates = r.intermediates ∙ e.intermediates }
+other_reads CsiEntry held a b e r = record { table = r.table ∙ e.table; intermediates = r.intermediates ∙ e.intermediates }
+other_reads CsiParam held a b e r = record { table = r.table ∙ e.table; intermediates = r.intermediates ∙ e.intermediates }
+other_reads CsiIntermediate held a b e r = record { table = r.table ∙ e.table; intermediates = r.intermediates ∙ e.intermediates }
 other_reads CsiIgnore held a b e r = tt
 other_reads OscString held a b e r = r ∙ e
 other_reads Skip held a b e r = tt
@@ -121,14 +121,14 @@ sequence_more kind next a b x r = by (is_parameter x) refl
       table =
           ap table_of (filter-yes is_parameter a x is) ∙ table-more (parameter_text a) (parameter_text b) x is r.table
           ∙ ap table_of (sym (filter-yes is_parameter b x is));
-      marks =
-          ap (take 2) (filter-no (λ y. not (is_parameter y)) a x (ap not is)) ∙ r.marks
+      intermediates =
+          ap (take 2) (filter-no (λ y. not (is_parameter y)) a x (ap not is)) ∙ r.intermediates
           ∙ ap (take 2) (sym (filter-no (λ y. not (is_parameter y)) b x (ap not is)));
     }
     by false is = record {
       table = ap table_of (filter-no is_parameter a x is) ∙ r.table ∙ ap table_of (sym (filter-no is_parameter b x is));
-      marks = ap (take 2) (filter-yes (λ y. not (is_parameter y)) a x (ap not is))
-          ∙ take-more 2 (filter (λ y. not (is_parameter y)) a) (filter (λ y. not (is_parameter y)) b) x r.marks
+      intermediates = ap (take 2) (filter-yes (λ y. not (is_parameter y)) a x (ap not is))
+          ∙ take-more 2 (filter (λ y. not (is_parameter y)) a) (filter (λ y. not (is_parameter y)) b) x r.intermediates
           ∙ ap (take 2) (sym (filter-yes (λ y. not (is_parameter y)) b x (ap not is)));
     }
 
@@ -152,11 +152,11 @@ given_alike kind next ends.Character a b x fits r = refl
 given_alike kind next ends.Executed a b x fits r = refl
 given_alike kind next ends.EscDispatch a b x fits r =
     let reads = sequence_from kind (held_of (at kind a)) b fits.0 r in
-    ap (λ marks. EscDispatch marks x ∷ []) reads.marks
+    ap (λ intermediates. EscDispatch intermediates x ∷ []) reads.intermediates
 given_alike kind next ends.CsiDispatch a b x fits r =
     let reads = sequence_from kind (held_of (at kind a)) b fits.0 r in
-    ap (λ (t : GroupTable). CsiDispatch t.groups (marks_of a) x ∷ []) reads.table
-    ∙ ap (λ marks. CsiDispatch (table_of (parameter_text b)).groups marks x ∷ []) reads.marks
+    ap (λ (t : GroupTable). CsiDispatch t.groups (intermediates_of a) x ∷ []) reads.table
+    ∙ ap (λ intermediates. CsiDispatch (table_of (parameter_text b)).groups intermediates x ∷ []) reads.intermediates
 given_alike kind next ends.OscDispatch a b x fits r =
     ap (λ text. OscDispatch (parts_of text) ∷ []) (same_text kind a b fits.0 r)
 given_alike kind next ends.OscDispatchAndExecuted a b x fits r =

@@ -1,4 +1,4 @@
--- One more collected byte of a sequence: a byte of the parameter text, or a mark.
+-- One more collected byte of a sequence: a byte of the parameter text, or a intermediate.
 use Rattle.std.proofs.Common.{◌≡◌, ◌≢◌, ℕ, Bool, true, false, not, cond, List, []}
 use Rattle.std.proofs.Common.{◌∷◌, ◌++◌, take, filter, sym, ◌∙◌, ap, inl, inr}
 use Rattle.std.proofs.lemmas.List.{append-nil}
@@ -6,7 +6,7 @@ use Rattle.std.proofs.lemmas.List.Elements.{filter-append}
 use Rattle.vt_scan.specs.Parameters.{table_of}
 use Rattle.vt_scan.specs.Automaton.{is_parameter}
 use Rattle.vt_scan.specs.Scanner.{Held, Reads, ReadsSequence}
-use Rattle.vt_scan.specs.Keeping.{InSequence, Fits}
+use Rattle.vt_scan.specs.Internals.{InSequence, Fits}
 use Rattle.vt_scan.specs.declared.table.Kind.{Kind}
 use Rattle.vt_scan.specs.declared.table.Kind.TheVariants.{Ground, Escape, EscapeIntermediate, CsiEntry, CsiParam}
 use Rattle.vt_scan.specs.declared.table.Kind.TheVariants.{CsiIntermediate, CsiIgnore, OscString, Skip}
@@ -49,22 +49,22 @@ in_sequence : (old new : Kind) → Fits old (Collect new) → old ≢ OscString 
 in_sequence old new (inl s) other = s
 in_sequence old new (inr s) other = absurd (other s.0)
 
-pub collect_mark : (old new : Held) (kind : Kind) (b : ℕ)
+pub collect_intermediate : (old new : Held) (kind : Kind) (b : ℕ)
     → Fits old.kind (Collect kind) → old.kind ≢ OscString → is_parameter b ≡ false
-    → new.table ≡ old.table → ((all : List ℕ) → old.marks ≡ take 2 all → new.marks ≡ take 2 (all ++ b ∷ []))
+    → new.table ≡ old.table → ((all : List ℕ) → old.intermediates ≡ take 2 all → new.intermediates ≡ take 2 (all ++ b ∷ []))
     → (text : List ℕ) → Reads old old.kind text → Reads new kind (text ++ b ∷ [])
-collect_mark old new kind b fits other is same pushed text reads =
+collect_intermediate old new kind b fits other is same pushed text reads =
     let both = in_sequence old.kind kind fits other in
     let was = sequence_from old.kind old text both.0 reads in
     sequence_to kind new (text ++ b ∷ []) both.1 (record {
       table = same ∙ was.table ∙ ap table_of (sym (filter-no is_parameter text b is));
-      marks =
-          pushed (filter (λ x. not (is_parameter x)) text) was.marks
+      intermediates =
+          pushed (filter (λ x. not (is_parameter x)) text) was.intermediates
           ∙ ap (take 2) (sym (filter-yes (λ x. not (is_parameter x)) text b (ap not is)));
     })
 
 pub collect_parameter : (old new : Held) (kind : Kind) (b : ℕ) → Fits old.kind (Collect kind) → old.kind ≢ OscString
-    → is_parameter b ≡ true → new.marks ≡ old.marks
+    → is_parameter b ≡ true → new.intermediates ≡ old.intermediates
     → ((text : List ℕ) → old.table ≡ table_of text → new.table ≡ table_of (text ++ b ∷ []))
     → (text : List ℕ) → Reads old old.kind text → Reads new kind (text ++ b ∷ [])
 collect_parameter old new kind b fits other is same pushed text reads =
@@ -72,5 +72,5 @@ collect_parameter old new kind b fits other is same pushed text reads =
     let was = sequence_from old.kind old text both.0 reads in
     sequence_to kind new (text ++ b ∷ []) both.1 (record {
       table = pushed (filter is_parameter text) was.table ∙ ap table_of (sym (filter-yes is_parameter text b is));
-      marks = same ∙ was.marks ∙ ap (take 2) (sym (filter-no (λ x. not (is_parameter x)) text b (ap not is)));
+      intermediates = same ∙ was.intermediates ∙ ap (take 2) (sym (filter-no (λ x. not (is_parameter x)) text b (ap not is)));
     })

@@ -10,7 +10,7 @@ use Rattle.vt_scan.specs.Automaton.{Step, parameter_text, parts_of, after, fresh
 use Rattle.vt_scan.specs.Parameters.{GroupTable, table_of}
 use Rattle.vt_scan.specs.Table.{class_of, turn_of}
 use Rattle.vt_scan.specs.Scanner.{Feeds, Held, Reads, StandsFor, Follows, event_of, events_in}
-use Rattle.vt_scan.specs.Keeping.{Begins, Extends, Fits, FitsEnding, answer_of}
+use Rattle.vt_scan.specs.Internals.{Begins, Extends, Fits, FitsEnding, answer_of}
 use Rattle.vt_scan.specs.declared.table.Kind.{Kind}
 use Rattle.vt_scan.specs.declared.table.Kind.TheVariants.{Ground, Escape}
 use Rattle.vt_scan.specs.declared.table.Turn.TheVariants.{End}
@@ -186,12 +186,12 @@ given_by old new next ends.Character text b other fits begun reads = absurd (oth
 given_by old new next ends.Executed text b other fits begun reads = refl
 given_by old new next ends.EscDispatch text b other fits begun reads =
     let was = sequence_from old.kind old text fits.0 reads in
-    ap (λ marks. automaton.EscDispatch marks b ∷ []) (begun.marks fits.1 ∙ was.marks)
+    ap (λ intermediates. automaton.EscDispatch intermediates b ∷ []) (begun.intermediates fits.1 ∙ was.intermediates)
 given_by old new next ends.CsiDispatch text b other fits begun reads =
     let was = sequence_from old.kind old text fits.0 reads in
-    ap (λ (t : GroupTable). automaton.CsiDispatch t.groups new.marks b ∷ []) (begun.table fits.1 ∙ was.table)
-    ∙ ap (λ marks. automaton.CsiDispatch (table_of (parameter_text text)).groups marks b ∷ [])
-    (begun.marks fits.1 ∙ was.marks)
+    ap (λ (t : GroupTable). automaton.CsiDispatch t.groups new.intermediates b ∷ []) (begun.table fits.1 ∙ was.table)
+    ∙ ap (λ intermediates. automaton.CsiDispatch (table_of (parameter_text text)).groups intermediates b ∷ [])
+    (begun.intermediates fits.1 ∙ was.intermediates)
 given_by old new next ends.OscDispatch text b other fits begun reads =
     let was : old.text ≡ text = subst (λ (k : Kind). Reads old k text) fits.0 reads in
     ap (λ t. automaton.OscDispatch (parts_of t) ∷ []) (begun.text fits.1 ∙ was)

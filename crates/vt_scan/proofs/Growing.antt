@@ -1,5 +1,5 @@
 -- What is kept of a text tells what is kept of it with one more byte:
--- the table of a parameter text, and the first two marks.
+-- the table of a parameter text, and the first two intermediates.
 use Rattle.std.proofs.Common.{◌≡◌, ℕ, zero, suc, ◌<◌, ◌≤◌, nat_lt, true, List, []}
 use Rattle.std.proofs.Common.{◌∷◌, ◌++◌, take, refl, sym, subst, ◌∙◌, ap, arith}
 use Rattle.std.proofs.Math.Logic.{⊎_elim}

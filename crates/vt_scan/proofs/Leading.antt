@@ -11,7 +11,7 @@ use Rattle.std.proofs.lemmas.Bool.Decides.{nat_tests}
 use Rattle.vt_scan.specs.declared.table.Class.{Class}
 use Rattle.vt_scan.specs.Automaton as automaton
 use Rattle.vt_scan.specs.Automaton.{State, Step, is_parameter, after, step_in}
-use Rattle.vt_scan.specs.Keeping.{Begins, Fits, IsUnended, Opens}
+use Rattle.vt_scan.specs.Internals.{Begins, Fits, IsUnended, Opens}
 use Rattle.vt_scan.specs.Parameters.{table_of}
 use Rattle.vt_scan.specs.Run.{run}
 use Rattle.vt_scan.specs.Scanner.{Feeds, FeedsAll, Held, Reads, ReadsSequence, Follows, StandsFor, is_final}
@@ -24,7 +24,7 @@ use Rattle.vt_scan.specs.declared.table.Turn.TheVariants.{Collect, End}
 use Rattle.vt_scan.specs.declared.table.Ending.TheVariants.{CsiDispatch}
 use Rattle.vt_scan.proofs.Feeding.{fed_end, no_event, one_event, fresh_escape}
 use Rattle.vt_scan.proofs.Readback.{run-known}
-use Rattle.vt_scan.proofs.Sequences.{class_of-final, class_of-parameter, no_marks, parameters_only, step_parameter}
+use Rattle.vt_scan.proofs.Sequences.{class_of-final, class_of-parameter, no_intermediates, parameters_only, step_parameter}
 use Rattle.vt_scan.proofs.Stepping.{gives, either, class_of-control, class_of-text}
 
 pub escape_feeds : (old new : Held) (b : ℕ) → old.kind ≡ Ground →
@@ -97,21 +97,21 @@ reads_sequence held kind text (inl is) reads = subst (λ (k : Kind). Reads held 
 reads_sequence held kind text (inr is) reads = subst (λ (k : Kind). Reads held k text) (sym is) reads
 
 sequence_more : (old new : Held) (before text : List ℕ) → IsParameterText text → ReadsSequence old before →
-    new.marks ≡ old.marks →
+    new.intermediates ≡ old.intermediates →
     ((all : List ℕ) → old.table ≡ table_of all → new.table ≡ table_of (all ++ text)) →
     ReadsSequence new (before ++ text)
 sequence_more old new before text is reads same pushed = record {
   table = pushed (filter is_parameter before) reads.table
       ∙ ap table_of (sym (filter-append is_parameter before text
       ∙ ap (λ t. filter is_parameter before ++ t) (parameters_only text is)));
-  marks = same ∙ reads.marks
+  intermediates = same ∙ reads.intermediates
       ∙ ap (take 2) (sym (filter-append (λ x. not (is_parameter x)) before text
-      ∙ ap (λ t. filter (λ x. not (is_parameter x)) before ++ t) (no_marks text is)
+      ∙ ap (λ t. filter (λ x. not (is_parameter x)) before ++ t) (no_intermediates text is)
       ∙ append-nil (filter (λ x. not (is_parameter x)) before)));
 }
 
 pub parameters_feed : (old new : Held) (text : List ℕ) → InParameters old.kind → IsParameterText text →
-    0 < length text → new.kind ≡ CsiParam → new.marks ≡ old.marks →
+    0 < length text → new.kind ≡ CsiParam → new.intermediates ≡ old.intermediates →
     ((all : List ℕ) → old.table ≡ table_of all → new.table ≡ table_of (all ++ text)) → FeedsAll old text new []
 parameters_feed old new [] within is some kind same pushed = absurd (omega (arith, some))
 parameters_feed old new (b ∷ text) within is some kind same pushed = λ s stands.
@@ -127,7 +127,7 @@ parameters_feed old new (b ∷ text) within is some kind same pushed = λ s stan
       refl,
     )
 
-pub parameters_none : (old new : Held) → InParameters old.kind → new.kind ≡ old.kind → new.marks ≡ old.marks →
+pub parameters_none : (old new : Held) → InParameters old.kind → new.kind ≡ old.kind → new.intermediates ≡ old.intermediates →
     ((all : List ℕ) → old.table ≡ table_of all → new.table ≡ table_of (all ++ [])) → FeedsAll old [] new []
 parameters_none old new within kind same pushed = λ s stands.
     let reads = sequence_read old old.kind s.collected within stands.reads in
@@ -263,17 +263,17 @@ opened old = record {
   kind = Escape;
   unfinished = old.unfinished;
   table = table_of [];
-  marks = [];
+  intermediates = [];
   text = old.text;
 }
 
 begins_opened : (old : Held) → Begins old (opened old) Escape
 begins_opened old = record {
   kind = refl;
-  reads = record { table = refl; marks = refl };
+  reads = record { table = refl; intermediates = refl };
   text = λ e. refl;
   table = λ e. absurd cc;
-  marks = λ e. absurd cc;
+  intermediates = λ e. absurd cc;
 }
 
 begins_behind : (old led : Held) → Begins old led CsiEntry → Begins (opened old) led CsiEntry
@@ -282,7 +282,7 @@ begins_behind old led begun = record {
   reads = begun.reads;
   text = λ e. ⊎_elim (λ (f : CsiEntry ≡ Ground). absurd cc) (λ (f : CsiEntry ≡ Escape). absurd cc) e;
   table = λ e. absurd cc;
-  marks = λ e. absurd cc;
+  intermediates = λ e. absurd cc;
 }
 
 pub opening_feeds : (old led new : Held) (bytes : List ℕ) (n : ℕ) → old.kind ≡ Ground → old.unfinished ≡ [] →

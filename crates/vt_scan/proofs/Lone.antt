@@ -2,7 +2,7 @@
 use Rattle.std.proofs.Common.{◌≡◌, ℕ, suc, ◌+◌, ◌-◌, ◌<◌, ◌≤◌, List, [], ◌∷◌, length, get_or}
 use Rattle.std.proofs.Common.{map, take, drop, refl, sym, ◌∙◌, ap, arith}
 use Rattle.std.proofs.lemmas.List.{drop_more}
-use Rattle.vt_scan.specs.Keeping.{groups_from, Ascends}
+use Rattle.vt_scan.specs.Internals.{groups_from, Ascends}
 
 -- each place is above the one before it
 rises_by : (from : ℕ) (ends : List ℕ) (len : ℕ) → Ascends from ends len → from + length ends + 1 ≤ len

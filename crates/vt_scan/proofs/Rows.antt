@@ -7,7 +7,7 @@ use Rattle.std.proofs.lemmas.List.{get_or-drop, get_or-take, drop_more, drop_all
 use Rattle.std.proofs.lemmas.Bool.{cases_lt}
 use Rattle.std.proofs.lemmas.Bool.Decides.{nat_tests}
 use Rattle.vt_scan.specs.Parameters.{total, first_numbers}
-use Rattle.vt_scan.specs.Keeping.{groups_from, Ascends}
+use Rattle.vt_scan.specs.Internals.{groups_from, Ascends}
 use Rattle.vt_scan.proofs.Lists.{on_last, on_last-push, length-on_last}
 use Rattle.vt_scan.proofs.Reading.{AllSome, with_number}
 

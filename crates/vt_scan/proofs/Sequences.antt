@@ -5,7 +5,7 @@ use Rattle.std.proofs.lemmas.Bool.Decides.{nat_tests}
 use Rattle.std.proofs.lemmas.List.{append_assoc, append-nil}
 use Rattle.vt_scan.specs.Table.{class_of, turn_of}
 use Rattle.vt_scan.specs.Parameters.{table_of}
-use Rattle.vt_scan.specs.Automaton.{Event, CsiDispatch, start, after, step_in, is_parameter, parameter_text, marks_of}
+use Rattle.vt_scan.specs.Automaton.{Event, CsiDispatch, start, after, step_in, is_parameter, parameter_text, intermediates_of}
 use Rattle.vt_scan.specs.Run.{run}
 use Rattle.vt_scan.specs.Texts.{back_with, IsParameterText}
 use Rattle.vt_scan.specs.declared.table.Kind.TheVariants.{Ground, Escape, CsiEntry, CsiParam}
@@ -33,7 +33,7 @@ class_of-final P b low high p q r s =
 
 -- what a collected text gives with this final byte
 abbrev pub sequence : List ℕ → ℕ → List Event
-sequence text final = CsiDispatch (table_of (parameter_text text)).groups (marks_of text) final ∷ []
+sequence text final = CsiDispatch (table_of (parameter_text text)).groups (intermediates_of text) final ∷ []
 
 pub step_parameter : (text : List ℕ) (b : ℕ) → 0x30 ≤ b → b ≤ 0x3B →
     step_in CsiParam text b ≡ gives CsiParam (text ++ b ∷ []) []
@@ -75,24 +75,24 @@ parameters_only (b ∷ text) is =
     let test : is_parameter b ≡ true = grind (arith, nat_tests) in
     ap (λ t. cond t (b ∷ parameter_text text) (parameter_text text)) test ∙ ap (λ l. b ∷ l) (parameters_only text is.2)
 
-pub no_marks : (text : List ℕ) → IsParameterText text → filter (λ b. not (is_parameter b)) text ≡ []
-no_marks [] is = refl
-no_marks (b ∷ text) is =
+pub no_intermediates : (text : List ℕ) → IsParameterText text → filter (λ b. not (is_parameter b)) text ≡ []
+no_intermediates [] is = refl
+no_intermediates (b ∷ text) is =
     let test : not (is_parameter b) ≡ false = grind (arith, nat_tests) in
     ap (λ t. cond t (b ∷ filter (λ x. not (is_parameter x)) text) (filter (λ x. not (is_parameter x)) text)) test
-    ∙ no_marks text is.2
+    ∙ no_intermediates text is.2
 
 sequence_is : (text : List ℕ) (final : ℕ) → IsParameterText text →
     sequence text final ≡ CsiDispatch (table_of text).groups [] final ∷ []
 sequence_is text final is =
-    ap (λ t. CsiDispatch (table_of t).groups (marks_of text) final ∷ []) (parameters_only text is)
-    ∙ ap (λ m. CsiDispatch (table_of text).groups (take 2 m) final ∷ []) (no_marks text is)
+    ap (λ t. CsiDispatch (table_of t).groups (intermediates_of text) final ∷ []) (parameters_only text is)
+    ∙ ap (λ m. CsiDispatch (table_of text).groups (take 2 m) final ∷ []) (no_intermediates text is)
 
-marked_is : (text : List ℕ) (final : ℕ) → IsParameterText text →
+intermediate_is : (text : List ℕ) (final : ℕ) → IsParameterText text →
     sequence (0x3F ∷ text) final ≡ CsiDispatch (table_of text).groups (0x3F ∷ []) final ∷ []
-marked_is text final is =
-    ap (λ t. CsiDispatch (table_of t).groups (marks_of (0x3F ∷ text)) final ∷ []) (parameters_only text is)
-    ∙ ap (λ m. CsiDispatch (table_of text).groups (take 2 (0x3F ∷ m)) final ∷ []) (no_marks text is)
+intermediate_is text final is =
+    ap (λ t. CsiDispatch (table_of t).groups (intermediates_of (0x3F ∷ text)) final ∷ []) (parameters_only text is)
+    ∙ ap (λ m. CsiDispatch (table_of text).groups (take 2 (0x3F ∷ m)) final ∷ []) (no_intermediates text is)
 
 -- CSI begins with nothing collected
 read_csi_start : (bytes : List ℕ) →
@@ -119,7 +119,7 @@ unfolding class_of
 read_marker bytes =
     run-known (record { kind = CsiEntry; collected = [] }) 0x3F bytes (gives CsiParam (0x3F ∷ []) []) refl
 
--- a control sequence without marks
+-- a control sequence without intermediates
 pub read_csi : (text : List ℕ) (final : ℕ) → IsParameterText text → 0x40 ≤ final → final ≤ 0x7E
     → run start (0x1B ∷ 0x5B ∷ (text ++ final ∷ [])) ≡ back_with (CsiDispatch (table_of text).groups [] final ∷ [])
 read_csi text final is low high =
@@ -131,4 +131,4 @@ pub read_private : (text : List ℕ) (final : ℕ) → IsParameterText text → 
     ≡ back_with (CsiDispatch (table_of text).groups (0x3F ∷ []) final ∷ [])
 read_private text final is low high =
     read_csi_start (0x3F ∷ (text ++ final ∷ [])) ∙ read_marker (text ++ final ∷ [])
-    ∙ read_rest (0x3F ∷ []) text final is low high ∙ ap back_with (marked_is text final is)
+    ∙ read_rest (0x3F ∷ []) text final is low high ∙ ap back_with (intermediate_is text final is)

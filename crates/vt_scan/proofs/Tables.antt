@@ -5,7 +5,7 @@ use Rattle.std.proofs.Common.{zero, suc}
 use Rattle.std.proofs.lemmas.List.{append_assoc, append-nil, get_or-set_same, length-set, set-get_or, take_more, take_more_set}
 use Rattle.std.proofs.lemmas.Bool.Decides.{nat_tests}
 use Rattle.vt_scan.specs.Parameters.{GroupTable, groups_of, total, first_numbers, table_of}
-use Rattle.vt_scan.specs.Keeping.{groups_from, Ascends}
+use Rattle.vt_scan.specs.Internals.{groups_from, Ascends}
 use Rattle.vt_scan.proofs.Lists.{on_last}
 use Rattle.vt_scan.proofs.Reading.{with_digit, with_number, groups_of-digit, groups_of-colon}
 use Rattle.vt_scan.proofs.Reading.{groups_of-semicolon, groups_of-empty, groups_of-all_some, groups_of-some}

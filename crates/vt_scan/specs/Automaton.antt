@@ -24,9 +24,9 @@ pub data Event : Type 0 where
   -- a control function of one byte
   Executed : (byte : ℕ) → Event
   -- an escape sequence: its intermediates and its last byte
-  EscDispatch : (marks : List ℕ) (byte : ℕ) → Event
+  EscDispatch : (intermediates : List ℕ) (byte : ℕ) → Event
   -- a control sequence: its groups of numbers, its marker and intermediates, and its final byte
-  CsiDispatch : (groups : List (List ℕ)) (marks : List ℕ) (byte : ℕ) → Event
+  CsiDispatch : (groups : List (List ℕ)) (intermediates : List ℕ) (byte : ℕ) → Event
   -- an operating system command: its parts
   OscDispatch : (parts : List (List ℕ)) → Event
 
@@ -46,8 +46,8 @@ abbrev pub parameter_text : List ℕ → List ℕ
 parameter_text text = filter is_parameter text
 
 -- the first two of marker and intermediates
-abbrev pub marks_of : List ℕ → List ℕ
-marks_of text = take 2 (filter (λ b. not (is_parameter b)) text)
+abbrev pub intermediates_of : List ℕ → List ℕ
+intermediates_of text = take 2 (filter (λ b. not (is_parameter b)) text)
 
 -- the first 16 parts of an operating system command, parted by `;`
 abbrev pub parts_of : List ℕ → List (List ℕ)
@@ -58,8 +58,8 @@ abbrev pub given : ending.Ending → List ℕ → ℕ → List Event
 given ends.Nothing text b = []
 given ends.Character text b = Character b ∷ []
 given ends.Executed text b = Executed b ∷ []
-given ends.EscDispatch text b = EscDispatch (marks_of text) b ∷ []
-given ends.CsiDispatch text b = CsiDispatch (table_of (parameter_text text)).groups (marks_of text) b ∷ []
+given ends.EscDispatch text b = EscDispatch (intermediates_of text) b ∷ []
+given ends.CsiDispatch text b = CsiDispatch (table_of (parameter_text text)).groups (intermediates_of text) b ∷ []
 given ends.OscDispatch text b = OscDispatch (parts_of text) ∷ []
 given ends.OscDispatchAndExecuted text b = OscDispatch (parts_of text) ∷ Executed b ∷ []
 

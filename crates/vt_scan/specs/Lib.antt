@@ -6,5 +6,5 @@ pub mod Scanner
 pub mod Run
 pub mod Texts
 pub mod Selectors
-pub mod Keeping
+pub mod Internals
 pub mod Printable

@@ -3,7 +3,7 @@
 use Rattle.std.specs.Prelude.{◌≡◌, ℕ, ◌<◌, ◌≤◌, ◌==◌, ◌&&◌, nat_le, Bool, false, List, [], ◌++◌, length, map, option_to_list}
 use Rattle.vt_scan.specs.Parameters.{GroupTable, table_of}
 use Rattle.vt_scan.specs.Automaton as automaton
-use Rattle.vt_scan.specs.Automaton.{State, Step, is_parameter, parameter_text, marks_of, parts_of, step_in}
+use Rattle.vt_scan.specs.Automaton.{State, Step, is_parameter, parameter_text, intermediates_of, parts_of, step_in}
 use Rattle.vt_scan.specs.Run.{run}
 use Rattle.vt_scan.specs.declared.table.Kind.{Kind}
 use Rattle.vt_scan.specs.declared.table.Kind.TheVariants.{Ground, Escape, CsiEntry, CsiParam}
@@ -20,13 +20,13 @@ pub record Held : Type 0 where
   -- the numbers of a sequence
   pub table : GroupTable
   -- the first two of its marker and intermediates
-  pub marks : List ℕ
+  pub intermediates : List ℕ
   -- the text of an operating system command
   pub text : List ℕ
 
 pub record ReadsSequence (held : Held) (text : List ℕ) : Type 0 where
   pub table : held.table ≡ table_of (parameter_text text)
-  pub marks : held.marks ≡ marks_of text
+  pub intermediates : held.intermediates ≡ intermediates_of text
 
 -- in this kind, what is held is the reading of these collected bytes
 abbrev pub Reads : Held → Kind → List ℕ → Type 0
@@ -45,8 +45,8 @@ pub record StandsFor (held : Held) (state : State) : Type 0 where
 abbrev pub event_of : Held → event.Event → automaton.Event
 event_of held (given.Character c) = automaton.Character c
 event_of held (given.Executed b) = automaton.Executed b
-event_of held (given.Escape b) = automaton.EscDispatch held.marks b
-event_of held (given.Csi b) = automaton.CsiDispatch held.table.groups held.marks b
+event_of held (given.Escape b) = automaton.EscDispatch held.intermediates b
+event_of held (given.Csi b) = automaton.CsiDispatch held.table.groups held.intermediates b
 event_of held given.Osc = automaton.OscDispatch (parts_of held.text)
 
 -- the events of an answer, in their order

@@ -10,11 +10,11 @@ ghost use Rattle.vt_scan.specs.Printable.{is_odd};
 ghost use Rattle.vt_cells.specs.Refusals.{OnlyOutOfMemory};
 ghost use Rattle.vt_scan.specs.Automaton.{Character, State, fresh_step, is_parameter, parts_of, start, step_in};
 ghost use Rattle.vt_scan.specs.Characters.{is_character};
-ghost use Rattle.vt_scan.specs.Keeping.{Begins, Fits, answer_of};
+ghost use Rattle.vt_scan.specs.Internals.{Begins, Fits, answer_of};
 ghost use Rattle.vt_scan.specs.Scanner.{Feeds, FeedsAll, Follows, IsPrintableByte, Reads, ReadsItself, StandsFor};
 ghost use Rattle.std.specs.List.{AllByRecursion};
 ghost use Rattle.vt_scan.specs.Scanner.{ends_sequence, is_final, leads_in};
-ghost use Rattle.vt_scan.specs.Keeping.{IsUnended, Opens};
+ghost use Rattle.vt_scan.specs.Internals.{IsUnended, Opens};
 ghost use Rattle.vt_scan.specs.Table.{class_of, turn_of};
 ghost use Rattle.vt_scan.specs.declared.event.Event.{Event};
 ghost use Rattle.vt_scan.specs.declared.table.Kind.{Kind};
@@ -23,7 +23,7 @@ ghost use Rattle.vt_scan.specs.declared.table.Turn.{Turn};
 mod short;
 
 use crate::event::{Event, Events};
-use crate::marks::Marks;
+use crate::intermediates::Intermediates;
 use crate::parameters::{Parameters, is_parameter_byte};
 use crate::parts::Parts;
 use crate::table::{Ending, Kind, Turn, turn_at};
@@ -42,7 +42,7 @@ pub struct Scanner {
     kind: Kind,
     unfinished: Unfinished,
     parameters: Parameters,
-    marks: Marks,
+    intermediates: Intermediates,
     text: Vec<u8>,
 }
 
@@ -52,13 +52,13 @@ impl Model for Scanner {
     ghost Value = { Held };
 
     ghost use Rattle.vt_scan.specs.Automaton.{State};
-    ghost use Rattle.vt_scan.specs.Keeping.{held};
+    ghost use Rattle.vt_scan.specs.Internals.{held};
     ghost use Rattle.vt_scan.specs.Scanner.{StandsFor};
 
-    ghost view = { λ s. held s.kind s.unfinished s.parameters s.marks s.text.items };
+    ghost view = { λ s. held s.kind s.unfinished s.parameters s.intermediates s.text.items };
 
     ghost invariant = { λ s.
-        ∥ ((state : State) × StandsFor (held s.kind s.unfinished s.parameters s.marks s.text.items) state) ∥₁ };
+        ∥ ((state : State) × StandsFor (held s.kind s.unfinished s.parameters s.intermediates s.text.items) state) ∥₁ };
 }
 
 // One call wherever a scanner is given up: a derived drop is taken apart field by field in each
@@ -69,7 +69,7 @@ impl Drop for Scanner {
             kind: _,
             unfinished: _,
             parameters: _,
-            marks: _,
+            intermediates: _,
             text: _,
         } = self;
     }
@@ -84,13 +84,13 @@ impl Scanner {
             kind: Kind::Ground,
             unfinished: Unfinished::new(),
             parameters: Parameters::new(),
-            marks: Marks::new(),
+            intermediates: Intermediates::new(),
             text: Vec::new(alloc),
         }
     }
 
     /// Reads one byte and answers its events. The lists of a sequence are
-    /// lent by `groups`, `marks` and `parts` until the next byte.
+    /// lent by `groups`, `intermediates` and `parts` until the next byte.
     ///
     /// Memory is taken only for a byte of the text of an operating system
     /// command; where that is refused, the answer is `OutOfMemory`, nothing
@@ -128,10 +128,10 @@ impl Scanner {
     /// The marker and the intermediates of a sequence, after its event: the
     /// first two.
     #[inline]
-    pub fn marks(&self) -> &[u8]
-        ensures { result.now ≡ self.now.marks }
+    pub fn intermediates(&self) -> &[u8]
+        ensures { result.now ≡ self.now.intermediates }
     {
-        self.marks.as_slice()
+        self.intermediates.as_slice()
     }
 
     /// The parts of an operating system command, after its event: the first
@@ -232,7 +232,7 @@ impl Scanner {
             self.parameters.push(byte);
             return Ok(());
         }
-        self.marks.push(byte);
+        self.intermediates.push(byte);
         Ok(())
     }
 
@@ -247,7 +247,7 @@ impl Scanner {
             Kind::OscString => self.text.clear(),
             _ => {
                 self.parameters.clear();
-                self.marks.clear();
+                self.intermediates.clear();
             }
         }
     }

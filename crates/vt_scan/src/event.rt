@@ -2,7 +2,7 @@
 
 ghost use Rattle.std.specs.Prelude.{◌≡◌, None, Some};
 
-/// One thing that the bytes said. The numbers, marks and parts of a sequence
+/// One thing that the bytes said. The numbers, intermediates and parts of a sequence
 /// are lent by the scanner until its next byte.
 #[derive(Clone, Copy, PartialEq, Eq, Debug)]
 pub enum Event {
@@ -12,11 +12,11 @@ pub enum Event {
     /// A control function of one byte.
     Executed(u8),
 
-    /// An escape sequence with this last byte; the scanner has its marks.
+    /// An escape sequence with this last byte; the scanner has its intermediates.
     Escape(u8),
 
     /// A control sequence with this final byte; the scanner has its groups
-    /// and marks.
+    /// and intermediates.
     Csi(u8),
 
     /// An operating system command; the scanner has its parts.

@@ -4,8 +4,8 @@
 pub mod automaton;
 pub mod event;
 pub mod groups;
+pub mod intermediates;
 pub mod laws;
-pub mod marks;
 pub mod parameters;
 pub mod parts;
 pub mod table;

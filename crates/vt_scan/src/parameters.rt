@@ -5,7 +5,7 @@ ghost use Rattle.std.specs.Prelude.{IfSome, None, false, if◌then◌else◌, le
 ghost use Rattle.std.specs.Prelude.{slice_index_or, take, true};
 ghost use Rattle.vt_scan.specs.Automaton.{is_parameter};
 ghost use Rattle.vt_scan.specs.Parameters.{GroupTable, table_of, total};
-ghost use Rattle.vt_scan.specs.Keeping.{Ascends, groups_from, is_digit};
+ghost use Rattle.vt_scan.specs.Internals.{Ascends, groups_from, is_digit};
 ghost use Rattle.vt_scan.specs.Texts.{IsParameterText};
 
 use crate::groups::{Groups, MAX_NUMBERS};

@@ -1,7 +1,7 @@
 //! What each byte does in each kind of state.
 
 ghost use Rattle.std.specs.Prelude.{◌≡◌};
-ghost use Rattle.vt_scan.specs.Keeping.{Fits};
+ghost use Rattle.vt_scan.specs.Internals.{Fits};
 ghost use Rattle.vt_scan.specs.Table.{class_of, turn_of};
 
 /// Which kind of text the scanner is in.

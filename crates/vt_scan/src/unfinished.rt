@@ -4,7 +4,7 @@
 ghost use Rattle.std.specs.Prelude.{◌≡◌, ◌≢◌, ℕ, ◌<◌, ◌≤◌, ◌==◌, true, List, [], ◌∷◌};
 ghost use Rattle.std.specs.Prelude.{IfSome, IsSome, length, take, if◌then◌else◌};
 ghost use Rattle.vt_scan.specs.Characters.{character_of, continues, is_beginning, is_character, is_second};
-ghost use Rattle.vt_scan.specs.Keeping.{Extends, bytes_in, is_unfinished};
+ghost use Rattle.vt_scan.specs.Internals.{Extends, bytes_in, is_unfinished};
 
 use std::marker::Model;
 

@@ -10,9 +10,9 @@ use Rattle.vt_rows.specs.Row.{RowValue, IsRow, resized_row, trimmed_row}
 use Rattle.vt_rows.proofs.Moves.{IsRow-resized_row, length-moved}
 use Rattle.vt_rows.proofs.Trims.{trimmed-none}
 use Rattle.vt_grid.specs.Scrollback.{Scrollback, before_last, grown_in_view, grown_row}
-use Rattle.vt_grid.specs.Scrollback.{kept_after, pushed, reported, stacked, viewed}
+use Rattle.vt_grid.specs.Scrollback.{kept_after, pushed, reported, stacked, with_view}
 use Rattle.vt_grid.proofs.Stacking.{All-stacked}
-use Rattle.vt_screen.specs.Streamed.{AreAlike}
+use Rattle.vt_screen.specs.Streamed.{AreSameTrimmed}
 use Rattle.vt_screen.proofs.Alike.{IsWide, trimmed_twice, trimmed_grown}
 
 pub map-append : {X Y : Type 0} (f : X → Y) (xs ys : List X) → map f (xs ++ ys) ≡ map f xs ++ map f ys
@@ -21,11 +21,11 @@ map-append f (x ∷ xs) ys = ap (λ (zs : List _). f x ∷ zs) (map-append f xs 
 
 -- ---- rows that are alike, one list behind the other
 
-pub alike_then : (a b c d : List RowValue) → AreAlike a b → AreAlike c d → AreAlike (a ++ c) (b ++ d)
+pub alike_then : (a b c d : List RowValue) → AreSameTrimmed a b → AreSameTrimmed c d → AreSameTrimmed (a ++ c) (b ++ d)
 alike_then a b c d e f =
     map-append trimmed_row a c ∙ (ap₂ (λ (xs ys : List RowValue). xs ++ ys) e f ∙ sym (map-append trimmed_row b d))
 
-alike_trimmed : (rows : List RowValue) → AreAlike (map trimmed_row rows) rows
+alike_trimmed : (rows : List RowValue) → AreSameTrimmed (map trimmed_row rows) rows
 alike_trimmed [] = refl
 alike_trimmed (row ∷ rows) =
     ap₂ (λ (x : RowValue) (xs : List RowValue). x ∷ xs) (trimmed_twice row) (alike_trimmed rows)
@@ -40,7 +40,7 @@ AreSound rows = All (λ row. IsRow (length row.cells) row) rows
 abbrev IsFit : ℕ → RowValue → Type 0
 IsFit width row = IsRow (length row.cells) row × IsWide width row
 
-alike_grown : (width : ℕ) (rows : List RowValue) → All (IsFit width) rows → AreAlike (map (grown_row width) rows) rows
+alike_grown : (width : ℕ) (rows : List RowValue) → All (IsFit width) rows → AreSameTrimmed (map (grown_row width) rows) rows
 alike_grown width [] all = refl
 alike_grown width (row ∷ rows) all =
     let fit = All-head (IsFit width) row rows all in
@@ -51,7 +51,7 @@ fit_all : (width : ℕ) (rows : List RowValue) → AreSound rows → All (IsWide
 fit_all width rows all wide = λ i d h. (all i d h, wide i d h)
 
 pub alike_grown_in_view : (height width : ℕ) (above : Scrollback) → AreSound above.rows →
-    All (IsWide width) above.rows → AreAlike (grown_in_view height width above).rows above.rows
+    All (IsWide width) above.rows → AreSameTrimmed (grown_in_view height width above).rows above.rows
 unfolding grown_in_view
 alike_grown_in_view height width above all wide =
     let first = length above.rows - above.offset in
@@ -113,8 +113,8 @@ sound_grown_in_view height width above all =
     (All-drop P (first + height) above.rows all))
 
 pub sound_viewed : (height width n : ℕ) (above : Scrollback) →
-    AreSound above.rows → AreSound (viewed height width n above).rows
-unfolding viewed
+    AreSound above.rows → AreSound (with_view height width n above).rows
+unfolding with_view
 sound_viewed height width n above sound =
     sound_grown_in_view height width (record above { offset = min n (length above.rows) }) sound
 
@@ -159,7 +159,7 @@ told_and_kept gone above = take-append-drop (length (stacked gone above) - above
 -- what was reported, and what is kept now, is what was kept before and what left
 pub alike_pushed : (height width : ℕ) (gone : List RowValue) (above : Scrollback)
     → All (IsRow width) gone → AreSound above.rows → All (IsWide width) above.rows
-    → AreAlike (reported gone above ++ (pushed height width gone above).rows) (above.rows ++ gone)
+    → AreSameTrimmed (reported gone above ++ (pushed height width gone above).rows) (above.rows ++ gone)
 alike_pushed height width [] above rows sound wide = ap (map trimmed_row) (sym (append-nil above.rows))
 alike_pushed height width (row ∷ gone) above rows sound wide =
     let all = row ∷ gone in
@@ -180,14 +180,14 @@ wide_pushed height width (row ∷ gone) above rows sound wide =
 -- ---- other rows come into view
 
 pub alike_viewed : (height width n : ℕ) (above : Scrollback) → AreSound above.rows →
-    All (IsWide width) above.rows → AreAlike (viewed height width n above).rows above.rows
-unfolding viewed
+    All (IsWide width) above.rows → AreSameTrimmed (with_view height width n above).rows above.rows
+unfolding with_view
 alike_viewed height width n above sound wide =
     alike_grown_in_view height width (record above { offset = min n (length above.rows) }) sound wide
 
 pub wide_viewed : (height width n : ℕ) (above : Scrollback) →
-    All (IsWide width) above.rows → All (IsWide width) (viewed height width n above).rows
-unfolding viewed
+    All (IsWide width) above.rows → All (IsWide width) (with_view height width n above).rows
+unfolding with_view
 wide_viewed height width n above wide =
     wide_grown_in_view height width (record above { offset = min n (length above.rows) }) wide
 

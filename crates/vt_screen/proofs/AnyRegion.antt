@@ -19,8 +19,8 @@ use Rattle.vt_screen.specs.AnyRegion.{IsReaderInAnyRegion, KeepsRestButRegion, r
 use Rattle.vt_screen.specs.Reading.{Terminal, read, read_byte, terminal}
 use Rattle.vt_screen.specs.Screen.{IsColored, IsScreen, ScreenValue, with_page}
 use Rattle.vt_screen.specs.Shown.{HasCursor, HasRows, IsReadBy, IsReader, Makes, ReadsTo, ShowsPlainly, shown}
-use Rattle.vt_screen.specs.Controls.{counted_step, marked_steps, mode_step, other_steps, private_steps, scrolling_steps}
-use Rattle.vt_screen.specs.Steps.{SetRegion, UseOrigin, stepped}
+use Rattle.vt_screen.specs.Controls.{counted_step, intermediate_steps, mode_step, other_steps, private_steps, scrolling_steps}
+use Rattle.vt_screen.specs.Steps.{SetRegion, UseOrigin, display_after}
 use Rattle.vt_screen.proofs.Became.{Redraws, redraw_redraws}
 use Rattle.vt_screen.proofs.ReadbackTexts.{csi_read, reads_append, reads_then}
 use Rattle.vt_screen.proofs.Telling.{redraws_tell}
@@ -34,15 +34,15 @@ whole_page page = record page { top = 0; bottom = last_row page; origin = false;
 abbrev in_whole : ScreenValue → ScreenValue
 in_whole screen = with_page (whole_page screen.page) screen
 
-origin_read : (screen : ScreenValue) → ReadsTo (csi (0x3F ∷ 0x36 ∷ []) 0x6C) screen (stepped (UseOrigin false) screen)
-unfolding read_byte fresh_step class_of table_of groups_of numbers_of number_of private_steps marked_steps mode_step
+origin_read : (screen : ScreenValue) → ReadsTo (csi (0x3F ∷ 0x36 ∷ []) 0x6C) screen (display_after (UseOrigin false) screen)
+unfolding read_byte fresh_step class_of table_of groups_of numbers_of number_of private_steps intermediate_steps mode_step
 origin_read screen = refl
 
 region_read : (screen : ScreenValue) →
-    ReadsTo (csi [] 0x72) screen (stepped (SetRegion 0 (last_row screen.page)) screen)
+    ReadsTo (csi [] 0x72) screen (display_after (SetRegion 0 (last_row screen.page)) screen)
 unfolding counted_step scrolling_steps other_steps
 region_read screen =
-    csi_read [] 0x72 ((0 ∷ []) ∷ []) screen (stepped (SetRegion 0 (last_row screen.page)) screen)
+    csi_read [] 0x72 ((0 ∷ []) ∷ []) screen (display_after (SetRegion 0 (last_row screen.page)) screen)
     tt (omega arith, omega arith) empty_groups refl
 
 -- a region of one row or of more
@@ -61,8 +61,8 @@ whole_is page =
 
 whole_read : (screen : ScreenValue) → ReadsTo whole_region_text screen (in_whole screen)
 whole_read screen =
-    let middle = stepped (UseOrigin false) screen in
-    let end = stepped (SetRegion 0 (last_row screen.page)) middle in
+    let middle = display_after (UseOrigin false) screen in
+    let end = display_after (SetRegion 0 (last_row screen.page)) middle in
     reads_then (terminal start screen) (terminal start middle) (terminal start (in_whole screen))
     (csi (0x3F ∷ 0x36 ∷ []) 0x6C) (csi [] 0x72) (origin_read screen)
     (region_read middle ∙ ap (λ (page : Page). Some (terminal start (with_page page screen))) (whole_is screen.page))

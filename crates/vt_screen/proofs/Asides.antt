@@ -19,14 +19,14 @@ use Rattle.vt_grid.specs.Page.{Page, IsPage, blank_page, cursor_row, row_or}
 use Rattle.vt_grid.proofs.Pages.{page_blank, IsRow-cursor_row}
 use Rattle.vt_screen.proofs.Stable.{stable_blank}
 use Rattle.vt_grid.specs.Scrollback.{Scrollback, cleared, no_scrollback, grown_in_view}
-use Rattle.vt_grid.specs.Scrollback.{pushed, viewed, visible, reported, TakesMemory}
+use Rattle.vt_grid.specs.Scrollback.{pushed, with_view, visible, reported, TakesMemory}
 use Rattle.std.proofs.lemmas.Bool.{false≢true}
 use Rattle.vt_grid.specs.Resize.{leaving, out_of_view, page_resized, returning, scrollback_resized, window}
 use Rattle.vt_grid.proofs.Resizing.{length-window, page_page_resized, scrollback_resized_is}
 use Rattle.vt_grid.specs.Page.{SameSize}
 use Rattle.vt_screen.specs.Screen.{IsPrintable}
-use Rattle.vt_screen.specs.Keeping.{AreColored, Aside, IsAbove, IsKept, IsNothing}
-use Rattle.vt_screen.specs.Keeping.{IsOther, main_scrollback, alternate_scrollback}
+use Rattle.vt_screen.specs.Internals.{AreColored, Aside, IsAbove, IsKept, IsNothing}
+use Rattle.vt_screen.specs.Internals.{IsOther, main_scrollback, alternate_scrollback}
 use Rattle.vt_screen.proofs.Sizes.{same_back, same_through}
 use Rattle.vt_screen.proofs.StableScrollback.{stable_page_resized, stable_pushed, stable_scrollback_resized}
 use Rattle.vt_screen.proofs.StableScrollback.{stable_viewed, pushed_capacity, grown_nothing, pushed_nothing}
@@ -75,8 +75,8 @@ nothing_pushed height width gone above n =
     record { capacity = pushed_capacity height width gone above ∙ n.capacity; rows = p.0; offset = p.1 }
 
 pub nothing_viewed : (height width n : ℕ) (above : Scrollback) →
-    IsNothing above → IsNothing (viewed height width n above)
-unfolding viewed grown_in_view
+    IsNothing above → IsNothing (with_view height width n above)
+unfolding with_view grown_in_view
 nothing_viewed height width n above k =
     record {
       capacity = k.capacity;
@@ -133,9 +133,9 @@ kept_cleared page last aside k =
 
 -- other rows come into view
 pub kept_viewed : (height width n : ℕ) (page : Page) (last : Option ℕ) (aside : Aside) →
-    IsKept page last aside → IsKept page last (record aside { active = viewed height width n aside.active })
+    IsKept page last aside → IsKept page last (record aside { active = with_view height width n aside.active })
 kept_viewed height width n page last aside k =
-    kept_above page last aside (viewed height width n aside.active) (nothing_viewed height width n aside.active)
+    kept_above page last aside (with_view height width n aside.active) (nothing_viewed height width n aside.active)
     (λ a. record {
       sound = IsScrollback-viewed height width n aside.active a.sound;
       colored = stable_viewed coloring height width n aside.active a.colored;

@@ -10,7 +10,7 @@ use Rattle.vt_screen.specs.Shown.{SetsAttrs, attributes_text}
 use Rattle.vt_screen.proofs.Readback.{cleared_read, changed_read}
 use Rattle.vt_screen.proofs.ReadbackTexts.{reads_then}
 
--- every terminal in the midst of nothing takes these attributes, and stays as it is otherwise
+-- every terminal in ground state takes these attributes, and stays as it is otherwise
 pub attributes_set : (attrs : Attrs) (text : List ℕ) →
     text ≡ attributes_text attrs → FitsAttrs attrs → SetsAttrs attrs text
 attributes_set attrs text told fits reader =

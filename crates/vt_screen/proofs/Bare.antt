@@ -3,7 +3,7 @@ use Rattle.std.proofs.Common.{◌≡◌, ℕ, Bool, true, false, List, length, [
 use Rattle.std.specs.Prelude.{if◌then◌else◌}
 use Rattle.vt_rows.specs.Row.{RowValue}
 use Rattle.vt_grid.specs.Resize.{out_of_view}
-use Rattle.vt_grid.specs.Scrollback.{Scrollback, cleared, viewed}
+use Rattle.vt_grid.specs.Scrollback.{Scrollback, cleared, with_view}
 use Rattle.vt_scan.specs.Automaton.{State, Event}
 use Rattle.vt_scan.specs.Run.{run}
 use Rattle.vt_screen.specs.Pages.{fresh_page, page_aside, entered, left, restored, saved}
@@ -16,13 +16,13 @@ use Rattle.vt_screen.specs.Steps.{EraseRow, EraseChars, InsertChars, DeleteChars
 use Rattle.vt_screen.specs.Steps.{ScrollDown, Render, HideCursor, UseApplicationCursor, UseBracketedPaste, SetMouseMode}
 use Rattle.vt_screen.specs.Steps.{ClearMouseMode, SetMouseEncoding, ClearMouseEncoding, SetCursorStyle, SaveCursor}
 use Rattle.vt_screen.specs.Steps.{RestoreCursor, EnterAlternate, EnterFresh, LeaveAlternate, LeaveRestoring, Reset}
-use Rattle.vt_screen.specs.Steps.{UseApplicationKeypad, Tell, scrolled, stepped}
-use Rattle.vt_screen.specs.Streamed.{bare, sent_off, sent_off_all, sent_off_in}
+use Rattle.vt_screen.specs.Steps.{UseApplicationKeypad, CallBack, screen_after, display_after}
+use Rattle.vt_screen.specs.Streamed.{without_scrollback, sent_off, sent_off_all, sent_off_in}
 use Rattle.vt_screen.specs.Telling.{screen_in, stepped_all, steps_in, steps_of_all}
 
 -- screens that are the same but for scrollback
 abbrev pub SameBare : ScreenValue → ScreenValue → Type 0
-SameBare s t = bare s ≡ bare t
+SameBare s t = without_scrollback s ≡ without_scrollback t
 
 -- ---- one step
 
@@ -31,33 +31,33 @@ bare_if : (b : Bool) (x y : ScreenValue) (p q : Scrollback) → SameBare x y →
 bare_if true x y p q e = e
 bare_if false x y p q e = e
 
-bare_entered : (s : ScreenValue) → SameBare (entered s) (entered (bare s))
+bare_entered : (s : ScreenValue) → SameBare (entered s) (entered (without_scrollback s))
 bare_entered s = by s.is_alternate where
   by : (b : Bool) →
       SameBare (if b then s
       else record s
       { page = page_aside s; other = Some s.page; is_alternate = true; scrollback = out_of_view s.scrollback })
-      (if b then bare s
-      else record (bare s)
-      { page = page_aside s; other = Some s.page; is_alternate = true; scrollback = out_of_view (bare s).scrollback })
+      (if b then without_scrollback s
+      else record (without_scrollback s)
+      { page = page_aside s; other = Some s.page; is_alternate = true; scrollback = out_of_view (without_scrollback s).scrollback })
   by true = refl
   by false = refl
 
-bare_left : (s : ScreenValue) → SameBare (left s) (left (bare s))
+bare_left : (s : ScreenValue) → SameBare (left s) (left (without_scrollback s))
 bare_left s = by s.is_alternate where
   by : (b : Bool) →
       SameBare (if b then record s { page = page_aside s; other = Some s.page; is_alternate = false } else s)
-      (if b then record (bare s) { page = page_aside s; other = Some s.page; is_alternate = false } else bare s)
+      (if b then record (without_scrollback s) { page = page_aside s; other = Some s.page; is_alternate = false } else without_scrollback s)
   by true = refl
   by false = refl
 
-bare_step : (x : Step) (s : ScreenValue) → SameBare (scrolled x s) (scrolled x (bare s))
-bare_step (Print c) s = bare_if s.is_alternate (stepped (Print c) s) (stepped (Print c) (bare s)) _ _ refl
-bare_step LineFeed s = bare_if s.is_alternate (stepped LineFeed s) (stepped LineFeed (bare s)) _ _ refl
+bare_step : (x : Step) (s : ScreenValue) → SameBare (screen_after x s) (screen_after x (without_scrollback s))
+bare_step (Print c) s = bare_if s.is_alternate (display_after (Print c) s) (display_after (Print c) (without_scrollback s)) _ _ refl
+bare_step LineFeed s = bare_if s.is_alternate (display_after LineFeed s) (display_after LineFeed (without_scrollback s)) _ _ refl
 bare_step (ScrollUp count) s =
-    bare_if s.is_alternate (stepped (ScrollUp count) s) (stepped (ScrollUp count) (bare s)) _ _ refl
+    bare_if s.is_alternate (display_after (ScrollUp count) s) (display_after (ScrollUp count) (without_scrollback s)) _ _ refl
 bare_step EraseScrollback s =
-    bare_if s.is_alternate s (bare s) (cleared s.scrollback) (cleared (bare s).scrollback) refl
+    bare_if s.is_alternate s (without_scrollback s) (cleared s.scrollback) (cleared (without_scrollback s).scrollback) refl
 bare_step EnterAlternate s = bare_entered s
 bare_step EnterFresh s = ap (λ (t : ScreenValue). record t { page = fresh_page s }) (bare_entered (saved s))
 bare_step LeaveAlternate s = bare_left s
@@ -101,9 +101,9 @@ bare_step (ClearMouseMode mode) s = refl
 bare_step (SetMouseEncoding form) s = refl
 bare_step (ClearMouseEncoding form) s = refl
 bare_step (SetCursorStyle look) s = refl
-bare_step (Tell call) s = refl
+bare_step (CallBack call) s = refl
 
-sent_bare : (x : Step) (s : ScreenValue) → sent_off x s ≡ sent_off x (bare s)
+sent_bare : (x : Step) (s : ScreenValue) → sent_off x s ≡ sent_off x (without_scrollback s)
 sent_bare CarriageReturn s = refl
 sent_bare ReverseIndex s = refl
 sent_bare (MoveUp count) s = refl
@@ -143,7 +143,7 @@ sent_bare (ClearMouseMode mode) s = refl
 sent_bare (SetMouseEncoding form) s = refl
 sent_bare (ClearMouseEncoding form) s = refl
 sent_bare (SetCursorStyle look) s = refl
-sent_bare (Tell call) s = refl
+sent_bare (CallBack call) s = refl
 sent_bare EraseScrollback s = refl
 sent_bare EnterAlternate s = refl
 sent_bare EnterFresh s = refl
@@ -153,8 +153,8 @@ sent_bare (Print c) s = refl
 sent_bare LineFeed s = refl
 sent_bare (ScrollUp count) s = refl
 
-both_step : (x : Step) (s t : ScreenValue) → SameBare s t → SameBare (scrolled x s) (scrolled x t)
-both_step x s t e = bare_step x s ∙ (ap (λ (u : ScreenValue). bare (scrolled x u)) e ∙ sym (bare_step x t))
+both_step : (x : Step) (s t : ScreenValue) → SameBare s t → SameBare (screen_after x s) (screen_after x t)
+both_step x s t e = bare_step x s ∙ (ap (λ (u : ScreenValue). without_scrollback (screen_after x u)) e ∙ sym (bare_step x t))
 
 both_sent : (x : Step) (s t : ScreenValue) → SameBare s t → sent_off x s ≡ sent_off x t
 both_sent x s t e = sent_bare x s ∙ (ap (sent_off x) e ∙ sym (sent_bare x t))
@@ -164,13 +164,13 @@ both_sent x s t e = sent_bare x s ∙ (ap (sent_off x) e ∙ sym (sent_bare x t)
 pub both_stepped : (steps : List Step) (s t : ScreenValue) →
     SameBare s t → SameBare (stepped_all steps s) (stepped_all steps t)
 both_stepped [] s t e = e
-both_stepped (x ∷ steps) s t e = both_stepped steps (scrolled x s) (scrolled x t) (both_step x s t e)
+both_stepped (x ∷ steps) s t e = both_stepped steps (screen_after x s) (screen_after x t) (both_step x s t e)
 
 pub both_sent_all : (steps : List Step) (s t : ScreenValue) → SameBare s t → sent_off_all steps s ≡ sent_off_all steps t
 both_sent_all [] s t e = refl
 both_sent_all (x ∷ steps) s t e =
     ap₂ (λ (xs ys : List RowValue). xs ++ ys) (both_sent x s t e)
-    (both_sent_all steps (scrolled x s) (scrolled x t) (both_step x s t e))
+    (both_sent_all steps (screen_after x s) (screen_after x t) (both_step x s t e))
 
 -- ---- events
 
@@ -185,7 +185,7 @@ both_steps_all (event ∷ events) s t e =
     let steps = steps_of event (seen_of s) in
     ap₂ (λ (xs ys : List Step). xs ++ ys) (both_steps event s t e)
     (both_steps_all events (stepped_all steps s) (stepped_all (steps_of event (seen_of t)) t)
-    (both_stepped steps s t e ∙ ap (λ (xs : List Step). bare (stepped_all xs t)) (both_steps event s t e)))
+    (both_stepped steps s t e ∙ ap (λ (xs : List Step). without_scrollback (stepped_all xs t)) (both_steps event s t e)))
 
 -- ---- bytes
 
@@ -199,12 +199,12 @@ pub both_screen_in : (scan : State) (s t : ScreenValue) (bytes : List ℕ) →
     SameBare s t → SameBare (screen_in scan s bytes) (screen_in scan t bytes)
 both_screen_in scan s t bytes e =
     both_stepped (steps_in scan s bytes) s t e
-    ∙ ap (λ (steps : List Step). bare (stepped_all steps t)) (both_steps_all (run scan bytes).events s t e)
+    ∙ ap (λ (steps : List Step). without_scrollback (stepped_all steps t)) (both_steps_all (run scan bytes).events s t e)
 
 -- another number of rows in view
 pub bare_scrolled_back : (n : ℕ) (s : ScreenValue) → SameBare (scrolled_back n s) s
 bare_scrolled_back n s = by s.is_alternate where
   by : (b : Bool) →
-      SameBare (if b then s else record s { scrollback = viewed (length s.page.rows) s.page.width n s.scrollback }) s
+      SameBare (if b then s else record s { scrollback = with_view (length s.page.rows) s.page.width n s.scrollback }) s
   by true = refl
   by false = refl

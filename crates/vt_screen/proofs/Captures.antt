@@ -10,7 +10,7 @@ use Rattle.vt_rows.specs.Basic.{Written, basic_text, written_after}
 use Rattle.vt_rows.specs.Row.{RowValue}
 use Rattle.vt_grid.specs.Scrollback.{Scrollback, no_scrollback, visible}
 use Rattle.vt_screen.specs.Capture.{StopsBehind, basic_texts, written_after_all}
-use Rattle.vt_screen.specs.Keeping.{IsAbove, IsNothing, alternate_scrollback, main_scrollback}
+use Rattle.vt_screen.specs.Internals.{IsAbove, IsNothing, alternate_scrollback, main_scrollback}
 
 pub texts_more : (before : Written) (rows : List RowValue) (row : RowValue) →
     basic_texts before (rows ++ row ∷ []) ≡ basic_texts before rows ++ basic_text (written_after_all before rows) row

@@ -2,7 +2,7 @@
 use Rattle.std.specs.Prelude.{ℕ, Bool}
 use Rattle.vt_cells.specs.Cell.{CellValue, blank, glyph, right_half, widened, marked}
 use Rattle.vt_cells.specs.Op.{FitsAttrs}
-use Rattle.vt_screen.specs.Keeping.{IsColoredCell}
+use Rattle.vt_screen.specs.Internals.{IsColoredCell}
 use Rattle.vt_screen.proofs.Stable.{IsStable}
 
 abbrev AnyCharacter : ℕ → Type 0

@@ -17,12 +17,12 @@ use Rattle.vt_screen.specs.Sgr.{group_read}
 use Rattle.vt_screen.specs.Streamed.{HasNoRis, ris, row_told, sent_off_in}
 use Rattle.vt_screen.specs.Telling.{calls_in, screen_in, stepped_all, steps_in, steps_of_all}
 use Rattle.vt_screen.specs.Controls.{alternate_step, character_steps, clipboard_steps, control_steps, counted_step}
-use Rattle.vt_screen.specs.Controls.{csi_steps, encoding_step, escape_steps, fresh_alternate_step, marked_steps}
-use Rattle.vt_screen.specs.Controls.{mark_at, mode_step, mode_steps, mouse_step, named_steps, number_or, one_or}
+use Rattle.vt_screen.specs.Controls.{csi_steps, encoding_step, escape_steps, fresh_alternate_step, intermediate_steps}
+use Rattle.vt_screen.specs.Controls.{intermediate_at, mode_step, mode_steps, mouse_step, named_steps, number_or, one_or}
 use Rattle.vt_screen.specs.Controls.{osc_steps, other_steps, page_erasing, plain_steps, private_steps, reading_steps}
 use Rattle.vt_screen.specs.Controls.{repeated, row_erasing, scrolling_steps, Seen, seen_of, sgr_from, space_steps}
 use Rattle.vt_screen.specs.Controls.{steps_of, style_steps, window_steps}
-use Rattle.vt_screen.specs.Steps.{Step, Print, Reset, Tell}
+use Rattle.vt_screen.specs.Steps.{Step, Print, Reset, CallBack}
 use Rattle.vt_screen.specs.declared.sgr.Reading.{Reading}
 use Rattle.vt_screen.specs.declared.sgr.Reading.TheVariants.{Silent, Set, Unhandled}
 use Rattle.vt_screen.specs.declared.sgr.Wanted.{Wanted}
@@ -46,7 +46,7 @@ none = record { all = tt }
 own : {Q : ℕ → Type 0} {R : Type 0} → (x : Step) → IsAmong Q R x → AllAmong Q R (x ∷ [])
 own x i = record { all = (i, tt) }
 
-told : {Q : ℕ → Type 0} {R : Type 0} → (call : CallValue) → row_told call ≡ [] → AllAmong Q R (Tell call ∷ [])
+told : {Q : ℕ → Type 0} {R : Type 0} → (call : CallValue) → row_told call ≡ [] → AllAmong Q R (CallBack call ∷ [])
 told call e = record { all = (e, tt) }
 
 all_if : {Q : ℕ → Type 0} {R : Type 0} → (b : Bool) (xs ys : List Step) → AllAmong Q R xs → AllAmong Q R ys
@@ -212,14 +212,14 @@ unfolding space_steps
 stream_space second groups b = search (all_if, own, stream_style) depth 20
 
 stream_marked : {Q : ℕ → Type 0} {R : Type 0} → (mark : ℕ) (second : Option ℕ) (groups : List (List ℕ)) (b : ℕ)
-    → AllAmong Q R (marked_steps mark second groups b)
-unfolding marked_steps
+    → AllAmong Q R (intermediate_steps mark second groups b)
+unfolding intermediate_steps
 stream_marked mark second groups b = search (all_if, own, stream_private, stream_space) depth 20
 
 stream_csi : {Q : ℕ → Type 0} {R : Type 0} → (groups : List (List ℕ)) (marks : List ℕ) (b : ℕ) (seen : Seen)
     → IfSome seen.last Q → AllAmong Q R (csi_steps groups marks b seen)
 stream_csi groups [] b seen k = stream_plain groups b seen k
-stream_csi groups (mark ∷ marks) b seen k = stream_marked mark (mark_at 0 marks) groups b
+stream_csi groups (mark ∷ marks) b seen k = stream_marked mark (intermediate_at 0 marks) groups b
 
 -- ---- operating system commands
 

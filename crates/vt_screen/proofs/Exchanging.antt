@@ -10,7 +10,7 @@ use Rattle.vt_grid.specs.Resize.{out_of_view}
 use Rattle.vt_rows.specs.Row.{blank_row}
 use Rattle.std.proofs.lemmas.List.{length-replicate}
 use Rattle.vt_grid.specs.Page.{SameSize}
-use Rattle.vt_screen.specs.Keeping.{main_scrollback, with_other, with_fresh_other, with_fresh_page}
+use Rattle.vt_screen.specs.Internals.{main_scrollback, with_other, with_fresh_other, with_fresh_page}
 use Rattle.vt_screen.specs.Pages.{entered, entered_fresh, fresh_page, left, page_aside, reset, saved}
 use Rattle.vt_screen.specs.Screen.{ScreenValue, IsScreen, no_modes}
 

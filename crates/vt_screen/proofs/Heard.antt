@@ -8,7 +8,7 @@ use Rattle.vt_scan.specs.Automaton.{Event}
 use Rattle.vt_screen.specs.Calls.{CallValue, OnScroll}
 use Rattle.vt_screen.specs.Screen.{ScreenValue}
 use Rattle.vt_screen.specs.Run as act
-use Rattle.vt_screen.specs.Run.{Hears, Performs, Scrolls, Takes, Told, state}
+use Rattle.vt_screen.specs.Run.{CalledOnScroll, Performs, Scrolls, Takes, CalledOnAnyScreen, state}
 use Rattle.vt_screen.specs.Controls.{seen_of, steps_of}
 use Rattle.vt_screen.specs.Steps.{Step, Print, CarriageReturn, LineFeed, ReverseIndex, MoveUp, MoveDown, MoveRight}
 use Rattle.vt_screen.specs.Steps.{MoveLeft, NextLine, PreviousLine, Tab, MoveTo, MoveToColumn, MoveToRow, SetRegion}
@@ -17,15 +17,15 @@ use Rattle.vt_screen.specs.Steps.{EraseRow, EraseChars, InsertChars, DeleteChars
 use Rattle.vt_screen.specs.Steps.{ScrollDown, Render, HideCursor, UseApplicationCursor, UseBracketedPaste, SetMouseMode}
 use Rattle.vt_screen.specs.Steps.{ClearMouseMode, SetMouseEncoding, ClearMouseEncoding, SetCursorStyle, SaveCursor}
 use Rattle.vt_screen.specs.Steps.{RestoreCursor, EnterAlternate, EnterFresh, LeaveAlternate, LeaveRestoring, Reset}
-use Rattle.vt_screen.specs.Steps.{UseApplicationKeypad, Tell, reports, scrolled, stepped}
-use Rattle.vt_screen.specs.Telling.{Heard, LeavesScreen, calls_of, calls_of_all, stepped_all, steps_of_all}
+use Rattle.vt_screen.specs.Steps.{UseApplicationKeypad, CallBack, reports, screen_after, display_after}
+use Rattle.vt_screen.specs.Telling.{CalledOnSomeScreen, LeavesScreen, calls_of, calls_of_all, stepped_all, steps_of_all}
 use Rattle.vt_screen.proofs.Reporting.{told_rows}
 
 -- a screen was reached, and these calls were heard on the way
 pub record Hearing {S : Type 0} (does : CallValue → S → ScreenValue → S → ScreenValue → Type 0)
     (a : act.State S) (calls : List CallValue) (screen : ScreenValue) (b : act.State S) : Type 0 where
   pub shown : b.screen ≡ screen
-  pub heard : FoldsTo (Heard does) a.callbacks calls b.callbacks
+  pub heard : FoldsTo (CalledOnSomeScreen does) a.callbacks calls b.callbacks
 
 -- ---- one step
 
@@ -37,7 +37,7 @@ heard_nothing {S} does a b screen e =
 
 heard_told : {S : Type 0} (does : CallValue → S → ScreenValue → S → ScreenValue → Type 0)
     (screen : ScreenValue) (calls : List CallValue) (old new : S) →
-    FoldsTo (Told does) old calls new → FoldsTo (Heard does) old calls new
+    FoldsTo (CalledOnAnyScreen does) old calls new → FoldsTo (CalledOnSomeScreen does) old calls new
 heard_told does screen [] old new e = e
 heard_told does screen (call ∷ calls) old new t = (t.0, (screen, t.1 screen), heard_told does screen calls t.0 new t.2)
 
@@ -45,7 +45,7 @@ heard_scroll : {S : Type 0} (does : CallValue → S → ScreenValue → S → Sc
     (x : Step) (a b : act.State S) →
     Scrolls does a x b →
     Hearing does a (map (λ (row : RowValue). OnScroll row a.screen.is_alternate) (reports x a.screen))
-    (scrolled x a.screen) b
+    (screen_after x a.screen) b
 heard_scroll does x a b t = record {
   shown = t.screen;
   heard =
@@ -65,59 +65,59 @@ heard_call does leaves call a b t =
     }
 
 heard_step : {S : Type 0} (does : CallValue → S → ScreenValue → S → ScreenValue → Type 0) → LeavesScreen does →
-    (x : Step) (a b : act.State S) → Takes does a x b → Hearing does a (calls_of x a.screen) (scrolled x a.screen) b
-heard_step does leaves (Tell call) a b t = heard_call does leaves call a b t
+    (x : Step) (a b : act.State S) → Takes does a x b → Hearing does a (calls_of x a.screen) (screen_after x a.screen) b
+heard_step does leaves (CallBack call) a b t = heard_call does leaves call a b t
 heard_step does leaves (Print c) a b t = heard_scroll does (Print c) a b t
 heard_step does leaves LineFeed a b t = heard_scroll does LineFeed a b t
 heard_step does leaves (ScrollUp count) a b t = heard_scroll does (ScrollUp count) a b t
 heard_step does leaves EraseScrollback a b t = heard_scroll does EraseScrollback a b t
-heard_step does leaves CarriageReturn a b t = heard_nothing does a b (stepped CarriageReturn a.screen) t
-heard_step does leaves ReverseIndex a b t = heard_nothing does a b (stepped ReverseIndex a.screen) t
-heard_step does leaves (MoveUp count) a b t = heard_nothing does a b (stepped (MoveUp count) a.screen) t
-heard_step does leaves (MoveDown count) a b t = heard_nothing does a b (stepped (MoveDown count) a.screen) t
-heard_step does leaves (MoveRight count) a b t = heard_nothing does a b (stepped (MoveRight count) a.screen) t
-heard_step does leaves (MoveLeft count) a b t = heard_nothing does a b (stepped (MoveLeft count) a.screen) t
-heard_step does leaves (NextLine count) a b t = heard_nothing does a b (stepped (NextLine count) a.screen) t
-heard_step does leaves (PreviousLine count) a b t = heard_nothing does a b (stepped (PreviousLine count) a.screen) t
-heard_step does leaves Tab a b t = heard_nothing does a b (stepped Tab a.screen) t
-heard_step does leaves (MoveTo row col) a b t = heard_nothing does a b (stepped (MoveTo row col) a.screen) t
-heard_step does leaves (MoveToColumn col) a b t = heard_nothing does a b (stepped (MoveToColumn col) a.screen) t
-heard_step does leaves (MoveToRow row) a b t = heard_nothing does a b (stepped (MoveToRow row) a.screen) t
-heard_step does leaves (SetRegion top bottom) a b t = heard_nothing does a b (stepped (SetRegion top bottom) a.screen) t
-heard_step does leaves (UseOrigin on) a b t = heard_nothing does a b (stepped (UseOrigin on) a.screen) t
-heard_step does leaves SaveCursor a b t = heard_nothing does a b (stepped SaveCursor a.screen) t
-heard_step does leaves RestoreCursor a b t = heard_nothing does a b (stepped RestoreCursor a.screen) t
-heard_step does leaves EnterAlternate a b t = heard_nothing does a b (stepped EnterAlternate a.screen) t
-heard_step does leaves EnterFresh a b t = heard_nothing does a b (stepped EnterFresh a.screen) t
-heard_step does leaves LeaveAlternate a b t = heard_nothing does a b (stepped LeaveAlternate a.screen) t
-heard_step does leaves LeaveRestoring a b t = heard_nothing does a b (stepped LeaveRestoring a.screen) t
-heard_step does leaves Reset a b t = heard_nothing does a b (stepped Reset a.screen) t
-heard_step does leaves EraseBelow a b t = heard_nothing does a b (stepped EraseBelow a.screen) t
-heard_step does leaves EraseAbove a b t = heard_nothing does a b (stepped EraseAbove a.screen) t
-heard_step does leaves ErasePage a b t = heard_nothing does a b (stepped ErasePage a.screen) t
-heard_step does leaves EraseRest a b t = heard_nothing does a b (stepped EraseRest a.screen) t
-heard_step does leaves EraseStart a b t = heard_nothing does a b (stepped EraseStart a.screen) t
-heard_step does leaves EraseRow a b t = heard_nothing does a b (stepped EraseRow a.screen) t
-heard_step does leaves (EraseChars count) a b t = heard_nothing does a b (stepped (EraseChars count) a.screen) t
-heard_step does leaves (InsertChars count) a b t = heard_nothing does a b (stepped (InsertChars count) a.screen) t
-heard_step does leaves (DeleteChars count) a b t = heard_nothing does a b (stepped (DeleteChars count) a.screen) t
-heard_step does leaves (InsertLines count) a b t = heard_nothing does a b (stepped (InsertLines count) a.screen) t
-heard_step does leaves (DeleteLines count) a b t = heard_nothing does a b (stepped (DeleteLines count) a.screen) t
-heard_step does leaves (ScrollDown count) a b t = heard_nothing does a b (stepped (ScrollDown count) a.screen) t
-heard_step does leaves (Render setting) a b t = heard_nothing does a b (stepped (Render setting) a.screen) t
-heard_step does leaves (HideCursor hidden) a b t = heard_nothing does a b (stepped (HideCursor hidden) a.screen) t
+heard_step does leaves CarriageReturn a b t = heard_nothing does a b (display_after CarriageReturn a.screen) t
+heard_step does leaves ReverseIndex a b t = heard_nothing does a b (display_after ReverseIndex a.screen) t
+heard_step does leaves (MoveUp count) a b t = heard_nothing does a b (display_after (MoveUp count) a.screen) t
+heard_step does leaves (MoveDown count) a b t = heard_nothing does a b (display_after (MoveDown count) a.screen) t
+heard_step does leaves (MoveRight count) a b t = heard_nothing does a b (display_after (MoveRight count) a.screen) t
+heard_step does leaves (MoveLeft count) a b t = heard_nothing does a b (display_after (MoveLeft count) a.screen) t
+heard_step does leaves (NextLine count) a b t = heard_nothing does a b (display_after (NextLine count) a.screen) t
+heard_step does leaves (PreviousLine count) a b t = heard_nothing does a b (display_after (PreviousLine count) a.screen) t
+heard_step does leaves Tab a b t = heard_nothing does a b (display_after Tab a.screen) t
+heard_step does leaves (MoveTo row col) a b t = heard_nothing does a b (display_after (MoveTo row col) a.screen) t
+heard_step does leaves (MoveToColumn col) a b t = heard_nothing does a b (display_after (MoveToColumn col) a.screen) t
+heard_step does leaves (MoveToRow row) a b t = heard_nothing does a b (display_after (MoveToRow row) a.screen) t
+heard_step does leaves (SetRegion top bottom) a b t = heard_nothing does a b (display_after (SetRegion top bottom) a.screen) t
+heard_step does leaves (UseOrigin on) a b t = heard_nothing does a b (display_after (UseOrigin on) a.screen) t
+heard_step does leaves SaveCursor a b t = heard_nothing does a b (display_after SaveCursor a.screen) t
+heard_step does leaves RestoreCursor a b t = heard_nothing does a b (display_after RestoreCursor a.screen) t
+heard_step does leaves EnterAlternate a b t = heard_nothing does a b (display_after EnterAlternate a.screen) t
+heard_step does leaves EnterFresh a b t = heard_nothing does a b (display_after EnterFresh a.screen) t
+heard_step does leaves LeaveAlternate a b t = heard_nothing does a b (display_after LeaveAlternate a.screen) t
+heard_step does leaves LeaveRestoring a b t = heard_nothing does a b (display_after LeaveRestoring a.screen) t
+heard_step does leaves Reset a b t = heard_nothing does a b (display_after Reset a.screen) t
+heard_step does leaves EraseBelow a b t = heard_nothing does a b (display_after EraseBelow a.screen) t
+heard_step does leaves EraseAbove a b t = heard_nothing does a b (display_after EraseAbove a.screen) t
+heard_step does leaves ErasePage a b t = heard_nothing does a b (display_after ErasePage a.screen) t
+heard_step does leaves EraseRest a b t = heard_nothing does a b (display_after EraseRest a.screen) t
+heard_step does leaves EraseStart a b t = heard_nothing does a b (display_after EraseStart a.screen) t
+heard_step does leaves EraseRow a b t = heard_nothing does a b (display_after EraseRow a.screen) t
+heard_step does leaves (EraseChars count) a b t = heard_nothing does a b (display_after (EraseChars count) a.screen) t
+heard_step does leaves (InsertChars count) a b t = heard_nothing does a b (display_after (InsertChars count) a.screen) t
+heard_step does leaves (DeleteChars count) a b t = heard_nothing does a b (display_after (DeleteChars count) a.screen) t
+heard_step does leaves (InsertLines count) a b t = heard_nothing does a b (display_after (InsertLines count) a.screen) t
+heard_step does leaves (DeleteLines count) a b t = heard_nothing does a b (display_after (DeleteLines count) a.screen) t
+heard_step does leaves (ScrollDown count) a b t = heard_nothing does a b (display_after (ScrollDown count) a.screen) t
+heard_step does leaves (Render setting) a b t = heard_nothing does a b (display_after (Render setting) a.screen) t
+heard_step does leaves (HideCursor hidden) a b t = heard_nothing does a b (display_after (HideCursor hidden) a.screen) t
 heard_step does leaves (UseApplicationKeypad on) a b t =
-    heard_nothing does a b (stepped (UseApplicationKeypad on) a.screen) t
+    heard_nothing does a b (display_after (UseApplicationKeypad on) a.screen) t
 heard_step does leaves (UseApplicationCursor on) a b t =
-    heard_nothing does a b (stepped (UseApplicationCursor on) a.screen) t
-heard_step does leaves (UseBracketedPaste on) a b t = heard_nothing does a b (stepped (UseBracketedPaste on) a.screen) t
-heard_step does leaves (SetMouseMode mode) a b t = heard_nothing does a b (stepped (SetMouseMode mode) a.screen) t
-heard_step does leaves (ClearMouseMode mode) a b t = heard_nothing does a b (stepped (ClearMouseMode mode) a.screen) t
+    heard_nothing does a b (display_after (UseApplicationCursor on) a.screen) t
+heard_step does leaves (UseBracketedPaste on) a b t = heard_nothing does a b (display_after (UseBracketedPaste on) a.screen) t
+heard_step does leaves (SetMouseMode mode) a b t = heard_nothing does a b (display_after (SetMouseMode mode) a.screen) t
+heard_step does leaves (ClearMouseMode mode) a b t = heard_nothing does a b (display_after (ClearMouseMode mode) a.screen) t
 heard_step does leaves (SetMouseEncoding form) a b t =
-    heard_nothing does a b (stepped (SetMouseEncoding form) a.screen) t
+    heard_nothing does a b (display_after (SetMouseEncoding form) a.screen) t
 heard_step does leaves (ClearMouseEncoding form) a b t =
-    heard_nothing does a b (stepped (ClearMouseEncoding form) a.screen) t
-heard_step does leaves (SetCursorStyle look) a b t = heard_nothing does a b (stepped (SetCursorStyle look) a.screen) t
+    heard_nothing does a b (display_after (ClearMouseEncoding form) a.screen) t
+heard_step does leaves (SetCursorStyle look) a b t = heard_nothing does a b (display_after (SetCursorStyle look) a.screen) t
 
 -- ---- steps and events
 
@@ -134,7 +134,7 @@ heard_steps does leaves (x ∷ steps) a b t =
     record {
       shown = rest.shown;
       heard =
-          folds_then (Heard does) (calls_of x a.screen) (calls_of_all steps (scrolled x a.screen))
+          folds_then (CalledOnSomeScreen does) (calls_of x a.screen) (calls_of_all steps (screen_after x a.screen))
           a.callbacks t.0.callbacks b.callbacks one.heard rest.heard;
     }
 

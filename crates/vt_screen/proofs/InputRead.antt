@@ -1,4 +1,4 @@
--- The texts of input modes, read by any terminal in the midst of nothing, set these modes and nothing else.
+-- The texts of input modes, read by any terminal in ground state, set these modes and nothing else.
 use Rattle.std.proofs.Common.{◌≡◌, ℕ, Bool, true, false, List, [], ◌++◌, Some, refl, sym, ap, subst, ◌∙◌}
 use Rattle.vt_cells.specs.InputModes.{keypad_text, application_cursor_text, bracketed_paste_text}
 use Rattle.vt_cells.specs.InputModes.{mouse_mode_change, mouse_encoding_change, cursor_style_change}
@@ -16,7 +16,7 @@ use Rattle.vt_screen.specs.Reading.{Terminal, read_byte, read, terminal}
 use Rattle.vt_screen.specs.Screen.{Modes, ScreenValue, fresh_screen, no_modes}
 use Rattle.vt_screen.specs.Shown.{ReadsTo}
 use Rattle.vt_screen.specs.States.{HasDefaultMouseAndStyle, SetsModes}
-use Rattle.vt_screen.specs.Controls.{escape_steps, marked_steps, private_steps, mode_step, space_steps, style_of}
+use Rattle.vt_screen.specs.Controls.{escape_steps, intermediate_steps, private_steps, mode_step, space_steps, style_of}
 use Rattle.vt_screen.proofs.ReadbackTexts.{reads_then}
 
 -- a terminal with the one modes reads the text, and has the others then
@@ -32,18 +32,18 @@ keypad_sets true m reader = refl
 keypad_sets false m reader = refl
 
 cursor_keys_set : (on : Bool) (m : Modes) → Sets (application_cursor_text on) m (record m { application_cursor = on })
-unfolding read_byte fresh_step class_of table_of groups_of numbers_of number_of private_steps marked_steps mode_step
+unfolding read_byte fresh_step class_of table_of groups_of numbers_of number_of private_steps intermediate_steps mode_step
 cursor_keys_set true m reader = refl
 cursor_keys_set false m reader = refl
 
 paste_sets : (on : Bool) (m : Modes) → Sets (bracketed_paste_text on) m (record m { bracketed_paste = on })
-unfolding read_byte fresh_step class_of table_of groups_of numbers_of number_of private_steps marked_steps mode_step
+unfolding read_byte fresh_step class_of table_of groups_of numbers_of number_of private_steps intermediate_steps mode_step
 paste_sets true m reader = refl
 paste_sets false m reader = refl
 
 mouse_mode_sets : (was new : MouseProtocolMode) (m : Modes) →
     Sets (mouse_mode_change was new) (record m { mouse_mode = was }) (record m { mouse_mode = new })
-unfolding read_byte fresh_step class_of table_of groups_of numbers_of number_of private_steps marked_steps mode_step
+unfolding read_byte fresh_step class_of table_of groups_of numbers_of number_of private_steps intermediate_steps mode_step
 mouse_mode_sets mouse.None mouse.None m reader = refl
 mouse_mode_sets mouse.Press mouse.Press m reader = refl
 mouse_mode_sets mouse.PressRelease mouse.PressRelease m reader = refl
@@ -53,7 +53,7 @@ mouse_mode_sets _ _ m reader = refl
 
 mouse_encoding_sets : (was new : MouseProtocolEncoding) (m : Modes) →
     Sets (mouse_encoding_change was new) (record m { mouse_encoding = was }) (record m { mouse_encoding = new })
-unfolding read_byte fresh_step class_of table_of groups_of numbers_of number_of private_steps marked_steps mode_step
+unfolding read_byte fresh_step class_of table_of groups_of numbers_of number_of private_steps intermediate_steps mode_step
 mouse_encoding_sets encoding.Default encoding.Default m reader = refl
 mouse_encoding_sets encoding.Utf8 encoding.Utf8 m reader = refl
 mouse_encoding_sets encoding.Sgr encoding.Sgr m reader = refl
@@ -61,7 +61,7 @@ mouse_encoding_sets _ _ m reader = refl
 
 cursor_style_sets : (was new : CursorStyle) (m : Modes) →
     Sets (cursor_style_change was new) (record m { cursor_style = was }) (record m { cursor_style = new })
-unfolding read_byte fresh_step class_of table_of groups_of numbers_of number_of space_steps marked_steps style_of
+unfolding read_byte fresh_step class_of table_of groups_of numbers_of number_of space_steps intermediate_steps style_of
 cursor_style_sets style.Default style.Default m reader = refl
 cursor_style_sets style.BlinkBlock style.BlinkBlock m reader = refl
 cursor_style_sets style.SteadyBlock style.SteadyBlock m reader = refl

@@ -13,7 +13,7 @@ use Rattle.vt_grid.proofs.Pages.{page_carriage_return, page_moved_right, page_mo
 use Rattle.vt_grid.proofs.Pages.{page_line_feed, page_erased_chars, page_erased_rest, page_erased_below}
 use Rattle.vt_grid.proofs.Printed.{page_printed}
 use Rattle.vt_grid.specs.Scrollback.{no_scrollback}
-use Rattle.vt_screen.specs.Keeping.{Aside, IsKept}
+use Rattle.vt_screen.specs.Internals.{Aside, IsKept}
 use Rattle.vt_screen.specs.Screen.{IsPrintable}
 use Rattle.vt_screen.proofs.Asides.{above_none, kept_last, kept_page}
 use Rattle.vt_screen.proofs.Sizes.{same_carriage_return, same_cursor_saved, same_cursor_restored}

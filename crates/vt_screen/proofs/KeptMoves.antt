@@ -16,7 +16,7 @@ use Rattle.vt_grid.proofs.Regions.{page_tabbed, page_region_set, page_origin_set
 use Rattle.vt_grid.proofs.Shifting.{page_scrolled_down, page_reverse_index, page_lines_inserted}
 use Rattle.vt_grid.proofs.Shifting.{page_lines_deleted, page_chars_inserted, page_chars_deleted}
 use Rattle.vt_grid.proofs.Blanking.{page_erased_start, page_erased_row, page_erased_above, page_erased_page}
-use Rattle.vt_screen.specs.Keeping.{Aside, IsKept}
+use Rattle.vt_screen.specs.Internals.{Aside, IsKept}
 use Rattle.vt_screen.proofs.Asides.{kept_page}
 use Rattle.vt_screen.proofs.Sizes.{same_chars_deleted, same_chars_inserted, same_erased_above, same_erased_page}
 use Rattle.vt_screen.proofs.Sizes.{same_erased_row, same_erased_start, same_lines_deleted, same_lines_inserted}

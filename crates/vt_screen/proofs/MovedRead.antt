@@ -14,7 +14,7 @@ use Rattle.vt_redraw.specs.Moved.{IsBand, IsScrolling, band_source, band_text, d
 use Rattle.vt_redraw.specs.Moved.{lines_deleted_text, lines_inserted_text, moving_text, rows_moved, scrolling_text, up_text}
 use Rattle.vt_redraw.specs.Picture.{Picture, IsPicture, SamePictureSize, Saved, picture_of, with_picture}
 use Rattle.vt_redraw.specs.Redraw.{difference}
-use Rattle.vt_redraw.specs.Script.{changing}
+use Rattle.vt_redraw.specs.Script.{attr_ops}
 use Rattle.vt_redraw.specs.Steady.{IsSteady}
 use Rattle.vt_redraw.specs.declared.band.Band.{Band}
 use Rattle.vt_redraw.proofs.BandPages.{deleted_is, down_between, down_moved, inserted_is, page_at_row, up_between, up_moved}
@@ -28,7 +28,7 @@ use Rattle.vt_screen.specs.Controls.{counted_step}
 use Rattle.vt_screen.specs.Reading.{read, terminal}
 use Rattle.vt_screen.specs.Screen.{ScreenValue, IsScreen, IsColored, canvas_of, with_canvas, with_page}
 use Rattle.vt_screen.specs.Shown.{IsPlain, IsReader, IsReaderOf, ReadsTo, shown}
-use Rattle.vt_screen.specs.Steps.{stepped}
+use Rattle.vt_screen.specs.Steps.{display_after}
 use Rattle.vt_screen.specs.Steps as steps
 use Rattle.vt_screen.proofs.Became.{Redraws, redraws}
 use Rattle.vt_screen.proofs.Readback.{changed_read, counted_read, moved_to_read}
@@ -40,12 +40,12 @@ use Rattle.vt_screen.proofs.Telling.{difference_none, difference_tells}
 -- ---- lines deleted and inserted
 
 deleted_read : (n : ℕ) (screen : ScreenValue) → suc n < 2 ^ 16 →
-    ReadsTo (counted (suc n) 0x4D) screen (stepped (steps.DeleteLines (suc n)) screen)
+    ReadsTo (counted (suc n) 0x4D) screen (display_after (steps.DeleteLines (suc n)) screen)
 unfolding counted_step
 deleted_read n screen h = counted_read n 0x4D steps.DeleteLines screen h (omega arith, omega arith) (λ groups. refl)
 
 inserted_read : (n : ℕ) (screen : ScreenValue) → suc n < 2 ^ 16 →
-    ReadsTo (counted (suc n) 0x4C) screen (stepped (steps.InsertLines (suc n)) screen)
+    ReadsTo (counted (suc n) 0x4C) screen (display_after (steps.InsertLines (suc n)) screen)
 unfolding counted_step
 inserted_read n screen h = counted_read n 0x4C steps.InsertLines screen h (omega arith, omega arith) (λ groups. refl)
 
@@ -59,9 +59,9 @@ lines_deleted_read : (r n : ℕ) (screen : ScreenValue) → IsPlainPage screen.p
     (at_row (rows_up screen.page.width r (length screen.page.rows - 1) n screen.page.rows) r screen)
 lines_deleted_read r zero screen plain inside low some short = absurd (omega arith)
 lines_deleted_read r (suc n) screen plain inside low some short =
-    let middle = stepped (steps.MoveTo r 0) screen in
+    let middle = display_after (steps.MoveTo r 0) screen in
     reads_then (terminal start screen) (terminal start middle)
-    (terminal start (stepped (steps.DeleteLines (suc n)) middle)) (bytes_of (MoveTo r 0)) (counted (suc n) 0x4D)
+    (terminal start (display_after (steps.DeleteLines (suc n)) middle)) (bytes_of (MoveTo r 0)) (counted (suc n) 0x4D)
     (moved_to_read r 0 screen low (omega arith)) (deleted_read n middle short)
     ∙ ap (λ (page : Page). Some (terminal start (with_page page screen)))
     (deleted_is r (suc n) screen.page plain inside)
@@ -72,9 +72,9 @@ lines_inserted_read : (r n : ℕ) (screen : ScreenValue) → IsPlainPage screen.
     (at_row (rows_down screen.page.width r (length screen.page.rows - 1) n screen.page.rows) r screen)
 lines_inserted_read r zero screen plain inside low some short = absurd (omega arith)
 lines_inserted_read r (suc n) screen plain inside low some short =
-    let middle = stepped (steps.MoveTo r 0) screen in
+    let middle = display_after (steps.MoveTo r 0) screen in
     reads_then (terminal start screen) (terminal start middle)
-    (terminal start (stepped (steps.InsertLines (suc n)) middle)) (bytes_of (MoveTo r 0)) (counted (suc n) 0x4C)
+    (terminal start (display_after (steps.InsertLines (suc n)) middle)) (bytes_of (MoveTo r 0)) (counted (suc n) 0x4C)
     (moved_to_read r 0 screen low (omega arith)) (inserted_read n middle short)
     ∙ ap (λ (page : Page). Some (terminal start (with_page page screen)))
     (inserted_is r (suc n) screen.page plain inside)
@@ -199,7 +199,7 @@ abbrev with_shown : Picture → ScreenValue → ScreenValue
 with_shown picture reader = with_canvas (with_picture picture (canvas_of reader)) reader
 
 change_read : (reader : ScreenValue) →
-    ReadsTo (bytes_of_all (changing reader.attrs default_attrs)) reader (record reader { attrs = default_attrs })
+    ReadsTo (bytes_of_all (attr_ops reader.attrs default_attrs)) reader (record reader { attrs = default_attrs })
 change_read reader =
     ap (read (terminal start reader)) (sym (change_written reader.attrs default_attrs))
     ∙ (changed_read reader.attrs default_attrs reader (tt, tt)
@@ -214,7 +214,7 @@ moving_read band reader is plain inside =
     let middle : ScreenValue = record reader { attrs = default_attrs } in
     reads_then (terminal start reader) (terminal start middle)
     (terminal start (with_shown (moved band (picture_of (canvas_of reader))) reader))
-    (bytes_of_all (changing reader.attrs default_attrs)) (band_text (length reader.page.rows) band) (change_read reader)
+    (bytes_of_all (attr_ops reader.attrs default_attrs)) (band_text (length reader.page.rows) band) (change_read reader)
     (band_when band.up (band.bottom == length reader.page.rows) band middle refl refl plain.page is.page.height inside)
 
 -- the row of the last sequence is one of the picture
@@ -347,7 +347,7 @@ scrolling_tells self prev text d (inl told) empty =
     difference_tells self prev d.sound d.colored d.steady d.other d.other_colored d.size (sym told ∙ empty)
 scrolling_tells self prev text d (inr (band, inside, told)) empty =
     let height = length (shown prev).rows in
-    let before = bytes_of_all (changing (shown prev).attrs default_attrs) in
+    let before = bytes_of_all (attr_ops (shown prev).attrs default_attrs) in
     let rest = bytes_of_all (difference (shown self) (moved band (shown prev))) in
     absurd (some_band band.up (band.bottom == height) height band refl refl
     (empty_right before (band_text height band) (empty_left (before ++ band_text height band) rest (sym told ∙ empty))))

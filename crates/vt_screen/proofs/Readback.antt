@@ -28,9 +28,9 @@ use Rattle.vt_scan.proofs.Written.{alone, empty_groups, decimal_groups, joined_g
 use Rattle.vt_scan.proofs.Written.{decimal_is_parameter, joined_is_parameter, place_is_parameter}
 use Rattle.vt_screen.specs.Screen.{ScreenValue, canvas_of, with_canvas, with_page}
 use Rattle.vt_screen.specs.Controls.{plain_steps, counted_step, scrolling_steps, other_steps, page_erasing}
-use Rattle.vt_screen.specs.Controls.{row_erasing, character_steps, control_steps, escape_steps, marked_steps}
+use Rattle.vt_screen.specs.Controls.{row_erasing, character_steps, control_steps, escape_steps, intermediate_steps}
 use Rattle.vt_screen.specs.Controls.{private_steps, mode_step, number_or, seen_of}
-use Rattle.vt_screen.specs.Steps.{stepped}
+use Rattle.vt_screen.specs.Steps.{display_after}
 use Rattle.vt_screen.specs.Steps as steps
 use Rattle.vt_screen.specs.Reading.{quiet_step, quiet_steps, terminal, read_byte, read}
 use Rattle.vt_screen.proofs.ReadbackSgr.{sgr_change, sgr_clear, few_changes, some_changes}
@@ -64,7 +64,7 @@ kept false x h = refl
 
 hidden_read : (hidden : Bool) (screen : ScreenValue) →
     read (terminal start screen) (bytes_of (Hide hidden)) ≡ Some (terminal start (record screen { hidden = hidden }))
-unfolding read_byte fresh_step class_of table_of groups_of numbers_of number_of private_steps marked_steps mode_step
+unfolding read_byte fresh_step class_of table_of groups_of numbers_of number_of private_steps intermediate_steps mode_step
 hidden_read true screen = refl
 hidden_read false screen = refl
 
@@ -83,14 +83,14 @@ cleared_read screen =
     bare 0x6D screen (record screen { attrs = default_attrs }) (omega arith, omega arith) (sgr_clear screen)
 
 erased_below_read : (screen : ScreenValue) →
-    read (terminal start screen) (csi [] 0x4A) ≡ Some (terminal start (stepped steps.EraseBelow screen))
+    read (terminal start screen) (csi [] 0x4A) ≡ Some (terminal start (display_after steps.EraseBelow screen))
 unfolding counted_step scrolling_steps other_steps page_erasing
-erased_below_read screen = bare 0x4A screen (stepped steps.EraseBelow screen) (omega arith, omega arith) refl
+erased_below_read screen = bare 0x4A screen (display_after steps.EraseBelow screen) (omega arith, omega arith) refl
 
 erased_rest_read : (screen : ScreenValue) →
-    read (terminal start screen) (csi [] 0x4B) ≡ Some (terminal start (stepped steps.EraseRest screen))
+    read (terminal start screen) (csi [] 0x4B) ≡ Some (terminal start (display_after steps.EraseRest screen))
 unfolding counted_step scrolling_steps other_steps row_erasing
-erased_rest_read screen = bare 0x4B screen (stepped steps.EraseRest screen) (omega arith, omega arith) refl
+erased_rest_read screen = bare 0x4B screen (display_after steps.EraseRest screen) (omega arith, omega arith) refl
 
 -- a count that isn't 0 is itself
 count_read : (n : ℕ) (rest : List (List ℕ)) → 0 < n → number_or 1 0 ((n ∷ []) ∷ rest) ≡ n
@@ -100,26 +100,26 @@ count_read n rest h = let t : (n == 0) ≡ false = grind (arith, nat_tests) in r
 pub counted_read : (n final : ℕ) (step : ℕ → steps.Step) (screen : ScreenValue) → suc n < 2 ^ 16 → IsFinal final
     → ((groups : List (List ℕ))
     → quiet_steps (plain_steps groups final (seen_of screen)) screen
-    ≡ Some (stepped (step (number_or 1 0 groups)) screen))
-    → read (terminal start screen) (counted (suc n) final) ≡ Some (terminal start (stepped (step (suc n)) screen))
+    ≡ Some (display_after (step (number_or 1 0 groups)) screen))
+    → read (terminal start screen) (counted (suc n) final) ≡ Some (terminal start (display_after (step (suc n)) screen))
 counted_read zero final step screen h is_final means =
-    bare final screen (stepped (step 1) screen) is_final (means ((0 ∷ []) ∷ []))
+    bare final screen (display_after (step 1) screen) is_final (means ((0 ∷ []) ∷ []))
 counted_read (suc n) final step screen h is_final means =
     let count : ℕ = suc (suc n) in
     let groups : List (List ℕ) = (count ∷ []) ∷ [] in
-    csi_read (decimal count) final groups screen (stepped (step count) screen)
+    csi_read (decimal count) final groups screen (display_after (step count) screen)
     (decimal_is_parameter count (omega arith)) is_final (decimal_groups count (omega arith))
-    (means groups ∙ ap (λ (k : ℕ). Some (stepped (step k) screen)) (count_read count [] (omega arith)))
+    (means groups ∙ ap (λ (k : ℕ). Some (display_after (step k) screen)) (count_read count [] (omega arith)))
 
 moved_right_read : (n : ℕ) (screen : ScreenValue) → suc n < 2 ^ 16 →
     read (terminal start screen) (counted (suc n) 0x43)
-    ≡ Some (terminal start (stepped (steps.MoveRight (suc n)) screen))
+    ≡ Some (terminal start (display_after (steps.MoveRight (suc n)) screen))
 unfolding counted_step
 moved_right_read n screen h = counted_read n 0x43 steps.MoveRight screen h (omega arith, omega arith) (λ groups. refl)
 
 erased_chars_read : (n : ℕ) (screen : ScreenValue) → suc n < 2 ^ 16 →
     read (terminal start screen) (counted (suc n) 0x58)
-    ≡ Some (terminal start (stepped (steps.EraseChars (suc n)) screen))
+    ≡ Some (terminal start (display_after (steps.EraseChars (suc n)) screen))
 unfolding counted_step
 erased_chars_read n screen h = counted_read n 0x58 steps.EraseChars screen h (omega arith, omega arith) (λ groups. refl)
 
@@ -129,16 +129,16 @@ ordinal_read n = let t : ((n + 1) == 0) ≡ false = grind (arith, nat_tests) in 
 
 placed : (row col : ℕ) (screen : ScreenValue) →
     quiet_steps (plain_steps (((row + 1) ∷ []) ∷ ((col + 1) ∷ []) ∷ []) 0x48 (seen_of screen)) screen
-    ≡ Some (stepped (steps.MoveTo row col) screen)
+    ≡ Some (display_after (steps.MoveTo row col) screen)
 unfolding counted_step scrolling_steps other_steps
 placed row col screen =
-    ap (λ (r : ℕ). Some (stepped (steps.MoveTo r ((if (col + 1) == 0 then 1 else col + 1) - 1)) screen))
+    ap (λ (r : ℕ). Some (display_after (steps.MoveTo r ((if (col + 1) == 0 then 1 else col + 1) - 1)) screen))
     (ordinal_read row)
-    ∙ ap (λ (c : ℕ). Some (stepped (steps.MoveTo row c) screen)) (ordinal_read col)
+    ∙ ap (λ (c : ℕ). Some (display_after (steps.MoveTo row c) screen)) (ordinal_read col)
 
 place_read : (row col : ℕ) (screen : ScreenValue) →
     quiet_steps (plain_steps (place_groups row col) 0x48 (seen_of screen)) screen
-    ≡ Some (stepped (steps.MoveTo row col) screen)
+    ≡ Some (display_after (steps.MoveTo row col) screen)
 unfolding counted_step scrolling_steps other_steps
 place_read zero zero screen = refl
 place_read zero (suc col) screen = placed zero (suc col) screen
@@ -146,9 +146,9 @@ place_read (suc row) col screen = placed (suc row) col screen
 
 pub moved_to_read : (row col : ℕ) (screen : ScreenValue) → row < 65535 → col < 65535
     → read (terminal start screen) (csi (place row col) 0x48)
-    ≡ Some (terminal start (stepped (steps.MoveTo row col) screen))
+    ≡ Some (terminal start (display_after (steps.MoveTo row col) screen))
 moved_to_read row col screen low narrow =
-    csi_read (place row col) 0x48 (place_groups row col) screen (stepped (steps.MoveTo row col) screen)
+    csi_read (place row col) 0x48 (place_groups row col) screen (display_after (steps.MoveTo row col) screen)
     (place_is_parameter row col low narrow) (omega arith, omega arith)
     (place_groups_are row col low narrow) (place_read row col screen)
 
@@ -222,7 +222,7 @@ fed_read screen d h =
     event_read (0x0A ∷ []) (Executed 0x0A) screen (with_canvas d screen) refl refl
     (ap (and_then (quiet_steps []))
     (unless (feeds_out screen.page) (record (canvas_of screen) { page = line_feed screen.page })
-    d (stepped steps.LineFeed screen) (λ (c : Canvas). with_canvas c screen) h refl))
+    d (display_after steps.LineFeed screen) (λ (c : Canvas). with_canvas c screen) h refl))
 
 returned_read : (screen : ScreenValue) (rest : List ℕ) →
     read (terminal start screen) (0x0D ∷ rest)
@@ -231,19 +231,19 @@ unfolding read_byte fresh_step class_of control_steps
 returned_read screen rest = refl
 
 left_read : (screen : ScreenValue) →
-    read (terminal start screen) (0x08 ∷ []) ≡ Some (terminal start (stepped (steps.MoveLeft 1) screen))
+    read (terminal start screen) (0x08 ∷ []) ≡ Some (terminal start (display_after (steps.MoveLeft 1) screen))
 unfolding read_byte fresh_step class_of control_steps
 left_read screen = refl
 
 -- ---- the cursor saved and restored
 
 saved_read : (screen : ScreenValue) →
-    read (terminal start screen) (bytes_of SaveCursor) ≡ Some (terminal start (stepped steps.SaveCursor screen))
+    read (terminal start screen) (bytes_of SaveCursor) ≡ Some (terminal start (display_after steps.SaveCursor screen))
 unfolding read_byte fresh_step class_of escape_steps
 saved_read screen = refl
 
 restored_read : (screen : ScreenValue) →
-    read (terminal start screen) (bytes_of RestoreCursor) ≡ Some (terminal start (stepped steps.RestoreCursor screen))
+    read (terminal start screen) (bytes_of RestoreCursor) ≡ Some (terminal start (display_after steps.RestoreCursor screen))
 unfolding read_byte fresh_step class_of escape_steps
 restored_read screen = refl
 
@@ -290,7 +290,7 @@ reads_text : (cs : List ℕ) (screen : ScreenValue) (d : Canvas) → AllByRecurs
     drawn_text cs (canvas_of screen) ≡ Some d → Reads (encode_utf8_all cs) screen d
 reads_text [] screen d p h = known [] screen (canvas_of screen) d h refl
 reads_text (c ∷ cs) screen d (p, ps) h =
-    let next : ScreenValue = stepped (steps.Print c) screen in
+    let next : ScreenValue = display_after (steps.Print c) screen in
     let both : (pushes c screen.page ≡ false) × (drawn_text cs (canvas_of next) ≡ Some d) =
     unpushed (pushes c screen.page) cs (canvas_of next) d h in
     let first = character_read c screen next p (kept (pushes c screen.page) next both.0) in
@@ -315,30 +315,30 @@ reads_op (Hide hidden) screen d f h =
 reads_op ClearAttrs screen d f h =
     known (bytes_of ClearAttrs) screen (record (canvas_of screen) { attrs = default_attrs }) d h (cleared_read screen)
 reads_op (MoveTo row col) screen d (low, narrow) h =
-    known (bytes_of (MoveTo row col)) screen (canvas_of (stepped (steps.MoveTo row col) screen))
+    known (bytes_of (MoveTo row col)) screen (canvas_of (display_after (steps.MoveTo row col) screen))
     d h (moved_to_read row col screen low narrow)
 reads_op (MoveRight zero) screen d f h = known [] screen (canvas_of screen) d h refl
 reads_op (MoveRight (suc n)) screen d f h =
     known (bytes_of (MoveRight (suc n))) screen
-    (canvas_of (stepped (steps.MoveRight (suc n)) screen)) d h (moved_right_read n screen f)
+    (canvas_of (display_after (steps.MoveRight (suc n)) screen)) d h (moved_right_read n screen f)
 reads_op NextRow screen d f h =
     let next : ScreenValue = with_page (carriage_return screen.page) screen in
     (screen.last, returned_read screen (0x0A ∷ []) ∙ fed_read next d h)
 reads_op LineFeed screen d f h = (screen.last, fed_read screen d h)
 reads_op Backspace screen d f h =
-    known (bytes_of Backspace) screen (canvas_of (stepped (steps.MoveLeft 1) screen)) d h (left_read screen)
+    known (bytes_of Backspace) screen (canvas_of (display_after (steps.MoveLeft 1) screen)) d h (left_read screen)
 reads_op EraseBelow screen d f h =
-    known (bytes_of EraseBelow) screen (canvas_of (stepped steps.EraseBelow screen)) d h (erased_below_read screen)
+    known (bytes_of EraseBelow) screen (canvas_of (display_after steps.EraseBelow screen)) d h (erased_below_read screen)
 reads_op EraseRest screen d f h =
-    known (bytes_of EraseRest) screen (canvas_of (stepped steps.EraseRest screen)) d h (erased_rest_read screen)
+    known (bytes_of EraseRest) screen (canvas_of (display_after steps.EraseRest screen)) d h (erased_rest_read screen)
 reads_op (EraseChars zero) screen d f h = known [] screen (canvas_of screen) d h refl
 reads_op (EraseChars (suc n)) screen d f h =
     known (bytes_of (EraseChars (suc n))) screen
-    (canvas_of (stepped (steps.EraseChars (suc n)) screen)) d h (erased_chars_read n screen f)
+    (canvas_of (display_after (steps.EraseChars (suc n)) screen)) d h (erased_chars_read n screen f)
 reads_op SaveCursor screen d f h =
-    known (bytes_of SaveCursor) screen (canvas_of (stepped steps.SaveCursor screen)) d h (saved_read screen)
+    known (bytes_of SaveCursor) screen (canvas_of (display_after steps.SaveCursor screen)) d h (saved_read screen)
 reads_op RestoreCursor screen d f h =
-    known (bytes_of RestoreCursor) screen (canvas_of (stepped steps.RestoreCursor screen)) d h (restored_read screen)
+    known (bytes_of RestoreCursor) screen (canvas_of (display_after steps.RestoreCursor screen)) d h (restored_read screen)
 reads_op (ChangeAttrs was new) screen d f h =
     known (change_text was new) screen (record (canvas_of screen) { attrs = changed_attrs was new (screen.attrs) })
     d h (changed_read was new screen f.1)

@@ -10,9 +10,9 @@ use Rattle.vt_grid.specs.Moves.{line_feed}
 use Rattle.vt_grid.specs.Printing.{printed}
 use Rattle.vt_grid.specs.Outgoing.{fed_out, scrolled_out, printed_out}
 use Rattle.vt_grid.specs.Scrollback.{Scrollback, no_scrollback, pushed, reported, cleared}
-use Rattle.vt_screen.specs.Steps.{LineFeed, ScrollUp, Print, EraseScrollback, last_after, scrolled}
-use Rattle.vt_screen.specs.Run.{Hears, Scrolls, Told, state}
-use Rattle.vt_screen.specs.Keeping.{IsNothing, main_scrollback, alternate_scrollback}
+use Rattle.vt_screen.specs.Steps.{LineFeed, ScrollUp, Print, EraseScrollback, last_after, screen_after}
+use Rattle.vt_screen.specs.Run.{CalledOnScroll, Scrolls, CalledOnAnyScreen, state}
+use Rattle.vt_screen.specs.Internals.{IsNothing, main_scrollback, alternate_scrollback}
 use Rattle.vt_screen.specs.Screen.{ScreenValue, above_page}
 use Rattle.vt_screen.proofs.Asides.{sent_if, reported_if}
 use Rattle.vt_screen.specs.declared.reporter.Reporter.{Reporter}
@@ -26,11 +26,11 @@ same_callbacks does (row ∷ rows) s t f = same_callbacks does rows f.0 t f.2 �
 pub reported_to : {S : Type 0} (does : CallValue → S → ScreenValue → S → ScreenValue → Type 0)
     (alternate : Bool) (rows : List RowValue) (s t : Reporter S) →
     s.alternate ≡ alternate → FoldsTo (Reports does) s rows t →
-    FoldsTo (Hears does alternate) s.callbacks.now rows t.callbacks.now
+    FoldsTo (CalledOnScroll does alternate) s.callbacks.now rows t.callbacks.now
 reported_to {S} does alternate [] s t a e = ap (λ (r : Reporter S). r.callbacks.now) e
 reported_to does alternate (row ∷ rows) s t a f = (
   f.0.callbacks.now,
-  subst (λ b. Hears does b s.callbacks.now row f.0.callbacks.now) a f.1.1.1,
+  subst (λ b. CalledOnScroll does b s.callbacks.now row f.0.callbacks.now) a f.1.1.1,
   reported_to does alternate rows f.0 t (f.1.1.0 ∙ a) f.2,
 )
 
@@ -45,10 +45,10 @@ record IsAbove (s : ScreenValue) (active idle : Scrollback) : Type 0 where
 heard_above : {S : Type 0} (does : CallValue → S → ScreenValue → S → ScreenValue → Type 0)
     (s : ScreenValue) (gone : List RowValue) (active idle : Scrollback) (old new : S)
     → IsAbove s active idle
-    → FoldsTo (Hears does s.is_alternate) old (reported gone active) new
-    → FoldsTo (Hears does s.is_alternate) old (reported gone (above_page s)) new
+    → FoldsTo (CalledOnScroll does s.is_alternate) old (reported gone active) new
+    → FoldsTo (CalledOnScroll does s.is_alternate) old (reported gone (above_page s)) new
 heard_above does s gone active idle old new i h =
-    subst (λ (rows : List RowValue). FoldsTo (Hears does s.is_alternate) old rows new)
+    subst (λ (rows : List RowValue). FoldsTo (CalledOnScroll does s.is_alternate) old rows new)
     (reported_if s.is_alternate gone active idle s.scrollback i.whole i.nothing) h
 
 pub line_fed : {S : Type 0} (does : CallValue → S → ScreenValue → S → ScreenValue → Type 0)
@@ -57,7 +57,7 @@ pub line_fed : {S : Type 0} (does : CallValue → S → ScreenValue → S → Sc
     → s.scrollback ≡ main_scrollback s.is_alternate active idle
     → IsNothing (alternate_scrollback s.is_alternate active idle) → page ≡ line_feed s.page
     → above ≡ pushed (length s.page.rows) s.page.width (fed_out s.page) active
-    → FoldsTo (Hears does s.is_alternate) old (reported (fed_out s.page) active) new
+    → FoldsTo (CalledOnScroll does s.is_alternate) old (reported (fed_out s.page) active) new
     → Scrolls does (state old now) LineFeed
     (state new (record s { page = page; scrollback = main_scrollback s.is_alternate above idle }))
 line_fed does s now page active idle above old new same w n p a h =
@@ -78,7 +78,7 @@ pub scrolled_up_by : {S : Type 0} (does : CallValue → S → ScreenValue → S 
     → s.scrollback ≡ main_scrollback s.is_alternate active idle
     → IsNothing (alternate_scrollback s.is_alternate active idle) → page ≡ scrolled_up count s.page
     → above ≡ pushed (length s.page.rows) s.page.width (scrolled_out count s.page) active
-    → FoldsTo (Hears does s.is_alternate) old (reported (scrolled_out count s.page) active) new
+    → FoldsTo (CalledOnScroll does s.is_alternate) old (reported (scrolled_out count s.page) active) new
     → Scrolls does (state old now) (ScrollUp count)
     (state new (record s { page = page; scrollback = main_scrollback s.is_alternate above idle }))
 scrolled_up_by does count s now page active idle above old new same w n p a h =
@@ -100,7 +100,7 @@ pub character_printed : {S : Type 0} (does : CallValue → S → ScreenValue →
     → IsNothing (alternate_scrollback s.is_alternate active idle)
     → page ≡ printed c s.attrs s.page → last ≡ last_after c now
     → above ≡ pushed (length s.page.rows) s.page.width (printed_out c s.attrs s.page) active
-    → FoldsTo (Hears does s.is_alternate) old (reported (printed_out c s.attrs s.page) active) new
+    → FoldsTo (CalledOnScroll does s.is_alternate) old (reported (printed_out c s.attrs s.page) active) new
     → Scrolls does (state old now) (Print c)
     (state new (record s { page = page; scrollback = main_scrollback s.is_alternate above idle; last = last }))
 character_printed does c s now page active idle above last old new same w n p l a h =
@@ -133,7 +133,7 @@ rows_if false active idle whole w n = ap (λ (z : Scrollback). z.rows) (sym w)
 
 pub cleared_is : (s : ScreenValue) (active idle above : Scrollback)
     → s.scrollback ≡ main_scrollback s.is_alternate active idle → above ≡ cleared active
-    → record s { scrollback = main_scrollback s.is_alternate above idle } ≡ scrolled EraseScrollback s
+    → record s { scrollback = main_scrollback s.is_alternate above idle } ≡ screen_after EraseScrollback s
 cleared_is s active idle above w a =
     ap (λ (z : Scrollback). record s { scrollback = main_scrollback s.is_alternate z idle }) a
     ∙ erased_if s.is_alternate s active idle w
@@ -143,7 +143,7 @@ pub scrollback_erased : {S : Type 0} (does : CallValue → S → ScreenValue →
     → s ≡ now
     → s.scrollback ≡ main_scrollback s.is_alternate active idle
     → IsNothing (alternate_scrollback s.is_alternate active idle) → above ≡ cleared active
-    → FoldsTo (Hears does s.is_alternate) old active.rows new
+    → FoldsTo (CalledOnScroll does s.is_alternate) old active.rows new
     → Scrolls does (state old now) EraseScrollback
     (state new (record s { scrollback = main_scrollback s.is_alternate above idle }))
 scrollback_erased does s now active idle above old new same w n a h =
@@ -153,7 +153,7 @@ scrollback_erased does s now active idle above old new same w n a h =
     (record {
       screen = cleared_is s active idle above w a;
       heard =
-          subst (λ (rows : List RowValue). FoldsTo (Hears does s.is_alternate) old rows new)
+          subst (λ (rows : List RowValue). FoldsTo (CalledOnScroll does s.is_alternate) old rows new)
           (rows_if s.is_alternate active idle s.scrollback w n) h;
     })
 
@@ -161,7 +161,7 @@ scrollback_erased does s now active idle above old new same w n a h =
 
 pub told_rows : {S : Type 0} (does : CallValue → S → ScreenValue → S → ScreenValue → Type 0)
     (alternate : Bool) (rows : List RowValue) (old new : S)
-    → FoldsTo (Hears does alternate) old rows new
-    → FoldsTo (Told does) old (map (λ row. OnScroll row alternate) rows) new
+    → FoldsTo (CalledOnScroll does alternate) old rows new
+    → FoldsTo (CalledOnAnyScreen does) old (map (λ row. OnScroll row alternate) rows) new
 told_rows does alternate [] old new e = e
 told_rows does alternate (row ∷ rows) old new f = (f.0, f.1, told_rows does alternate rows f.0 new f.2)

@@ -13,9 +13,9 @@ use Rattle.vt_grid.specs.Resize.{leaving, out_of_view, page_resized, resize_repo
 use Rattle.vt_grid.specs.Resize.{returning, scrollback_resized, taken_back}
 use Rattle.vt_grid.specs.Scrollback.{Scrollback, no_scrollback, pushed}
 use Rattle.vt_screen.specs.Calls.{CallValue}
-use Rattle.vt_screen.specs.Keeping.{Aside, IsKept, IsNothing, main_scrollback}
+use Rattle.vt_screen.specs.Internals.{Aside, IsKept, IsNothing, main_scrollback}
 use Rattle.vt_screen.specs.Pages.{reports_of}
-use Rattle.vt_screen.specs.Run.{Hears, Told}
+use Rattle.vt_screen.specs.Run.{CalledOnScroll, CalledOnAnyScreen}
 use Rattle.vt_screen.specs.Screen.{ScreenValue}
 use Rattle.vt_screen.proofs.Asides.{kept_resized, nothing_pushed}
 use Rattle.vt_screen.proofs.Reporting.{told_rows}
@@ -49,63 +49,63 @@ fresh_is o p f s b e h k =
 pub record AlternateDone {S : Type 0} (does : CallValue → S → ScreenValue → S → ScreenValue → Type 0)
     (rows cols : ℕ) (o : Option Page) (new : Page) (after : Scrollback) (s t : S) : Type 0 where
   pub page : Some new ≡ option_map (page_resized rows cols (no_scrollback 0)) o
-  pub told : FoldsTo (Told does) s (reports_of true rows o (no_scrollback 0)) t
+  pub told : FoldsTo (CalledOnAnyScreen does) s (reports_of true rows o (no_scrollback 0)) t
   pub nothing : IsNothing after
 
 pub alternate_done : {S : Type 0} (does : CallValue → S → ScreenValue → S → ScreenValue → Type 0) (rows cols : ℕ)
-    (o : Option Page) (p new : Page) (sheet : Page) (f : Option Page) (above after : Scrollback) (s t : S)
-    → f ≡ option_map (λ _. blank_page rows cols) o → o ≡ Some p → f ≡ Some sheet → above ≡ no_scrollback 0
-    → new ≡ page_resized (length sheet.rows) sheet.width above p
-    → after ≡ scrollback_resized (length sheet.rows) p above
-    → FoldsTo (Hears does true) s (resize_reports (length sheet.rows) p above) t
+    (o : Option Page) (p new : Page) (page_rows : Page) (f : Option Page) (above after : Scrollback) (s t : S)
+    → f ≡ option_map (λ _. blank_page rows cols) o → o ≡ Some p → f ≡ Some page_rows → above ≡ no_scrollback 0
+    → new ≡ page_resized (length page_rows.rows) page_rows.width above p
+    → after ≡ scrollback_resized (length page_rows.rows) p above
+    → FoldsTo (CalledOnScroll does true) s (resize_reports (length page_rows.rows) p above) t
     → AlternateDone does rows cols o new after s t
-alternate_done {S} does rows cols o p new sheet f above after s t e h k n page scrolled heard =
-    let fresh = fresh_is o p f sheet (blank_page rows cols) e h k in
-    let height = fresh_height rows cols sheet fresh in
-    let width = fresh_width rows cols sheet fresh in
+alternate_done {S} does rows cols o p new page_rows f above after s t e h k n page scrolled heard =
+    let fresh = fresh_is o p f page_rows (blank_page rows cols) e h k in
+    let height = fresh_height rows cols page_rows fresh in
+    let width = fresh_width rows cols page_rows fresh in
     let there : new ≡ page_resized rows cols (no_scrollback 0) p
     = page
-    ∙ (ap (λ (m : ℕ). page_resized m sheet.width above p) height
+    ∙ (ap (λ (m : ℕ). page_resized m page_rows.width above p) height
     ∙ (ap (λ (m : ℕ). page_resized rows m above p) width ∙ ap (λ (z : Scrollback). page_resized rows cols z p) n)) in
     let beyond : after ≡ scrollback_resized rows p (no_scrollback 0)
     = scrolled ∙ (ap (λ (m : ℕ). scrollback_resized m p above) height ∙ ap (scrollback_resized rows p) n) in
-    let same : resize_reports (length sheet.rows) p above ≡ resize_reports rows p (no_scrollback 0)
+    let same : resize_reports (length page_rows.rows) p above ≡ resize_reports rows p (no_scrollback 0)
     = ap (λ (m : ℕ). resize_reports m p above) height ∙ ap (resize_reports rows p) n in
     record {
       page = rw h (ap Some there);
       told =
           rw h (told_rows does true (resize_reports rows p (no_scrollback 0)) s t
-          (subst (λ (all : List RowValue). FoldsTo (Hears does true) s all t) same heard));
+          (subst (λ (all : List RowValue). FoldsTo (CalledOnScroll does true) s all t) same heard));
       nothing = subst IsNothing (sym beyond) (nothing_resized rows p);
     }
 
 -- the main page
 pub main_done : {S : Type 0} (does : CallValue → S → ScreenValue → S → ScreenValue → Type 0)
-    (rows cols : ℕ) (p : Page) (sheet : Page) (above : Scrollback) (s t : S)
-    → sheet ≡ blank_page rows cols
-    → FoldsTo (Hears does false) s (resize_reports (length sheet.rows) p above) t
-    → FoldsTo (Told does) s (reports_of false rows (Some p) above) t
-main_done {S} does rows cols p sheet above s t fresh heard =
+    (rows cols : ℕ) (p : Page) (page_rows : Page) (above : Scrollback) (s t : S)
+    → page_rows ≡ blank_page rows cols
+    → FoldsTo (CalledOnScroll does false) s (resize_reports (length page_rows.rows) p above) t
+    → FoldsTo (CalledOnAnyScreen does) s (reports_of false rows (Some p) above) t
+main_done {S} does rows cols p page_rows above s t fresh heard =
     told_rows does false (resize_reports rows p above) s t
-    (subst (λ (all : List RowValue). FoldsTo (Hears does false) s all t)
-    (ap (λ (m : ℕ). resize_reports m p above) (fresh_height rows cols sheet fresh)) heard)
+    (subst (λ (all : List RowValue). FoldsTo (CalledOnScroll does false) s all t)
+    (ap (λ (m : ℕ). resize_reports m p above) (fresh_height rows cols page_rows fresh)) heard)
 
 -- ---- both
 
 pub kept_by_steps : (rows cols : ℕ) (page new : Page) (last : Option ℕ)
-    (aside : Aside) (sheet : Page) (o : Option Page) (above idle : Scrollback)
-    → sheet ≡ blank_page rows cols
+    (aside : Aside) (page_rows : Page) (o : Option Page) (above idle : Scrollback)
+    → page_rows ≡ blank_page rows cols
     → 0 < rows → rows < 2 ^ 16 → 0 < cols → cols < 2 ^ 16 → aside.is_alternate ≡ false
-    → new ≡ page_resized (length sheet.rows) sheet.width aside.active page
-    → above ≡ scrollback_resized (length sheet.rows) page aside.active
+    → new ≡ page_resized (length page_rows.rows) page_rows.width aside.active page
+    → above ≡ scrollback_resized (length page_rows.rows) page aside.active
     → o ≡ option_map (page_resized rows cols (no_scrollback 0)) aside.other → IsNothing idle → IsKept page last aside
     → IsKept new last (record { other = o; is_alternate = aside.is_alternate; active = above; idle = idle })
-kept_by_steps rows cols page new last aside sheet o above idle fresh a b c d main n m k nothing kept =
-    let height = fresh_height rows cols sheet fresh in
+kept_by_steps rows cols page new last aside page_rows o above idle fresh a b c d main n m k nothing kept =
+    let height = fresh_height rows cols page_rows fresh in
     let there : new ≡ page_resized rows cols aside.active page
     = n
-    ∙ (ap (λ (i : ℕ). page_resized i sheet.width aside.active page) height
-    ∙ ap (λ (i : ℕ). page_resized rows i aside.active page) (fresh_width rows cols sheet fresh)) in
+    ∙ (ap (λ (i : ℕ). page_resized i page_rows.width aside.active page) height
+    ∙ ap (λ (i : ℕ). page_resized rows i aside.active page) (fresh_width rows cols page_rows fresh)) in
     let beyond : above ≡ scrollback_resized rows page aside.active =
     m ∙ ap (λ (i : ℕ). scrollback_resized i page aside.active) height in
     rw (there, beyond, k) (kept_resized rows cols page last aside idle a b c d main nothing kept)
@@ -116,21 +116,21 @@ above_main true active idle whole w e = absurd (false≢true (sym e))
 above_main false active idle whole w e = sym w
 
 pub told_by_steps : {S : Type 0} (does : CallValue → S → ScreenValue → S → ScreenValue → Type 0)
-    (rows cols : ℕ) (v now : ScreenValue) (active idle : Scrollback) (sheet : Page) (s m t : S)
+    (rows cols : ℕ) (v now : ScreenValue) (active idle : Scrollback) (page_rows : Page) (s m t : S)
     → v ≡ now → v.scrollback ≡ main_scrollback v.is_alternate active idle
-    → now.is_alternate ≡ false → sheet ≡ blank_page rows cols
-    → FoldsTo (Hears does false) s (resize_reports (length sheet.rows) v.page active) m
-    → FoldsTo (Told does) m (reports_of true rows v.other (no_scrollback 0)) t
-    → FoldsTo (Told does) s
+    → now.is_alternate ≡ false → page_rows ≡ blank_page rows cols
+    → FoldsTo (CalledOnScroll does false) s (resize_reports (length page_rows.rows) v.page active) m
+    → FoldsTo (CalledOnAnyScreen does) m (reports_of true rows v.other (no_scrollback 0)) t
+    → FoldsTo (CalledOnAnyScreen does) s
     (reports_of false rows (Some now.page) now.scrollback ++ reports_of true rows now.other (no_scrollback 0)) t
-told_by_steps {S} does rows cols v now active idle sheet s m t same w main fresh heard told =
+told_by_steps {S} does rows cols v now active idle page_rows s m t same w main fresh heard told =
     let whole : active ≡ v.scrollback =
     above_main v.is_alternate active idle v.scrollback w (ap (λ (x : ScreenValue). x.is_alternate) same ∙ main) in
-    subst (λ (x : ScreenValue). FoldsTo (Told does) s
+    subst (λ (x : ScreenValue). FoldsTo (CalledOnAnyScreen does) s
     (reports_of false rows (Some x.page) x.scrollback ++ reports_of true rows x.other (no_scrollback 0)) t)
     same
-    (folds_then (Told does) (reports_of false rows (Some v.page) v.scrollback)
+    (folds_then (CalledOnAnyScreen does) (reports_of false rows (Some v.page) v.scrollback)
     (reports_of true rows v.other (no_scrollback 0)) s m t
-    (subst (λ (z : Scrollback). FoldsTo (Told does) s (reports_of false rows (Some v.page) z) m)
-    whole (main_done does rows cols v.page sheet active s m fresh heard))
+    (subst (λ (z : Scrollback). FoldsTo (CalledOnAnyScreen does) s (reports_of false rows (Some v.page) z) m)
+    whole (main_done does rows cols v.page page_rows active s m fresh heard))
     told)

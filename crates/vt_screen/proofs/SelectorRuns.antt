@@ -15,7 +15,7 @@ use Rattle.vt_rows.specs.Cells.{at}
 use Rattle.vt_rows.specs.Row.{RowValue, blank_row}
 use Rattle.vt_grid.specs.Page.{IsPage, Page, SameSize}
 use Rattle.vt_grid.specs.Resize.{page_resized, scrollback_resized}
-use Rattle.vt_grid.specs.Scrollback.{Scrollback, no_scrollback, viewed}
+use Rattle.vt_grid.specs.Scrollback.{Scrollback, no_scrollback, with_view}
 use Rattle.vt_scan.specs.Automaton.{Character, Event, State}
 use Rattle.vt_scan.specs.Run.{run}
 use Rattle.vt_scan.specs.Selectors.{ReadsNoSelector}
@@ -154,7 +154,7 @@ viewed_has_none n s is without = by s.is_alternate where
   k = stays_from s is without
 
   now : Scrollback
-  now = viewed (length s.page.rows) s.page.width n s.scrollback
+  now = with_view (length s.page.rows) s.page.width n s.scrollback
 
   by : (b : Bool) → HasNoSelectors (if b then s else record s { scrollback = now })
   by true = without

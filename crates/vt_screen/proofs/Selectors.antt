@@ -29,7 +29,7 @@ use Rattle.vt_screen.specs.Steps.{EraseRow, EraseChars, InsertChars, DeleteChars
 use Rattle.vt_screen.specs.Steps.{ScrollDown, Render, HideCursor, UseApplicationKeypad, UseApplicationCursor}
 use Rattle.vt_screen.specs.Steps.{UseBracketedPaste, SetMouseMode, ClearMouseMode, SetMouseEncoding, ClearMouseEncoding}
 use Rattle.vt_screen.specs.Steps.{SetCursorStyle, SaveCursor, RestoreCursor, EnterAlternate, EnterFresh, LeaveAlternate}
-use Rattle.vt_screen.specs.Steps.{LeaveRestoring, Reset, Tell, becomes_last, scrolled, stepped}
+use Rattle.vt_screen.specs.Steps.{LeaveRestoring, Reset, CallBack, becomes_last, screen_after, display_after}
 use Rattle.vt_screen.specs.Telling.{stepped_all}
 use Rattle.vt_screen.proofs.Stable.{EachCell, EachRow, IsStable, stable_blank, stable_erased_below, stable_erased_chars}
 use Rattle.vt_screen.proofs.Stable.{stable_erased_rest, stable_line_feed, stable_printed, stable_scrolled_up}
@@ -205,10 +205,10 @@ plain_reset s None = tt
 -- ---- each step
 
 pub step_plain : (x : Step) (s : ScreenValue) → IsAmong IsPlainCharacter (Unit {0}) x → StaysPlain s
-    → StaysPlain (scrolled x s)
+    → StaysPlain (screen_after x s)
 unfolding moved_up moved_down
 step_plain (Print c) s i k =
-    sends s.is_alternate s (stepped (Print c) s) (printed_out c s.attrs s.page)
+    sends s.is_alternate s (display_after (Print c) s) (printed_out c s.attrs s.page)
     (stable_printed_out selecting c s.attrs s.page tt k.rows)
     (record {
       rows = stable_printed selecting c s.attrs s.page i tt k.rows;
@@ -218,10 +218,10 @@ step_plain (Print c) s i k =
     })
     refl
 step_plain LineFeed s i k =
-    sends s.is_alternate s (stepped LineFeed s) (fed_out s.page) (stable_fed_out selecting s.page k.rows)
+    sends s.is_alternate s (display_after LineFeed s) (fed_out s.page) (stable_fed_out selecting s.page k.rows)
     (record { rows = stable_line_feed selecting s.page k.rows; other = k.other; above = k.above; last = k.last }) refl
 step_plain (ScrollUp count) s i k =
-    sends s.is_alternate s (stepped (ScrollUp count) s) (scrolled_out count s.page)
+    sends s.is_alternate s (display_after (ScrollUp count) s) (scrolled_out count s.page)
     (stable_scrolled_out selecting count s.page k.rows)
     (record {
       rows = stable_scrolled_up selecting count s.page k.rows;
@@ -231,7 +231,7 @@ step_plain (ScrollUp count) s i k =
     })
     refl
 step_plain EraseScrollback s i k = gives_up s.is_alternate s k
-step_plain (Tell call) s i k = k
+step_plain (CallBack call) s i k = k
 step_plain Reset s i k =
     record { rows = plain_fresh s; other = plain_reset s s.other; above = All-nil (EachCell IsPlainCell); last = tt }
 step_plain EnterAlternate s i k = plain_entered s k
@@ -280,4 +280,4 @@ step_plain (SetCursorStyle look) s i k = record { rows = k.rows; other = k.other
 pub steps_plain : (steps : List Step) (s : ScreenValue) → AllByRecursion (IsAmong IsPlainCharacter (Unit {0})) steps
     → StaysPlain s → StaysPlain (stepped_all steps s)
 steps_plain [] s i k = k
-steps_plain (x ∷ steps) s i k = steps_plain steps (scrolled x s) i.1 (step_plain x s i.0 k)
+steps_plain (x ∷ steps) s i k = steps_plain steps (screen_after x s) i.1 (step_plain x s i.0 k)

@@ -19,7 +19,7 @@ use Rattle.vt_screen.specs.Steps.{EraseRow, EraseChars, InsertChars, DeleteChars
 use Rattle.vt_screen.specs.Steps.{ScrollDown, Render, HideCursor, UseApplicationCursor, UseBracketedPaste, SetMouseMode}
 use Rattle.vt_screen.specs.Steps.{ClearMouseMode, SetMouseEncoding, ClearMouseEncoding, SetCursorStyle, SaveCursor}
 use Rattle.vt_screen.specs.Steps.{RestoreCursor, EnterAlternate, EnterFresh, LeaveAlternate, LeaveRestoring, Reset}
-use Rattle.vt_screen.specs.Steps.{UseApplicationKeypad, Tell, outgoing, sent, scrolled, stepped}
+use Rattle.vt_screen.specs.Steps.{UseApplicationKeypad, CallBack, outgoing, sent, screen_after, display_after}
 use Rattle.vt_grid.specs.Page.{scrolled_up}
 use Rattle.vt_grid.specs.Moves.{carriage_return, moved_left, moved_right, moved_to}
 use Rattle.vt_grid.specs.Moves.{line_feed, cursor_saved, cursor_restored}
@@ -149,54 +149,54 @@ sized_reset height width screen z =
       by_other None = tt
 
 pub sized_stepped : (height width : ℕ) (step : Step) (screen : ScreenValue) →
-    IsSized height width screen → IsSized height width (stepped step screen)
+    IsSized height width screen → IsSized height width (display_after step screen)
 sized_stepped height width (Print c) screen z =
-    paged height width screen (stepped (Print c) screen) refl (same_printed c screen.attrs screen.page)
+    paged height width screen (display_after (Print c) screen) refl (same_printed c screen.attrs screen.page)
     (inside_printed c screen.attrs screen.page z.page.inside) z
 sized_stepped height width CarriageReturn screen z =
-    paged height width screen (stepped CarriageReturn screen) refl
+    paged height width screen (display_after CarriageReturn screen) refl
     (same_carriage_return screen.page) (inside_carriage_return screen.page z.page.inside) z
 sized_stepped height width LineFeed screen z =
-    paged height width screen (stepped LineFeed screen) refl
+    paged height width screen (display_after LineFeed screen) refl
     (same_line_feed screen.page) (inside_line_feed screen.page z.page.inside) z
 sized_stepped height width ReverseIndex screen z =
-    paged height width screen (stepped ReverseIndex screen) refl
+    paged height width screen (display_after ReverseIndex screen) refl
     (same_reverse_index screen.page) (inside_reverse_index screen.page z.page.inside) z
 sized_stepped height width (MoveUp n) screen z =
-    paged height width screen (stepped (MoveUp n) screen) refl
+    paged height width screen (display_after (MoveUp n) screen) refl
     (same_moved_up n screen.page) (inside_moved_up n screen.page z.page.inside) z
 sized_stepped height width (MoveDown n) screen z =
-    paged height width screen (stepped (MoveDown n) screen) refl
+    paged height width screen (display_after (MoveDown n) screen) refl
     (same_moved_down n screen.page) (inside_moved_down n screen.page z.page.inside) z
 sized_stepped height width (MoveRight n) screen z =
-    paged height width screen (stepped (MoveRight n) screen) refl
+    paged height width screen (display_after (MoveRight n) screen) refl
     (same_moved_right n screen.page) (inside_moved_right n screen.page z.page.inside) z
 sized_stepped height width (MoveLeft n) screen z =
-    paged height width screen (stepped (MoveLeft n) screen) refl
+    paged height width screen (display_after (MoveLeft n) screen) refl
     (same_moved_left n screen.page) (inside_moved_left n screen.page z.page.inside) z
 sized_stepped height width (NextLine n) screen z =
-    paged height width screen (stepped (NextLine n) screen) refl
+    paged height width screen (display_after (NextLine n) screen) refl
     (same_next_line n screen.page) (inside_next_line n screen.page z.page.inside) z
 sized_stepped height width (PreviousLine n) screen z =
-    paged height width screen (stepped (PreviousLine n) screen) refl
+    paged height width screen (display_after (PreviousLine n) screen) refl
     (same_previous_line n screen.page) (inside_previous_line n screen.page z.page.inside) z
 sized_stepped height width Tab screen z =
-    paged height width screen (stepped Tab screen) refl
+    paged height width screen (display_after Tab screen) refl
     (same_tabbed screen.page) (inside_tabbed screen.page z.page.inside) z
 sized_stepped height width (MoveTo r c) screen z =
-    paged height width screen (stepped (MoveTo r c) screen) refl
+    paged height width screen (display_after (MoveTo r c) screen) refl
     (same_moved_to r c screen.page) (inside_moved_to r c screen.page z.page.inside) z
 sized_stepped height width (MoveToColumn c) screen z =
-    paged height width screen (stepped (MoveToColumn c) screen) refl
+    paged height width screen (display_after (MoveToColumn c) screen) refl
     (same_moved_to_column c screen.page) (inside_moved_to_column c screen.page z.page.inside) z
 sized_stepped height width (MoveToRow r) screen z =
-    paged height width screen (stepped (MoveToRow r) screen) refl
+    paged height width screen (display_after (MoveToRow r) screen) refl
     (same_moved_to_row r screen.page) (inside_moved_to_row r screen.page z.page.inside) z
 sized_stepped height width (SetRegion t b) screen z =
-    paged height width screen (stepped (SetRegion t b) screen) refl
+    paged height width screen (display_after (SetRegion t b) screen) refl
     (same_region_set t b screen.page) (inside_region_set t b screen.page z.page.inside) z
 sized_stepped height width (UseOrigin on) screen z =
-    paged height width screen (stepped (UseOrigin on) screen) refl
+    paged height width screen (display_after (UseOrigin on) screen) refl
     (same_origin_set on screen.page) (inside_origin_set on screen.page z.page.inside) z
 sized_stepped height width SaveCursor screen z = sized_saved height width screen z
 sized_stepped height width RestoreCursor screen z = sized_restored height width screen z
@@ -207,45 +207,45 @@ sized_stepped height width LeaveRestoring screen z =
     sized_restored height width (left screen) (sized_left height width screen z)
 sized_stepped height width Reset screen z = sized_reset height width screen z
 sized_stepped height width EraseBelow screen z =
-    paged height width screen (stepped EraseBelow screen) refl (same_erased_below screen.attrs screen.page)
+    paged height width screen (display_after EraseBelow screen) refl (same_erased_below screen.attrs screen.page)
     (inside_erased_below screen.attrs screen.page z.page.inside) z
 sized_stepped height width EraseAbove screen z =
-    paged height width screen (stepped EraseAbove screen) refl
+    paged height width screen (display_after EraseAbove screen) refl
     (same_erased_above screen.attrs screen.page z.page.inside)
     (inside_erased_above screen.attrs screen.page z.page.inside) z
 sized_stepped height width ErasePage screen z =
-    paged height width screen (stepped ErasePage screen) refl (same_erased_page screen.attrs screen.page)
+    paged height width screen (display_after ErasePage screen) refl (same_erased_page screen.attrs screen.page)
     (inside_erased_page screen.attrs screen.page z.page.inside) z
 sized_stepped height width EraseScrollback screen z = z
 sized_stepped height width EraseRest screen z =
-    paged height width screen (stepped EraseRest screen) refl (same_erased_rest screen.attrs screen.page)
+    paged height width screen (display_after EraseRest screen) refl (same_erased_rest screen.attrs screen.page)
     (inside_erased_rest screen.attrs screen.page z.page.inside) z
 sized_stepped height width EraseStart screen z =
-    paged height width screen (stepped EraseStart screen) refl (same_erased_start screen.attrs screen.page)
+    paged height width screen (display_after EraseStart screen) refl (same_erased_start screen.attrs screen.page)
     (inside_erased_start screen.attrs screen.page z.page.inside) z
 sized_stepped height width EraseRow screen z =
-    paged height width screen (stepped EraseRow screen) refl (same_erased_row screen.attrs screen.page)
+    paged height width screen (display_after EraseRow screen) refl (same_erased_row screen.attrs screen.page)
     (inside_erased_row screen.attrs screen.page z.page.inside) z
 sized_stepped height width (EraseChars n) screen z =
-    paged height width screen (stepped (EraseChars n) screen) refl (same_erased_chars n screen.attrs screen.page)
+    paged height width screen (display_after (EraseChars n) screen) refl (same_erased_chars n screen.attrs screen.page)
     (inside_erased_chars n screen.attrs screen.page z.page.inside) z
 sized_stepped height width (InsertChars n) screen z =
-    paged height width screen (stepped (InsertChars n) screen) refl
+    paged height width screen (display_after (InsertChars n) screen) refl
     (same_chars_inserted n screen.page) (inside_chars_inserted n screen.page z.page.inside) z
 sized_stepped height width (DeleteChars n) screen z =
-    paged height width screen (stepped (DeleteChars n) screen) refl
+    paged height width screen (display_after (DeleteChars n) screen) refl
     (same_chars_deleted n screen.page) (inside_chars_deleted n screen.page z.page.inside) z
 sized_stepped height width (InsertLines n) screen z =
-    paged height width screen (stepped (InsertLines n) screen) refl
+    paged height width screen (display_after (InsertLines n) screen) refl
     (same_lines_inserted n screen.page) (inside_lines_inserted n screen.page z.page.inside) z
 sized_stepped height width (DeleteLines n) screen z =
-    paged height width screen (stepped (DeleteLines n) screen) refl
+    paged height width screen (display_after (DeleteLines n) screen) refl
     (same_lines_deleted n screen.page) (inside_lines_deleted n screen.page z.page.inside) z
 sized_stepped height width (ScrollUp n) screen z =
-    paged height width screen (stepped (ScrollUp n) screen) refl
+    paged height width screen (display_after (ScrollUp n) screen) refl
     (same_scrolled_up n screen.page) (inside_scrolled_up n screen.page z.page.inside) z
 sized_stepped height width (ScrollDown n) screen z =
-    paged height width screen (stepped (ScrollDown n) screen) refl
+    paged height width screen (display_after (ScrollDown n) screen) refl
     (same_scrolled_down n screen.page) (inside_scrolled_down n screen.page z.page.inside) z
 sized_stepped height width (Render setting) screen z = record { page = z.page; other = z.other }
 sized_stepped height width (HideCursor hidden) screen z = record { page = z.page; other = z.other }
@@ -257,14 +257,14 @@ sized_stepped height width (ClearMouseMode mode) screen z = record { page = z.pa
 sized_stepped height width (SetMouseEncoding form) screen z = record { page = z.page; other = z.other }
 sized_stepped height width (ClearMouseEncoding form) screen z = record { page = z.page; other = z.other }
 sized_stepped height width (SetCursorStyle look) screen z = record { page = z.page; other = z.other }
-sized_stepped height width (Tell call) screen z = z
+sized_stepped height width (CallBack call) screen z = z
 
 pub sized_sent : (height width : ℕ) (step : Step) (screen : ScreenValue) →
     IsSized height width screen → IsSized height width (sent step screen)
 sized_sent height width step screen z = by_page screen.is_alternate where
   by_page : (b : Bool) →
-      IsSized height width (if b then stepped step screen
-      else record (stepped step screen)
+      IsSized height width (if b then display_after step screen
+      else record (display_after step screen)
       { scrollback = pushed (length screen.page.rows) screen.page.width (outgoing step screen) screen.scrollback })
   by_page true = sized_stepped height width step screen z
   by_page false = let s = sized_stepped height width step screen z in record { page = s.page; other = s.other }

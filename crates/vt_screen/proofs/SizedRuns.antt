@@ -14,17 +14,17 @@ use Rattle.vt_screen.specs.Steps.{EraseRow, EraseChars, InsertChars, DeleteChars
 use Rattle.vt_screen.specs.Steps.{ScrollDown, Render, HideCursor, UseApplicationCursor, UseBracketedPaste, SetMouseMode}
 use Rattle.vt_screen.specs.Steps.{ClearMouseMode, SetMouseEncoding, ClearMouseEncoding, SetCursorStyle, SaveCursor}
 use Rattle.vt_screen.specs.Steps.{RestoreCursor, EnterAlternate, EnterFresh, LeaveAlternate, LeaveRestoring, Reset}
-use Rattle.vt_screen.specs.Steps.{UseApplicationKeypad, Tell, scrolled, stepped}
+use Rattle.vt_screen.specs.Steps.{UseApplicationKeypad, CallBack, screen_after, display_after}
 use Rattle.vt_screen.specs.Telling.{LeavesScreen}
 use Rattle.vt_screen.proofs.Sized.{IsSized, sized_sent, sized_stepped}
 
 module _ {S : Type 0} (does : CallValue → S → ScreenValue → S → ScreenValue → Type 0)
     (leaves : LeavesScreen does) (height width : ℕ) where
   scrolls : (step : Step) (a b : act.State S) → Scrolls does a step b →
-      IsSized height width (scrolled step a.screen) → IsSized height width b.screen
+      IsSized height width (screen_after step a.screen) → IsSized height width b.screen
   scrolls step a b t z = subst (IsSized height width) (sym t.screen) z
 
-  steps : (step : Step) (a b : act.State S) → b ≡ state a.callbacks (stepped step a.screen) →
+  steps : (step : Step) (a b : act.State S) → b ≡ state a.callbacks (display_after step a.screen) →
       IsSized height width a.screen → IsSized height width b.screen
   steps step a b e z =
       subst (λ (s : act.State S). IsSized height width s.screen) (sym e) (sized_stepped height width step a.screen z)
@@ -81,5 +81,5 @@ module _ {S : Type 0} (does : CallValue → S → ScreenValue → S → ScreenVa
   sized_taken (SetMouseEncoding form) a b z t = steps (SetMouseEncoding form) a b t z
   sized_taken (ClearMouseEncoding form) a b z t = steps (ClearMouseEncoding form) a b t z
   sized_taken (SetCursorStyle look) a b z t = steps (SetCursorStyle look) a b t z
-  sized_taken (Tell call) a b z t =
+  sized_taken (CallBack call) a b z t =
       subst (IsSized height width) (sym (leaves call a.callbacks b.callbacks a.screen b.screen t)) z

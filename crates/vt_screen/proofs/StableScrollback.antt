@@ -16,7 +16,7 @@ use Rattle.vt_grid.specs.Moves.{feeds_out}
 use Rattle.vt_grid.specs.Printing.{mark_column, pushes}
 use Rattle.vt_grid.specs.Outgoing.{scrolled_out, fed_out, left_by, printed_out}
 use Rattle.vt_grid.specs.Scrollback.{Scrollback, no_scrollback, stacked, kept_after, grown_row}
-use Rattle.vt_grid.specs.Scrollback.{grown_in_view, pushed, reported, viewed, visible}
+use Rattle.vt_grid.specs.Scrollback.{grown_in_view, pushed, reported, with_view, visible}
 use Rattle.vt_grid.specs.Resize.{leaving, returning, window, rows_resized}
 use Rattle.vt_grid.specs.Resize.{page_resized, out_of_view, scrollback_resized}
 use Rattle.vt_screen.proofs.Stable.{IsStable, EachCell, EachRow, stable_blank_row, stable_row_or, stable_erased_columns}
@@ -99,8 +99,8 @@ stable_pushed {P} {F} {Q} rule height width (row ∷ gone) above g all =
     stable_grown rule height width (kept_after (row ∷ gone) above) (stable_kept_after rule (row ∷ gone) above g all)
 
 pub stable_viewed : {P : CellValue → Type 0} {F : Attrs → Type 0} {Q : ℕ → Type 0} → IsStable P F Q
-    → (height width n : ℕ) (above : Scrollback) → EachRow P above.rows → EachRow P (viewed height width n above).rows
-unfolding viewed
+    → (height width n : ℕ) (above : Scrollback) → EachRow P above.rows → EachRow P (with_view height width n above).rows
+unfolding with_view
 stable_viewed {P} {F} {Q} rule height width n above all =
     stable_grown rule height width (record above { offset = min n (length above.rows) }) all
 

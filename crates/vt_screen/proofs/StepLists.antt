@@ -6,21 +6,21 @@ use Rattle.vt_scan.specs.Run.{run}
 use Rattle.vt_scan.proofs.Running.{run-append}
 use Rattle.vt_screen.specs.Screen.{ScreenValue}
 use Rattle.vt_screen.specs.Controls.{seen_of, steps_of}
-use Rattle.vt_screen.specs.Steps.{Step, scrolled}
+use Rattle.vt_screen.specs.Steps.{Step, screen_after}
 use Rattle.vt_screen.specs.Streamed.{sent_off, sent_off_all, sent_off_in}
 use Rattle.vt_screen.specs.Telling.{screen_in, stepped_all, steps_in, steps_of_all}
 
 pub stepped_then : (xs ys : List Step) (s : ScreenValue) → stepped_all (xs ++ ys) s ≡ stepped_all ys (stepped_all xs s)
 stepped_then [] ys s = refl
-stepped_then (x ∷ xs) ys s = stepped_then xs ys (scrolled x s)
+stepped_then (x ∷ xs) ys s = stepped_then xs ys (screen_after x s)
 
 sent_all_then : (xs ys : List Step) (s : ScreenValue) →
     sent_off_all (xs ++ ys) s ≡ sent_off_all xs s ++ sent_off_all ys (stepped_all xs s)
 sent_all_then [] ys s = refl
 sent_all_then (x ∷ xs) ys s =
-    ap (λ (rows : List RowValue). sent_off x s ++ rows) (sent_all_then xs ys (scrolled x s))
+    ap (λ (rows : List RowValue). sent_off x s ++ rows) (sent_all_then xs ys (screen_after x s))
     ∙ sym
-    (append_assoc (sent_off x s) (sent_off_all xs (scrolled x s)) (sent_off_all ys (stepped_all xs (scrolled x s))))
+    (append_assoc (sent_off x s) (sent_off_all xs (screen_after x s)) (sent_off_all ys (stepped_all xs (screen_after x s))))
 
 steps_then : (events more : List Event) (s : ScreenValue) →
     steps_of_all (events ++ more) s ≡ steps_of_all events s ++ steps_of_all more (stepped_all (steps_of_all events s) s)

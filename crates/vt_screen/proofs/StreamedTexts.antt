@@ -7,7 +7,7 @@ use Rattle.vt_rows.specs.Row.{RowValue, trimmed, trimmed_row}
 use Rattle.vt_screen.specs.Calls.{CallValue}
 use Rattle.vt_screen.specs.Capture.{all_rows, basic_texts, written_after_all}
 use Rattle.vt_screen.specs.Screen.{ScreenValue}
-use Rattle.vt_screen.specs.Streamed.{AreAlike, rows_told, streamed_text}
+use Rattle.vt_screen.specs.Streamed.{AreSameTrimmed, rows_told, streamed_text}
 use Rattle.vt_screen.proofs.Alike.{trimmed_twice}
 use Rattle.vt_screen.proofs.AlikeScrollback.{alike_then}
 use Rattle.vt_screen.proofs.Streaming.{Streamed}
@@ -31,7 +31,7 @@ texts_trimmed w (row ∷ rows) =
     ∙ texts_trimmed (written_after w row) rows)
 
 pub same_texts : (w : Written) (rows others : List RowValue) →
-    AreAlike rows others → basic_texts w rows ≡ basic_texts w others
+    AreSameTrimmed rows others → basic_texts w rows ≡ basic_texts w others
 same_texts w rows others e = sym (texts_trimmed w rows) ∙ (ap (basic_texts w) e ∙ texts_trimmed w others)
 
 -- ---- one list behind the other
@@ -61,7 +61,7 @@ streamed_is calls gone s t k none main =
     let rows : told ++ all_rows t ≡ (told ++ t.scrollback.rows) ++ t.page.rows
     = ap (λ (z : Scrollback). told ++ (z.rows ++ t.page.rows)) (above_main t.is_alternate t.scrollback main)
     ∙ sym (append_assoc told t.scrollback.rows t.page.rows) in
-    let alike : AreAlike (told ++ t.scrollback.rows) gone =
+    let alike : AreSameTrimmed (told ++ t.scrollback.rows) gone =
     k.alike ∙ ap (λ (xs : List RowValue). map trimmed_row (xs ++ gone)) none in
     sym (texts_then unwritten told (all_rows t))
     ∙ (ap (basic_texts unwritten) rows

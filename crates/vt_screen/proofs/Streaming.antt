@@ -20,7 +20,7 @@ use Rattle.vt_grid.specs.Erasing.{erased_start, erased_row, erased_chars}
 use Rattle.vt_grid.specs.Printing.{printed}
 use Rattle.vt_grid.specs.Outgoing.{printed_out, fed_out, scrolled_out}
 use Rattle.vt_grid.specs.Resize.{out_of_view}
-use Rattle.vt_grid.specs.Scrollback.{Scrollback, cleared, no_scrollback, pushed, reported, viewed}
+use Rattle.vt_grid.specs.Scrollback.{Scrollback, cleared, no_scrollback, pushed, reported, with_view}
 use Rattle.vt_grid.proofs.Blanking.{page_erased_start, page_erased_row, page_erased_above, page_erased_page}
 use Rattle.vt_grid.proofs.Printed.{page_printed}
 use Rattle.vt_grid.proofs.Pages.{page_blank, page_cursor_saved, page_cursor_restored, page_carriage_return}
@@ -41,8 +41,8 @@ use Rattle.vt_screen.specs.Steps.{EraseRow, EraseChars, InsertChars, DeleteChars
 use Rattle.vt_screen.specs.Steps.{ScrollDown, Render, HideCursor, UseApplicationCursor, UseBracketedPaste, SetMouseMode}
 use Rattle.vt_screen.specs.Steps.{ClearMouseMode, SetMouseEncoding, ClearMouseEncoding, SetCursorStyle, SaveCursor}
 use Rattle.vt_screen.specs.Steps.{RestoreCursor, EnterAlternate, EnterFresh, LeaveAlternate, LeaveRestoring, Reset}
-use Rattle.vt_screen.specs.Steps.{UseApplicationKeypad, Tell, becomes_last, scrolled, stepped}
-use Rattle.vt_screen.specs.Streamed.{AreAlike, HasWideFlags, row_told, rows_told, sent_off, sent_off_all}
+use Rattle.vt_screen.specs.Steps.{UseApplicationKeypad, CallBack, becomes_last, screen_after, display_after}
+use Rattle.vt_screen.specs.Streamed.{AreSameTrimmed, HasWideFlags, row_told, rows_told, sent_off, sent_off_all}
 use Rattle.vt_screen.specs.Telling.{calls_of, calls_of_all, stepped_all}
 use Rattle.vt_screen.proofs.Alike.{IsWide}
 use Rattle.vt_screen.proofs.AlikeScrollback.{AreSound, alike_pushed, alike_then, alike_viewed}
@@ -61,7 +61,7 @@ use Rattle.vt_screen.proofs.Sizes.{same_reverse_index, same_scrolled_down, same_
 abbrev pub IsAmong : (ℕ → Type 0) → Type 0 → Step → Type 0
 IsAmong Q R (Print c) = Q c
 IsAmong Q R Reset = R
-IsAmong Q R (Tell call) = row_told call ≡ []
+IsAmong Q R (CallBack call) = row_told call ≡ []
 IsAmong Q R _ = Unit {0}
 
 -- all but RIS
@@ -87,7 +87,7 @@ Held s = IsHeld s.page s.other s.scrollback s.last
 -- from one screen to another, what was told and what left
 pub record Streamed (calls : List CallValue) (gone : List RowValue) (s t : ScreenValue) : Type 0 where
   pub held : Held t
-  pub alike : AreAlike (rows_told calls ++ t.scrollback.rows) (s.scrollback.rows ++ gone)
+  pub alike : AreSameTrimmed (rows_told calls ++ t.scrollback.rows) (s.scrollback.rows ++ gone)
 
 -- nothing was told, and nothing left
 quietly : (s t : ScreenValue) → Held t → t.scrollback.rows ≡ s.scrollback.rows →
@@ -288,9 +288,9 @@ by_turn : (s t : ScreenValue) → Turned s t → Streamed [] (if s.is_alternate 
 by_turn s t m = quietly s t m.held m.rows
 
 pub step_streams : (x : Step) (s : ScreenValue) → IsStreamed x →
-    Held s → Streamed (calls_of x s) (sent_off x s) s (scrolled x s)
+    Held s → Streamed (calls_of x s) (sent_off x s) s (screen_after x s)
 step_streams (Print c) s i k =
-    sends s.is_alternate s (stepped (Print c) s) (printed_out c s.attrs s.page)
+    sends s.is_alternate s (display_after (Print c) s) (printed_out c s.attrs s.page)
     (rows_printed_out c s.attrs s.page k.sound) k
     (let same = same_printed c s.attrs s.page in
     let held = held_page s.page (printed c s.attrs s.page) s.other s.scrollback
@@ -304,18 +304,18 @@ step_streams (Print c) s i k =
     })
     refl (same_printed c s.attrs s.page).width
 step_streams LineFeed s i k =
-    sends s.is_alternate s (stepped LineFeed s) (fed_out s.page) (rows_fed_out s.page k.sound) k
+    sends s.is_alternate s (display_after LineFeed s) (fed_out s.page) (rows_fed_out s.page k.sound) k
     (held_page s.page (line_feed s.page) s.other s.scrollback s.last
     (page_line_feed s.page k.sound) (same_line_feed s.page) k)
     refl (same_line_feed s.page).width
 step_streams (ScrollUp count) s i k =
-    sends s.is_alternate s (stepped (ScrollUp count) s)
+    sends s.is_alternate s (display_after (ScrollUp count) s)
     (scrolled_out count s.page) (rows_scrolled_out count s.page k.sound) k
     (held_page s.page (scrolled_up count s.page) s.other s.scrollback s.last
     (page_scrolled_up count s.page k.sound) (same_scrolled_up count s.page) k)
     refl (same_scrolled_up count s.page).width
 step_streams EraseScrollback s i k = gives_up s.is_alternate s k
-step_streams (Tell call) s i k =
+step_streams (CallBack call) s i k =
     let q = quietly s s k refl in
     record {
       held = k;
@@ -391,16 +391,16 @@ step_streams (ScrollDown count) s i k =
     on_page (scrolled_down count s.page) s (page_scrolled_down count s.page k.sound) (same_scrolled_down count s.page) k
 step_streams SaveCursor s i k = by_turn s (saved s) (turned_saved s k)
 step_streams RestoreCursor s i k = by_turn s (restored s) (turned_restored s k)
-step_streams (Render setting) s i k = quietly s (stepped (Render setting) s) k refl
-step_streams (HideCursor hidden) s i k = quietly s (stepped (HideCursor hidden) s) k refl
-step_streams (UseApplicationKeypad on) s i k = quietly s (stepped (UseApplicationKeypad on) s) k refl
-step_streams (UseApplicationCursor on) s i k = quietly s (stepped (UseApplicationCursor on) s) k refl
-step_streams (UseBracketedPaste on) s i k = quietly s (stepped (UseBracketedPaste on) s) k refl
-step_streams (SetMouseMode mode) s i k = quietly s (stepped (SetMouseMode mode) s) k refl
-step_streams (ClearMouseMode mode) s i k = quietly s (stepped (ClearMouseMode mode) s) k refl
-step_streams (SetMouseEncoding form) s i k = quietly s (stepped (SetMouseEncoding form) s) k refl
-step_streams (ClearMouseEncoding form) s i k = quietly s (stepped (ClearMouseEncoding form) s) k refl
-step_streams (SetCursorStyle look) s i k = quietly s (stepped (SetCursorStyle look) s) k refl
+step_streams (Render setting) s i k = quietly s (display_after (Render setting) s) k refl
+step_streams (HideCursor hidden) s i k = quietly s (display_after (HideCursor hidden) s) k refl
+step_streams (UseApplicationKeypad on) s i k = quietly s (display_after (UseApplicationKeypad on) s) k refl
+step_streams (UseApplicationCursor on) s i k = quietly s (display_after (UseApplicationCursor on) s) k refl
+step_streams (UseBracketedPaste on) s i k = quietly s (display_after (UseBracketedPaste on) s) k refl
+step_streams (SetMouseMode mode) s i k = quietly s (display_after (SetMouseMode mode) s) k refl
+step_streams (ClearMouseMode mode) s i k = quietly s (display_after (ClearMouseMode mode) s) k refl
+step_streams (SetMouseEncoding form) s i k = quietly s (display_after (SetMouseEncoding form) s) k refl
+step_streams (ClearMouseEncoding form) s i k = quietly s (display_after (ClearMouseEncoding form) s) k refl
+step_streams (SetCursorStyle look) s i k = quietly s (display_after (SetCursorStyle look) s) k refl
 
 -- ---- steps, one after the other
 
@@ -423,16 +423,16 @@ pub steps_stream : (steps : List Step) (s : ScreenValue) → AllByRecursion IsSt
 steps_stream [] s i k = record { held = k; alike = ap (map trimmed_row) (sym (append-nil s.scrollback.rows)) }
 steps_stream (x ∷ steps) s i k =
     let one = step_streams x s i.0 k in
-    streamed_then (calls_of x s) (calls_of_all steps (scrolled x s)) (sent_off x s)
-    (sent_off_all steps (scrolled x s)) s (scrolled x s) (stepped_all steps (scrolled x s)) one
-    (steps_stream steps (scrolled x s) i.1 one.held)
+    streamed_then (calls_of x s) (calls_of_all steps (screen_after x s)) (sent_off x s)
+    (sent_off_all steps (screen_after x s)) s (screen_after x s) (stepped_all steps (screen_after x s)) one
+    (steps_stream steps (screen_after x s) i.1 one.held)
 
 -- ---- other rows come into view
 
 pub view_streams : (n : ℕ) (s : ScreenValue) → Held s → Streamed [] [] s (scrolled_back n s)
 view_streams n s k = by s.is_alternate where
   now : Scrollback
-  now = viewed (length s.page.rows) s.page.width n s.scrollback
+  now = with_view (length s.page.rows) s.page.width n s.scrollback
 
   by : (b : Bool) → Streamed [] [] s (if b then s else record s { scrollback = now })
   by true = record { held = k; alike = ap (map trimmed_row) (sym (append-nil s.scrollback.rows)) }

@@ -19,10 +19,10 @@ use Rattle.vt_grid.specs.Texts.{printed_text}
 use Rattle.vt_grid.proofs.Outgoing.{out_narrow}
 use Rattle.vt_grid.proofs.Texts.{has_room}
 use Rattle.vt_screen.specs.Calls.{CallValue}
-use Rattle.vt_screen.specs.Keeping.{Aside, IsKept}
-use Rattle.vt_screen.specs.Run.{Hears, Scrolls, state}
+use Rattle.vt_screen.specs.Internals.{Aside, IsKept}
+use Rattle.vt_screen.specs.Run.{CalledOnScroll, Scrolls, state}
 use Rattle.vt_screen.specs.Screen.{ScreenValue, IsPrintable, above_page}
-use Rattle.vt_screen.specs.Steps.{Print, last_after, stepped}
+use Rattle.vt_screen.specs.Steps.{Print, last_after, display_after}
 use Rattle.vt_screen.specs.Texts.{text_stepped}
 use Rattle.vt_screen.proofs.Asides.{kept_last}
 use Rattle.vt_screen.proofs.Kept.{kept_printed}
@@ -50,7 +50,7 @@ text_stepped_is (c ∷ []) screen some h width =
     ap (λ (last : Option ℕ). record screen { page = printed c screen.attrs screen.page; last = last })
     (last_printed c screen first.0 first.1 width)
 text_stepped_is (c ∷ d ∷ text) screen some h width =
-    let next = stepped (Print c) screen in
+    let next = display_after (Print c) screen in
     let same = same_printed c screen.attrs screen.page in
     let wide : 0 < next.page.width = omega (arith, same.width, width) in
     let i : length (c ∷ d ∷ text) - 1 ≡ suc (length (d ∷ text) - 1) = omega arith in
@@ -82,9 +82,9 @@ nothing_out : (c : ℕ) (attrs : Attrs) (page : Page) → 0x20 ≤ c →
 nothing_out c attrs page low high h = out_narrow c attrs page (columns_of-ascii c low high) ∙ rw (has_room page h) refl
 
 sent_nothing : (b : Bool) (c : ℕ) (screen : ScreenValue) (gone : List RowValue) → gone ≡ [] →
-    stepped (Print c) screen
-    ≡ (if b then stepped (Print c) screen
-    else record (stepped (Print c) screen)
+    display_after (Print c) screen
+    ≡ (if b then display_after (Print c) screen
+    else record (display_after (Print c) screen)
     { scrollback = pushed (length screen.page.rows) screen.page.width gone screen.scrollback })
 sent_nothing true c screen gone e = refl
 sent_nothing false c screen gone e = rw e refl
@@ -92,13 +92,13 @@ sent_nothing false c screen gone e = rw e refl
 pub print_scrolls : {S : Type 0} (does : CallValue → S → ScreenValue → S → ScreenValue → Type 0)
     (c : ℕ) (s : S) (screen : ScreenValue) →
     0x20 ≤ c → c < 0x7F → screen.page.column < screen.page.width →
-    Scrolls does (state s screen) (Print c) (state s (stepped (Print c) screen))
+    Scrolls does (state s screen) (Print c) (state s (display_after (Print c) screen))
 print_scrolls does c s screen low high room =
     let none = nothing_out c screen.attrs screen.page low high room in
     record {
       screen = sent_nothing screen.is_alternate c screen (printed_out c screen.attrs screen.page) none;
       heard =
           subst
-          (λ (gone : List RowValue). FoldsTo (Hears does screen.is_alternate) s (reported gone (above_page screen)) s)
+          (λ (gone : List RowValue). FoldsTo (CalledOnScroll does screen.is_alternate) s (reported gone (above_page screen)) s)
           (sym none) refl;
     }

@@ -32,10 +32,10 @@ use Rattle.vt_scan.proofs.Written.{decimal_is_parameter, joined_is_parameter, pl
 use Rattle.vt_screen.specs.Reading.{quiet_steps, quiet_events, Terminal, terminal, read_byte, read}
 use Rattle.vt_screen.specs.Screen.{ScreenValue, canvas_of, with_canvas, with_page}
 use Rattle.vt_screen.specs.Sgr.{group_read}
-use Rattle.vt_screen.specs.Controls.{private_steps, marked_steps, mode_step, plain_steps, counted_step, scrolling_steps}
+use Rattle.vt_screen.specs.Controls.{private_steps, intermediate_steps, mode_step, plain_steps, counted_step, scrolling_steps}
 use Rattle.vt_screen.specs.Controls.{other_steps, page_erasing, row_erasing, character_steps, control_steps}
 use Rattle.vt_screen.specs.Controls.{escape_steps, number_or, steps_of, reading_steps, sgr_from, seen_of}
-use Rattle.vt_screen.specs.Steps.{stepped}
+use Rattle.vt_screen.specs.Steps.{display_after}
 use Rattle.vt_screen.specs.Steps as steps
 use Rattle.vt_screen.specs.Touched.{FeedTouches, StepTouches, StepsTouch, EventsTouch, ReadTouches}
 use Rattle.vt_screen.specs.declared.sgr.Reading.{Reading}
@@ -120,7 +120,7 @@ csi_touches M text final groups screen is is_final table p =
 
 hidden_touches : (M : ℕ → ℕ → Type 0) (hidden : Bool) (screen : ScreenValue) →
     ReadTouches M (terminal start screen) (bytes_of (Hide hidden))
-unfolding read_byte fresh_step class_of table_of groups_of numbers_of number_of private_steps marked_steps mode_step
+unfolding read_byte fresh_step class_of table_of groups_of numbers_of number_of private_steps intermediate_steps mode_step
 hidden_touches M true screen =
     run_touches M start (bytes_of (Hide true)) screen
     (record { plain = refl; events = (refl, tt) }) ((tt, λ next e. tt), λ next e. tt)
@@ -245,8 +245,8 @@ line_touches M screen d top h =
 
 unpushed_char : (c : ℕ) (cs : List ℕ) (screen : ScreenValue) (d : Canvas) →
     drawn_text (c ∷ cs) (canvas_of screen) ≡ Some d →
-    (pushes c screen.page ≡ false) × (drawn_text cs (canvas_of (stepped (steps.Print c) screen)) ≡ Some d)
-unpushed_char c cs screen d h = unpushed (pushes c screen.page) cs (canvas_of (stepped (steps.Print c) screen)) d h
+    (pushes c screen.page ≡ false) × (drawn_text cs (canvas_of (display_after (steps.Print c) screen)) ≡ Some d)
+unpushed_char c cs screen d h = unpushed (pushes c screen.page) cs (canvas_of (display_after (steps.Print c) screen)) d h
 
 both_true : (a b : Bool) → (a && b) ≡ false → a ≡ true → b ≡ false
 both_true true b h e = h
@@ -272,7 +272,7 @@ text_touches : (M : ℕ → ℕ → Type 0) (cs : List ℕ) (screen : ScreenValu
     ReadTouches M (terminal start screen) (encode_utf8_all cs)
 text_touches M [] screen d p top h touched = tt
 text_touches M (c ∷ cs) screen d (p, ps) top h touched =
-    let next : ScreenValue = stepped (steps.Print c) screen in
+    let next : ScreenValue = display_after (steps.Print c) screen in
     let both = unpushed_char c cs screen d h in
     let drawn_one : drawn_char c (canvas_of screen) ≡ Some (canvas_of next) =
     drawn_kept (pushes c screen.page) (canvas_of next) both.0 in

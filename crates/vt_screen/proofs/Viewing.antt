@@ -6,7 +6,7 @@ use Rattle.vt_rows.specs.Row.{RowValue, IsRow}
 use Rattle.vt_grid.specs.Scrollback.{Scrollback, IsScrollback, visible}
 use Rattle.vt_redraw.specs.Picture.{SamePictureSize, picture_over}
 use Rattle.vt_grid.specs.Page.{SameSize}
-use Rattle.vt_screen.specs.Keeping.{IsAbove, IsNothing, main_scrollback, alternate_scrollback}
+use Rattle.vt_screen.specs.Internals.{IsAbove, IsNothing, main_scrollback, alternate_scrollback}
 use Rattle.vt_screen.specs.Screen.{ScreenValue, canvas_of}
 use Rattle.vt_screen.specs.Shown.{shown}
 use Rattle.vt_screen.proofs.Asides.{visible_if}

@@ -8,14 +8,14 @@ use Rattle.std.proofs.lemmas.List.Elements.{All-take, All-weaker}
 use Rattle.vt_rows.specs.Row.{RowValue, IsRow}
 use Rattle.vt_grid.specs.Page.{Page, IsPage}
 use Rattle.vt_grid.specs.Resize.{leaving, out_of_view, page_resized, returning, scrollback_resized}
-use Rattle.vt_grid.specs.Scrollback.{Scrollback, cleared, pushed, viewed}
+use Rattle.vt_grid.specs.Scrollback.{Scrollback, cleared, pushed, with_view}
 use Rattle.vt_scan.specs.Automaton.{State, Event, Character, Executed, EscDispatch, CsiDispatch, OscDispatch}
 use Rattle.vt_scan.specs.Run.{run}
 use Rattle.vt_scan.proofs.Scalars.{IsCoded, AreCoded, coded_run}
 use Rattle.vt_screen.specs.Pages.{above_aside, fresh_page, has_size, main_page, page_aside, reset, resized}
 use Rattle.vt_screen.specs.Screen.{IsPrintable, IsScreen, ScreenValue, above_page, fresh_screen, scrolled_back}
 use Rattle.vt_screen.specs.Controls.{escape_steps, seen_of, steps_of}
-use Rattle.vt_screen.specs.Steps.{EraseScrollback, scrolled}
+use Rattle.vt_screen.specs.Steps.{EraseScrollback, screen_after}
 use Rattle.vt_screen.specs.Streamed.{HasWideFlags, ris}
 use Rattle.vt_screen.specs.Telling.{screen_in, stepped_all, steps_of_all}
 use Rattle.vt_screen.proofs.Alike.{IsWide}
@@ -97,11 +97,11 @@ wide_run scan s bytes is wide =
 pub wide_view : (n : ℕ) (s : ScreenValue) → HasWideFlags s → HasWideFlags (scrolled_back n s)
 wide_view n s wide = by s.is_alternate where
   by : (b : Bool) → HasWideFlags (if b then s
-      else record s { scrollback = viewed (length s.page.rows) s.page.width n s.scrollback })
+      else record s { scrollback = with_view (length s.page.rows) s.page.width n s.scrollback })
   by true = wide
   by false = wide_viewed (length s.page.rows) s.page.width n s.scrollback wide
 
-pub wide_cleared : (s : ScreenValue) → HasWideFlags s → HasWideFlags (scrolled EraseScrollback s)
+pub wide_cleared : (s : ScreenValue) → HasWideFlags s → HasWideFlags (screen_after EraseScrollback s)
 wide_cleared s wide = by s.is_alternate where
   by : (b : Bool) → HasWideFlags (if b then s else record s { scrollback = cleared s.scrollback })
   by true = wide

@@ -26,7 +26,7 @@ use Rattle.vt_screen.specs.Steps.{LeaveRestoring, Reset, EraseBelow, EraseAbove,
 use Rattle.vt_screen.specs.Steps.{EraseRest, EraseStart, EraseRow, EraseChars, InsertChars, DeleteChars, InsertLines}
 use Rattle.vt_screen.specs.Steps.{DeleteLines, ScrollUp, ScrollDown, Render, HideCursor, UseApplicationKeypad}
 use Rattle.vt_screen.specs.Steps.{UseApplicationCursor, UseBracketedPaste, SetMouseMode, ClearMouseMode}
-use Rattle.vt_screen.specs.Steps.{SetMouseEncoding, ClearMouseEncoding, SetCursorStyle, Tell, Step}
+use Rattle.vt_screen.specs.Steps.{SetMouseEncoding, ClearMouseEncoding, SetCursorStyle, CallBack, Step}
 
 -- what an event sees of a screen: its size, and the last character that was printed in columns of its own
 pub record Seen : Type 0 where
@@ -47,26 +47,26 @@ number_at i groups = slice_index_or (slice_index_or groups i []) 0 0
 abbrev pub number_or : ℕ → ℕ → List (List ℕ) → ℕ
 number_or default i groups = if number_at i groups == 0 then default else number_at i groups
 
-abbrev pub mark_at : ℕ → List ℕ → Option ℕ
-mark_at i marks = slice_get marks i
+abbrev pub intermediate_at : ℕ → List ℕ → Option ℕ
+intermediate_at i intermediates = slice_get intermediates i
 
 -- ---- the steps of each kind of event
 
 -- U+0080 to U+009F and U+FFFD are reported, all others are printed
 unfoldable pub character_steps : ℕ → List Step
 character_steps c =
-    if (c == 0xFFFD) || (nat_le 0x80 c && nat_le c 0x9F) then Tell (UnhandledChar c) ∷ [] else Print c ∷ []
+    if (c == 0xFFFD) || (nat_le 0x80 c && nat_le c 0x9F) then CallBack (UnhandledChar c) ∷ [] else Print c ∷ []
 
 -- BEL, BS, HT, LF, VT, FF, CR; SO and SI do nothing
 unfoldable pub control_steps : ℕ → List Step
 control_steps b =
-    if b == 0x07 then Tell AudibleBell ∷ []
+    if b == 0x07 then CallBack AudibleBell ∷ []
     else if b == 0x08 then MoveLeft 1 ∷ []
     else if b == 0x09 then Tab ∷ []
     else if nat_le 0x0A b && nat_le b 0x0C then LineFeed ∷ []
     else if b == 0x0D then CarriageReturn ∷ []
     else if (b == 0x0E) || (b == 0x0F) then []
-    else Tell (UnhandledControl b) ∷ []
+    else CallBack (UnhandledControl b) ∷ []
 
 -- DECSC, DECRC, DECKPAM, DECKPNM, RI, RIS, and the visual bell of GNU Screen
 unfoldable pub escape_steps : List ℕ → ℕ → List Step
@@ -77,15 +77,15 @@ escape_steps [] b =
     else if b == 0x3E then UseApplicationKeypad false ∷ []
     else if b == 0x4D then ReverseIndex ∷ []
     else if b == 0x63 then Reset ∷ []
-    else if b == 0x67 then Tell VisualBell ∷ []
-    else Tell (UnhandledEscape None None b) ∷ []
-escape_steps (mark ∷ marks) b = Tell (UnhandledEscape (Some mark) (mark_at 0 marks) b) ∷ []
+    else if b == 0x67 then CallBack VisualBell ∷ []
+    else CallBack (UnhandledEscape None None b) ∷ []
+escape_steps (intermediate ∷ intermediates) b = CallBack (UnhandledEscape (Some intermediate) (intermediate_at 0 intermediates) b) ∷ []
 
 -- SGR, each group with what the one before made of it
 abbrev pub reading_steps : List (List ℕ) → Reading → List Step
 reading_steps groups Silent = []
 reading_steps groups (Set setting) = Render setting ∷ []
-reading_steps groups Unhandled = Tell (UnhandledCsi None None groups 0x6D) ∷ []
+reading_steps groups Unhandled = CallBack (UnhandledCsi None None groups 0x6D) ∷ []
 
 abbrev pub sgr_from : List (List ℕ) → Wanted → List (List ℕ) → List Step
 sgr_from groups wanted [] = []
@@ -102,14 +102,14 @@ page_erasing report n =
     else if n == 1 then EraseAbove ∷ []
     else if n == 2 then ErasePage ∷ []
     else if n == 3 then EraseScrollback ∷ []
-    else Tell report ∷ []
+    else CallBack report ∷ []
 
 unfoldable pub row_erasing : CallValue → ℕ → List Step
 row_erasing report n =
     if n == 0 then EraseRest ∷ []
     else if n == 1 then EraseStart ∷ []
     else if n == 2 then EraseRow ∷ []
-    else Tell report ∷ []
+    else CallBack report ∷ []
 
 -- a size that a program asks for; the screen's own where a group is missing
 abbrev pub size_or : ℕ → ℕ → List (List ℕ) → ℕ
@@ -118,8 +118,8 @@ size_or own i groups = if nat_lt i (length groups) then number_at i groups else 
 unfoldable pub window_steps : List (List ℕ) → Seen → List Step
 window_steps groups seen =
     if number_at 0 groups == 8
-    then Tell (Resize (size_or seen.rows 1 groups) (size_or seen.columns 2 groups)) ∷ []
-    else Tell (UnhandledCsi None None groups 0x74) ∷ []
+    then CallBack (Resize (size_or seen.rows 1 groups) (size_or seen.columns 2 groups)) ∷ []
+    else CallBack (UnhandledCsi None None groups 0x74) ∷ []
 
 abbrev pub repeated : ℕ → Option ℕ → List Step
 repeated n (Some c) = replicate n (Print c)
@@ -153,7 +153,7 @@ other_steps groups b seen =
     else if b == 0x6D then sgr_steps groups
     else if b == 0x72 then SetRegion (number_or 1 0 groups - 1) (number_or seen.rows 1 groups - 1) ∷ []
     else if b == 0x74 then window_steps groups seen
-    else Tell (UnhandledCsi None None groups b) ∷ []
+    else CallBack (UnhandledCsi None None groups b) ∷ []
 
 -- those that may scroll rows off the page
 unfoldable pub scrolling_steps : List (List ℕ) → ℕ → Seen → List Step
@@ -184,7 +184,7 @@ style_of n =
 
 abbrev pub style_steps : CallValue → Option CursorStyle → List Step
 style_steps report (Some look) = SetCursorStyle look ∷ []
-style_steps report None = Tell report ∷ []
+style_steps report None = CallBack report ∷ []
 
 abbrev pub mouse_step : Bool → MouseProtocolMode → Step
 mouse_step on mode = if on then SetMouseMode mode else ClearMouseMode mode
@@ -213,12 +213,12 @@ mode_step on report n =
     else if n == 1006 then encoding_step on encoding.Sgr ∷ []
     else if n == 1049 then fresh_alternate_step on ∷ []
     else if n == 2004 then UseBracketedPaste on ∷ []
-    else Tell report ∷ []
+    else CallBack report ∷ []
 
 abbrev pub mode_steps : Bool → CallValue → List (List ℕ) → List Step
 mode_steps on report [] = []
 mode_steps on report ((n ∷ []) ∷ groups) = mode_step on report n ++ mode_steps on report groups
-mode_steps on report (_ ∷ groups) = Tell report ∷ mode_steps on report groups
+mode_steps on report (_ ∷ groups) = CallBack report ∷ mode_steps on report groups
 
 -- control sequences behind `?`
 unfoldable pub private_steps : Option ℕ → List (List ℕ) → ℕ → List Step
@@ -228,23 +228,23 @@ private_steps second groups b =
     else if b == 0x4B then row_erasing report (number_at 0 groups)
     else if b == 0x68 then mode_steps true report groups
     else if b == 0x6C then mode_steps false report groups
-    else Tell report ∷ []
+    else CallBack report ∷ []
 
 -- control sequences behind a space
 unfoldable pub space_steps : Option ℕ → List (List ℕ) → ℕ → List Step
 space_steps second groups b =
     if b == 0x71 then style_steps (UnhandledCsi (Some 0x20) second groups b) (style_of (number_at 0 groups))
-    else Tell (UnhandledCsi None None groups b) ∷ []
+    else CallBack (UnhandledCsi None None groups b) ∷ []
 
-unfoldable pub marked_steps : ℕ → Option ℕ → List (List ℕ) → ℕ → List Step
-marked_steps mark second groups b =
-    if mark == 0x3F then private_steps second groups b
-    else if mark == 0x20 then space_steps second groups b
-    else Tell (UnhandledCsi (Some mark) second groups b) ∷ []
+unfoldable pub intermediate_steps : ℕ → Option ℕ → List (List ℕ) → ℕ → List Step
+intermediate_steps intermediate second groups b =
+    if intermediate == 0x3F then private_steps second groups b
+    else if intermediate == 0x20 then space_steps second groups b
+    else CallBack (UnhandledCsi (Some intermediate) second groups b) ∷ []
 
 abbrev pub csi_steps : List (List ℕ) → List ℕ → ℕ → Seen → List Step
 csi_steps groups [] b seen = plain_steps groups b seen
-csi_steps groups (mark ∷ marks) b seen = marked_steps mark (mark_at 0 marks) groups b
+csi_steps groups (intermediate ∷ intermediates) b seen = intermediate_steps intermediate (intermediate_at 0 intermediates) groups b
 
 -- operating system commands: titles, and the clipboard (xterm's 0, 1, 2 and 52)
 abbrev pub is_clipboard_kind : List ℕ → Bool
@@ -257,27 +257,27 @@ is_base64 b =
 
 unfoldable pub named_steps : List ℕ → List ℕ → List Step
 named_steps name text =
-    if bytes_eq name (codes "0") then Tell (SetWindowIconName text) ∷ Tell (SetWindowTitle text) ∷ []
-    else if bytes_eq name (codes "1") then Tell (SetWindowIconName text) ∷ []
-    else if bytes_eq name (codes "2") then Tell (SetWindowTitle text) ∷ []
-    else Tell (UnhandledOsc (name ∷ text ∷ [])) ∷ []
+    if bytes_eq name (codes "0") then CallBack (SetWindowIconName text) ∷ CallBack (SetWindowTitle text) ∷ []
+    else if bytes_eq name (codes "1") then CallBack (SetWindowIconName text) ∷ []
+    else if bytes_eq name (codes "2") then CallBack (SetWindowTitle text) ∷ []
+    else CallBack (UnhandledOsc (name ∷ text ∷ [])) ∷ []
 
 unfoldable pub clipboard_steps : List ℕ → List ℕ → List ℕ → List Step
 clipboard_steps name kind text =
     let is_known = bytes_eq name (codes "52") && is_clipboard_kind kind in
-    if is_known && bytes_eq text (codes "?") then Tell (PasteFromClipboard kind) ∷ []
-    else if is_known && list_all is_base64 text then Tell (CopyToClipboard kind text) ∷ []
-    else Tell (UnhandledOsc (name ∷ kind ∷ text ∷ [])) ∷ []
+    if is_known && bytes_eq text (codes "?") then CallBack (PasteFromClipboard kind) ∷ []
+    else if is_known && list_all is_base64 text then CallBack (CopyToClipboard kind text) ∷ []
+    else CallBack (UnhandledOsc (name ∷ kind ∷ text ∷ [])) ∷ []
 
 abbrev pub osc_steps : List (List ℕ) → List Step
 osc_steps (name ∷ text ∷ []) = named_steps name text
 osc_steps (name ∷ kind ∷ text ∷ []) = clipboard_steps name kind text
-osc_steps parts = Tell (UnhandledOsc parts) ∷ []
+osc_steps parts = CallBack (UnhandledOsc parts) ∷ []
 
 -- the steps of an event
 abbrev pub steps_of : Event → Seen → List Step
 steps_of (Character c) seen = character_steps c
 steps_of (Executed b) seen = control_steps b
-steps_of (EscDispatch marks b) seen = escape_steps marks b
-steps_of (CsiDispatch groups marks b) seen = csi_steps groups marks b seen
+steps_of (EscDispatch intermediates b) seen = escape_steps intermediates b
+steps_of (CsiDispatch groups intermediates b) seen = csi_steps groups intermediates b seen
 steps_of (OscDispatch parts) seen = osc_steps parts

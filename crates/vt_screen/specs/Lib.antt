@@ -14,7 +14,7 @@ pub mod RowsShown
 pub mod Touched
 pub mod Chain
 pub mod Reports
-pub mod Keeping
+pub mod Internals
 pub mod Telling
 pub mod Selectors
 pub mod Contents

@@ -6,7 +6,7 @@ use Rattle.vt_grid.specs.Printing.{pushes}
 use Rattle.vt_screen.specs.Screen.{ScreenValue}
 use Rattle.vt_screen.specs.Controls.{seen_of, steps_of}
 use Rattle.vt_screen.specs.Steps.{Step, Print, LineFeed, ScrollUp, EraseScrollback}
-use Rattle.vt_screen.specs.Steps.{EnterAlternate, EnterFresh, Tell, stepped}
+use Rattle.vt_screen.specs.Steps.{EnterAlternate, EnterFresh, CallBack, display_after}
 use Rattle.vt_scan.specs.Automaton.{State, Event, step_in}
 use Rattle.vt_scan.specs.Table.{class_of, turn_of}
 use Rattle.vt_scan.specs.declared.table.Kind.TheVariants.{OscString}
@@ -15,14 +15,14 @@ use Rattle.vt_scan.specs.declared.table.Turn.TheVariants.{Collect}
 
 -- a step that calls nobody, takes no memory and gives up no scrollback to be told of
 abbrev pub quiet_step : Step → ScreenValue → Option ScreenValue
-quiet_step (Print c) screen = if pushes c screen.page then None else Some (stepped (Print c) screen)
-quiet_step LineFeed screen = if feeds_out screen.page then None else Some (stepped LineFeed screen)
-quiet_step (ScrollUp count) screen = if screen.page.top == 0 then None else Some (stepped (ScrollUp count) screen)
+quiet_step (Print c) screen = if pushes c screen.page then None else Some (display_after (Print c) screen)
+quiet_step LineFeed screen = if feeds_out screen.page then None else Some (display_after LineFeed screen)
+quiet_step (ScrollUp count) screen = if screen.page.top == 0 then None else Some (display_after (ScrollUp count) screen)
 quiet_step EraseScrollback screen = None
-quiet_step EnterAlternate screen = if is_some screen.other then Some (stepped EnterAlternate screen) else None
-quiet_step EnterFresh screen = if is_some screen.other then Some (stepped EnterFresh screen) else None
-quiet_step (Tell call) screen = None
-quiet_step step screen = Some (stepped step screen)
+quiet_step EnterAlternate screen = if is_some screen.other then Some (display_after EnterAlternate screen) else None
+quiet_step EnterFresh screen = if is_some screen.other then Some (display_after EnterFresh screen) else None
+quiet_step (CallBack call) screen = None
+quiet_step step screen = Some (display_after step screen)
 
 abbrev pub quiet_steps : List Step → ScreenValue → Option ScreenValue
 quiet_steps [] screen = Some screen

@@ -2,7 +2,7 @@
 use Rattle.std.specs.Prelude.{◌≡◌}
 use Rattle.vt_rows.specs.Row.{RowValue}
 use Rattle.vt_screen.specs.Calls.{CallValue}
-use Rattle.vt_screen.specs.Run.{Hears}
+use Rattle.vt_screen.specs.Run.{CalledOnScroll}
 use Rattle.vt_screen.specs.Screen.{ScreenValue}
 use Rattle.vt_screen.specs.declared.reporter.Reporter.{Reporter}
 
@@ -11,4 +11,4 @@ abbrev pub Reports : {S : Type 0} → (CallValue → S → ScreenValue → S →
     Reporter S → RowValue → Reporter S → Type 0
 Reports does old row new =
     (new.callbacks.ghost_name ≡ old.callbacks.ghost_name)
-    × ((new.alternate ≡ old.alternate) × Hears does old.alternate old.callbacks.now row new.callbacks.now)
+    × ((new.alternate ≡ old.alternate) × CalledOnScroll does old.alternate old.callbacks.now row new.callbacks.now)

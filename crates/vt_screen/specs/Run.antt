@@ -7,7 +7,7 @@ use Rattle.vt_screen.specs.Calls.{CallValue, OnScroll}
 use Rattle.vt_screen.specs.Screen.{ScreenValue}
 use Rattle.vt_screen.specs.Controls.{seen_of, steps_of}
 use Rattle.vt_screen.specs.Steps.{Step, Print, LineFeed, ScrollUp, EraseScrollback}
-use Rattle.vt_screen.specs.Steps.{Tell, Grows, reports, scrolled, stepped}
+use Rattle.vt_screen.specs.Steps.{CallBack, Grows, reports, screen_after, display_after}
 
 -- what steps act on: callbacks of any kind, and the screen
 pub record State (S : Type 0) : Type 0 where
@@ -18,30 +18,30 @@ abbrev pub state : {S : Type 0} → S → ScreenValue → State S
 state callbacks screen = record { callbacks = callbacks; screen = screen }
 
 -- a call that is lent no screen: whatever screen there is stays
-abbrev pub Told : {S : Type 0} → (CallValue → S → ScreenValue → S → ScreenValue → Type 0) → S → CallValue → S → Type 0
-Told does old call new = (screen : ScreenValue) → does call old screen new screen
+abbrev pub CalledOnAnyScreen : {S : Type 0} → (CallValue → S → ScreenValue → S → ScreenValue → Type 0) → S → CallValue → S → Type 0
+CalledOnAnyScreen does old call new = (screen : ScreenValue) → does call old screen new screen
 
 -- a row is reported
-abbrev pub Hears : {S : Type 0} → (CallValue → S → ScreenValue → S → ScreenValue → Type 0) →
+abbrev pub CalledOnScroll : {S : Type 0} → (CallValue → S → ScreenValue → S → ScreenValue → Type 0) →
     (alternate : Bool) → S → RowValue → S → Type 0
-Hears does alternate old row new = Told does old (OnScroll row alternate) new
+CalledOnScroll does alternate old row new = CalledOnAnyScreen does old (OnScroll row alternate) new
 
 -- a step that may send rows off the page: first its rows are reported, one by one
 pub record Scrolls {S : Type 0} (does : CallValue → S → ScreenValue → S → ScreenValue → Type 0)
     (a : State S) (step : Step) (b : State S) : Type 0 where
-  pub screen : b.screen ≡ scrolled step a.screen
-  pub heard : FoldsTo (Hears does a.screen.is_alternate) a.callbacks (reports step a.screen) b.callbacks
+  pub screen : b.screen ≡ screen_after step a.screen
+  pub heard : FoldsTo (CalledOnScroll does a.screen.is_alternate) a.callbacks (reports step a.screen) b.callbacks
 
 -- a step: a callback does what its relation says, a scroll reports what it doesn't keep,
 -- any other step changes the screen alone
 abbrev pub Takes : {S : Type 0} → (CallValue → S → ScreenValue → S → ScreenValue → Type 0) →
     State S → Step → State S → Type 0
-Takes does a (Tell call) b = does call a.callbacks a.screen b.callbacks b.screen
+Takes does a (CallBack call) b = does call a.callbacks a.screen b.callbacks b.screen
 Takes does a (Print c) b = Scrolls does a (Print c) b
 Takes does a LineFeed b = Scrolls does a LineFeed b
 Takes does a (ScrollUp count) b = Scrolls does a (ScrollUp count) b
 Takes does a EraseScrollback b = Scrolls does a EraseScrollback b
-Takes does a step b = b ≡ state a.callbacks (stepped step a.screen)
+Takes does a step b = b ≡ state a.callbacks (display_after step a.screen)
 
 -- an event: its steps one after the other, as the event meets the screen
 abbrev pub Performs : {S : Type 0} → (CallValue → S → ScreenValue → S → ScreenValue → Type 0) →

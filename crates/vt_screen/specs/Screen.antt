@@ -12,7 +12,7 @@ use Rattle.vt_rows.specs.Row.{RowValue}
 use Rattle.vt_grid.specs.Page.{Page, IsPage, blank_page, row_or}
 use Rattle.vt_grid.specs.Page.{SameSize}
 use Rattle.vt_grid.specs.Canvas.{Canvas}
-use Rattle.vt_grid.specs.Scrollback.{Scrollback, IsScrollback, no_scrollback, viewed, visible}
+use Rattle.vt_grid.specs.Scrollback.{Scrollback, IsScrollback, no_scrollback, with_view, visible}
 pub use Rattle.vt_screen.specs.declared.modes.Modes.{Modes}
 
 pub record ScreenValue : Type 0 where
@@ -80,7 +80,7 @@ visible_row screen r = row_or screen.page.width (visible_rows screen) r
 abbrev pub scrolled_back : ℕ → ScreenValue → ScreenValue
 scrolled_back n screen =
     if screen.is_alternate then screen
-    else record screen { scrollback = viewed (length screen.page.rows) screen.page.width n screen.scrollback }
+    else record screen { scrollback = with_view (length screen.page.rows) screen.page.width n screen.scrollback }
 
 -- a character that is printed: a code point, and not U+FFFD, which is reported
 abbrev pub IsPrintable : ℕ → Type 0

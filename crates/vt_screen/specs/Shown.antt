@@ -64,8 +64,8 @@ pub record IsReaderOfRows (picture : Picture) (reader : ScreenValue) : Type 0 wh
 
 -- ---- what a text makes of them
 
--- a terminal in the midst of nothing reads the text to its end: it calls nobody, takes no memory, pushes no row off its
--- page, and is in the midst of nothing again
+-- a terminal in ground state reads the text to its end: it calls nobody, takes no memory, pushes no row off its
+-- page, and is in ground state again
 abbrev pub ReadsTo : List ℕ → (reader after : ScreenValue) → Type 0
 ReadsTo text reader after = read (terminal start reader) text ≡ Some (terminal start after)
 
@@ -124,6 +124,6 @@ StaysPlain reader after = IsPlain after
 abbrev pub attributes_text : Attrs → List ℕ
 attributes_text attrs = bytes_of_all (ClearAttrs ∷ ChangeAttrs default_attrs attrs ∷ [])
 
--- a text that sets these attributes on every terminal in the midst of nothing, and nothing else
+-- a text that sets these attributes on every terminal in ground state, and nothing else
 abbrev pub SetsAttrs : Attrs → List ℕ → Type 0
 SetsAttrs attrs text = (reader : ScreenValue) → ReadsTo text reader (record reader { attrs = attrs })

@@ -15,7 +15,7 @@ pub record HasDefaultMouseAndStyle (modes : Modes) : Type 0 where
   pub mouse_encoding : modes.mouse_encoding ≡ no_modes.mouse_encoding
   pub cursor_style : modes.cursor_style ≡ no_modes.cursor_style
 
--- a text that gives these modes to every terminal in the midst of nothing that has had such ones, and changes nothing
+-- a text that gives these modes to every terminal in ground state that has had such ones, and changes nothing
 -- else
 abbrev pub SetsModes : (Modes → Type 0) → Modes → List ℕ → Type 0
 SetsModes Had modes text =

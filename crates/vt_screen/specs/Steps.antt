@@ -79,9 +79,9 @@ pub data Step : Type 0 where
   ClearMouseEncoding : MouseProtocolEncoding → Step
   SetCursorStyle : CursorStyle → Step
   -- a callback
-  Tell : CallValue → Step
+  CallBack : CallValue → Step
 
--- ---- what a step makes of the screen, but for scrollback that takes over rows or is given up; `scrolled` is the whole
+-- ---- what a step makes of the screen, but for scrollback that takes over rows or is given up; `screen_after` is the whole
 
 -- a character that takes columns, and fits the page, is the last one from now on
 abbrev pub becomes_last : ScreenValue → Option ℕ → Bool
@@ -116,57 +116,57 @@ abbrev pub with_modes : (Modes → Modes) → ScreenValue → ScreenValue
 with_modes f screen = record screen { modes = f (screen.modes) }
 
 -- a step that is no callback
-abbrev pub stepped : Step → ScreenValue → ScreenValue
-stepped (Print c) screen = record screen { page = printed c screen.attrs screen.page; last = last_after c screen }
-stepped CarriageReturn screen = with_page (carriage_return screen.page) screen
-stepped LineFeed screen = with_page (line_feed screen.page) screen
-stepped ReverseIndex screen = with_page (reverse_index screen.page) screen
-stepped (MoveUp count) screen = with_page (moved_up count screen.page) screen
-stepped (MoveDown count) screen = with_page (moved_down count screen.page) screen
-stepped (MoveRight count) screen = with_page (moved_right count screen.page) screen
-stepped (MoveLeft count) screen = with_page (moved_left count screen.page) screen
-stepped (NextLine count) screen = with_page (next_line count screen.page) screen
-stepped (PreviousLine count) screen = with_page (previous_line count screen.page) screen
-stepped Tab screen = with_page (tabbed screen.page) screen
-stepped (MoveTo row col) screen = with_page (moved_to row col screen.page) screen
-stepped (MoveToColumn col) screen = with_page (moved_to_column col screen.page) screen
-stepped (MoveToRow row) screen = with_page (moved_to_row row screen.page) screen
-stepped (SetRegion top bottom) screen = with_page (region_set top bottom screen.page) screen
-stepped (UseOrigin on) screen = with_page (origin_set on screen.page) screen
-stepped SaveCursor screen = saved screen
-stepped RestoreCursor screen = restored screen
-stepped EnterAlternate screen = entered screen
-stepped EnterFresh screen = entered_fresh screen
-stepped LeaveAlternate screen = left screen
-stepped LeaveRestoring screen = left_restored screen
-stepped Reset screen = reset screen
-stepped EraseBelow screen = with_page (erased_below screen.attrs screen.page) screen
-stepped EraseAbove screen = with_page (erased_above screen.attrs screen.page) screen
-stepped ErasePage screen = with_page (erased_page screen.attrs screen.page) screen
-stepped EraseScrollback screen = screen
-stepped EraseRest screen = with_page (erased_rest screen.attrs screen.page) screen
-stepped EraseStart screen = with_page (erased_start screen.attrs screen.page) screen
-stepped EraseRow screen = with_page (erased_row screen.attrs screen.page) screen
-stepped (EraseChars count) screen = with_page (erased_chars count screen.attrs screen.page) screen
-stepped (InsertChars count) screen = with_page (chars_inserted count screen.page) screen
-stepped (DeleteChars count) screen = with_page (chars_deleted count screen.page) screen
-stepped (InsertLines count) screen = with_page (lines_inserted count screen.page) screen
-stepped (DeleteLines count) screen = with_page (lines_deleted count screen.page) screen
-stepped (ScrollUp count) screen = with_page (scrolled_up count screen.page) screen
-stepped (ScrollDown count) screen = with_page (scrolled_down count screen.page) screen
-stepped (Render setting) screen = record screen { attrs = rendered setting screen.attrs }
-stepped (HideCursor hidden) screen = record screen { hidden = hidden }
-stepped (UseApplicationKeypad on) screen = with_modes (λ modes. record modes { application_keypad = on }) screen
-stepped (UseApplicationCursor on) screen = with_modes (λ modes. record modes { application_cursor = on }) screen
-stepped (UseBracketedPaste on) screen = with_modes (λ modes. record modes { bracketed_paste = on }) screen
-stepped (SetMouseMode mode) screen = with_modes (λ modes. record modes { mouse_mode = mode }) screen
-stepped (ClearMouseMode mode) screen =
+abbrev pub display_after : Step → ScreenValue → ScreenValue
+display_after (Print c) screen = record screen { page = printed c screen.attrs screen.page; last = last_after c screen }
+display_after CarriageReturn screen = with_page (carriage_return screen.page) screen
+display_after LineFeed screen = with_page (line_feed screen.page) screen
+display_after ReverseIndex screen = with_page (reverse_index screen.page) screen
+display_after (MoveUp count) screen = with_page (moved_up count screen.page) screen
+display_after (MoveDown count) screen = with_page (moved_down count screen.page) screen
+display_after (MoveRight count) screen = with_page (moved_right count screen.page) screen
+display_after (MoveLeft count) screen = with_page (moved_left count screen.page) screen
+display_after (NextLine count) screen = with_page (next_line count screen.page) screen
+display_after (PreviousLine count) screen = with_page (previous_line count screen.page) screen
+display_after Tab screen = with_page (tabbed screen.page) screen
+display_after (MoveTo row col) screen = with_page (moved_to row col screen.page) screen
+display_after (MoveToColumn col) screen = with_page (moved_to_column col screen.page) screen
+display_after (MoveToRow row) screen = with_page (moved_to_row row screen.page) screen
+display_after (SetRegion top bottom) screen = with_page (region_set top bottom screen.page) screen
+display_after (UseOrigin on) screen = with_page (origin_set on screen.page) screen
+display_after SaveCursor screen = saved screen
+display_after RestoreCursor screen = restored screen
+display_after EnterAlternate screen = entered screen
+display_after EnterFresh screen = entered_fresh screen
+display_after LeaveAlternate screen = left screen
+display_after LeaveRestoring screen = left_restored screen
+display_after Reset screen = reset screen
+display_after EraseBelow screen = with_page (erased_below screen.attrs screen.page) screen
+display_after EraseAbove screen = with_page (erased_above screen.attrs screen.page) screen
+display_after ErasePage screen = with_page (erased_page screen.attrs screen.page) screen
+display_after EraseScrollback screen = screen
+display_after EraseRest screen = with_page (erased_rest screen.attrs screen.page) screen
+display_after EraseStart screen = with_page (erased_start screen.attrs screen.page) screen
+display_after EraseRow screen = with_page (erased_row screen.attrs screen.page) screen
+display_after (EraseChars count) screen = with_page (erased_chars count screen.attrs screen.page) screen
+display_after (InsertChars count) screen = with_page (chars_inserted count screen.page) screen
+display_after (DeleteChars count) screen = with_page (chars_deleted count screen.page) screen
+display_after (InsertLines count) screen = with_page (lines_inserted count screen.page) screen
+display_after (DeleteLines count) screen = with_page (lines_deleted count screen.page) screen
+display_after (ScrollUp count) screen = with_page (scrolled_up count screen.page) screen
+display_after (ScrollDown count) screen = with_page (scrolled_down count screen.page) screen
+display_after (Render setting) screen = record screen { attrs = rendered setting screen.attrs }
+display_after (HideCursor hidden) screen = record screen { hidden = hidden }
+display_after (UseApplicationKeypad on) screen = with_modes (λ modes. record modes { application_keypad = on }) screen
+display_after (UseApplicationCursor on) screen = with_modes (λ modes. record modes { application_cursor = on }) screen
+display_after (UseBracketedPaste on) screen = with_modes (λ modes. record modes { bracketed_paste = on }) screen
+display_after (SetMouseMode mode) screen = with_modes (λ modes. record modes { mouse_mode = mode }) screen
+display_after (ClearMouseMode mode) screen =
     with_modes (λ modes. record modes { mouse_mode = mouse_mode_without modes.mouse_mode mode }) screen
-stepped (SetMouseEncoding form) screen = with_modes (λ modes. record modes { mouse_encoding = form }) screen
-stepped (ClearMouseEncoding form) screen =
+display_after (SetMouseEncoding form) screen = with_modes (λ modes. record modes { mouse_encoding = form }) screen
+display_after (ClearMouseEncoding form) screen =
     with_modes (λ modes. record modes { mouse_encoding = mouse_encoding_without modes.mouse_encoding form }) screen
-stepped (SetCursorStyle look) screen = with_modes (λ modes. record modes { cursor_style = look }) screen
-stepped (Tell call) screen = screen
+display_after (SetCursorStyle look) screen = with_modes (λ modes. record modes { cursor_style = look }) screen
+display_after (CallBack call) screen = screen
 
 -- ---- the rows that a step sends off the page
 
@@ -180,18 +180,18 @@ outgoing _ screen = []
 -- the screen after a step that may send rows off the main page, to scrollback
 abbrev pub sent : Step → ScreenValue → ScreenValue
 sent step screen =
-    if screen.is_alternate then stepped step screen
-    else record (stepped step screen)
+    if screen.is_alternate then display_after step screen
+    else record (display_after step screen)
     { scrollback = pushed (length screen.page.rows) screen.page.width (outgoing step screen) screen.scrollback }
 
 -- the screen after a step
-abbrev pub scrolled : Step → ScreenValue → ScreenValue
-scrolled (Print c) screen = sent (Print c) screen
-scrolled LineFeed screen = sent LineFeed screen
-scrolled (ScrollUp count) screen = sent (ScrollUp count) screen
-scrolled EraseScrollback screen =
+abbrev pub screen_after : Step → ScreenValue → ScreenValue
+screen_after (Print c) screen = sent (Print c) screen
+screen_after LineFeed screen = sent LineFeed screen
+screen_after (ScrollUp count) screen = sent (ScrollUp count) screen
+screen_after EraseScrollback screen =
     if screen.is_alternate then screen else record screen { scrollback = cleared screen.scrollback }
-scrolled step screen = stepped step screen
+screen_after step screen = display_after step screen
 
 -- the rows that are reported, older first: those that aren't kept
 abbrev pub reports : Step → ScreenValue → List RowValue

@@ -9,12 +9,12 @@ use Rattle.vt_scan.specs.Run.{run}
 use Rattle.vt_screen.specs.Calls.{CallValue, OnScroll}
 use Rattle.vt_screen.specs.Capture.{all_rows, basic_texts, written_after_all}
 use Rattle.vt_screen.specs.Screen.{ScreenValue}
-use Rattle.vt_screen.specs.Steps.{Step, outgoing, scrolled}
+use Rattle.vt_screen.specs.Steps.{Step, outgoing, screen_after}
 use Rattle.vt_screen.specs.Telling.{steps_in}
 
 -- the same rows, but for default blanks at their ends: one flag, and cells that are equal without these
-abbrev pub AreAlike : List RowValue → List RowValue → Type 0
-AreAlike rows others = map trimmed_row rows ≡ map trimmed_row others
+abbrev pub AreSameTrimmed : List RowValue → List RowValue → Type 0
+AreSameTrimmed rows others = map trimmed_row rows ≡ map trimmed_row others
 
 -- ---- what is told
 
@@ -35,7 +35,7 @@ sent_off step screen = if screen.is_alternate then [] else outgoing step screen
 
 abbrev pub sent_off_all : List Step → ScreenValue → List RowValue
 sent_off_all [] screen = []
-sent_off_all (step ∷ steps) screen = sent_off step screen ++ sent_off_all steps (scrolled step screen)
+sent_off_all (step ∷ steps) screen = sent_off step screen ++ sent_off_all steps (screen_after step screen)
 
 -- those of a run over bytes
 abbrev pub sent_off_in : State → ScreenValue → List ℕ → List RowValue
@@ -58,8 +58,8 @@ HasWideFlags screen = All (λ row. row.wrapped ≡ true → screen.page.width �
 -- ---- but for scrollback
 
 -- a screen without its scrollback and its capacity
-abbrev pub bare : ScreenValue → ScreenValue
-bare screen = record screen { scrollback = no_scrollback 0 }
+abbrev pub without_scrollback : ScreenValue → ScreenValue
+without_scrollback screen = record screen { scrollback = no_scrollback 0 }
 
 -- ---- captures
 

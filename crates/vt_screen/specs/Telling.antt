@@ -6,7 +6,7 @@ use Rattle.vt_scan.specs.Run.{run}
 use Rattle.vt_screen.specs.Calls.{CallValue, OnScroll}
 use Rattle.vt_screen.specs.Screen.{ScreenValue}
 use Rattle.vt_screen.specs.Controls.{seen_of, steps_of}
-use Rattle.vt_screen.specs.Steps.{Step, Tell, reports, scrolled}
+use Rattle.vt_screen.specs.Steps.{Step, CallBack, reports, screen_after}
 
 -- callbacks that leave the screen alone
 abbrev pub LeavesScreen : {S : Type 0} → (CallValue → S → ScreenValue → S → ScreenValue → Type 0) → Type 0
@@ -14,23 +14,23 @@ LeavesScreen {S} does =
     (call : CallValue) → (old new : S) → (before after : ScreenValue) → does call old before new after → after ≡ before
 
 -- such callbacks hear of a call, while there is some screen
-abbrev pub Heard : {S : Type 0} → (CallValue → S → ScreenValue → S → ScreenValue → Type 0) → S → CallValue → S → Type 0
-Heard does old call new = (screen : ScreenValue) × does call old screen new screen
+abbrev pub CalledOnSomeScreen : {S : Type 0} → (CallValue → S → ScreenValue → S → ScreenValue → Type 0) → S → CallValue → S → Type 0
+CalledOnSomeScreen does old call new = (screen : ScreenValue) × does call old screen new screen
 
 -- the calls that a step makes, in order: its own, or a report of each row that leaves and isn't kept
 abbrev pub calls_of : Step → ScreenValue → List CallValue
-calls_of (Tell call) screen = call ∷ []
+calls_of (CallBack call) screen = call ∷ []
 calls_of step screen = map (λ row. OnScroll row screen.is_alternate) (reports step screen)
 
 -- the calls that steps make, one after the other
 abbrev pub calls_of_all : List Step → ScreenValue → List CallValue
 calls_of_all [] screen = []
-calls_of_all (step ∷ steps) screen = calls_of step screen ++ calls_of_all steps (scrolled step screen)
+calls_of_all (step ∷ steps) screen = calls_of step screen ++ calls_of_all steps (screen_after step screen)
 
 -- the screen after steps
 abbrev pub stepped_all : List Step → ScreenValue → ScreenValue
 stepped_all [] screen = screen
-stepped_all (step ∷ steps) screen = stepped_all steps (scrolled step screen)
+stepped_all (step ∷ steps) screen = stepped_all steps (screen_after step screen)
 
 -- the steps of events, each event as it meets the screen
 abbrev pub steps_of_all : List Event → ScreenValue → List Step

@@ -90,6 +90,6 @@ ReadTouches May t (b ∷ bytes) =
     EventsTouch May (step_in t.scan.kind t.scan.collected b).events t.screen
     × ((u : Terminal) → read_byte t b ≡ Some u → ReadTouches May u bytes)
 
--- every such terminal, in the midst of nothing, touches by reading the text only positions of which `May` holds
+-- every such terminal, in ground state, touches by reading the text only positions of which `May` holds
 abbrev pub TouchesOnly : (ScreenValue → Type 0) → List ℕ → (ℕ → ℕ → Type 0) → Type 0
 TouchesOnly Reader text May = (reader : ScreenValue) → Reader reader → ReadTouches May (terminal start reader) text

@@ -16,8 +16,8 @@ ghost use Rattle.vt_screen.specs.Pages.{resized};
 ghost use Rattle.vt_screen.specs.Screen.{IsScreen, ScreenValue, fresh_screen, scrolled_back, visible_row, visible_rows};
 ghost use Rattle.vt_screen.specs.Selectors.{HasNoSelectors};
 ghost use Rattle.vt_screen.specs.Shown.{ShowSamePage, ShowsNoSelector, ShowsOwnPage, shown};
-ghost use Rattle.vt_screen.specs.Steps.{EraseScrollback, scrolled};
-ghost use Rattle.vt_screen.specs.Streamed.{AreAlike, HasNoRis, HasWideFlags, bare, rows_told, sent_off_in};
+ghost use Rattle.vt_screen.specs.Steps.{EraseScrollback, screen_after};
+ghost use Rattle.vt_screen.specs.Streamed.{AreSameTrimmed, HasNoRis, HasWideFlags, without_scrollback, rows_told, sent_off_in};
 ghost use Rattle.vt_screen.specs.Telling.{calls_in, screen_in};
 
 /// What a screen shows is a picture of the screen's size, and screens are of one
@@ -103,12 +103,12 @@ pub fn fresh_capture()
 pub fn streams()
     ensures kept { (scan : State) (screen : ScreenValue) (bytes : List ℕ) → IsScreen screen → HasWideFlags screen →
         HasNoRis scan bytes →
-        AreAlike (rows_told (calls_in scan screen bytes) ++ (screen_in scan screen bytes).scrollback.rows)
+        AreSameTrimmed (rows_told (calls_in scan screen bytes) ++ (screen_in scan screen bytes).scrollback.rows)
         (screen.scrollback.rows ++ sent_off_in scan screen bytes) }
     ensures sent { (scan : State) (screen other : ScreenValue) (bytes : List ℕ) →
-        bare screen ≡ bare other → sent_off_in scan screen bytes ≡ sent_off_in scan other bytes }
+        without_scrollback screen ≡ without_scrollback other → sent_off_in scan screen bytes ≡ sent_off_in scan other bytes }
     ensures rest { (scan : State) (screen other : ScreenValue) (bytes : List ℕ) →
-        bare screen ≡ bare other → bare (screen_in scan screen bytes) ≡ bare (screen_in scan other bytes) }
+        without_scrollback screen ≡ without_scrollback other → without_scrollback (screen_in scan screen bytes) ≡ without_scrollback (screen_in scan other bytes) }
 {}
 
 /// Rows of scrollback whose text goes on below are at least as wide as the
@@ -126,7 +126,7 @@ pub fn wide_flags()
     ensures run { (scan : State) (screen : ScreenValue) (bytes : List ℕ) → IsScreen screen →
         HasWideFlags screen → HasWideFlags (screen_in scan screen bytes) }
     ensures view { (rows : ℕ) (screen : ScreenValue) → HasWideFlags screen → HasWideFlags (scrolled_back rows screen) }
-    ensures cleared { (screen : ScreenValue) → HasWideFlags screen → HasWideFlags (scrolled EraseScrollback screen) }
+    ensures cleared { (screen : ScreenValue) → HasWideFlags screen → HasWideFlags (screen_after EraseScrollback screen) }
     ensures resized { (rows cols : ℕ) (screen : ScreenValue) → IsScreen screen → cols ≤ screen.page.width →
         HasWideFlags screen → HasWideFlags (resized rows cols screen) }
 {}

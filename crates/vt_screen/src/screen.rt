@@ -48,7 +48,7 @@ pub struct Screen {
 }
 
 impl Model for Screen {
-    ghost use Rattle.vt_screen.specs.Keeping.{IsKept, main_scrollback};
+    ghost use Rattle.vt_screen.specs.Internals.{IsKept, main_scrollback};
     ghost use Rattle.vt_screen.specs.Screen.{ScreenValue};
 
     ghost Value = { ScreenValue };

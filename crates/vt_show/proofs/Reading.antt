@@ -16,7 +16,7 @@ use Rattle.std.specs.Io.KnownBytes.{Appends, Consumes, IsAtEnd}
 use Rattle.vt100.specs.Parser.{Parsing, Ran, parsing, quietly}
 use Rattle.vt100.proofs.Running.{ran_then}
 use Rattle.vt_show.specs.Arguments.{AskFor, AsksToShow}
-use Rattle.vt_show.specs.Keeping.{ReadSoFar}
+use Rattle.vt_show.specs.Internals.{ReadSoFar}
 use Rattle.vt_show.specs.Shown.{Writes, screen_text}
 
 pub read_none : (a : Option (List ℕ)) (p : Parsing (Unit {0})) → ReadSoFar a a p p

@@ -1,4 +1,4 @@
 pub mod Endings
 pub mod Arguments
 pub mod Shown
-pub mod Keeping
+pub mod Internals

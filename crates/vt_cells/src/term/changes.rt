@@ -3,7 +3,7 @@
 ghost use Rattle.std.specs.Prelude.{◌≡◌, ◌++◌, ◌<◌, ◌≤◌, length, OnErr, OnOk};
 ghost use Rattle.vt_cells.specs.Op as op;
 ghost use Rattle.vt_cells.specs.Op.{bytes_of, change_numbers, change_text, csi, joined};
-ghost use Rattle.vt_cells.specs.PieceKeeping.{gathered};
+ghost use Rattle.vt_cells.specs.PieceInternals.{gathered};
 ghost use Rattle.vt_cells.specs.Sinks.{IsStopped};
 
 use crate::attrs::Attrs;

@@ -3,7 +3,7 @@
 ghost use Rattle.std.specs.Prelude.{◌≡◌, ◌+◌, ◌≤◌, ◌<◌, ℕ, List, [], ◌∷◌, ◌++◌};
 ghost use Rattle.std.specs.Prelude.{decimal, flat_map, length, if◌then◌else◌};
 ghost use Rattle.vt_cells.specs.Attrs.{same_bool, same_color, same_intensity};
-ghost use Rattle.vt_cells.specs.ChangeKeeping.{separated, separated_all, style_part, without_separator};
+ghost use Rattle.vt_cells.specs.ChangeInternals.{separated, separated_all, style_part, without_separator};
 ghost use Rattle.vt_cells.specs.Op.{background_numbers, change_numbers, csi};
 ghost use Rattle.vt_cells.specs.Op.{foreground_numbers, intensity_number, joined, part};
 
@@ -27,7 +27,7 @@ pub struct ChangeText {
 
 impl Model for ChangeText {
     ghost use Rattle.std.specs.Prelude.{ℕ, List, drop};
-    ghost use Rattle.vt_cells.specs.ChangeKeeping.{IsEnd};
+    ghost use Rattle.vt_cells.specs.ChangeInternals.{IsEnd};
 
     ghost Value = { List ℕ };
 

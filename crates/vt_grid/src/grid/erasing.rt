@@ -16,7 +16,7 @@ impl Grid {
     {
         let end = self.pos.col.saturating_add(count).min(self.size.cols);
         if self.pos.col < end {
-            self.sheet.erase(self.pos.row, self.pos.col, end, attrs);
+            self.page_rows.erase(self.pos.row, self.pos.col, end, attrs);
         }
     }
 
@@ -26,7 +26,7 @@ impl Grid {
         ensures { self.new ≡ erased_rest attrs self.old }
     {
         if self.pos.col < self.size.cols {
-            self.sheet
+            self.page_rows
                 .erase(self.pos.row, self.pos.col, self.size.cols, attrs);
         }
     }
@@ -38,7 +38,7 @@ impl Grid {
         ensures { self.new ≡ erased_start attrs self.old }
     {
         let end = self.pos.col.saturating_add(1).min(self.size.cols);
-        self.sheet.erase(self.pos.row, 0, end, attrs);
+        self.page_rows.erase(self.pos.row, 0, end, attrs);
     }
 
     /// Makes the cursor's row blank (EL 2).
@@ -46,7 +46,7 @@ impl Grid {
     pub fn erase_row(&mut self, attrs: Attrs)
         ensures { self.new ≡ erased_row attrs self.old }
     {
-        self.sheet.clear_row(usize::from(self.pos.row), attrs);
+        self.page_rows.clear_row(usize::from(self.pos.row), attrs);
     }
 
     /// Makes the page blank from the cursor on (ED 0); at a pending wrap the
@@ -56,7 +56,7 @@ impl Grid {
         ensures { self.new ≡ erased_below attrs self.old }
     {
         self.erase_row_forward(attrs);
-        self.sheet.clear_below(self.pos.row, attrs);
+        self.page_rows.clear_below(self.pos.row, attrs);
     }
 
     /// Makes the page blank from its begin through the cursor, or through the
@@ -66,13 +66,13 @@ impl Grid {
         ensures { self.new ≡ erased_above attrs self.old }
     {
         self.erase_row_backward(attrs);
-        self.sheet.clear_above(self.pos.row, attrs);
+        self.page_rows.clear_above(self.pos.row, attrs);
     }
 
     /// Makes the whole page blank (ED 2).
     pub fn erase_all(&mut self, attrs: Attrs)
         ensures { self.new ≡ erased_page attrs self.old }
     {
-        self.sheet.clear_all(attrs);
+        self.page_rows.clear_all(attrs);
     }
 }

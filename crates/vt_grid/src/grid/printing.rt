@@ -7,7 +7,7 @@ ghost use Rattle.vt_cells.specs.Glyph.{IsGlyphText, columns_of, is_selector, is_
 ghost use Rattle.vt_cells.specs.Refusals.{OnlyOutOfMemory};
 ghost use Rattle.vt_rows.specs.Cells.{at, widened_at};
 ghost use Rattle.vt_rows.specs.Texts.{IsPrintableAscii};
-ghost use Rattle.vt_grid.specs.Keeping.{IsSelected, mark_out, room_out};
+ghost use Rattle.vt_grid.specs.Internals.{IsSelected, mark_out, room_out};
 ghost use Rattle.vt_grid.specs.Outgoing.{printed_out};
 ghost use Rattle.vt_grid.specs.Page.{IsPage, cursor_row, with_row};
 ghost use Rattle.vt_grid.specs.Printing.{carries, glyph_put, lifted_page, made_narrow, mark_column, mark_printed};
@@ -97,7 +97,8 @@ impl Grid {
         ensures value { self.new ≡ text_put text.now attrs self.old }
         ensures page { IsPage self.old }
     {
-        self.sheet.put_text(self.pos.row, self.pos.col, text, attrs);
+        self.page_rows
+            .put_text(self.pos.row, self.pos.col, text, attrs);
         self.pos.col += text.len() as u16;
     }
 
@@ -215,7 +216,7 @@ impl Grid {
         requires shown { is_right_half (at (cursor_row self.now).cells col) ≡ false }
         ensures { result ≡ is_wide_text (text_of (marked mark (at (cursor_row self.now).cells col))) }
     {
-        let mut cell = *self.sheet.cell(self.pos.row, col);
+        let mut cell = *self.page_rows.cell(self.pos.row, col);
         cell.append(mark);
         cell.is_wide_text()
     }
@@ -246,7 +247,11 @@ impl Grid {
         ensures page { IsPage self.now }
     {
         let before = self.pos.col - 1;
-        if self.sheet.cell(self.pos.row, before).is_wide_continuation() {
+        if self
+            .page_rows
+            .cell(self.pos.row, before)
+            .is_wide_continuation()
+        {
             before - 1
         } else {
             before
@@ -259,7 +264,7 @@ impl Grid {
         requires { col < length (cursor_row self.now).cells }
         ensures { result ≡ takes_mark (at (cursor_row self.now).cells col) }
     {
-        self.sheet.cell(self.pos.row, col).contents().len() < usize::from(MARK_LIMIT)
+        self.page_rows.cell(self.pos.row, col).contents().len() < usize::from(MARK_LIMIT)
     }
 
     /// Puts a mark on the cell at a column of the cursor's row.
@@ -269,7 +274,7 @@ impl Grid {
         requires shown { is_right_half (at (cursor_row self.old).cells col) ≡ false }
         ensures { self.new ≡ mark_put col mark self.old }
     {
-        self.sheet.append(self.pos.row, col, mark);
+        self.page_rows.append(self.pos.row, col, mark);
     }
 
     /// Whether the glyph at a column of the cursor's row has a text of more
@@ -278,7 +283,7 @@ impl Grid {
         requires { col < length (cursor_row self.now).cells }
         ensures { result ≡ (is_wide_text (text_of (at (cursor_row self.now).cells col)) && nat_lt 1 self.now.width) }
     {
-        self.sheet.cell(self.pos.row, col).is_wide_text() && self.size.cols > 1
+        self.page_rows.cell(self.pos.row, col).is_wide_text() && self.size.cols > 1
     }
 
     /// Whether the cell at a column of the cursor's row is a wide glyph.
@@ -286,7 +291,7 @@ impl Grid {
         requires { col < length (cursor_row self.now).cells }
         ensures { result ≡ is_wide (at (cursor_row self.now).cells col) }
     {
-        self.sheet.cell(self.pos.row, col).is_wide()
+        self.page_rows.cell(self.pos.row, col).is_wide()
     }
 
     /// Makes the glyph at a column as wide as its text; on a page of one
@@ -347,7 +352,7 @@ impl Grid {
         ensures lifted { result ≡ at (cursor_row self.old).cells col }
         ensures value { self.new ≡ lifted_page col attrs self.old }
     {
-        self.sheet.lift(self.pos.row, col, attrs)
+        self.page_rows.lift(self.pos.row, col, attrs)
     }
 
     /// Puts a cell that was taken out back at a column of the cursor's row,
@@ -360,7 +365,7 @@ impl Grid {
             ≡ with_row self.old.row
             (record { cells = slice_set (cursor_row self.old).cells col cell; wrapped = goes_on }) self.old }
     {
-        self.sheet.put_back(self.pos.row, col, cell, goes_on);
+        self.page_rows.put_back(self.pos.row, col, cell, goes_on);
     }
 
     /// Puts a wide glyph at the cursor, which moves behind it.
@@ -370,7 +375,8 @@ impl Grid {
         requires room { self.old.column + 2 ≤ self.old.width }
         ensures { self.new ≡ glyph_put (text_of cell) true (attrs_of cell) self.old }
     {
-        self.sheet.put_wide_cell(self.pos.row, self.pos.col, cell);
+        self.page_rows
+            .put_wide_cell(self.pos.row, self.pos.col, cell);
         self.pos.col += 2;
     }
 
@@ -379,7 +385,7 @@ impl Grid {
         requires { IsSelected self.old col }
         ensures { self.new ≡ made_narrow col attrs self.old }
     {
-        self.sheet.narrow(self.pos.row, col, attrs);
+        self.page_rows.narrow(self.pos.row, col, attrs);
     }
 
     /// Makes the glyph before the cursor wide, and moves the cursor on.
@@ -391,7 +397,7 @@ impl Grid {
             ≡ record (with_cursor_cells (widened_at col attrs (cursor_row self.old).cells) self.old)
             { column = self.old.column + 1 } }
     {
-        self.sheet.widen(self.pos.row, col, attrs);
+        self.page_rows.widen(self.pos.row, col, attrs);
         self.pos.col += 1;
     }
 
@@ -403,7 +409,8 @@ impl Grid {
         requires room { self.old.column < self.old.width }
         ensures { self.new ≡ glyph_put (encode_utf8 c) false attrs self.old }
     {
-        self.sheet.put_narrow(self.pos.row, self.pos.col, c, attrs);
+        self.page_rows
+            .put_narrow(self.pos.row, self.pos.col, c, attrs);
         self.pos.col += 1;
     }
 
@@ -444,7 +451,8 @@ impl Grid {
         requires room { self.old.column + 2 ≤ self.old.width }
         ensures { self.new ≡ glyph_put (encode_utf8 c) true attrs self.old }
     {
-        self.sheet.put_wide(self.pos.row, self.pos.col, c, attrs);
+        self.page_rows
+            .put_wide(self.pos.row, self.pos.col, c, attrs);
         self.pos.col += 2;
     }
 }

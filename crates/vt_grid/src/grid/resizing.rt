@@ -8,11 +8,11 @@ ghost use Rattle.vt_grid.specs.Page.{blank_page};
 ghost use Rattle.vt_grid.specs.Resize.{out_of_view, page_resized, resize_reports, row_resized, scrollback_resized};
 ghost use Rattle.vt_grid.specs.Resize as resize;
 ghost use Rattle.vt_grid.specs.Scrollback.{TakesMemory};
-ghost use Rattle.vt_grid.specs.Sheet.{blank_sheet};
+ghost use Rattle.vt_grid.specs.PageRows.{blank_sheet};
 
 use super::Grid;
+use crate::page_rows::PageRows;
 use crate::scrollback::Scrollback;
-use crate::sheet::Sheet;
 use crate::size::Size;
 use vt_cells::{Error, Pos};
 use vt_rows::Leaving;
@@ -50,15 +50,15 @@ impl Grid {
             TakesMemory (take (resize.leaving (length fresh.rows) self.old) self.old.rows) (out_of_view above.old) }
         ensures memory { OnlyOutOfMemory result }
     {
-        self.fill(fresh.sheet, above, leaving)?;
+        self.fill(fresh.page_rows, above, leaving)?;
         Ok(())
     }
 
-    /// Takes over the size of a sheet of default blanks, and moves the rows
+    /// Takes over the size of a page of default blanks, and moves the rows
     /// into it; see [`Grid::set_size`].
     fn fill<L: Leaving>(
         &mut self,
-        fresh: Sheet,
+        fresh: PageRows,
         above: &mut Scrollback,
         leaving: &mut L,
     ) -> Result<(), Error>
@@ -86,8 +86,8 @@ impl Grid {
             size.rows.saturating_sub(self.size.rows),
             above.theoretical_len(),
         );
-        above.push_out_of_view(&self.sheet, usize::from(down), self.size, leaving)?;
-        self.sheet.refit(fresh, down, up, above);
+        above.push_out_of_view(&self.page_rows, usize::from(down), self.size, leaving)?;
+        self.page_rows.refit(fresh, down, up, above);
         self.pos = resized(self.pos, down, up, size);
         self.saved_pos = resized(self.saved_pos, down, up, size);
         self.scroll_top = 0;

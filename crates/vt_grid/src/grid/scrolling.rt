@@ -40,11 +40,11 @@ impl Grid {
         ensures memory { OnlyOutOfMemory result }
     {
         if self.scroll_top == 0 {
-            self.sheet
+            self.page_rows
                 .send_up(self.scroll_bottom, count, self.size, above, leaving)?;
             return Ok(());
         }
-        self.sheet
+        self.page_rows
             .scroll_up(self.scroll_top, self.scroll_bottom, count);
         Ok(())
     }
@@ -118,7 +118,7 @@ impl Grid {
         ensures { result ≡ (goes_down self.now && not (ends_blank (cursor_row self.now).cells)) }
     {
         (self.pos.row == self.scroll_bottom || self.pos.row + 1 < self.size.rows)
-            && !self.sheet.ends_blank(self.pos.row)
+            && !self.page_rows.ends_blank(self.pos.row)
     }
 
     /// Sets the flag of the row that was left, and goes to the first column.
@@ -127,7 +127,7 @@ impl Grid {
         requires inside { IfSome left (λ row. row < length self.old.rows) }
         ensures { self.new ≡ record (flagged_left left goes_on self.old) { column = 0 } }
     {
-        self.sheet.wrap_left(left, goes_on);
+        self.page_rows.wrap_left(left, goes_on);
         self.pos.col = 0;
     }
 }

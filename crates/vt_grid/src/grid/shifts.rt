@@ -16,7 +16,7 @@ impl Grid {
         ensures { self.new ≡ reverse_index self.old }
     {
         if self.pos.row == self.scroll_top || self.pos.row == 0 {
-            self.sheet
+            self.page_rows
                 .scroll_down(self.scroll_top, self.scroll_bottom, 1);
         } else {
             self.pos.row -= 1;
@@ -31,7 +31,7 @@ impl Grid {
     pub fn scroll_down(&mut self, count: u16)
         ensures { self.new ≡ scrolled_down count self.old }
     {
-        self.sheet
+        self.page_rows
             .scroll_down(self.scroll_top, self.scroll_bottom, count);
     }
 
@@ -44,7 +44,7 @@ impl Grid {
         ensures { self.new ≡ lines_inserted count self.old }
     {
         if self.in_scroll_region() {
-            self.sheet
+            self.page_rows
                 .scroll_down(self.pos.row, self.scroll_bottom, count);
         }
     }
@@ -56,7 +56,7 @@ impl Grid {
         ensures { self.new ≡ lines_deleted count self.old }
     {
         if self.in_scroll_region() {
-            self.sheet
+            self.page_rows
                 .scroll_up(self.pos.row, self.scroll_bottom, count);
         }
     }
@@ -69,7 +69,7 @@ impl Grid {
     pub fn insert_cells(&mut self, count: u16)
         ensures { self.new ≡ chars_inserted count self.old }
     {
-        self.sheet.insert(self.pos.row, self.pos.col, count);
+        self.page_rows.insert(self.pos.row, self.pos.col, count);
     }
 
     /// Deletes columns from the cursor on; default blanks come in at the end
@@ -80,6 +80,6 @@ impl Grid {
     pub fn delete_cells(&mut self, count: u16)
         ensures { self.new ≡ chars_deleted count self.old }
     {
-        self.sheet.delete(self.pos.row, self.pos.col, count);
+        self.page_rows.delete(self.pos.row, self.pos.col, count);
     }
 }

@@ -6,8 +6,8 @@ ghost use Rattle.vt_rows.specs.Row.{IsRow};
 ghost use Rattle.vt_grid.specs.Scrollback.{Sends, TurnsOver, pushed};
 
 use super::Scrollback;
+use crate::page_rows::PageRows;
 use crate::row_lists::{push_copy, turn_over};
-use crate::sheet::Sheet;
 use vt_cells::Error;
 use vt_rows::Leaving;
 
@@ -15,7 +15,7 @@ impl Scrollback {
     /// Takes over the first row of a page, where none is in view; see `push`.
     pub(super) fn push_one<L: Leaving>(
         &mut self,
-        page: &Sheet,
+        page: &PageRows,
         leaving: &mut L,
     ) -> Result<(), Error>
         requires some { 0 < self.old.capacity }
@@ -35,7 +35,7 @@ impl Scrollback {
     }
 
     /// Takes over the first row of a page, where there is room for it.
-    fn add(&mut self, page: &Sheet) -> Result<(), Error>
+    fn add(&mut self, page: &PageRows) -> Result<(), Error>
         requires room { length self.old.rows < self.old.capacity }
         requires hidden { self.old.offset ≡ 0 }
         requires inside { 0 < length page.now.rows }
@@ -52,7 +52,7 @@ impl Scrollback {
 
     /// Takes over the first row of a page in the memory of the oldest one, which
     /// is reported, where none is in view and no more can be kept; see `push`.
-    fn turn_over<L: Leaving>(&mut self, page: &Sheet, leaving: &mut L) -> Result<(), Error>
+    fn turn_over<L: Leaving>(&mut self, page: &PageRows, leaving: &mut L) -> Result<(), Error>
         requires full { length self.old.rows ≡ self.old.capacity }
         requires some { 0 < self.old.capacity }
         requires hidden { self.old.offset ≡ 0 }

@@ -3,7 +3,7 @@
 ghost use Rattle.std.specs.Prelude.{◌≡◌, ◌+◌, ◌-◌, ◌≤◌, ◌<◌, ◌++◌, ℕ, List, length};
 ghost use Rattle.std.specs.Iterator.{YieldsFirstBy, YieldsFirstRef, item_count};
 ghost use Rattle.std.specs.List.{concat};
-ghost use Rattle.vt_rows.specs.Keeping.{piece_at, pieces_from, pieces_within};
+ghost use Rattle.vt_rows.specs.Internals.{piece_at, pieces_from, pieces_within};
 ghost use Rattle.vt_rows.specs.Pieces.{ArePiecesOf, Piece, texts_of, without_stretches};
 
 use std::iter::FusedIterator;
@@ -24,7 +24,7 @@ pub struct BasicFormattedToPlainIndexed<'a> {
 /// It is the list of the pieces that are left.
 impl<'a> Model for BasicFormattedToPlainIndexed<'a> {
     ghost use Rattle.std.specs.Prelude.{◌-◌, ◌≤◌, List, length};
-    ghost use Rattle.vt_rows.specs.Keeping.{pieces_from};
+    ghost use Rattle.vt_rows.specs.Internals.{pieces_from};
     ghost use Rattle.vt_rows.specs.Pieces.{Piece};
 
     ghost Value = { List Piece };

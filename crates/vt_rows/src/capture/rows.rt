@@ -4,7 +4,7 @@ ghost use Rattle.std.specs.Prelude.{◌≡◌, ◌+◌, ◌≤◌, ◌∷◌, �
 ghost use Rattle.std.specs.Iterator.{YieldsFirstRef, item_count};
 ghost use Rattle.std.specs.Option.{option_map_or};
 ghost use Rattle.vt_rows.specs.CaptureRows.{AreRowsOf, is_beyond};
-ghost use Rattle.vt_rows.specs.Keeping.{rows_of};
+ghost use Rattle.vt_rows.specs.Internals.{rows_of};
 ghost use Rattle.vt_rows.specs.Pieces.{Piece, texts_of};
 ghost use Rattle.vt_rows.specs.Stretches.{columns_added, is_within_after, shown_columns};
 
@@ -27,7 +27,7 @@ pub struct BasicFormattedRows<'a> {
 impl<'a> Model for BasicFormattedRows<'a> {
     ghost use Rattle.std.specs.Prelude.{List, ℕ, []};
     ghost use Rattle.std.specs.Option.{option_map_or};
-    ghost use Rattle.vt_rows.specs.Keeping.{rows_of};
+    ghost use Rattle.vt_rows.specs.Internals.{rows_of};
 
     ghost Value = { List (List ℕ) };
 

@@ -28,7 +28,7 @@ pub struct RowsDiff<'a> {
 impl<'a> Model for RowsDiff<'a> {
     ghost use Rattle.std.specs.Prelude.{List, ℕ, length};
     ghost use Rattle.vt_grid.specs.Page.{SameSize};
-    ghost use Rattle.vt_screen.specs.Keeping.{IsColumns};
+    ghost use Rattle.vt_screen.specs.Internals.{IsColumns};
     ghost use Rattle.vt_screen.specs.RowsShown.{changed_text, texts_from};
     ghost use Rattle.vt_screen.specs.Shown.{shown};
 

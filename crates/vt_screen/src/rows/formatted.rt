@@ -24,7 +24,7 @@ pub struct RowsFormatted<'a> {
 /// It is the list of the texts that are still to come.
 impl<'a> Model for RowsFormatted<'a> {
     ghost use Rattle.std.specs.Prelude.{List, ℕ, length};
-    ghost use Rattle.vt_screen.specs.Keeping.{IsColumns};
+    ghost use Rattle.vt_screen.specs.Internals.{IsColumns};
     ghost use Rattle.vt_screen.specs.RowsShown.{formatted_text, texts_from};
     ghost use Rattle.vt_screen.specs.Shown.{shown};
 

@@ -22,7 +22,7 @@ impl Screen {
     /// mode 2004), and mouse mode, mouse encoding and cursor style (DECSCUSR)
     /// where they aren't the default ones.
     ///
-    /// By `sets`, such a terminal, if it is in the midst of no sequence, reads
+    /// By `sets`, such a terminal, if it is in ground state, reads
     /// the text without calling anybody and without taking memory, has these
     /// modes then, and changes nothing else. Fails where memory for the text is
     /// refused.
@@ -48,7 +48,7 @@ impl Screen {
     /// encoding that is the default one again is reset by the sequence of the
     /// one before.
     ///
-    /// By `sets`, such a terminal, if it is in the midst of no sequence, has
+    /// By `sets`, such a terminal, if it is in ground state, has
     /// these modes then, and changes nothing else; by `empty` and `none` the
     /// text is empty exactly where both screens have the same modes. Fails
     /// where memory for the text is refused, and by `never` not there.

@@ -2,11 +2,11 @@
 
 ghost use Rattle.std.specs.Prelude.{◌≡◌, IsErr, IsSome, None, OnErr, OnOk};
 ghost use Rattle.vt_cells.specs.Refusals.{OnlyOutOfMemory};
-ghost use Rattle.vt_screen.specs.Keeping.{exchanged, with_fresh_other, with_fresh_page, with_other};
+ghost use Rattle.vt_screen.specs.Internals.{exchanged, with_fresh_other, with_fresh_page, with_other};
 ghost use Rattle.vt_screen.specs.Pages.{entered};
 ghost use Rattle.vt_screen.specs.Screen.{IsScreen};
 ghost use Rattle.vt_screen.specs.Steps as step;
-ghost use Rattle.vt_screen.specs.Steps.{Grows, stepped};
+ghost use Rattle.vt_screen.specs.Steps.{Grows, display_after};
 
 use super::Screen;
 use crate::modes::Modes;
@@ -17,7 +17,7 @@ use vt_grid::Grid;
 impl Screen {
     /// Saves the cursor, origin mode and the attributes (DECSC).
     pub fn decsc(&mut self)
-        ensures { self.new ≡ stepped step.SaveCursor self.old }
+        ensures { self.new ≡ display_after step.SaveCursor self.old }
     {
         self.grid.save_cursor();
         self.saved_attrs = self.attrs;
@@ -26,7 +26,7 @@ impl Screen {
     /// Restores the cursor, origin mode and the attributes as they were saved
     /// (DECRC).
     pub fn decrc(&mut self)
-        ensures { self.new ≡ stepped step.RestoreCursor self.old }
+        ensures { self.new ≡ display_after step.RestoreCursor self.old }
     {
         self.grid.restore_cursor();
         self.attrs = self.saved_attrs;
@@ -38,7 +38,7 @@ impl Screen {
     /// The first entry takes memory for the page. Fails where that is refused;
     /// then nothing has changed.
     pub fn enter_alternate(&mut self) -> Result<(), Error>
-        ensures ok { OnOk result (self.new ≡ stepped step.EnterAlternate self.old) }
+        ensures ok { OnOk result (self.new ≡ display_after step.EnterAlternate self.old) }
         ensures err { OnErr result (self.new ≡ self.old) }
         ensures grows { IsErr result → Grows step.EnterAlternate self.old }
         ensures memory { OnlyOutOfMemory result }
@@ -54,7 +54,7 @@ impl Screen {
     /// The first entry takes memory for the page. Fails where that is refused;
     /// then nothing has changed.
     pub fn enter_fresh_alternate(&mut self) -> Result<(), Error>
-        ensures ok { OnOk result (self.new ≡ stepped step.EnterFresh self.old) }
+        ensures ok { OnOk result (self.new ≡ display_after step.EnterFresh self.old) }
         ensures err { OnErr result (self.new ≡ self.old) }
         ensures grows { IsErr result → Grows step.EnterFresh self.old }
         ensures memory { OnlyOutOfMemory result }
@@ -68,7 +68,7 @@ impl Screen {
 
     /// Makes the main page the active one (xterm's private mode 47, turned off).
     pub fn leave_alternate(&mut self)
-        ensures value { self.new ≡ stepped step.LeaveAlternate self.old }
+        ensures value { self.new ≡ display_after step.LeaveAlternate self.old }
         ensures whole { IsScreen self.old }
     {
         if !self.is_alternate {
@@ -80,7 +80,7 @@ impl Screen {
     /// Makes the main page the active one, and restores as [`Screen::decrc`]
     /// does (xterm's private mode 1049, turned off).
     pub fn leave_and_restore(&mut self)
-        ensures { self.new ≡ stepped step.LeaveRestoring self.old }
+        ensures { self.new ≡ display_after step.LeaveRestoring self.old }
     {
         self.leave_alternate();
         self.decrc();
@@ -91,7 +91,7 @@ impl Screen {
     /// scrollback gives up; an alternate page that was entered keeps its rows,
     /// blank.
     pub fn ris(&mut self)
-        ensures { self.new ≡ stepped step.Reset self.old }
+        ensures { self.new ≡ display_after step.Reset self.old }
     {
         self.leave_alternate();
         self.clear_other();

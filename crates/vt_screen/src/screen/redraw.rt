@@ -5,7 +5,7 @@
 //! a wrap is pending; the current attributes; and whether the cursor is hidden.
 //!
 //! A *plain* terminal has its scroll region on all of its page, origin mode off
-//! and no scrollback in view, and is in the midst of no sequence.
+//! and no scrollback in view, and is in ground state.
 //!
 //! A picture is *steady* if each of its glyphs, printed on a blank row, gives
 //! just itself. All without U+FE0F are, and U+2764 U+FE0F on two columns or
@@ -37,8 +37,8 @@ impl Screen {
     /// whatever that showed before.
     ///
     /// A terminal is *plain* if its scroll region is all of its page, its
-    /// origin mode is off, no scrollback is in view, it is in the midst of no
-    /// sequence and was never out of memory; so is every fresh one. What a
+    /// origin mode is off, no scrollback is in view, it is in ground
+    /// state and was never out of memory; so is every fresh one. What a
     /// screen shows, its picture, is *steady* if each of its glyphs, printed on
     /// a blank row, gives just itself. So are all without U+FE0F, which may make
     /// a glyph wide.
@@ -89,7 +89,7 @@ impl Screen {
     /// [`Screen::contents_formatted`].
     ///
     /// By the clauses `quiet` to `rest`, for a screen whose picture is steady,
-    /// such a terminal of this size, if it is in the midst of no sequence, reads
+    /// such a terminal of this size, if it is in ground state, reads
     /// the text without calling anybody and without taking memory, be it on its
     /// main page or on the alternate one. Then it is plain and shows what this
     /// screen shows; its scrollback, its other page and its modes are as before.
@@ -214,7 +214,7 @@ impl Screen {
     /// A text that sets the current attributes: SGR without a number, and the
     /// change from the defaults.
     ///
-    /// By `sets`, on any terminal that is in the midst of no sequence it sets
+    /// By `sets`, on any terminal that is in ground state it sets
     /// these attributes and changes nothing else. Fails where memory for the
     /// text is refused.
     pub fn attributes_formatted(&self) -> Result<String, Error>

@@ -6,9 +6,9 @@ ghost use Rattle.vt_cells.specs.Refusals.{OnlyOutOfMemory};
 ghost use Rattle.vt_grid.specs.Page.{blank_page};
 ghost use Rattle.vt_grid.specs.Resize.{page_resized};
 ghost use Rattle.vt_grid.specs.Scrollback.{no_scrollback};
-ghost use Rattle.vt_screen.specs.Keeping.{IsNothing, pages_resized};
+ghost use Rattle.vt_screen.specs.Internals.{IsNothing, pages_resized};
 ghost use Rattle.vt_screen.specs.Pages.{calls_resized, has_size, reports_of, resized};
-ghost use Rattle.vt_screen.specs.Run.{Told};
+ghost use Rattle.vt_screen.specs.Run.{CalledOnAnyScreen};
 ghost use Rattle.vt_screen.specs.Screen.{IsScreen};
 
 use super::Screen;
@@ -57,7 +57,7 @@ impl Screen {
     ) -> Result<(), Error>
         ensures ok { OnOk result (self.new ≡ resized rows.value cols.value self.old) }
         ensures told { OnOk result
-            (FoldsTo (Told CB.does) callbacks.old (calls_resized rows.value cols.value self.old) callbacks.new) }
+            (FoldsTo (CalledOnAnyScreen CB.does) callbacks.old (calls_resized rows.value cols.value self.old) callbacks.new) }
         ensures err { OnErr result ((self.new ≡ self.old) × (callbacks.new ≡ callbacks.old)) }
         ensures grows { IsErr result → has_size rows.value cols.value self.old ≡ false }
         ensures memory { OnlyOutOfMemory result }
@@ -90,7 +90,7 @@ impl Screen {
         requires whole { IsScreen self.old }
         ensures ok { OnOk result (self.new ≡ resized size.rows size.cols self.old) }
         ensures told { OnOk result
-            (FoldsTo (Told CB.does) callbacks.old (calls_resized size.rows size.cols self.old) callbacks.new) }
+            (FoldsTo (CalledOnAnyScreen CB.does) callbacks.old (calls_resized size.rows size.cols self.old) callbacks.new) }
         ensures err { OnErr result ((self.new ≡ self.old) × (callbacks.new ≡ callbacks.old)) }
         ensures memory { OnlyOutOfMemory result }
     {
@@ -109,7 +109,7 @@ impl Screen {
         requires cols { 0 < size.cols }
         requires main { self.old.is_alternate ≡ false }
         ensures ok { OnOk result (self.new ≡ pages_resized size.rows size.cols self.old) }
-        ensures told { OnOk result (FoldsTo (Told CB.does) callbacks.old
+        ensures told { OnOk result (FoldsTo (CalledOnAnyScreen CB.does) callbacks.old
             (reports_of false size.rows (Some self.old.page) self.old.scrollback
             ++ reports_of true size.rows self.old.other (no_scrollback 0))
             callbacks.new) }
@@ -163,7 +163,7 @@ fn resize_alternate<CB: Callbacks>(
     requires fresh { fresh ≡ option_map (λ _. blank_page size.rows size.cols) page.old }
     requires nothing { nothing.old ≡ no_scrollback 0 }
     ensures page { page.new ≡ option_map (page_resized size.rows size.cols (no_scrollback 0)) page.old }
-    ensures told { FoldsTo (Told CB.does) callbacks.old
+    ensures told { FoldsTo (CalledOnAnyScreen CB.does) callbacks.old
         (reports_of true size.rows page.old (no_scrollback 0)) callbacks.new }
     ensures nothing { IsNothing nothing.new }
 {

@@ -7,7 +7,7 @@ ghost use Rattle.vt_grid.specs.Scrollback.{ViewTakesMemory};
 ghost use Rattle.vt_screen.specs.Run.{Refuses, Takes, state};
 ghost use Rattle.vt_screen.specs.Screen.{IsPrintable, above_page, scrolled_back};
 ghost use Rattle.vt_screen.specs.Steps as step;
-ghost use Rattle.vt_screen.specs.Steps.{last_after, scrolled};
+ghost use Rattle.vt_screen.specs.Steps.{last_after, screen_after};
 
 use super::Screen;
 use crate::callbacks::Callbacks;
@@ -146,7 +146,7 @@ impl Screen {
     /// of the rows. None of them comes back where the screen gets more rows. On
     /// the alternate page, which has no scrollback, nothing happens.
     pub fn clear_scrollback(&mut self)
-        ensures { self.new ≡ scrolled step.EraseScrollback self.old }
+        ensures { self.new ≡ screen_after step.EraseScrollback self.old }
     {
         self.scrollback.clear(&mut ());
     }

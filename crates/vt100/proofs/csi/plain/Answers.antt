@@ -2,7 +2,7 @@
 use Rattle.std.proofs.Common.{◌-◌, List, refl, subst, sym}
 use Rattle.vt_screen.specs.Controls.{number_or, seen_of}
 use Rattle.vt_screen.specs.Steps.{MoveTo, Step}
-use Rattle.vt100.specs.Keeping.{Does}
+use Rattle.vt100.specs.Internals.{Does}
 use Rattle.vt100.proofs.Dispatching.{plain_place, plain_sgr}
 use Rattle.vt100.proofs.Stepping.{stepping}
 use Rattle.vt100.proofs.csi.plain.Goals as goal

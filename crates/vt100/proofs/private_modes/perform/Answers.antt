@@ -1,6 +1,6 @@
 -- One more group is done, or stopped in.
 use Rattle.std.proofs.Common.{arith, refl}
-use Rattle.vt100.specs.Keeping.{report_of}
+use Rattle.vt100.specs.Internals.{report_of}
 use Rattle.vt100.proofs.Remaining.{modes_left, modes_stop}
 use Rattle.vt100.proofs.private_modes.perform.Goals as goal
 

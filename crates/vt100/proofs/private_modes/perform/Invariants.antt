@@ -1,7 +1,7 @@
 -- The groups from here on are left.
 use Rattle.std.proofs.Common.{drop}
 use Rattle.vt_screen.specs.Controls.{mode_steps}
-use Rattle.vt100.specs.Keeping.{report_of}
+use Rattle.vt100.specs.Internals.{report_of}
 use Rattle.vt100.proofs.Stepping.{Left}
 use Rattle.vt100.proofs.private_modes.perform.Given as goal
 

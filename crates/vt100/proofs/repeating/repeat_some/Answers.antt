@@ -3,7 +3,7 @@ use Rattle.std.proofs.Common.{rules, ◌+◌, ◌≤◌, ℕ, subst, sym, replic
 use Rattle.vt_screen.specs.Run.{Takes, state}
 use Rattle.vt_screen.specs.Screen.{ScreenValue}
 use Rattle.vt_screen.specs.Steps.{Print}
-use Rattle.vt100.specs.Keeping.{Does}
+use Rattle.vt100.specs.Internals.{Does}
 use Rattle.vt100.proofs.Repeats.{prints_done}
 use Rattle.vt100.proofs.Stepping.{taken}
 use Rattle.vt100.proofs.repeating.repeat_some.Goals as goal

@@ -6,7 +6,7 @@ use Rattle.std.proofs.lemmas.List.{length-take, length-set, take_all}
 use Rattle.vt_cells.specs.Attrs.{default_attrs}
 use Rattle.vt_rows.specs.Cells.{IsPaired}
 use Rattle.vt_rows.specs.Row.{RowValue, blank_row, resized_row}
-use Rattle.vt_grid.specs.Sheet.{SheetValue}
+use Rattle.vt_grid.specs.PageRows.{SheetValue}
 use Rattle.vt_grid.proofs.Moving.{MovedInto, moved_none, blank_there, moved_more, moved_all}
 use Rattle.vt_grid.proofs.Moving.{last_taken, last_paired, left_taken, none_left}
 use Rattle.vt_grid.proofs.scrollback.give_rows.Goals as goal

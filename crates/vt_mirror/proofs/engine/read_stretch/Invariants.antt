@@ -1,5 +1,5 @@
 -- There are bytes left to read before the next update.
-use Rattle.vt_mirror.specs.Keeping.{InStretch}
+use Rattle.vt_mirror.specs.Internals.{InStretch}
 use Rattle.vt_mirror.proofs.engine.read_stretch.Given as goal
 
 abbrev pub invariant-loop : goal.invariant-loop

@@ -1,5 +1,5 @@
 -- All updates that were due are written.
-use Rattle.vt_mirror.specs.Keeping.{IsWritten}
+use Rattle.vt_mirror.specs.Internals.{IsWritten}
 use Rattle.vt_mirror.proofs.engine.run_viewer.Given as goal
 
 abbrev pub invariant-loop : goal.invariant-loop

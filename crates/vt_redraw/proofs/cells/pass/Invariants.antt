@@ -1,5 +1,5 @@
 use Rattle.std.proofs.Common.{◌-◌, ◌≤◌}
-use Rattle.vt_redraw.specs.Keeping.{Passes}
+use Rattle.vt_redraw.specs.Internals.{Passes}
 use Rattle.vt_redraw.proofs.cells.pass.Given as goal
 
 abbrev pub invariant-loop-next : goal.invariant-loop-next

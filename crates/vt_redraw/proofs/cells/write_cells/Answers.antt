@@ -1,7 +1,7 @@
 use Rattle.std.proofs.Common.{◌≡◌, ◌++◌, ◌∙◌, ap, sym, append-nil, arith}
 use Rattle.vt_cells.specs.Op.{bytes_of_all}
-use Rattle.vt_redraw.specs.Keeping.{cells_from}
-use Rattle.vt_redraw.specs.Script.{Scripted, nothing}
+use Rattle.vt_redraw.specs.Internals.{cells_from}
+use Rattle.vt_redraw.specs.Script.{Scripted, no_ops}
 use Rattle.vt_redraw.proofs.CellSteps.{cells_end}
 use Rattle.vt_redraw.proofs.cells.write_cells.Goals as goal
 
@@ -16,7 +16,7 @@ returns-then-first-cols-clause-text g c =
     let text = g.S.Sink.text c.args.sink.now in
     let size = c.cols.ensures in
     let past = c.if-first-cols.true in
-    let none : cells_from row c.args.pos.col pen flag xs ys ≡ nothing pen flag =
+    let none : cells_from row c.args.pos.col pen flag xs ys ≡ no_ops pen flag =
     c.next_other-first.ensures.passed.same row pen flag
     ∙ cells_end row first pen flag xs ys (omega (arith, size, past)) in
     sym (append-nil text) ∙ ap (λ (w : Scripted). text ++ bytes_of_all w.ops) (sym none)
@@ -31,7 +31,7 @@ returns-then-first-cols-clause-pen g c =
     let ys = c.args.over.now.cells in
     let size = c.cols.ensures in
     let past = c.if-first-cols.true in
-    let none : cells_from row c.args.pos.col pen flag xs ys ≡ nothing pen flag =
+    let none : cells_from row c.args.pos.col pen flag xs ys ≡ no_ops pen flag =
     c.next_other-first.ensures.passed.same row pen flag
     ∙ cells_end row first pen flag xs ys (omega (arith, size, past)) in
     ap (λ (w : Scripted). w.pen) (sym none)
@@ -46,7 +46,7 @@ returns-then-first-cols-clause-flag g c =
     let ys = c.args.over.now.cells in
     let size = c.cols.ensures in
     let past = c.if-first-cols.true in
-    let none : cells_from row c.args.pos.col pen flag xs ys ≡ nothing pen flag =
+    let none : cells_from row c.args.pos.col pen flag xs ys ≡ no_ops pen flag =
     c.next_other-first.ensures.passed.same row pen flag
     ∙ cells_end row first pen flag xs ys (omega (arith, size, past)) in
     ap (λ (w : Scripted). w.flag) (sym none)

@@ -1,14 +1,14 @@
 use Rattle.std.proofs.Common.{◌∙◌, sym, ap, rules}
 use Rattle.vt_cells.specs.Cell.{is_blank, attrs_of}
-use Rattle.vt_cells.specs.PieceKeeping.{gathered}
+use Rattle.vt_cells.specs.PieceInternals.{gathered}
 use Rattle.vt_redraw.proofs.CellSteps.{glyph_leads, next_run, run_some}
 use Rattle.std.proofs.Common.{◌+◌, [], drop, refl}
 use Rattle.vt_cells.proofs.Sinks.{on_err}
 use Rattle.vt_cells.specs.Cell.{is_wide, text_of}
-use Rattle.vt_cells.specs.Glyph.{first_columns}
+use Rattle.vt_cells.specs.Glyph.{glyph_columns}
 use Rattle.vt_cells.specs.Op.{Print, bytes_of_all}
 use Rattle.vt_redraw.proofs.Refusals.{piece_some, start_some}
-use Rattle.vt_redraw.specs.Script.{doing, erase_run, flag_behind, flag_past, pen_at}
+use Rattle.vt_redraw.specs.Script.{placed_op, erase_run, flag_behind, flag_past, pen_at}
 use Rattle.vt_redraw.proofs.cells.write_next.Goals as goal
 
 pub returns-then-not-is_blank-clause-leads : goal.returns-then-not-is_blank-clause-leads
@@ -45,11 +45,11 @@ returns-in_err-gather_glyph-clause-refused g c =
     let n = c.columns-count.result in
     let ys = c.args.over.now.cells in
     let x = c.cell-cell.result.now in
-    let bytes = bytes_of_all (doing c.args.pen.now row col (attrs_of x) (Print (text_of x))) in
+    let bytes = bytes_of_all (placed_op c.args.pen.now row col (attrs_of x) (Print (text_of x))) in
     on_err c.from_residual.result
     (piece_some c.args.piece.now bytes _
     (start_some bytes _ _
-    (glyph_leads row col n c.args.pen.now (pen_at row (col + first_columns (is_wide x)) (attrs_of x))
+    (glyph_leads row col n c.args.pen.now (pen_at row (col + glyph_columns (is_wide x)) (attrs_of x))
     c.args.flag.now (flag_behind c.args.flag.now (is_wide x) (drop (col + n) ys)) c.args.cells.now.cells ys x [] bytes
     c.cell-cell.ensures c.requires.inside c.requires.range.inside c.requires.other
     (sym c.is_blank.ensures ∙ c.if-not-is_blank.true) c.columns-count.ensures refl refl refl))
@@ -62,7 +62,7 @@ returns-in_err-write_run_behind-clause-refused g c =
     let n = c.run-count.result in
     let ys = c.args.over.now.cells in
     let attrs = c.attrs-attrs.result in
-    let bytes = bytes_of_all (doing c.args.pen.now row col attrs (erase_run n (drop (col + n) ys))) in
+    let bytes = bytes_of_all (placed_op c.args.pen.now row col attrs (erase_run n (drop (col + n) ys))) in
     on_err c.from_residual-in_err-write_run_behind.result
     (piece_some c.args.piece.now bytes _
     (start_some bytes _ _

@@ -1,6 +1,6 @@
 use Rattle.std.proofs.Common.{◌∙◌, ◌+◌, rules, sym, ap, arith}
-use Rattle.vt_cells.specs.PieceKeeping.{gathered}
-use Rattle.vt_redraw.specs.Keeping.{cells_from}
+use Rattle.vt_cells.specs.PieceInternals.{gathered}
+use Rattle.vt_redraw.specs.Internals.{cells_from}
 use Rattle.vt_redraw.proofs.CellSteps.{leads_then, leads_text, passes_cell, passes_leads, passes_then, cells_end}
 use Rattle.std.proofs.Common.{refl}
 use Rattle.vt_cells.proofs.Sinks.{on_err}

@@ -1,6 +1,6 @@
 use Rattle.std.proofs.Common.{◌-◌, ◌≤◌, length}
-use Rattle.vt_cells.specs.PieceKeeping.{gathered}
-use Rattle.vt_redraw.specs.Keeping.{Leads, cells_from}
+use Rattle.vt_cells.specs.PieceInternals.{gathered}
+use Rattle.vt_redraw.specs.Internals.{Leads, cells_from}
 use Rattle.vt_redraw.proofs.cells.write_others.Given as goal
 
 abbrev pub invariant-loop-col : goal.invariant-loop-col

@@ -1,6 +1,6 @@
 use Rattle.std.proofs.Common.{◌+◌, ◌++◌, drop, refl, ap, sym, ◌∙◌, arith}
 use Rattle.vt_cells.specs.Op.{bytes_of_all}
-use Rattle.vt_redraw.specs.Script.{doing, erase_run, pen_at, blank_run}
+use Rattle.vt_redraw.specs.Script.{placed_op, erase_run, pen_at, blank_run}
 use Rattle.vt_cells.specs.Cell.{is_right_half}
 use Rattle.vt_redraw.proofs.CellSteps.{half_stands, half_erased}
 use Rattle.std.proofs.Common.{[], ◌<◌, length, subst}
@@ -42,7 +42,7 @@ returns-clause-leads g c =
     (c.run-count.ensures.value ∙ ap (λ a. blank_run a (drop (col + 1) xs)) c.new-attrs.ensures) refl
     (c.in_ok-write_run.ensures.text
     ∙ ap (λ a. text c.args.sink.now
-    ++ bytes_of_all (doing c.args.pen.now c.args.pos.row col a (erase_run (n + 1) (drop (col + (n + 1)) ys))))
+    ++ bytes_of_all (placed_op c.args.pen.now c.args.pos.row col a (erase_run (n + 1) (drop (col + (n + 1)) ys))))
     c.new-attrs.ensures)
     (c.in_ok-write_run.ensures.pen ∙ ap (λ a. pen_at c.args.pos.row col a) c.new-attrs.ensures) c.flag_past.ensures
 
@@ -58,7 +58,7 @@ returns-in_err-write_run-clause-some g c =
     let before = c.if-col-min.false in
     let n = c.run-count.result in
     let bytes = λ (a : Attrs).
-    bytes_of_all (doing c.args.pen.now row col a (erase_run (n + 1) (drop (col + (n + 1)) ys))) in
+    bytes_of_all (placed_op c.args.pen.now row col a (erase_run (n + 1) (drop (col + (n + 1)) ys))) in
     on_err c.from_residual.result
     (start_some (bytes default_attrs) _ _
     (half_erased row col n (n + 1) c.args.pen.now (pen_at row col default_attrs) c.args.flag.now

@@ -8,7 +8,7 @@ use Rattle.vt_redraw.proofs.ItemSteps.{linked_wrote}
 use Rattle.std.proofs.Common.{refl, ◌++◌}
 use Rattle.std.proofs.lemmas.Result.{on_err_weaker}
 use Rattle.vt_cells.specs.Op.{bytes_of_all}
-use Rattle.vt_redraw.specs.Keeping.{cells_from}
+use Rattle.vt_redraw.specs.Internals.{cells_from}
 use Rattle.vt_redraw.proofs.Refusals.{text_behind_some}
 use Rattle.vt_redraw.proofs.items.write_linked.Goals as goal
 

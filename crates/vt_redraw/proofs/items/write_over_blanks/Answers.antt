@@ -7,7 +7,7 @@ use Rattle.vt_cells.specs.Op.{bytes_of_all}
 use Rattle.vt_rows.specs.Cells.{blanks}
 use Rattle.vt_rows.specs.Row.{RowValue}
 use Rattle.vt_redraw.specs.Items.{range_written}
-use Rattle.vt_redraw.specs.Keeping.{IsRange}
+use Rattle.vt_redraw.specs.Internals.{IsRange}
 use Rattle.vt_redraw.specs.Script.{Scripted, pen_at}
 use Rattle.vt_redraw.proofs.ItemSteps.{range_taken, range_wrote}
 use Rattle.std.proofs.Common.{◌<◌}

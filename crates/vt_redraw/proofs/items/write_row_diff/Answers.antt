@@ -5,15 +5,15 @@ use Rattle.vt_cells.specs.Op.{bytes_of_all}
 use Rattle.vt_cells.specs.Attrs.{Attrs}
 use Rattle.vt_grid.specs.Page.{row_or}
 use Rattle.vt_rows.specs.Row.{RowValue}
-use Rattle.vt_redraw.specs.Items.{begun, begun_over, item_of_difference, range_written}
-use Rattle.vt_redraw.specs.Keeping.{IsRange}
+use Rattle.vt_redraw.specs.Items.{with_whole_start, with_whole_start_over, item_of_difference, range_written}
+use Rattle.vt_redraw.specs.Internals.{IsRange}
 use Rattle.vt_redraw.specs.Script.{Scripted, cells_written, pen_at}
 use Rattle.vt_redraw.proofs.ItemSteps.{range_taken, range_wrote, part_item, whole_item}
 use Rattle.std.proofs.Common.{◌<◌, length, refl}
 use Rattle.std.proofs.lemmas.Result.{on_err_weaker}
 use Rattle.vt_cells.proofs.Sinks.{on_err}
-use Rattle.vt_redraw.specs.Keeping.{mark_of}
-use Rattle.vt_redraw.specs.Script.{broken}
+use Rattle.vt_redraw.specs.Internals.{mark_of}
+use Rattle.vt_redraw.specs.Script.{row_break}
 use Rattle.vt_redraw.proofs.Refusals.{range_some, text_behind_some}
 use Rattle.vt_redraw.proofs.items.write_row_diff.Goals as goal
 
@@ -41,7 +41,7 @@ returns-then-not-is_whole-clause-text g c =
     let flag = c.wrapped-flag.result in
     let cut = c.up_to.result.cells in
     let w : Scripted =
-    cells_written r start pen flag 0 (begun (drop start cut)) (begun_over (drop start cut) (drop start y.cells)) in
+    cells_written r start pen flag 0 (with_whole_start (drop start cut)) (with_whole_start_over (drop start cut) (drop start y.cells)) in
     let e : w ≡ range_written r start stop y.wrapped x.cells y.cells =
     range_wrote r start stop pen flag cut x.cells y.cells c.requires.order
     c.up_to.ensures.cells (ap (λ (a : Attrs). pen_at r start a) c.new.ensures)
@@ -66,7 +66,7 @@ returns-clause-text g c =
     let flag = c.wrapped-flag.result in
     let cut = c.up_to.result.cells in
     let w : Scripted =
-    cells_written r start pen flag 0 (begun (drop start cut)) (begun_over (drop start cut) (drop start y.cells)) in
+    cells_written r start pen flag 0 (with_whole_start (drop start cut)) (with_whole_start_over (drop start cut) (drop start y.cells)) in
     let e : w ≡ range_written r start stop y.wrapped x.cells y.cells =
     range_wrote r start stop pen flag cut x.cells y.cells c.requires.order
     c.up_to.ensures.cells (ap (λ (a : Attrs). pen_at r start a) c.new.ensures)
@@ -115,10 +115,10 @@ returns-clause-some g c =
     let flag = c.wrapped-flag.result in
     let cut = c.up_to.result.cells in
     let mid = text c.write_range.new.sink in
-    let broke = broken r c.write_range.new.pen c.write_range.new.flag x.wrapped x.cells in
+    let broke = row_break r c.write_range.new.pen c.write_range.new.flag x.wrapped x.cells in
     let more = bytes_of_all (broke.ops ++ mark_of r broke.pen broke.flag x.wrapped x.cells) in
     let w : Scripted =
-    cells_written r start pen flag 0 (begun (drop start cut)) (begun_over (drop start cut) (drop start y.cells)) in
+    cells_written r start pen flag 0 (with_whole_start (drop start cut)) (with_whole_start_over (drop start cut) (drop start y.cells)) in
     let e : w ≡ range_written r start stop y.wrapped x.cells y.cells =
     range_wrote r start stop pen flag cut x.cells y.cells c.requires.order
     c.up_to.ensures.cells (ap (λ (a : Attrs). pen_at r start a) c.new.ensures)

@@ -2,7 +2,7 @@ use Rattle.vt_redraw.proofs.RowSteps.{row_writes}
 use Rattle.std.proofs.Common.{◌++◌}
 use Rattle.vt_cells.proofs.Sinks.{on_err}
 use Rattle.vt_cells.specs.Op.{bytes_of_all}
-use Rattle.vt_redraw.specs.Script.{broken}
+use Rattle.vt_redraw.specs.Script.{row_break}
 use Rattle.vt_redraw.proofs.Refusals.{row_some, text_behind_some, wrote_all}
 use Rattle.vt_redraw.proofs.script.write_row.Goals as goal
 
@@ -25,7 +25,7 @@ returns-in_err-on-clause-some g c =
     let text = g.S.Sink.text in
     let x = c.args.cells.now in
     let mid = text c.write_cells.new.sink in
-    let break = broken c.args.row c.write_cells.new.pen c.write_cells.new.flag x.wrapped x.cells in
+    let break = row_break c.args.row c.write_cells.new.pen c.write_cells.new.flag x.wrapped x.cells in
     on_err c.from_residual-in_err-on.result
     (text_behind_some (text c.args.sink.now) _ mid (bytes_of_all break.ops) _ c.in_ok-write_cells.ensures.text
     (row_writes c.args.row c.args.link.settled c.args.pen.now c.write_cells.new.pen break.pen

@@ -2,7 +2,7 @@ use Rattle.std.proofs.Common.{[], ◌+◌, ◌++◌, ap, sym, ◌∙◌, arith}
 use Rattle.vt_cells.proofs.Sinks.{on_err}
 use Rattle.vt_cells.specs.Op.{bytes_of_all}
 use Rattle.vt_grid.specs.Page.{row_or}
-use Rattle.vt_redraw.specs.Keeping.{rows_under}
+use Rattle.vt_redraw.specs.Internals.{rows_under}
 use Rattle.vt_redraw.specs.Redraw.{link_of, row_written, rows_written}
 use Rattle.vt_redraw.proofs.CellSteps.{leads_text, leads_then}
 use Rattle.vt_redraw.proofs.Refusals.{behind_some, grown, link_made, linked_all, rest_some, some_first, start_some}

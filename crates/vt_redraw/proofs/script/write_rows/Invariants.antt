@@ -1,7 +1,7 @@
 use Rattle.std.proofs.Common.{◌≡◌, ◌-◌, ◌<◌, ◌≤◌, length}
 use Rattle.vt_grid.specs.Page.{row_or}
 use Rattle.vt_rows.specs.Row.{IsRow}
-use Rattle.vt_redraw.specs.Keeping.{Leads, rows_under}
+use Rattle.vt_redraw.specs.Internals.{Leads, rows_under}
 use Rattle.vt_redraw.specs.Redraw.{rows_written}
 use Rattle.vt_redraw.proofs.script.write_rows.Given as goal
 

@@ -2,7 +2,7 @@ use Rattle.std.proofs.Common.{◌++◌, ◌∷◌, ◌∙◌, [], refl, List, �
 use Rattle.std.proofs.Math.Seq.{drop-cons}
 use Rattle.vt_cells.proofs.Sinks.{on_err, some_among, stopped_among, stopped_first}
 use Rattle.vt_cells.specs.Op.{change_text}
-use Rattle.vt_cells.specs.PieceKeeping.{gathered}
+use Rattle.vt_cells.specs.PieceInternals.{gathered}
 use Rattle.vt_rows.specs.Basic.{attrs_after, cells_text, shown_text}
 use Rattle.vt_rows.proofs.BasicTexts.{one_first}
 use Rattle.vt_rows.proofs.capture.write_cells.Goals as goal

@@ -1,5 +1,5 @@
 use Rattle.std.proofs.Common.{◌≡◌, ◌≤◌, ◌++◌, drop, length}
-use Rattle.vt_cells.specs.PieceKeeping.{gathered}
+use Rattle.vt_cells.specs.PieceInternals.{gathered}
 use Rattle.vt_rows.specs.Basic.{attrs_after_all, cells_text}
 use Rattle.vt_rows.proofs.capture.write_cells.Given as goal
 

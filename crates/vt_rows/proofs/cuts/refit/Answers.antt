@@ -3,7 +3,7 @@ use Rattle.std.proofs.lemmas.Bool.{cases_lt}
 use Rattle.std.proofs.lemmas.List.{length-append, length-drop, length-take-le}
 use Rattle.vt_cells.specs.Cell.{CellValue}
 use Rattle.vt_rows.specs.Cells.{at}
-use Rattle.vt_rows.specs.Keeping.{end_blanked}
+use Rattle.vt_rows.specs.Internals.{end_blanked}
 use Rattle.vt_rows.proofs.Columns.{at-past, at-blanks}
 use Rattle.vt_rows.proofs.Copying.{at-copied, at-behind_copied}
 use Rattle.vt_rows.proofs.ShiftSteps.{resized_is}

@@ -1,5 +1,5 @@
 use Rattle.std.proofs.Common.{◌≤◌, ◌∙◌, arith}
-use Rattle.vt_cells.specs.PieceKeeping.{gathered}
+use Rattle.vt_cells.specs.PieceInternals.{gathered}
 use Rattle.vt_rows.proofs.PlainTexts.{sixteen}
 use Rattle.vt_rows.proofs.plain.add_gap.Goals as goal
 

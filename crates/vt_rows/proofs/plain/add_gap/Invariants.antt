@@ -1,5 +1,5 @@
 use Rattle.std.proofs.Common.{◌≡◌, ◌≤◌, ◌++◌, length, replicate}
-use Rattle.vt_cells.specs.PieceKeeping.{gathered}
+use Rattle.vt_cells.specs.PieceInternals.{gathered}
 use Rattle.vt_rows.proofs.plain.add_gap.Given as goal
 
 -- what was written, and then the spaces that are left, is the whole text

@@ -1,8 +1,8 @@
 use Rattle.std.proofs.Common.{◌++◌, ◌∷◌, ◌∙◌, [], refl, suc, drop, sym, ap, arith}
 use Rattle.std.proofs.Math.Seq.{drop-cons}
 use Rattle.vt_cells.proofs.Sinks.{on_err, some_among}
-use Rattle.vt_cells.specs.PieceKeeping.{gathered}
-use Rattle.vt_rows.specs.Keeping.{gap_behind, plain_behind, text_behind}
+use Rattle.vt_cells.specs.PieceInternals.{gathered}
+use Rattle.vt_rows.specs.Internals.{gap_behind, plain_behind, text_behind}
 use Rattle.vt_rows.proofs.plain.write_behind.Goals as goal
 
 pub returns-in_err-gap-clause-some : goal.returns-in_err-gap-clause-some

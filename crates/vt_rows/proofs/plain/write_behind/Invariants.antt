@@ -1,6 +1,6 @@
 use Rattle.std.proofs.Common.{◌≡◌, ◌≤◌, ◌+◌, ◌++◌, drop, length}
-use Rattle.vt_cells.specs.PieceKeeping.{gathered}
-use Rattle.vt_rows.specs.Keeping.{plain_behind}
+use Rattle.vt_cells.specs.PieceInternals.{gathered}
+use Rattle.vt_rows.specs.Internals.{plain_behind}
 use Rattle.vt_rows.proofs.plain.write_behind.Given as goal
 
 -- what was written, and then the rest behind it, is the whole text

@@ -4,7 +4,7 @@ use borrow.Rule.Slice.PartMut.{put_mid}
 use Rattle.vt_cells.specs.Attrs.{default_attrs, Attrs}
 use Rattle.vt_cells.specs.Cell.{default_blank, blank}
 use Rattle.vt_rows.specs.Cells.{blanks, at}
-use Rattle.vt_rows.specs.Keeping.{left_blanked, right_replaced, turn_source}
+use Rattle.vt_rows.specs.Internals.{left_blanked, right_replaced, turn_source}
 use Rattle.vt_rows.proofs.Moves.{IsPaired-deleted, All-deleted}
 use Rattle.vt_rows.proofs.Steps.{HasRoom-left_blanked, length-left_blanked, length-right_replaced}
 use Rattle.vt_rows.proofs.ShiftSteps.{deleted-none, delete_code}

@@ -4,7 +4,7 @@ use borrow.Rule.Slice.PartMut.{put_mid}
 use Rattle.vt_cells.specs.Attrs.{default_attrs, Attrs}
 use Rattle.vt_cells.specs.Cell.{default_blank}
 use Rattle.vt_rows.specs.Cells.{blanks}
-use Rattle.vt_rows.specs.Keeping.{end_blanked}
+use Rattle.vt_rows.specs.Internals.{end_blanked}
 use Rattle.vt_rows.proofs.Moves.{IsPaired-inserted, All-inserted}
 use Rattle.vt_rows.proofs.ShiftSteps.{insert_code}
 use Rattle.vt_rows.proofs.shifts.insert.Goals as goal

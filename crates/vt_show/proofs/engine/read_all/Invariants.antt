@@ -1,5 +1,5 @@
 -- What was read so far was read by the parser.
-use Rattle.vt_show.specs.Keeping.{ReadSoFar}
+use Rattle.vt_show.specs.Internals.{ReadSoFar}
 use Rattle.vt_show.proofs.engine.read_all.Given as goal
 
 abbrev pub invariant-loop : goal.invariant-loop

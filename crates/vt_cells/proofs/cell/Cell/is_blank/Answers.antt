@@ -1,6 +1,6 @@
 use Rattle.std.proofs.Common.{ap, ◌∙◌}
 use Rattle.vt_cells.specs.Cell.{is_blank}
-use Rattle.vt_cells.specs.CellKeeping.{blank_shape, same_shape}
+use Rattle.vt_cells.specs.CellInternals.{blank_shape, same_shape}
 use Rattle.vt_cells.proofs.SameCells.{blank_kept}
 use Rattle.vt_cells.proofs.cell.Cell.is_blank.Goals as goal
 

@@ -1,5 +1,5 @@
 use Rattle.std.proofs.Common.{ℕ, ◌+◌, ◌-◌, ◌∙◌, ap, length, take, subst, arith}
-use Rattle.vt_cells.specs.PieceKeeping.{IsPiece}
+use Rattle.vt_cells.specs.PieceInternals.{IsPiece}
 use Rattle.vt_cells.proofs.Pieces.{pushed}
 use borrow.Rule.Slice.PartMut.{put_mid}
 use Rattle.vt_cells.proofs.piece.Piece.push_one.Goals as goal

@@ -1,10 +1,10 @@
 use Rattle.std.proofs.Common.{refl, sym, subst}
-use Rattle.vt_grid.specs.Keeping.{IsSized, page_of}
+use Rattle.vt_grid.specs.Internals.{IsSized, page_of}
 use Rattle.std.proofs.lemmas.List.{length-set}
 use Rattle.vt_rows.specs.Row.{deleted_row}
 use Rattle.vt_grid.specs.Page.{cursor_row}
 use Rattle.vt_grid.specs.Shifts.{chars_deleted}
-use Rattle.vt_grid.specs.Sheet.{SheetValue}
+use Rattle.vt_grid.specs.PageRows.{SheetValue}
 use Rattle.vt_grid.proofs.Shifting.{page_chars_deleted}
 use Rattle.vt_grid.proofs.Sized.{sized}
 use Rattle.vt_grid.proofs.grid.Grid.delete_cells.Goals as goal
@@ -13,9 +13,9 @@ pub invariant_of-self : goal.invariant_of-self
 invariant_of-self c =
     let s = c.self.inside in
     let i = c.self.invariant in
-    let page = page_of s.sheet s.pos s.saved_pos s.scroll_top s.scroll_bottom s.origin_mode s.saved_origin_mode in
-    subst (λ (sheet : SheetValue). IsSized s.size.rows s.size.cols
-    (page_of sheet s.pos s.saved_pos s.scroll_top s.scroll_bottom s.origin_mode s.saved_origin_mode))
+    let page = page_of s.page_rows s.pos s.saved_pos s.scroll_top s.scroll_bottom s.origin_mode s.saved_origin_mode in
+    subst (λ (page_rows : SheetValue). IsSized s.size.rows s.size.cols
+    (page_of page_rows s.pos s.saved_pos s.scroll_top s.scroll_bottom s.origin_mode s.saved_origin_mode))
     (sym c.delete.ensures)
     (sized s.size.rows s.size.cols page (chars_deleted c.args.count page) i
     (length-set page.rows page.row (deleted_row page.column c.args.count (cursor_row page)))

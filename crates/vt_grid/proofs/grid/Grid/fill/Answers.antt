@@ -1,9 +1,9 @@
 use Rattle.std.proofs.Common.{◌≡◌, ◌<◌, ◌^◌, ◌∙◌, ℕ, length, take, refl, sym, ap, subst, arith}
-use Rattle.vt_grid.specs.Keeping.{IsSized, page_of}
+use Rattle.vt_grid.specs.Internals.{IsSized, page_of}
 use Rattle.vt_grid.specs.Page.{Page}
 use Rattle.vt_grid.specs.Resize.{out_of_view, leaving, returning, page_resized, scrollback_resized}
 use Rattle.vt_grid.specs.Scrollback.{Scrollback, pushed}
-use Rattle.vt_grid.specs.Sheet.{SheetValue}
+use Rattle.vt_grid.specs.PageRows.{SheetValue}
 use Rattle.vt_grid.proofs.Resizing.{offset-pushed, page_by_steps, above_by_steps, page_page_resized, sized_resized}
 use Rattle.vt_grid.proofs.grid.Grid.fill.Goals as goal
 
@@ -20,7 +20,7 @@ invariant_of-self g c =
     let h = length c.args.fresh.rows in
     let w = c.args.fresh.width in
     let above = c.args.above.now in
-    let page = page_of s.sheet s.pos s.saved_pos s.scroll_top s.scroll_bottom s.origin_mode s.saved_origin_mode in
+    let page = page_of s.page_rows s.pos s.saved_pos s.scroll_top s.scroll_bottom s.origin_mode s.saved_origin_mode in
     let rows : c.size-size.result.rows ≡ h = c.size-size.ensures.rows in
     let down : c.saturating_sub-down.result ≡ leaving h page =
     c.saturating_sub-down.ensures ∙ omega (arith, c.saturating_sub.ensures, rows, i.height) in
@@ -29,13 +29,13 @@ invariant_of-self g c =
     let sent = c.in_ok-push_out_of_view.ensures.sent.0
     ∙ ap (λ (n : ℕ). pushed s.size.rows s.size.cols (take n page.rows) (out_of_view above)) c.from.ensures in
     let steps = page_by_steps h w s.size.rows s.size.cols c.saturating_sub-down.result
-    c.at_most-up.result above c.push_out_of_view.new.self page s.sheet
+    c.at_most-up.result above c.push_out_of_view.new.self page s.page_rows
     c.refit.new.self c.resized-self-inside.result c.resized-self-inside-2.result
     c.size-size.result.rows c.size-size.result.cols rows c.size-size.ensures.cols
     down up sent refl refl c.refit.ensures.rows c.refit.ensures.width
     c.resized-self-inside.ensures.row c.resized-self-inside.ensures.col
     c.resized-self-inside-2.ensures.row c.resized-self-inside-2.ensures.col in
-    let width : w < 2 ^ 16 = omega (arith, ap (λ (sheet : SheetValue). sheet.width) c.fresh.view_is) in
+    let width : w < 2 ^ 16 = omega (arith, ap (λ (page_rows : SheetValue). page_rows.width) c.fresh.view_is) in
     subst (IsSized c.size-size.result.rows c.size-size.result.cols) (sym steps)
     (sized_resized c.size-size.result.rows c.size-size.result.cols h w above page rows c.size-size.ensures.cols
     (page_page_resized h w above page i.sound c.theoretical_len.ensures.sound
@@ -48,7 +48,7 @@ returns-clause-page g c =
     let h = length c.args.fresh.rows in
     let w = c.args.fresh.width in
     let above = c.args.above.now in
-    let page = page_of s.sheet s.pos s.saved_pos s.scroll_top s.scroll_bottom s.origin_mode s.saved_origin_mode in
+    let page = page_of s.page_rows s.pos s.saved_pos s.scroll_top s.scroll_bottom s.origin_mode s.saved_origin_mode in
     let rows : c.size-size.result.rows ≡ h = c.size-size.ensures.rows in
     let down : c.saturating_sub-down.result ≡ leaving h page =
     c.saturating_sub-down.ensures ∙ omega (arith, c.saturating_sub.ensures, rows, i.height) in
@@ -57,7 +57,7 @@ returns-clause-page g c =
     let sent = c.in_ok-push_out_of_view.ensures.sent.0
     ∙ ap (λ (n : ℕ). pushed s.size.rows s.size.cols (take n page.rows) (out_of_view above)) c.from.ensures in
     let steps = page_by_steps h w s.size.rows s.size.cols c.saturating_sub-down.result
-    c.at_most-up.result above c.push_out_of_view.new.self page s.sheet
+    c.at_most-up.result above c.push_out_of_view.new.self page s.page_rows
     c.refit.new.self c.resized-self-inside.result c.resized-self-inside-2.result
     c.size-size.result.rows c.size-size.result.cols rows c.size-size.ensures.cols
     down up sent refl refl c.refit.ensures.rows c.refit.ensures.width
@@ -70,7 +70,7 @@ returns-clause-above g c =
     let s = c.self.inside in
     let i = c.self.invariant in
     let h = length c.args.fresh.rows in
-    let page = page_of s.sheet s.pos s.saved_pos s.scroll_top s.scroll_bottom s.origin_mode s.saved_origin_mode in
+    let page = page_of s.page_rows s.pos s.saved_pos s.scroll_top s.scroll_bottom s.origin_mode s.saved_origin_mode in
     let rows : c.size-size.result.rows ≡ h = c.size-size.ensures.rows in
     let down : c.saturating_sub-down.result ≡ leaving h page =
     c.saturating_sub-down.ensures ∙ omega (arith, c.saturating_sub.ensures, rows, i.height) in

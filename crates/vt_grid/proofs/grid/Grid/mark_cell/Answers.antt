@@ -1,7 +1,7 @@
 use Rattle.std.proofs.Common.{◌≡◌, ◌∙◌, true, sym}
 use Rattle.std.proofs.Common.{eq-eqb}
 use Rattle.vt_cells.specs.Glyph.{is_selector}
-use Rattle.vt_grid.specs.Keeping.{IsMarkPlace}
+use Rattle.vt_grid.specs.Internals.{IsMarkPlace}
 use Rattle.vt_grid.specs.Page.{cursor_row}
 use Rattle.vt_grid.proofs.Marks.{mark_place, marked_selected}
 use Rattle.vt_grid.proofs.Carries.{stays_before}

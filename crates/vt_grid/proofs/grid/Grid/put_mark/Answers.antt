@@ -1,7 +1,7 @@
 use Rattle.std.proofs.Common.{sym, subst}
 use Rattle.vt_cells.specs.declared.pos.Pos.{Pos}
-use Rattle.vt_grid.specs.Keeping.{IsSized, page_of}
-use Rattle.vt_grid.specs.Sheet.{SheetValue}
+use Rattle.vt_grid.specs.Internals.{IsSized, page_of}
+use Rattle.vt_grid.specs.PageRows.{SheetValue}
 use Rattle.vt_grid.proofs.Sized.{sized_mark_put}
 use Rattle.vt_grid.proofs.grid.Grid.put_mark.Goals as goal
 
@@ -11,9 +11,9 @@ invariant_of-self c =
     let i = c.self.invariant in
     let w = i.width in
     let pos : Pos = record { row = s.pos.row; col = s.pos.col } in
-    let page = page_of s.sheet s.pos s.saved_pos s.scroll_top s.scroll_bottom s.origin_mode s.saved_origin_mode in
-    subst (λ (sheet : SheetValue). IsSized s.size.rows s.size.cols
-    (page_of sheet pos s.saved_pos s.scroll_top s.scroll_bottom s.origin_mode s.saved_origin_mode))
+    let page = page_of s.page_rows s.pos s.saved_pos s.scroll_top s.scroll_bottom s.origin_mode s.saved_origin_mode in
+    subst (λ (page_rows : SheetValue). IsSized s.size.rows s.size.cols
+    (page_of page_rows pos s.saved_pos s.scroll_top s.scroll_bottom s.origin_mode s.saved_origin_mode))
     (sym c.append.ensures)
     (let h = rw (← c.self.view_is) at c.requires.inside in
     sized_mark_put s.size.rows s.size.cols c.args.col c.args.mark page (c.ranges.mark.0, c.requires.mark) h i)

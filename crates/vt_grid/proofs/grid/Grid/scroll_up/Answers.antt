@@ -1,27 +1,27 @@
 use Rattle.std.proofs.Common.{ℕ, ◌∙◌, ap, sym, subst}
-use Rattle.vt_grid.specs.Keeping.{IsSized, page_of}
+use Rattle.vt_grid.specs.Internals.{IsSized, page_of}
 use Rattle.vt_grid.specs.Page.{rows_up}
-use Rattle.vt_grid.specs.Sheet.{SheetValue}
+use Rattle.vt_grid.specs.PageRows.{SheetValue}
 use Rattle.vt_grid.proofs.Sized.{sized_scrolled_up}
 use Rattle.vt_grid.proofs.grid.Grid.scroll_up.Goals as goal
 
 pub invariant_of-self-then-self-eq0 : goal.invariant_of-self-then-self-eq0
 invariant_of-self-then-self-eq0 g c =
     let s = c.self.inside in
-    let page = page_of s.sheet s.pos s.saved_pos s.scroll_top s.scroll_bottom s.origin_mode s.saved_origin_mode in
+    let page = page_of s.page_rows s.pos s.saved_pos s.scroll_top s.scroll_bottom s.origin_mode s.saved_origin_mode in
     let first = ap
-    (λ (top : ℕ). record (s.sheet) { rows = rows_up s.sheet.width top s.scroll_bottom c.args.count s.sheet.rows })
+    (λ (top : ℕ). record (s.page_rows) { rows = rows_up s.page_rows.width top s.scroll_bottom c.args.count s.page_rows.rows })
     (sym c.if-self-eq0.true) in
-    subst (λ (sheet : SheetValue). IsSized s.size.rows s.size.cols
-    (page_of sheet s.pos s.saved_pos s.scroll_top s.scroll_bottom s.origin_mode s.saved_origin_mode))
+    subst (λ (page_rows : SheetValue). IsSized s.size.rows s.size.cols
+    (page_of page_rows s.pos s.saved_pos s.scroll_top s.scroll_bottom s.origin_mode s.saved_origin_mode))
     (sym (c.in_ok-send_up.ensures.rows ∙ first))
     (sized_scrolled_up s.size.rows s.size.cols c.args.count page c.self.invariant)
 
 pub invariant_of-self-2 : goal.invariant_of-self-2
 invariant_of-self-2 g c =
     let s = c.self.inside in
-    let page = page_of s.sheet s.pos s.saved_pos s.scroll_top s.scroll_bottom s.origin_mode s.saved_origin_mode in
-    subst (λ (sheet : SheetValue). IsSized s.size.rows s.size.cols
-    (page_of sheet s.pos s.saved_pos s.scroll_top s.scroll_bottom s.origin_mode s.saved_origin_mode))
+    let page = page_of s.page_rows s.pos s.saved_pos s.scroll_top s.scroll_bottom s.origin_mode s.saved_origin_mode in
+    subst (λ (page_rows : SheetValue). IsSized s.size.rows s.size.cols
+    (page_of page_rows s.pos s.saved_pos s.scroll_top s.scroll_bottom s.origin_mode s.saved_origin_mode))
     (sym c.scroll_up.ensures)
     (sized_scrolled_up s.size.rows s.size.cols c.args.count page c.self.invariant)

@@ -1,5 +1,5 @@
 use Rattle.std.proofs.Common.{◌∙◌, ap, sym, subst, arith}
-use Rattle.vt_grid.specs.Scrollback.{Scrollback, IsScrollback, viewed}
+use Rattle.vt_grid.specs.Scrollback.{Scrollback, IsScrollback, with_view}
 use Rattle.vt_grid.proofs.Scrolling.{IsScrollback-viewed, viewed_is}
 use Rattle.vt_grid.proofs.scrollback.Scrollback.set_offset.Goals as goal
 
@@ -27,4 +27,4 @@ returns-clause-ok c =
     } in
     viewed_is c.args.size.rows c.args.size.cols c.args.n c.min-offset.result above
     c.grow_in_view.new.rows.items (omega (arith, inside.rows.ok.0)) c.grow_in_view.ensures
-    ∙ ap (viewed c.args.size.rows c.args.size.cols c.args.n) c.self.view_is
+    ∙ ap (with_view c.args.size.rows c.args.size.cols c.args.n) c.self.view_is

@@ -1,6 +1,6 @@
 use Rattle.std.proofs.Common.{◌≡◌, min, length, take, ap, sym, ◌∙◌, arith}
 use Rattle.vt_rows.specs.Row.{RowValue}
-use Rattle.vt_redraw.specs.Keeping.{filled}
+use Rattle.vt_redraw.specs.Internals.{filled}
 use Rattle.vt_redraw.proofs.Filling.{filled_taken, length-filled}
 use Rattle.vt_redraw.proofs.picture_row.PictureRow.up_to.Goals as goal
 

@@ -1,7 +1,7 @@
 use Rattle.std.proofs.Common.{◌≡◌, ◌+◌, ◌-◌, ◌∷◌, length, ap, ◌∙◌, arith}
 use Rattle.std.proofs.lemmas.List.{length-append}
 use Rattle.std.proofs.lemmas.Str.Pattern.{split_parts}
-use Rattle.vt_rows.specs.Keeping.{pieces_from, pieces_within}
+use Rattle.vt_rows.specs.Internals.{pieces_from, pieces_within}
 use Rattle.vt_rows.proofs.Pieces.{within_over, within_to_end}
 use Rattle.vt_rows.proofs.capture.plain.behind_sgr.Goals as goal
 

@@ -1,7 +1,7 @@
 use Rattle.std.proofs.Common.{◌≡◌, ◌+◌, ◌-◌, [], ◌∷◌, length, ap, ◌∙◌, sym, arith, append-nil}
 use Rattle.std.proofs.lemmas.List.{length-append}
 use Rattle.std.proofs.lemmas.Str.Pattern.{split_parts}
-use Rattle.vt_rows.specs.Keeping.{pieces_from}
+use Rattle.vt_rows.specs.Internals.{pieces_from}
 use Rattle.vt_rows.proofs.Pieces.{behind_to_end, pieces_over}
 use Rattle.vt_rows.proofs.capture.plain.split_at_sgr.Goals as goal
 

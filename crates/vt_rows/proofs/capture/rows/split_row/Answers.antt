@@ -3,7 +3,7 @@ use Rattle.std.specs.Str.Iter.{char_indices_rest}
 use Rattle.std.specs.Char.{encode_utf8}
 use Rattle.std.proofs.lemmas.List.{length-append}
 use Rattle.vt_rows.specs.CaptureRows.{ends_row, overflows}
-use Rattle.vt_rows.specs.Keeping.{rows_of}
+use Rattle.vt_rows.specs.Internals.{rows_of}
 use Rattle.vt_rows.specs.Stretches.{columns_added, is_within_after}
 use Rattle.vt_rows.proofs.CaptureRows.{row_ended, row_full, row_goes_on, row_last, front_part}
 use Rattle.vt_rows.proofs.CaptureRows.{back_part, line_end, behind_line_end, boundary_behind}

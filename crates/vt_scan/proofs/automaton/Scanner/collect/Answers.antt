@@ -1,19 +1,19 @@
--- A byte of the parameter text, or a mark; and the bytes of a command are all that it is read from.
+-- A byte of the parameter text, or a intermediate; and the bytes of a command are all that it is read from.
 use Rattle.std.proofs.Common.{◌≡◌, ◌≢◌, ◌∙◌, ap, refl, subst, sym, rules}
 use Rattle.vt_scan.specs.Automaton.{State}
 use Rattle.vt_scan.specs.Scanner.{Held, StandsFor}
 use Rattle.vt_scan.specs.declared.table.Kind.TheVariants.{OscString}
-use Rattle.vt_scan.proofs.Collecting.{collect_mark, collect_parameter}
+use Rattle.vt_scan.proofs.Collecting.{collect_intermediate, collect_parameter}
 use Rattle.vt_scan.proofs.Standing.{stands_in_command, stands_on}
 use Rattle.vt_scan.proofs.automaton.Scanner.collect.Goals as goal
 
 pub returns-clause-reads : goal.returns-clause-reads
 returns-clause-reads c =
     let other : c.self.inside.kind ≢ OscString = search rules in
-    collect_mark c.args.self.now _ c.args.kind c.args.byte c.requires
+    collect_intermediate c.args.self.now _ c.args.kind c.args.byte c.requires
     (λ e. other (ap (λ (h : Held). h.kind) c.self.view_is ∙ e)) (sym c.if-is_parameter_byte.ensures)
     (ap (λ (h : Held). h.table) c.self.view_is)
-    (λ all e. c.push-2.ensures all (ap (λ (h : Held). h.marks) c.self.view_is ∙ e))
+    (λ all e. c.push-2.ensures all (ap (λ (h : Held). h.intermediates) c.self.view_is ∙ e))
 
 pub invariant_of-self : goal.invariant_of-self
 invariant_of-self c = let is : c.self.inside.kind ≡ OscString = search rules in stands_in_command _ is
@@ -24,7 +24,7 @@ invariant_of-self-then-is_parameter_byte c =
     stands_on c.args.self.now _ c.args.kind c.args.byte refl
     (collect_parameter c.args.self.now _ c.args.kind c.args.byte c.requires
     (λ e. other (ap (λ (h : Held). h.kind) c.self.view_is ∙ e)) (sym c.if-is_parameter_byte.ensures)
-    (ap (λ (h : Held). h.marks) c.self.view_is)
+    (ap (λ (h : Held). h.intermediates) c.self.view_is)
     (λ text e. c.push-then-is_parameter_byte.ensures text (ap (λ (h : Held). h.table) c.self.view_is ∙ e)))
     (subst (λ (held : Held). ∥ ((state : State) × StandsFor held state) ∥₁) c.self.view_is c.self.invariant)
 
@@ -32,8 +32,8 @@ pub invariant_of-self-2 : goal.invariant_of-self-2
 invariant_of-self-2 c =
     let other : c.self.inside.kind ≢ OscString = search rules in
     stands_on c.args.self.now _ c.args.kind c.args.byte refl
-    (collect_mark c.args.self.now _ c.args.kind c.args.byte c.requires
+    (collect_intermediate c.args.self.now _ c.args.kind c.args.byte c.requires
     (λ e. other (ap (λ (h : Held). h.kind) c.self.view_is ∙ e)) (sym c.if-is_parameter_byte.ensures)
     (ap (λ (h : Held). h.table) c.self.view_is)
-    (λ all e. c.push-2.ensures all (ap (λ (h : Held). h.marks) c.self.view_is ∙ e)))
+    (λ all e. c.push-2.ensures all (ap (λ (h : Held). h.intermediates) c.self.view_is ∙ e)))
     (subst (λ (held : Held). ∥ ((state : State) × StandsFor held state) ∥₁) c.self.view_is c.self.invariant)

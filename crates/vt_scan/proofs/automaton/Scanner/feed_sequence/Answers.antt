@@ -2,7 +2,7 @@
 use Rattle.std.proofs.Common.{◌≡◌, ◌∙◌, ap, subst, sym}
 use Rattle.vt_scan.specs.Scanner.{Held}
 use Rattle.vt_scan.specs.Table.{class_of, turn_of}
-use Rattle.vt_scan.specs.Keeping.{Fits}
+use Rattle.vt_scan.specs.Internals.{Fits}
 use Rattle.vt_scan.specs.declared.table.Kind.{Kind}
 use Rattle.vt_scan.specs.declared.table.Turn.TheVariants.{End}
 use Rattle.vt_scan.proofs.Feeding.{fed_end}

@@ -13,7 +13,7 @@ invariant_of-self c =
     let bytes = c.args.bytes.now in
     stands_fed_all c.args.self.now _ [] []
     (parameters_none c.args.self.now _ c.requires (ap (λ (h : Held). h.kind) c.self.view_is)
-    (ap (λ (h : Held). h.marks) c.self.view_is)
+    (ap (λ (h : Held). h.intermediates) c.self.view_is)
     (λ all e. c.push_all-count.ensures.read all (ap (λ (h : Held). h.table) c.self.view_is ∙ e)
     ∙ ap (λ (n : ℕ). table_of (all ++ take n bytes)) c.if-count-eq0.true))
     (subst (λ (held : Held). ∥ ((state : State) × StandsFor held state) ∥₁) c.self.view_is c.self.invariant)
@@ -25,7 +25,7 @@ invariant_of-self-2 c =
     omega (arith, length-take c.push_all-count.result c.args.bytes.now, c.if-count-eq0.false, c.push_all-count.ensures.inside) in
     stands_fed_all c.args.self.now _ text []
     (parameters_feed c.args.self.now _ text c.requires c.push_all-count.ensures.parameters some refl
-    (ap (λ (h : Held). h.marks) c.self.view_is)
+    (ap (λ (h : Held). h.intermediates) c.self.view_is)
     (λ all e. c.push_all-count.ensures.read all (ap (λ (h : Held). h.table) c.self.view_is ∙ e)))
     (subst (λ (held : Held). ∥ ((state : State) × StandsFor held state) ∥₁) c.self.view_is c.self.invariant)
 
@@ -35,5 +35,5 @@ returns-clause-fed c =
     let some : 0 < length text =
     omega (arith, length-take c.push_all-count.result c.args.bytes.now, c.if-count-eq0.false, c.push_all-count.ensures.inside) in
     parameters_feed c.args.self.now _ text c.requires c.push_all-count.ensures.parameters some refl
-    (ap (λ (h : Held). h.marks) c.self.view_is)
+    (ap (λ (h : Held). h.intermediates) c.self.view_is)
     (λ all e. c.push_all-count.ensures.read all (ap (λ (h : Held). h.table) c.self.view_is ∙ e))

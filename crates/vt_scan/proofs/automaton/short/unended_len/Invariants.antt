@@ -1,7 +1,7 @@
 -- The bytes so far end no string.
 use Rattle.std.proofs.Common.{◌-◌, ◌≤◌, length, take}
 use Rattle.std.specs.List.{AllByRecursion}
-use Rattle.vt_scan.specs.Keeping.{IsUnended}
+use Rattle.vt_scan.specs.Internals.{IsUnended}
 use Rattle.vt_scan.proofs.automaton.short.unended_len.Given as goal
 
 abbrev pub invariant-loop-len : goal.invariant-loop-len

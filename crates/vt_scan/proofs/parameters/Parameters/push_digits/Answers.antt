@@ -2,7 +2,7 @@
 use Rattle.std.proofs.Common.{◌≡◌, ◌<◌, ◌≤◌, ◌∷◌, [], List, ℕ, true, arith, get_or, subst, sym, take}
 use Rattle.std.proofs.lemmas.Bool.Decides.{nat_tests}
 use Rattle.std.proofs.lemmas.List.{take_more}
-use Rattle.vt_scan.specs.Keeping.{is_digit}
+use Rattle.vt_scan.specs.Internals.{is_digit}
 use Rattle.vt_scan.specs.Texts.{IsParameterText}
 use Rattle.vt_scan.proofs.Tables.{more_digits}
 use Rattle.vt_scan.proofs.Written.{parameters-append}

@@ -2,7 +2,7 @@
 use Rattle.std.proofs.Common.{◌≡◌, ◌+◌, ◌<◌, ◌≤◌, ◌∙◌, ◌++◌, ◌∷◌, [], List, ℕ, true, ap, arith, get_or, set, subst, sym, take}
 use Rattle.std.proofs.lemmas.Bool.Decides.{nat_tests}
 use Rattle.std.proofs.lemmas.List.{append-nil, take_more}
-use Rattle.vt_scan.specs.Keeping.{is_digit}
+use Rattle.vt_scan.specs.Internals.{is_digit}
 use Rattle.vt_scan.specs.Parameters.{table_of}
 use Rattle.vt_scan.specs.Texts.{IsParameterText}
 use Rattle.vt_scan.proofs.Tables.{more_digits, not_cut, step_ends, step_group, step_group_full}

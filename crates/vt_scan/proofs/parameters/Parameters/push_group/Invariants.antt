@@ -1,6 +1,6 @@
 -- The digits so far, with their number as that of a further group.
 use Rattle.std.proofs.Common.{◌≡◌, ◌+◌, ◌-◌, ◌≤◌, ◌++◌, ◌∷◌, [], List, ℕ, length, set, take}
-use Rattle.vt_scan.specs.Keeping.{groups_from}
+use Rattle.vt_scan.specs.Internals.{groups_from}
 use Rattle.vt_scan.specs.Parameters.{table_of}
 use Rattle.vt_scan.specs.Texts.{IsParameterText}
 use Rattle.vt_scan.proofs.Tables.{table}

@@ -1,7 +1,7 @@
 -- Scrollback is given up, and the callbacks hear of its rows.
 use Rattle.std.proofs.Common.{refl, subst, rules}
 use Rattle.std.specs.List.{FoldsTo}
-use Rattle.vt_screen.specs.Run.{Hears}
+use Rattle.vt_screen.specs.Run.{CalledOnScroll}
 use Rattle.vt_screen.specs.contracts.screen.Screen.{the_view}
 use Rattle.vt_screen.proofs.Asides.{kept_cleared}
 use Rattle.vt_screen.proofs.Reporting.{same_callbacks, reported_to, scrollback_erased}
@@ -19,4 +19,4 @@ returns g c =
     let all = reported_to g.CB.Callbacks.does s.is_alternate rows _ c.clear.new.leaving refl told in
     scrollback_erased g.CB.Callbacks.does s c.args.self.now c.self.inside.scrollback c.self.inside.other_scrollback
     c.clear.new.self c.args.callbacks.now _ c.self.view_is refl c.self.invariant.nothing c.clear.ensures.rows
-    (subst (λ z. FoldsTo (Hears g.CB.Callbacks.does s.is_alternate) c.args.callbacks.now rows z) (search rules) all)
+    (subst (λ z. FoldsTo (CalledOnScroll g.CB.Callbacks.does s.is_alternate) c.args.callbacks.now rows z) (search rules) all)

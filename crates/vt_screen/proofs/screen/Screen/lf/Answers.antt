@@ -3,7 +3,7 @@ use Rattle.std.proofs.Common.{refl, subst, rules}
 use Rattle.std.specs.List.{FoldsTo}
 use Rattle.vt_grid.specs.Outgoing.{fed_out}
 use Rattle.vt_grid.specs.Scrollback.{reported}
-use Rattle.vt_screen.specs.Run.{Hears}
+use Rattle.vt_screen.specs.Run.{CalledOnScroll}
 use Rattle.vt_screen.specs.contracts.screen.Screen.{the_view}
 use Rattle.vt_screen.proofs.Asides.{kept_sent, rows_fed_out}
 use Rattle.vt_screen.proofs.StableScrollback.{stable_fed_out}
@@ -30,4 +30,4 @@ returns-clause-done g c =
     line_fed g.CB.Callbacks.does s c.args.self.now c.line_feed.new.self c.self.inside.scrollback
     c.self.inside.other_scrollback c.line_feed.new.above c.args.callbacks.now _
     c.self.view_is refl c.self.invariant.nothing c.in_ok-line_feed.ensures.page sent.0
-    (subst (λ z. FoldsTo (Hears g.CB.Callbacks.does s.is_alternate) c.args.callbacks.now rows z) (search rules) all)
+    (subst (λ z. FoldsTo (CalledOnScroll g.CB.Callbacks.does s.is_alternate) c.args.callbacks.now rows z) (search rules) all)

@@ -3,7 +3,7 @@ use Rattle.std.proofs.Common.{refl, subst, rules}
 use Rattle.std.specs.List.{FoldsTo}
 use Rattle.vt_grid.specs.Outgoing.{scrolled_out}
 use Rattle.vt_grid.specs.Scrollback.{reported}
-use Rattle.vt_screen.specs.Run.{Hears}
+use Rattle.vt_screen.specs.Run.{CalledOnScroll}
 use Rattle.vt_screen.specs.contracts.screen.Screen.{the_view}
 use Rattle.vt_screen.proofs.Asides.{kept_sent, rows_scrolled_out}
 use Rattle.vt_screen.proofs.StableScrollback.{stable_scrolled_out}
@@ -30,4 +30,4 @@ returns-clause-done g c =
     scrolled_up_by g.CB.Callbacks.does c.args.count s c.args.self.now c.scroll_up.new.self
     c.self.inside.scrollback c.self.inside.other_scrollback c.scroll_up.new.above c.args.callbacks.now
     _ c.self.view_is refl c.self.invariant.nothing c.in_ok-scroll_up.ensures.page sent.0
-    (subst (λ z. FoldsTo (Hears g.CB.Callbacks.does s.is_alternate) c.args.callbacks.now rows z) (search rules) all)
+    (subst (λ z. FoldsTo (CalledOnScroll g.CB.Callbacks.does s.is_alternate) c.args.callbacks.now rows z) (search rules) all)

@@ -4,7 +4,7 @@ use Rattle.std.specs.List.{FoldsTo}
 use Rattle.vt_cells.proofs.Packing.{attrs_fit}
 use Rattle.vt_grid.specs.Outgoing.{printed_out}
 use Rattle.vt_grid.specs.Scrollback.{reported}
-use Rattle.vt_screen.specs.Run.{Hears}
+use Rattle.vt_screen.specs.Run.{CalledOnScroll}
 use Rattle.vt_screen.specs.contracts.screen.Screen.{the_view}
 use Rattle.vt_screen.proofs.Asides.{kept_sent, rows_printed_out}
 use Rattle.vt_screen.proofs.StableScrollback.{stable_printed_out}
@@ -34,4 +34,4 @@ returns-clause-done g c =
     c.self.inside.scrollback c.self.inside.other_scrollback c.print_columns.new.above
     c.last_after-last.result c.args.callbacks.now _ c.self.view_is refl c.self.invariant.nothing
     c.in_ok-print_columns.ensures.page c.last_after-last.ensures.value sent.0
-    (subst (λ z. FoldsTo (Hears g.CB.Callbacks.does s.is_alternate) c.args.callbacks.now rows z) (search rules) all)
+    (subst (λ z. FoldsTo (CalledOnScroll g.CB.Callbacks.does s.is_alternate) c.args.callbacks.now rows z) (search rules) all)

@@ -1,5 +1,5 @@
 use Rattle.std.proofs.Common.{ap, ◌∙◌}
-use Rattle.vt_cells.specs.ChangeKeeping.{without_separator}
+use Rattle.vt_cells.specs.ChangeInternals.{without_separator}
 use Rattle.vt_cells.proofs.ChangeTexts.{end_without_first, without_first_is}
 use Rattle.vt_cells.proofs.term.sgr.ChangeText.drop_separator.Goals as goal
 

@@ -1,5 +1,5 @@
 use Rattle.std.proofs.Common.{◌≡◌, [], ◌∷◌, ◌++◌, ap, ◌∙◌}
-use Rattle.vt_cells.specs.ChangeKeeping.{separated_all, without_separator}
+use Rattle.vt_cells.specs.ChangeInternals.{separated_all, without_separator}
 use Rattle.vt_cells.specs.Op.{change_numbers}
 use Rattle.vt_cells.proofs.ChangeTexts.{change_put, numbers_left}
 use Rattle.vt_cells.proofs.term.sgr.ChangeText.write.Goals as goal

@@ -1,5 +1,5 @@
 use Rattle.std.proofs.Common.{◌≡◌, ◌-◌, ◌≤◌, length}
-use Rattle.vt_rows.specs.Keeping.{pieces_from}
+use Rattle.vt_rows.specs.Internals.{pieces_from}
 use Rattle.vt_rows.proofs.capture.plain.BasicFormattedToPlainIndexedIterator.next.Given as goal
 
 -- what was passed over holds no piece

@@ -1,0 +1,19 @@
+use Rattle.std.proofs.Common.{◌<◌, length, ap, ◌∙◌, arith}
+use Rattle.vt_grid.specs.PageRows.{SheetValue, sheet_row, with_sheet_row}
+use Rattle.vt_grid.proofs.CellStores.{row_flagged, rows_counted}
+use Rattle.vt_grid.proofs.page_rows.PageRows.wrap.Goals as goal
+
+pub returns : goal.returns
+returns c =
+    let cell_store = c.self.inside.cell_store in
+    let inside : c.args.row < length cell_store.lines.items = omega (
+      arith,
+      c.requires,
+      rows_counted cell_store.width cell_store.cells.items cell_store.lines.items,
+      ap (λ (s : SheetValue). length s.rows) c.self.view_is,
+    ) in
+    row_flagged c.args.row c.args.wrapped cell_store c.wrap.new.self inside
+    c.wrap.ensures.cells c.wrap.ensures.width c.wrap.ensures.lines
+    ∙ ap
+    (λ (s : SheetValue). with_sheet_row c.args.row (record (sheet_row s c.args.row) { wrapped = c.args.wrapped }) s)
+    c.self.view_is

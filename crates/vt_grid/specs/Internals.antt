@@ -1,0 +1,69 @@
+-- What the fields of a grid are together; for its model and private contracts only.
+use Rattle.std.specs.Prelude.{◌≡◌, ℕ, ◌+◌, ◌-◌, ◌<◌, nat_le, nat_lt, Bool, true, false, List}
+use Rattle.std.specs.Prelude.{[], length, slice_index_or, Some, zero, if◌then◌else◌}
+use Rattle.vt_cells.specs.Attrs.{Attrs}
+use Rattle.vt_cells.specs.declared.pos.Pos.{Pos}
+use Rattle.vt_cells.specs.Cell.{CellValue, is_wide, is_blank, is_right_half, widened, IsCell}
+use Rattle.vt_rows.specs.Cells.{at}
+use Rattle.vt_rows.specs.Row.{RowValue, blank_row, resized_row}
+use Rattle.vt_grid.specs.Page.{Page, IsPage, cursor_row}
+use Rattle.vt_grid.specs.Printing.{lacks_room, carries}
+use Rattle.vt_grid.specs.Outgoing.{fed_out, left_by}
+use Rattle.vt_grid.specs.PageRows.{SheetValue}
+
+-- the page of a page, a cursor, a saved one, a region and origin modes
+abbrev pub page_of : SheetValue → Pos → Pos → ℕ → ℕ → Bool → Bool → Page
+page_of page_rows pos saved_pos top bottom origin saved_origin = record {
+  rows = page_rows.rows;
+  row = pos.row;
+  column = pos.col;
+  saved_row = saved_pos.row;
+  saved_column = saved_pos.col;
+  top = top;
+  bottom = bottom;
+  origin = origin;
+  saved_origin = saved_origin;
+  width = page_rows.width;
+}
+
+-- a page of this many rows and columns
+pub record IsSized (rows cols : ℕ) (page : Page) : Type 0 where
+  pub sound : IsPage page
+  pub height : rows ≡ length page.rows
+  pub width : cols ≡ page.width
+
+-- a row made blank, in its own width
+abbrev pub cleared_row : Attrs → RowValue → RowValue
+cleared_row attrs row = blank_row attrs (length row.cells)
+
+-- where a mark goes: a cell of the row that is no right half, and directly before the cursor unless it is wide
+pub record IsMarkPlace (cells : List CellValue) (column k : ℕ) : Type 0 where
+  pub inside : k < length cells
+  pub shown : is_right_half (at cells k) ≡ false
+  pub narrow : is_wide (at cells k) ≡ false → k + 1 ≡ column
+  pub wide : is_wide (at cells k) ≡ true → k + 1 < length cells
+
+-- what U+FE0F finds at column k, after it was put there
+pub record IsSelected (page : Page) (k : ℕ) : Type 0 where
+  pub place : IsMarkPlace (cursor_row page).cells page.column k
+  pub drawn : is_blank (at (cursor_row page).cells k) ≡ false
+  pub either : (wide : Bool) → IsCell (widened wide (at (cursor_row page).cells k))
+
+-- the rows that leave where room is made for this many columns
+abbrev pub room_out : ℕ → Page → List RowValue
+room_out columns page = if lacks_room columns page then fed_out page else []
+
+-- the rows that leave where a mark is printed
+abbrev pub mark_out : ℕ → Attrs → Page → List RowValue
+mark_out mark attrs page = if carries mark page then fed_out (left_by (Some zero) attrs page) else []
+
+-- what row k of a page of another size becomes, which is blank before: one of the newest rows above, or one of the page
+abbrev pub refilled : (down up : ℕ) → (above rows : List RowValue) →
+    (blank : RowValue) → (k : ℕ) → (d : RowValue) → RowValue
+refilled down up above rows blank k d =
+    if nat_lt k up
+    then (if nat_le up (length above + k)
+    then resized_row (length blank.cells) (slice_index_or above (length above + k - up) d) else blank)
+    else if nat_lt (down + (k - up)) (length rows)
+    then resized_row (length blank.cells) (slice_index_or rows (down + (k - up)) d)
+    else blank

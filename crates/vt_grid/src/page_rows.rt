@@ -1,0 +1,493 @@
+//! The rows of a page, without its cursor.
+
+ghost use Rattle.std.specs.Prelude.{◌≡◌, ◌≢◌, ◌+◌, ◌-◌, ◌^◌, ◌&&◌, ◌++◌, ◌<◌, ◌≤◌, ◌↔◌, ℕ, IfOk, IfSome, IsErr};
+ghost use Rattle.std.specs.Prelude.{IsSome, OnErr, OnOk, Some, All, true, false, encode_utf8, if◌then◌else◌, length};
+ghost use Rattle.std.specs.Prelude.{min, nat_le, nat_lt, replicate, slice_index_or, slice_set, take, drop};
+ghost use Rattle.vt_cells.specs.Cell.{IsCell, attrs_of, is_blank, is_right_half, is_wide, text_of, widened};
+ghost use Rattle.vt_cells.specs.Glyph.{columns_of};
+ghost use Rattle.vt_cells.specs.Refusals.{OnlyOutOfMemory};
+ghost use Rattle.vt_rows.specs.Cells.{IsPaired, at, ends_blank, erased, marked_at};
+ghost use Rattle.vt_rows.specs.Cells.{narrowed_at, put_narrow, put_wide, widened_at};
+ghost use Rattle.vt_rows.specs.Row.{RowValue, IsRow, blank_row, deleted_row, inserted_row};
+ghost use Rattle.vt_rows.specs.Texts.{IsPrintableAscii, put_text};
+ghost use Rattle.vt_grid.specs.Page.{rows_up};
+ghost use Rattle.vt_grid.specs.Shifts.{rows_down};
+ghost use Rattle.vt_grid.specs.Scrollback.{Sends, TakesMemory};
+ghost use Rattle.vt_grid.specs.PageRows.{blank_sheet, sheet_flagged, sheet_row, with_sheet_row, with_row_cells};
+
+mod resizing;
+
+use crate::cell_store::CellStore;
+use crate::scrollback::Scrollback;
+use crate::size::Size;
+use std::alloc::Global;
+use std::marker::Model;
+use vt_cells::{Attrs, Cell, Error};
+use vt_rows::capture::lent;
+use vt_rows::{Leaving, RowContents, cells, shifts};
+
+/// Rows of one width, changed one at a time or put in another order.
+///
+/// A row goes on no more where an edit leaves its last column blank, or where
+/// columns were inserted or deleted.
+#[derive(Debug, Drop)]
+pub struct PageRows {
+    cell_store: CellStore,
+}
+
+impl Model for PageRows {
+    ghost use Rattle.vt_grid.specs.CellStore.{IsFlat, rows_of};
+    ghost use Rattle.vt_grid.specs.PageRows.{SheetValue};
+
+    ghost Value = { SheetValue };
+
+    ghost view = { λ s. record { rows = rows_of s.cell_store; width = s.cell_store.width } };
+
+    ghost invariant = { λ s. IsFlat s.cell_store };
+}
+
+impl PageRows {
+    /// Rows of default blanks.
+    ///
+    /// Fails where memory for them is refused.
+    pub fn new(alloc: Global, size: Size) -> Result<PageRows, Error>
+        ensures ok { IfOk result (λ page_rows. page_rows ≡ blank_sheet size.rows size.cols) }
+        ensures memory { OnlyOutOfMemory result }
+    {
+        let cell_store = CellStore::new(alloc, size)?;
+        Ok(PageRows { cell_store })
+    }
+
+    /// A copy of the page.
+    ///
+    /// Fails where its memory is refused.
+    pub fn try_clone(&self, alloc: Global) -> Result<PageRows, Error>
+        ensures ok { IfOk result (λ page_rows. page_rows ≡ self.now) }
+        ensures memory { OnlyOutOfMemory result }
+    {
+        let cell_store = self.cell_store.try_clone(alloc)?;
+        Ok(PageRows { cell_store })
+    }
+
+    /// How many rows and columns the page has.
+    #[inline]
+    pub fn size(&self) -> Size
+        requires { length self.now.rows < 2 ^ 16 }
+        ensures rows { result.rows ≡ length self.now.rows }
+        ensures cols { result.cols ≡ self.now.width }
+    {
+        Size {
+            rows: self.cell_store.lines.len() as u16,
+            cols: self.cell_store.width,
+        }
+    }
+
+    /// How many rows the page has.
+    #[inline]
+    pub fn len(&self) -> usize
+        ensures { result ≡ length self.now.rows }
+    {
+        self.cell_store.lines.len()
+    }
+
+    /// A row, to be read where it lies.
+    #[inline]
+    pub fn row(&self, row: usize) -> RowContents<'_>
+        requires inside { row < length self.now.rows }
+        requires sound { All (IsRow self.now.width) self.now.rows }
+        ensures { result ≡ sheet_row self.now row }
+    {
+        let (start, end) = self.cell_store.part(row);
+        lent(
+            &self.cell_store.cells[start..end],
+            self.cell_store.wrapped(row),
+        )
+    }
+
+    /// Whether the text of a row goes on in the row below.
+    #[inline]
+    pub fn wrapped(&self, row: u16) -> bool
+        requires { row < length self.now.rows }
+        ensures { result ≡ (sheet_row self.now row).wrapped }
+    {
+        self.cell_store.wrapped(usize::from(row))
+    }
+
+    /// The cell at a column of a row.
+    #[inline]
+    pub fn cell(&self, row: u16, col: u16) -> &Cell
+        requires inside { row < length self.now.rows }
+        requires column { col < length (sheet_row self.now row).cells }
+        ensures { result.now ≡ at (sheet_row self.now row).cells col }
+    {
+        let (start, end) = self.cell_store.part(usize::from(row));
+        &self.cell_store.cells[start..end][usize::from(col)]
+    }
+
+    /// Whether the last column of a row is blank.
+    #[inline]
+    pub fn ends_blank(&self, row: u16) -> bool
+        requires { row < length self.now.rows }
+        ensures { result ≡ ends_blank (sheet_row self.now row).cells }
+    {
+        let (start, end) = self.cell_store.part(usize::from(row));
+        cells::ends_blank(&self.cell_store.cells[start..end])
+    }
+
+    /// Says whether a row goes on in the row below.
+    #[inline]
+    #[tactic(auto, using(crate::proofs::CellStores::rows_counted))]
+    pub fn wrap(&mut self, row: usize, wrapped: bool)
+        requires { row < length self.old.rows }
+        ensures { self.new ≡ with_sheet_row row (record (sheet_row self.old row) { wrapped = wrapped }) self.old }
+    {
+        self.cell_store.wrap(row, wrapped);
+    }
+
+    /// Says whether the row that a wrap left, if there is one, goes on below.
+    pub fn wrap_left(&mut self, left: Option<u16>, goes_on: bool)
+        requires { IfSome left (λ row. row < length self.old.rows) }
+        ensures { self.new ≡ sheet_flagged left goes_on self.old }
+    {
+        if let Some(row) = left {
+            self.wrap(usize::from(row), goes_on);
+        }
+    }
+
+    /// Puts a narrow glyph at a column of a row; see `cells::put_narrow`.
+    #[inline(always)]
+    pub fn put_narrow(&mut self, row: u16, col: u16, c: char, attrs: Attrs)
+        requires inside { row < length self.old.rows }
+        requires paired { IsPaired (sheet_row self.old row).cells }
+        requires column { col < length (sheet_row self.old row).cells }
+        requires reported { c ≢ 0xFFFD }
+        requires columns { columns_of c ≡ Some 1 }
+        ensures { self.new
+            ≡ with_row_cells row (put_narrow col (encode_utf8 c) attrs (sheet_row self.old row).cells) self.old }
+    {
+        let row = usize::from(row);
+        let goes_on = self.cell_store.wrapped(row);
+        let (start, end) = self.cell_store.part(row);
+        let cells = &mut self.cell_store.cells[start..end];
+        cells::put_narrow(cells, usize::from(col), c, attrs);
+        let goes_on = cells::flag_left(cells, goes_on);
+        self.cell_store.wrap(row, goes_on);
+    }
+
+    /// Puts a narrow glyph for each byte of a text of printable ASCII, from a
+    /// column of a row on; see `cells::put_text`.
+    #[inline]
+    pub fn put_text(&mut self, row: u16, col: u16, text: &[u8], attrs: Attrs)
+        requires inside { row < length self.old.rows }
+        requires paired { IsPaired (sheet_row self.old row).cells }
+        requires some { 0 < length text.now }
+        requires columns { col + length text.now ≤ length (sheet_row self.old row).cells }
+        requires printable { IsPrintableAscii text.now }
+        ensures { self.new ≡ with_row_cells row (put_text col text.now attrs (sheet_row self.old row).cells) self.old }
+    {
+        let row = usize::from(row);
+        let goes_on = self.cell_store.wrapped(row);
+        let (start, end) = self.cell_store.part(row);
+        let cells = &mut self.cell_store.cells[start..end];
+        cells::put_text(cells, usize::from(col), text, attrs);
+        let goes_on = cells::flag_left(cells, goes_on);
+        self.cell_store.wrap(row, goes_on);
+    }
+
+    /// Puts a wide glyph at a column of a row and the next; see `cells::put_wide`.
+    #[inline(always)]
+    pub fn put_wide(&mut self, row: u16, col: u16, c: char, attrs: Attrs)
+        requires inside { row < length self.old.rows }
+        requires paired { IsPaired (sheet_row self.old row).cells }
+        requires column { col + 1 < length (sheet_row self.old row).cells }
+        requires reported { c ≢ 0xFFFD }
+        requires columns { columns_of c ≡ Some 2 }
+        ensures { self.new
+            ≡ with_row_cells row (put_wide col (encode_utf8 c) attrs (sheet_row self.old row).cells) self.old }
+    {
+        let row = usize::from(row);
+        let goes_on = self.cell_store.wrapped(row);
+        let (start, end) = self.cell_store.part(row);
+        let cells = &mut self.cell_store.cells[start..end];
+        cells::put_wide(cells, usize::from(col), c, attrs);
+        let goes_on = cells::flag_left(cells, goes_on);
+        self.cell_store.wrap(row, goes_on);
+    }
+
+    /// Puts a mark on the cell at a column of a row; see `cells::append`.
+    pub fn append(&mut self, row: u16, col: u16, mark: char)
+        requires inside { row < length self.old.rows }
+        requires column { col < length (sheet_row self.old row).cells }
+        requires shown { is_right_half (at (sheet_row self.old row).cells col) ≡ false }
+        requires mark { columns_of mark ≡ Some 0 }
+        ensures { self.new ≡ with_row_cells row (marked_at col mark (sheet_row self.old row).cells) self.old }
+    {
+        let row = usize::from(row);
+        let goes_on = self.cell_store.wrapped(row);
+        let (start, end) = self.cell_store.part(row);
+        let cells = &mut self.cell_store.cells[start..end];
+        cells::append(cells, usize::from(col), mark);
+        let goes_on = cells::flag_left(cells, goes_on);
+        self.cell_store.wrap(row, goes_on);
+    }
+
+    /// Makes the glyph at a column of a row wide; see `cells::widen`.
+    pub fn widen(&mut self, row: u16, col: u16, attrs: Attrs)
+        requires inside { row < length self.old.rows }
+        requires paired { IsPaired (sheet_row self.old row).cells }
+        requires column { col + 1 < length (sheet_row self.old row).cells }
+        requires glyph { is_blank (at (sheet_row self.old row).cells col) ≡ false }
+        requires shown { is_right_half (at (sheet_row self.old row).cells col) ≡ false }
+        requires fits { IsCell (widened true (at (sheet_row self.old row).cells col)) }
+        ensures { self.new ≡ with_row_cells row (widened_at col attrs (sheet_row self.old row).cells) self.old }
+    {
+        let row = usize::from(row);
+        let goes_on = self.cell_store.wrapped(row);
+        let (start, end) = self.cell_store.part(row);
+        let cells = &mut self.cell_store.cells[start..end];
+        cells::widen(cells, usize::from(col), attrs);
+        let goes_on = cells::flag_left(cells, goes_on);
+        self.cell_store.wrap(row, goes_on);
+    }
+
+    /// Makes the glyph at a column of a row narrow; see `cells::narrow`.
+    pub fn narrow(&mut self, row: u16, col: u16, attrs: Attrs)
+        requires inside { row < length self.old.rows }
+        requires paired { IsPaired (sheet_row self.old row).cells }
+        requires column { col < length (sheet_row self.old row).cells }
+        requires shown { is_right_half (at (sheet_row self.old row).cells col) ≡ false }
+        requires fits { IsCell (widened false (at (sheet_row self.old row).cells col)) }
+        ensures { self.new ≡ with_row_cells row (narrowed_at col attrs (sheet_row self.old row).cells) self.old }
+    {
+        let row = usize::from(row);
+        let goes_on = self.cell_store.wrapped(row);
+        let (start, end) = self.cell_store.part(row);
+        let cells = &mut self.cell_store.cells[start..end];
+        cells::narrow(cells, usize::from(col), attrs);
+        let goes_on = cells::flag_left(cells, goes_on);
+        self.cell_store.wrap(row, goes_on);
+    }
+
+    /// Takes the cell at a column of a row out; see `cells::lift`.
+    pub fn lift(&mut self, row: u16, col: u16, attrs: Attrs) -> Cell
+        requires inside { row < length self.old.rows }
+        requires paired { IsPaired (sheet_row self.old row).cells }
+        requires column { col < length (sheet_row self.old row).cells }
+        ensures lifted { result ≡ at (sheet_row self.old row).cells col }
+        ensures value { self.new ≡ with_row_cells row (erased col 1 attrs (sheet_row self.old row).cells) self.old }
+    {
+        let row = usize::from(row);
+        let goes_on = self.cell_store.wrapped(row);
+        let (start, end) = self.cell_store.part(row);
+        let cells = &mut self.cell_store.cells[start..end];
+        let cell = cells::lift(cells, usize::from(col), attrs);
+        let goes_on = cells::flag_left(cells, goes_on);
+        self.cell_store.wrap(row, goes_on);
+        cell
+    }
+
+    /// Puts a cell that was taken out back at a column of a row, and the row's
+    /// flag; the cells beside it stay.
+    pub fn put_back(&mut self, row: u16, col: u16, cell: Cell, goes_on: bool)
+        requires inside { row < length self.old.rows }
+        requires column { col < length (sheet_row self.old row).cells }
+        ensures { self.new
+            ≡ with_sheet_row row
+            (record { cells = slice_set (sheet_row self.old row).cells col cell; wrapped = goes_on }) self.old }
+    {
+        let row = usize::from(row);
+        let (start, end) = self.cell_store.part(row);
+        let cells = &mut self.cell_store.cells[start..end];
+        cells[usize::from(col)] = cell;
+        self.cell_store.wrap(row, goes_on);
+    }
+
+    /// Puts a wide cell at a column of a row and the next; see `cells::put_wide_cell`.
+    pub fn put_wide_cell(&mut self, row: u16, col: u16, cell: Cell)
+        requires inside { row < length self.old.rows }
+        requires paired { IsPaired (sheet_row self.old row).cells }
+        requires column { col + 1 < length (sheet_row self.old row).cells }
+        requires wide { is_wide cell ≡ true }
+        ensures { self.new
+            ≡ with_row_cells row (put_wide col (text_of cell) (attrs_of cell) (sheet_row self.old row).cells) self.old }
+    {
+        let row = usize::from(row);
+        let goes_on = self.cell_store.wrapped(row);
+        let (start, end) = self.cell_store.part(row);
+        let cells = &mut self.cell_store.cells[start..end];
+        cells::put_wide_cell(cells, usize::from(col), cell);
+        let goes_on = cells::flag_left(cells, goes_on);
+        self.cell_store.wrap(row, goes_on);
+    }
+
+    /// Makes the columns of a row from `from` up to `to` blank; see `cells::erase`.
+    pub fn erase(&mut self, row: u16, from: u16, to: u16, attrs: Attrs)
+        requires inside { row < length self.old.rows }
+        requires paired { IsPaired (sheet_row self.old row).cells }
+        requires some { from < to }
+        requires columns { to ≤ length (sheet_row self.old row).cells }
+        ensures { self.new
+            ≡ with_row_cells row (erased from (to - from) attrs (sheet_row self.old row).cells) self.old }
+    {
+        let row = usize::from(row);
+        let goes_on = self.cell_store.wrapped(row);
+        let (start, end) = self.cell_store.part(row);
+        let cells = &mut self.cell_store.cells[start..end];
+        cells::erase(cells, usize::from(from), usize::from(to), attrs);
+        let goes_on = cells::flag_left(cells, goes_on);
+        self.cell_store.wrap(row, goes_on);
+    }
+
+    /// Inserts default blanks at a column of a row; see `shifts::insert`.
+    pub fn insert(&mut self, row: u16, col: u16, count: u16)
+        requires inside { row < length self.old.rows }
+        requires paired { IsPaired (sheet_row self.old row).cells }
+        requires column { col ≤ length (sheet_row self.old row).cells }
+        ensures { self.new ≡ with_sheet_row row (inserted_row col count (sheet_row self.old row)) self.old }
+    {
+        let row = usize::from(row);
+        let (start, end) = self.cell_store.part(row);
+        let cells = &mut self.cell_store.cells[start..end];
+        shifts::insert(cells, usize::from(col), usize::from(count));
+        self.cell_store.wrap(row, false);
+    }
+
+    /// Deletes columns of a row; see `shifts::delete`.
+    pub fn delete(&mut self, row: u16, col: u16, count: u16)
+        requires inside { row < length self.old.rows }
+        requires paired { IsPaired (sheet_row self.old row).cells }
+        requires column { col ≤ length (sheet_row self.old row).cells }
+        ensures { self.new ≡ with_sheet_row row (deleted_row col count (sheet_row self.old row)) self.old }
+    {
+        let row = usize::from(row);
+        let (start, end) = self.cell_store.part(row);
+        let cells = &mut self.cell_store.cells[start..end];
+        shifts::delete(cells, usize::from(col), usize::from(count));
+        self.cell_store.wrap(row, false);
+    }
+
+    /// Makes a row blank.
+    pub fn clear_row(&mut self, row: usize, attrs: Attrs)
+        requires inside { row < length self.old.rows }
+        ensures { self.new ≡ with_sheet_row row (blank_row attrs self.old.width) self.old }
+    {
+        self.cell_store.blank(row, attrs);
+    }
+
+    /// Makes all rows blank.
+    pub fn clear_all(&mut self, attrs: Attrs)
+        requires sound { All (IsRow self.old.width) self.old.rows }
+        ensures { self.new
+            ≡ record self.old { rows = replicate (length self.old.rows) (blank_row attrs self.old.width) } }
+    {
+        self.cell_store.blank_all(attrs);
+    }
+
+    /// Makes the rows above a row blank.
+    pub fn clear_above(&mut self, row: u16, attrs: Attrs)
+        requires inside { row < length self.old.rows }
+        requires sound { All (IsRow self.old.width) self.old.rows }
+        ensures { self.new
+            ≡ record self.old { rows = replicate row (blank_row attrs self.old.width) ++ drop row self.old.rows } }
+    {
+        self.clear_rows(0, usize::from(row), attrs);
+    }
+
+    /// Makes the rows below a row blank.
+    pub fn clear_below(&mut self, row: u16, attrs: Attrs)
+        requires inside { row < length self.old.rows }
+        requires sound { All (IsRow self.old.width) self.old.rows }
+        ensures { self.new
+            ≡ record self.old {
+              rows =
+                  take (row + 1) self.old.rows
+                  ++ replicate (length self.old.rows - (row + 1)) (blank_row attrs self.old.width);
+            } }
+    {
+        let end = self.len();
+        self.clear_rows(usize::from(row) + 1, end, attrs);
+    }
+
+    /// Moves the rows from `top` to `bottom` up by `count`; blank rows come in
+    /// below, and what passes `top` is dropped.
+    ///
+    /// No cell of a row that stays is moved.
+    pub fn scroll_up(&mut self, top: u16, bottom: u16, count: u16)
+        requires in_order { top ≤ bottom }
+        requires inside { bottom < length self.old.rows }
+        requires sound { All (IsRow self.old.width) self.old.rows }
+        ensures { self.new ≡ record self.old { rows = rows_up self.old.width top bottom count self.old.rows } }
+    {
+        let top = usize::from(top);
+        let end = usize::from(bottom) + 1;
+        let count = usize::from(count).min(end - top);
+        self.cell_store.rotate(top, end, count);
+        self.clear_rows(end - count, end, Attrs::new());
+    }
+
+    /// Moves the rows from `top` to `bottom` down by `count`; blank rows come
+    /// in above, and what passes `bottom` is dropped. The row at `bottom` goes
+    /// on no more.
+    ///
+    /// No cell of a row that stays is moved.
+    pub fn scroll_down(&mut self, top: u16, bottom: u16, count: u16)
+        requires in_order { top ≤ bottom }
+        requires inside { bottom < length self.old.rows }
+        requires sound { All (IsRow self.old.width) self.old.rows }
+        ensures { self.new ≡ record self.old { rows = rows_down self.old.width top bottom count self.old.rows } }
+    {
+        let top = usize::from(top);
+        let end = usize::from(bottom) + 1;
+        let count = usize::from(count).min(end - top);
+        self.cell_store.rotate(top, end, end - top - count);
+        self.clear_rows(top, top + count, Attrs::new());
+        self.wrap(usize::from(bottom), false);
+    }
+
+    /// Moves the rows from the first to `bottom` up by `count`, as `scroll_up`
+    /// does, and hands those that leave to scrollback. The size is the
+    /// page's own.
+    ///
+    /// Fails where memory for scrollback is refused, and then nothing has
+    /// changed and nothing was reported.
+    pub fn send_up<L: Leaving>(
+        &mut self,
+        bottom: u16,
+        count: u16,
+        size: Size,
+        above: &mut Scrollback,
+        leaving: &mut L,
+    ) -> Result<(), Error>
+        requires inside { bottom < length self.old.rows }
+        requires width { size.cols ≡ self.old.width }
+        requires sound { All (IsRow self.old.width) self.old.rows }
+        ensures rows { OnOk result
+            (self.new ≡ record self.old { rows = rows_up self.old.width 0 bottom count self.old.rows }) }
+        ensures sent { OnOk result (Sends L.leaves size.rows size.cols
+            (take (min count (bottom + 1)) self.old.rows) above.old leaving.old above.new leaving.new) }
+        ensures err { OnErr result ((self.new ≡ self.old) × ((above.new ≡ above.old) × (leaving.new ≡ leaving.old))) }
+        ensures grows { IsErr result → TakesMemory (take (min count (bottom + 1)) self.old.rows) above.old }
+        ensures memory { OnlyOutOfMemory result }
+    {
+        let gone = usize::from(count).min(usize::from(bottom) + 1);
+        above.push(self, gone, size, leaving)?;
+        self.scroll_up(0, bottom, count);
+        Ok(())
+    }
+
+    /// Makes the rows from `from` up to `to` blank.
+    fn clear_rows(&mut self, from: usize, to: usize, attrs: Attrs)
+        requires in_order { from ≤ to }
+        requires inside { to ≤ length self.old.rows }
+        ensures len { length self.new.rows ≡ length self.old.rows }
+        ensures width { self.new.width ≡ self.old.width }
+        ensures by_index { (k : ℕ) (d : RowValue) → k < length self.old.rows →
+            slice_index_or self.new.rows k d
+            ≡ (if nat_le from k && nat_lt k to then blank_row attrs self.old.width
+            else slice_index_or self.old.rows k d) }
+    {
+        for row in from..to {
+            self.clear_row(row, attrs);
+        }
+    }
+}

@@ -1,0 +1,101 @@
+//! Another size of a page: fresh rows take over the old ones.
+
+ghost use Rattle.std.specs.Prelude.{◌≡◌, ◌+◌, ◌-◌, ◌<◌, ◌≤◌, ◌&&◌, ℕ, All, if◌then◌else◌};
+ghost use Rattle.std.specs.Prelude.{length, nat_le, nat_lt, slice_index_or};
+ghost use Rattle.vt_cells.specs.Attrs.{default_attrs};
+ghost use Rattle.vt_rows.specs.Row.{RowValue, IsRow, blank_row, resized_row};
+ghost use Rattle.vt_grid.specs.Internals.{refilled};
+ghost use Rattle.vt_rows.specs.Cells.{IsPaired};
+ghost use Rattle.vt_grid.specs.Resize.{rows_resized, taken_back, window};
+ghost use Rattle.vt_grid.specs.PageRows.{blank_sheet, sheet_row, with_sheet_row};
+
+use super::PageRows;
+use crate::scrollback::Scrollback;
+use vt_cells::Cell;
+use vt_rows::cuts;
+use vt_rows::row::flag_kept;
+
+impl PageRows {
+    /// Gives the page the size of `fresh`, a page of default blanks: the
+    /// newest `up` rows of scrollback stand at its top, and the page's own
+    /// rows, but for the first `down`, below them. The last row goes on no
+    /// more.
+    pub fn refit(&mut self, mut fresh: PageRows, down: u16, up: u16, above: &mut Scrollback)
+        requires blank { fresh ≡ blank_sheet (length fresh.rows) fresh.width }
+        requires either { 0 < up → down ≡ 0 }
+        requires inside { up < length fresh.rows }
+        requires hidden { above.old.offset ≡ 0 }
+        requires sound { All (IsRow self.old.width) self.old.rows }
+        ensures rows { self.new.rows
+            ≡ rows_resized fresh.width
+            (window self.old.width (length fresh.rows) down up above.old.rows self.old.rows) }
+        ensures width { self.new.width ≡ fresh.width }
+        ensures above { above.new ≡ taken_back up above.old }
+    {
+        fill(&mut fresh, self, usize::from(down), usize::from(up), above);
+        let last = fresh.len() - 1;
+        fresh.wrap(last, false);
+        self.cell_store = fresh.cell_store;
+    }
+
+    /// Gives a blank row cells and a flag, as far as they fit; see `cuts::refit`.
+    /// The flag stays where they are as many as the row's columns.
+    pub fn fit_row(&mut self, row: usize, from: &[Cell], wrapped: bool)
+        requires inside { row < length self.old.rows }
+        requires blank { sheet_row self.old row ≡ blank_row default_attrs (length (sheet_row self.old row).cells) }
+        requires paired { IsPaired from.now }
+        ensures { self.new
+            ≡ with_sheet_row row
+            (resized_row (length (sheet_row self.old row).cells) (record { cells = from.now; wrapped = wrapped }))
+            self.old }
+    {
+        let (start, end) = self.cell_store.part(row);
+        let cells = &mut self.cell_store.cells[start..end];
+        cuts::refit(cells, from);
+        self.cell_store
+            .wrap(row, flag_kept(wrapped, from.len() == end - start));
+    }
+
+    /// Copies the rows of another page from `down` on into blank rows from
+    /// `up` on, as far as there is room.
+    fn take_rows(&mut self, rows: &PageRows, down: usize, up: usize)
+        requires blank { (k : ℕ) (d : RowValue) → up ≤ k → k < length self.old.rows →
+            slice_index_or self.old.rows k d
+            ≡ blank_row default_attrs (length (slice_index_or self.old.rows k d).cells) }
+        requires inside { up ≤ length self.old.rows }
+        requires sound { All (IsRow rows.now.width) rows.now.rows }
+        ensures len { length self.new.rows ≡ length self.old.rows }
+        ensures width { self.new.width ≡ self.old.width }
+        ensures by_index { (k : ℕ) (d : RowValue) → k < length self.old.rows →
+            slice_index_or self.new.rows k d
+            ≡ (if nat_le up k && nat_lt (down + (k - up)) (length rows.now.rows)
+            then resized_row (length (slice_index_or self.old.rows k d).cells)
+            (slice_index_or rows.now.rows (down + (k - up)) d)
+            else slice_index_or self.old.rows k d) }
+    {
+        let mut k = (self.len() - up).min(rows.len().saturating_sub(down));
+        while k > 0 {
+            k -= 1;
+            let row = rows.row(down + k);
+            self.fit_row(up + k, row.cells(), row.wrapped());
+        }
+    }
+}
+
+/// Fills a page of blank rows with the newest `up` rows of scrollback and,
+/// below them, with the rows of another one, but for the first `down`.
+fn fill(fresh: &mut PageRows, rows: &PageRows, down: usize, up: usize, above: &mut Scrollback)
+    requires blank { fresh.old ≡ blank_sheet (length fresh.old.rows) fresh.old.width }
+    requires inside { up ≤ length fresh.old.rows }
+    requires hidden { above.old.offset ≡ 0 }
+    requires sound { All (IsRow rows.now.width) rows.now.rows }
+    ensures len { length fresh.new.rows ≡ length fresh.old.rows }
+    ensures width { fresh.new.width ≡ fresh.old.width }
+    ensures above { above.new ≡ taken_back up above.old }
+    ensures by_index { (k : ℕ) (d : RowValue) → k < length fresh.old.rows →
+        slice_index_or fresh.new.rows k d
+        ≡ refilled down up above.old.rows rows.now.rows (slice_index_or fresh.old.rows k d) k d }
+{
+    above.give_back(fresh, up);
+    fresh.take_rows(rows, down, up);
+}

@@ -1,0 +1,110 @@
+-- Aids of proofs, which only contracts of private functions cite.
+use Rattle.std.specs.Prelude.{◌≡◌, ◌≢◌, ℕ, ◌-◌, ◌<◌, ◌⊎◌, ◌&&◌, nat_le, Bool, true, false, List, [], ◌∷◌, ◌++◌}
+use Rattle.std.specs.Prelude.{◌≤◌, length, slice_index_or, take, drop, Some, None}
+use Rattle.vt_scan.specs.Characters.{is_character, is_beginning, character_of}
+use Rattle.vt_scan.specs.Parameters.{GroupTable}
+use Rattle.vt_scan.specs.Scanner.{Held, Reads}
+use Rattle.vt_scan.specs.declared.event.Event.TheVariants as event
+use Rattle.vt_scan.specs.declared.event.Events.{Events}
+use Rattle.vt_scan.specs.declared.table.Kind.{Kind}
+use Rattle.vt_scan.specs.declared.table.Kind.TheVariants as kinds
+use Rattle.vt_scan.specs.declared.table.Turn.{Turn}
+use Rattle.vt_scan.specs.declared.table.Turn.TheVariants.{Collect, Drop, Execute, End}
+use Rattle.vt_scan.specs.declared.table.Ending.{Ending}
+use Rattle.vt_scan.specs.declared.table.Ending.TheVariants as ending
+use Rattle.vt_scan.specs.declared.unfinished.Bytes.{Bytes}
+use Rattle.vt_scan.specs.declared.unfinished.Bytes.TheVariants.{Zero, One, Two, Three}
+use Rattle.vt_scan.specs.declared.unfinished.Extended.{Extended}
+use Rattle.vt_scan.specs.declared.unfinished.Extended.TheVariants.{Further, Character, Broken}
+
+-- what the parts of a scanner hold
+abbrev pub held : Kind → List ℕ → GroupTable → List ℕ → List ℕ → Held
+held kind unfinished table intermediates text =
+    record { kind = kind; unfinished = unfinished; table = table; intermediates = intermediates; text = text }
+
+-- a kind in which numbers and intermediates are collected
+abbrev pub InSequence : Kind → Type 0
+InSequence kinds.Ground = ⊥
+InSequence kinds.CsiIgnore = ⊥
+InSequence kinds.OscString = ⊥
+InSequence kinds.Skip = ⊥
+InSequence _ = Unit {0}
+
+-- what can end, and in which kinds
+abbrev pub FitsEnding : Kind → Kind → Ending → Type 0
+FitsEnding old new ending.Nothing = Unit {0}
+FitsEnding old new ending.Character = (old ≡ kinds.Ground) × (new ≡ kinds.Ground)
+FitsEnding old new ending.Executed = new ≡ kinds.Ground
+FitsEnding old new ending.EscDispatch = InSequence old × (new ≡ kinds.Ground)
+FitsEnding old new ending.CsiDispatch = InSequence old × (new ≡ kinds.Ground)
+FitsEnding old new ending.OscDispatch = (old ≡ kinds.OscString) × ((new ≡ kinds.Ground) ⊎ (new ≡ kinds.Escape))
+FitsEnding old new ending.OscDispatchAndExecuted = (old ≡ kinds.OscString) × (new ≡ kinds.Ground)
+
+-- what all turns of the table have in common
+abbrev pub Fits : Kind → Turn → Type 0
+Fits old (Collect new) = (InSequence old × InSequence new) ⊎ ((old ≡ kinds.OscString) × (new ≡ kinds.OscString))
+Fits old Drop = Unit {0}
+Fits old Execute = Unit {0}
+Fits old (End new ending) = FitsEnding old new ending
+
+-- the bytes of an unfinished character
+abbrev pub bytes_in : Bytes → List ℕ
+bytes_in Zero = []
+bytes_in (One a) = a ∷ []
+bytes_in (Two a b) = a ∷ b ∷ []
+bytes_in (Three a b c) = a ∷ b ∷ c ∷ []
+
+-- nothing, or a proper beginning of a character
+abbrev pub is_unfinished : List ℕ → Bool
+is_unfinished [] = true
+is_unfinished (x ∷ xs) = is_beginning (x ∷ xs)
+
+-- one more byte of an unfinished character
+abbrev pub Extends : List ℕ → ℕ → Extended → List ℕ → Type 0
+Extends old b Further new =
+    (is_character (old ++ b ∷ []) ≡ false) × (is_beginning (old ++ b ∷ []) ≡ true) × (new ≡ old ++ b ∷ [])
+Extends old b (Character c) new =
+    (is_character (old ++ b ∷ []) ≡ true) × (c ≡ character_of (old ++ b ∷ [])) × (new ≡ [])
+Extends old b Broken new = (is_character (old ++ b ∷ []) ≡ false) × (is_beginning (old ++ b ∷ []) ≡ false) × (new ≡ [])
+
+-- a decimal digit
+abbrev pub is_digit : ℕ → Bool
+is_digit b = nat_le 0x30 b && nat_le b 0x39
+
+-- a byte that ends no string: none of CAN, SUB and ESC
+abbrev pub IsUnended : ℕ → Type 0
+IsUnended b = (b ≢ 0x18) × (b ≢ 0x1A) × (b ≢ 0x1B)
+
+-- bytes that begin with ESC and `[`
+pub record Opens (bytes : List ℕ) : Type 0 where
+  pub long : 2 ≤ length bytes
+  pub first : slice_index_or bytes 0 0 ≡ 0x1B
+  pub second : slice_index_or bytes 1 0 ≡ 0x5B
+
+-- the groups of numbers that end at these places, and the last one that ends at len
+abbrev pub groups_from : ℕ → List ℕ → ℕ → List ℕ → List (List ℕ)
+groups_from from [] len numbers = take (len - from) (drop from numbers) ∷ []
+groups_from from (to ∷ ends) len numbers = take (to - from) (drop from numbers) ∷ groups_from to ends len numbers
+
+-- the places rise, each group has a number, and so has the last one
+abbrev pub Ascends : ℕ → List ℕ → ℕ → Type 0
+Ascends from [] len = from < len
+Ascends from (to ∷ ends) len = (from < to) × Ascends to ends len
+
+-- what the end of a collected text is answered with
+abbrev pub answer_of : Ending → ℕ → Events
+answer_of ending.Nothing b = record { first = None; second = None }
+answer_of ending.Character b = record { first = Some (event.Character b); second = None }
+answer_of ending.Executed b = record { first = Some (event.Executed b); second = None }
+answer_of ending.EscDispatch b = record { first = Some (event.Escape b); second = None }
+answer_of ending.CsiDispatch b = record { first = Some (event.Csi b); second = None }
+answer_of ending.OscDispatch b = record { first = Some event.Osc; second = None }
+answer_of ending.OscDispatchAndExecuted b = record { first = Some event.Osc; second = Some (event.Executed b) }
+
+-- nothing is collected in the kind that begins; what an event may still lend stays
+pub record Begins (old : Held) (new : Held) (begun : Kind) : Type 0 where
+  pub kind : new.kind ≡ begun
+  pub reads : Reads new begun []
+  pub text : (begun ≡ kinds.Ground) ⊎ (begun ≡ kinds.Escape) → new.text ≡ old.text
+  pub table : begun ≡ kinds.Ground → new.table ≡ old.table
+  pub intermediates : begun ≡ kinds.Ground → new.intermediates ≡ old.intermediates
