@@ -33,7 +33,7 @@ pub fn perform<CB: Callbacks>(
         Event::Character(character) => print_apart(screen, callbacks, character),
         Event::Executed(byte) => execute(screen, callbacks, byte),
         Event::Escape(byte) => {
-            escape(screen, callbacks, scanner.intermediates(), byte);
+            escape_sequence(screen, callbacks, scanner, byte);
             Ok(())
         }
         Event::Csi(byte) => control_sequence(screen, callbacks, scanner, byte),
@@ -68,6 +68,20 @@ pub fn control_sequence<CB: Callbacks>(
     )
 }
 
+/// An escape sequence, with its intermediates.
+#[inline(always)]
+pub fn escape_sequence<CB: Callbacks>(
+    screen: &mut Screen,
+    callbacks: &mut CB,
+    scanner: &Scanner,
+    byte: u8,
+)
+    ensures { Performs CB.does (state callbacks.old screen.old)
+        (event_of scanner.now (Event.Escape byte)) (state callbacks.new screen.new) }
+{
+    escape(screen, callbacks, scanner.intermediates(), byte);
+}
+
 /// An operating system command, with its table of parts.
 #[inline(never)]
 fn command<CB: Callbacks>(screen: &mut Screen, callbacks: &mut CB, scanner: &Scanner)
@@ -99,7 +113,8 @@ pub fn print<CB: Callbacks>(
     Ok(())
 }
 
-/// The same as a call of its own, where few characters go.
+/// The same out of line, where few characters go: inlined there, it makes the
+/// loop over bytes slower.
 #[inline(never)]
 pub fn print_apart<CB: Callbacks>(
     screen: &mut Screen,
@@ -162,7 +177,7 @@ fn execute_other<CB: Callbacks>(screen: &mut Screen, callbacks: &mut CB, byte: u
     }
 }
 
-/// An escape sequence.
+/// An escape sequence with these intermediates.
 #[tactic(auto, using(crate::proofs::Stepping::steps_told), unfolding(vt_screen::specs::Controls::escape_steps))]
 fn escape<CB: Callbacks>(screen: &mut Screen, callbacks: &mut CB, intermediates: &[u8], byte: u8)
     ensures { Does CB.does callbacks.old screen.old (escape_steps intermediates.now byte) callbacks.new screen.new }

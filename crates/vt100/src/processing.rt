@@ -7,7 +7,7 @@ ghost use Rattle.vt100.specs.Parser.{Ran, Stopped, parsing};
 ghost use Rattle.vt_scan.specs.Scanner.{ReadsItself, event_of, events_in};
 ghost use Rattle.vt_screen.specs.Run.{Breaks, Performs, StopsIn, state};
 
-use crate::perform::{control_sequence, execute, perform, print, print_apart};
+use crate::perform::{control_sequence, escape_sequence, execute, perform, print, print_apart};
 use vt_cells::Error;
 use vt_scan::{Event, Events, Scanner};
 use vt_screen::{Callbacks, Screen};
@@ -37,8 +37,8 @@ pub fn process<CB: Callbacks>(
 
 /// Reads what comes first of these bytes: plain characters as one run, as far
 /// as the cursor's row has room for them, a control function of one byte, a
-/// control sequence as far as it is there, or else one character or byte.
-/// Answers how many bytes that were, unless memory is refused.
+/// sequence as far as it is there, or else one character or byte. Answers how
+/// many bytes that were, unless memory is refused.
 #[inline(always)]
 fn process_some<CB: Callbacks>(
     scanner: &mut Scanner,
@@ -74,8 +74,8 @@ fn process_some<CB: Callbacks>(
     process_one(scanner, screen, callbacks, bytes)
 }
 
-/// Reads what comes first of these bytes, as far as it leads into a control
-/// sequence or ends it, and does what that says. Answers how many bytes that
+/// Reads what comes first of these bytes, as far as it leads into a sequence
+/// or ends it, and does what that says. Answers how many bytes that
 /// were, unless memory is refused: none where they begin with something else.
 #[inline(always)]
 fn process_sequence<CB: Callbacks>(
@@ -96,11 +96,38 @@ fn process_sequence<CB: Callbacks>(
     if leading == bytes.len() {
         return Ok(leading);
     }
-    if !scanner.final_byte(bytes[leading]) {
-        return Ok(leading);
+    let last = end_sequence(scanner, screen, callbacks, &bytes[leading..])?;
+    Ok(leading + last)
+}
+
+/// Reads the first of these bytes, if it ends a control sequence or an escape
+/// sequence, and does what that says. Answers how many bytes were read, unless
+/// memory is refused: one or none.
+#[inline(always)]
+fn end_sequence<CB: Callbacks>(
+    scanner: &mut Scanner,
+    screen: &mut Screen,
+    callbacks: &mut CB,
+    bytes: &[u8],
+) -> Result<usize, Error>
+    requires { 0 < length bytes.now }
+    ensures inside { IfOk result (λ count. count ≤ length bytes.now) }
+    ensures ran { IfOk result (λ count. Ran CB.does (parsing scanner.old screen.old callbacks.old)
+        (take count bytes.now) (parsing scanner.new screen.new callbacks.new)) }
+    ensures stopped { IsErr result →
+        Stopped CB.does (parsing scanner.old screen.old callbacks.old)
+        bytes.now (parsing scanner.new screen.new callbacks.new) }
+    ensures memory { OnlyOutOfMemory result }
+{
+    if scanner.final_byte(bytes[0]) {
+        control_sequence(screen, callbacks, scanner, bytes[0])?;
+        return Ok(1);
     }
-    control_sequence(screen, callbacks, scanner, bytes[leading])?;
-    Ok(leading + 1)
+    if scanner.escape_byte(bytes[0]) {
+        escape_sequence(screen, callbacks, scanner, bytes[0]);
+        return Ok(1);
+    }
+    Ok(0)
 }
 
 /// Reads what comes first of these bytes: a character of more than one byte

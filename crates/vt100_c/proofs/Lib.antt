@@ -8,3 +8,4 @@ pub mod Scrolling
 pub mod Showing
 pub mod Answering
 pub mod Reported
+pub mod Refused

@@ -1,5 +1,5 @@
 -- Which text each call makes.
-use Rattle.std.specs.Prelude.{◌≡◌, ◌≤◌, ℕ, List, length}
+use Rattle.std.specs.Prelude.{◌≡◌, ◌<◌, ◌≤◌, ℕ, List, length}
 use Rattle.vt_cells.specs.Op.{bytes_of_all}
 use Rattle.vt_redraw.specs.Moved.{IsScrolling}
 use Rattle.vt_redraw.specs.Redraw.{cursor_state, difference, redraw}
@@ -53,3 +53,22 @@ IsDifference between.InputMode screen prev text = text ≡ input_change prev.mod
 abbrev pub due_for_both : Difference → ScreenValue → ScreenValue → ℕ
 due_for_both between.InputMode screen prev = any_screens screen prev
 due_for_both _ screen prev = of_one_size screen prev
+
+-- ---- where memory for a text may be refused
+
+-- there is a text to make; of the others that is not said
+abbrev pub HasText : Text → ScreenValue → Type 0
+HasText (text.Between start_row start_col end_row end_col) screen =
+    0 < length (between_of start_row start_col end_row end_col screen)
+HasText _ screen = Unit {0}
+
+-- both show something else, so that there is one to make
+abbrev pub HasChange : (text : List ℕ) → ScreenValue → ScreenValue → Type 0
+HasChange text screen prev = (0 < length text) × ¬ (shown screen ≡ shown prev)
+
+abbrev pub HasDifference : Difference → ScreenValue → ScreenValue → Type 0
+HasDifference between.State screen prev =
+    (0 < length (state_change prev screen)) × ¬ ((shown screen ≡ shown prev) × (screen.modes ≡ prev.modes))
+HasDifference between.InputMode screen prev =
+    (0 < length (input_change prev.modes screen.modes)) × ¬ (screen.modes ≡ prev.modes)
+HasDifference _ screen prev = HasChange (bytes_of_all (difference (shown screen) (shown prev))) screen prev

@@ -1,6 +1,6 @@
 //! Captures that are written: texts of rows with SGR alone.
 
-ghost use Rattle.std.specs.Prelude.{◌≡◌, IfErr, IfOk, None, OnErr, OnOk, Some, length, string_bytes};
+ghost use Rattle.std.specs.Prelude.{◌≡◌, ◌<◌, IfErr, IfOk, None, OnErr, OnOk, Some, length, string_bytes};
 ghost use Rattle.std.specs.List.{slice_get};
 ghost use Rattle.vt_rows.specs.Basic.{basic_text, unwritten, written_after};
 ghost use Rattle.vt_screen.specs.Capture.{all_rows, basic_texts, written_after_all};
@@ -50,6 +50,8 @@ pub extern "C" fn vt100_capture_screen(
 ) -> u8
     ensures same { handle.new.held ≡ handle.old.held }
     ensures answer { IsAnswer (due_at_capture screen_in any_screen_is_due handle.old.held capture.old.held) result }
+    ensures some { result ≡ out_of_memory → HoldAtCapture screen_in handle.old.held capture.old.held
+        (λ screen state. 0 < length (basic_texts state (all_rows screen))) }
     ensures text { result ≡ ok → HoldAtCapture screen_in handle.old.held capture.old.held
         (λ screen state. text_at capture.new.held ≡ basic_texts state (all_rows screen)) }
     ensures state { result ≡ ok → HoldAtCapture screen_in handle.old.held capture.old.held
@@ -76,6 +78,8 @@ fn screen_beside(alloc: Global, object: &mut Object, handle: &mut Handle, len: &
     ensures same { handle.new.held ≡ handle.old.held }
     ensures answer { IsAnswer
         (due_beside_capture screen_in any_screen_is_due handle.old.held (state_in object.old.source)) result }
+    ensures some { result ≡ out_of_memory → HoldAtCapture screen_in handle.old.held (Some object.old)
+        (λ screen state. 0 < length (basic_texts state (all_rows screen))) }
     ensures text { result ≡ ok → HoldAtCapture screen_in handle.old.held (Some object.old)
         (λ screen state. string_bytes object.new.text ≡ basic_texts state (all_rows screen)) }
     ensures state { result ≡ ok → HoldAtCapture screen_in handle.old.held (Some object.old)
@@ -97,6 +101,8 @@ fn screen_beside(alloc: Global, object: &mut Object, handle: &mut Handle, len: &
 fn write_screen(alloc: Global, object: &mut Object, from: &Source, len: &mut usize) -> u8
     ensures answer { IsAnswer
         (due_behind any_screen_is_due (screen_in from.now) (state_in object.old.source)) result }
+    ensures some { result ≡ out_of_memory → OnCapture (screen_in from.now) (state_in object.old.source)
+        (λ screen state. 0 < length (basic_texts state (all_rows screen))) }
     ensures text { result ≡ ok → OnCapture (screen_in from.now) (state_in object.old.source)
         (λ screen state. string_bytes object.new.text ≡ basic_texts state (all_rows screen)) }
     ensures state { result ≡ ok → OnCapture (screen_in from.now) (state_in object.old.source)
@@ -121,6 +127,8 @@ fn screen_text(alloc: Global, screen: &Screen, capture: &mut Source) -> Result<S
     ensures err { OnErr result (capture.new ≡ capture.old) }
     ensures answer { IsAnswer (due_behind any_screen_is_due (Some screen.now) (state_in capture.old))
         (status_in result) }
+    ensures some { status_in result ≡ out_of_memory → OnCapture (Some screen.now) (state_in capture.old)
+        (λ screen state. 0 < length (basic_texts state (all_rows screen))) }
     ensures refused { IfErr result (λ status. ¬ (status ≡ ok)) }
 {
     match capture {
@@ -143,6 +151,7 @@ fn rows_text(
     ensures ok { OnOk result (state.new ≡ written_after_all state.old (all_rows screen.now)) }
     ensures err { OnErr result (state.new ≡ state.old) }
     ensures memory { IfErr result (λ status. status ≡ out_of_memory) }
+    ensures some { OnErr result (0 < length (basic_texts state.old (all_rows screen.now))) }
 {
     let mut text = String::new(alloc);
     let mut behind = state.clone().unwrap();

@@ -9,8 +9,9 @@ ghost use Rattle.vt_screen.specs.States.{state_change};
 ghost use Rattle.vt100_c.specs.Due.{HoldBoth, IsAnswer, OnBoth, any_screens, due_at_both, due_on_both};
 ghost use Rattle.vt100_c.specs.Due.{due_beside, of_one_size, source_at, text_at};
 ghost use Rattle.vt100_c.specs.Sources.{screen_in};
-ghost use Rattle.vt100_c.specs.Status.{ok};
-ghost use Rattle.vt100_c.specs.Texts.{IsDifference, IsScrollingDiff, due_for_both};
+ghost use Rattle.vt100_c.specs.Status.{ok, out_of_memory};
+ghost use Rattle.vt100_c.specs.Texts.{HasChange, HasDifference, IsDifference, IsScrollingDiff, due_for_both};
+ghost use Rattle.vt100_c.specs.declared.making.Difference.TheVariants as between;
 
 use crate::handle::Handle;
 use crate::making::{Difference, difference_in, keep};
@@ -31,6 +32,8 @@ pub extern "C" fn vt100_contents_diff(
     ensures prev { prev.new.held ≡ prev.old.held }
     ensures source { source_at handle.new.held ≡ source_at handle.old.held }
     ensures answer { IsAnswer (due_at_both of_one_size handle.old.held prev.old.held) result }
+    ensures some { result ≡ out_of_memory → HoldBoth handle.old.held prev.old.held
+        (λ screen before. HasChange (bytes_of_all (difference (shown screen) (shown before))) screen before) }
     ensures text { result ≡ ok → HoldBoth handle.old.held prev.old.held
         (λ screen before. text_at handle.new.held ≡ bytes_of_all (difference (shown screen) (shown before))) }
     ensures len { result ≡ ok → len.new ≡ length (text_at handle.new.held) }
@@ -52,6 +55,8 @@ pub extern "C" fn vt100_contents_diff_scrolling(
     ensures prev { prev.new.held ≡ prev.old.held }
     ensures source { source_at handle.new.held ≡ source_at handle.old.held }
     ensures answer { IsAnswer (due_at_both of_one_size handle.old.held prev.old.held) result }
+    ensures some { result ≡ out_of_memory → HoldBoth handle.old.held prev.old.held
+        (λ screen before. HasChange (bytes_of_all (difference (shown screen) (shown before))) screen before) }
     ensures text { result ≡ ok → HoldBoth handle.old.held prev.old.held
         (λ screen before. IsScrollingDiff screen before (text_at handle.new.held)) }
     ensures len { result ≡ ok → len.new ≡ length (text_at handle.new.held) }
@@ -73,6 +78,8 @@ pub extern "C" fn vt100_state_diff(
     ensures prev { prev.new.held ≡ prev.old.held }
     ensures source { source_at handle.new.held ≡ source_at handle.old.held }
     ensures answer { IsAnswer (due_at_both of_one_size handle.old.held prev.old.held) result }
+    ensures some { result ≡ out_of_memory → HoldBoth handle.old.held prev.old.held
+        (λ screen before. HasDifference between.State screen before) }
     ensures text { result ≡ ok → HoldBoth handle.old.held prev.old.held
         (λ screen before. text_at handle.new.held ≡ state_change before screen) }
     ensures len { result ≡ ok → len.new ≡ length (text_at handle.new.held) }
@@ -94,6 +101,8 @@ pub extern "C" fn vt100_input_mode_diff(
     ensures prev { prev.new.held ≡ prev.old.held }
     ensures source { source_at handle.new.held ≡ source_at handle.old.held }
     ensures answer { IsAnswer (due_at_both any_screens handle.old.held prev.old.held) result }
+    ensures some { result ≡ out_of_memory → HoldBoth handle.old.held prev.old.held
+        (λ screen before. HasDifference between.InputMode screen before) }
     ensures text { result ≡ ok → HoldBoth handle.old.held prev.old.held
         (λ screen before. text_at handle.new.held ≡ input_change before.modes screen.modes) }
     ensures len { result ≡ ok → len.new ≡ length (text_at handle.new.held) }
@@ -114,6 +123,7 @@ fn make(
     ensures prev { prev.new.held ≡ prev.old.held }
     ensures source { source_at handle.new.held ≡ source_at handle.old.held }
     ensures answer { IsAnswer (due_at_both (due_for_both difference) handle.old.held prev.old.held) result }
+    ensures some { result ≡ out_of_memory → HoldBoth handle.old.held prev.old.held (HasDifference difference) }
     ensures text { result ≡ ok → HoldBoth handle.old.held prev.old.held
         (λ screen before. IsDifference difference screen before (text_at handle.new.held)) }
     ensures len { result ≡ ok → len.new ≡ length (text_at handle.new.held) }
@@ -143,6 +153,7 @@ fn make_beside(
     ensures prev { prev.new.held ≡ prev.old.held }
     ensures source { object.new.source ≡ object.old.source }
     ensures answer { IsAnswer (due_beside (due_for_both difference) (screen_in object.old.source) prev.old.held) result }
+    ensures some { result ≡ out_of_memory → HoldBoth (Some object.old) prev.old.held (HasDifference difference) }
     ensures text { result ≡ ok → HoldBoth (Some object.old) prev.old.held
         (λ screen before. IsDifference difference screen before (string_bytes object.new.text)) }
     ensures len { result ≡ ok → len.new ≡ length (string_bytes object.new.text) }
@@ -164,6 +175,8 @@ fn renew(object: &mut Object, prev: &Source, difference: Difference, len: &mut u
     ensures source { object.new.source ≡ object.old.source }
     ensures answer { IsAnswer
         (due_on_both (due_for_both difference) (screen_in object.old.source) (screen_in prev.now)) result }
+    ensures some { result ≡ out_of_memory →
+        OnBoth (screen_in object.old.source) (screen_in prev.now) (HasDifference difference) }
     ensures text { result ≡ ok → OnBoth (screen_in object.old.source) (screen_in prev.now)
         (λ screen before. IsDifference difference screen before (string_bytes object.new.text)) }
     ensures len { result ≡ ok → len.new ≡ length (string_bytes object.new.text) }

@@ -1,6 +1,6 @@
 //! The texts of screens, by name.
 
-ghost use Rattle.std.specs.Prelude.{◌≡◌, ◌<◌, ◌≤◌, ◌&&◌, IfErr, IfOk, None, Ok, Some, false, length};
+ghost use Rattle.std.specs.Prelude.{◌≡◌, ◌<◌, ◌≤◌, ◌&&◌, IfErr, IfOk, IsErr, None, Ok, Some, false, length};
 ghost use Rattle.std.specs.Prelude.{nat_lt, string_bytes, true};
 ghost use Rattle.vt_cells.specs.Refusals.{OnlyOutOfMemory};
 ghost use Rattle.vt_grid.specs.Page.{SameSize};
@@ -8,8 +8,8 @@ ghost use Rattle.vt_screen.specs.Contents.{between_of};
 ghost use Rattle.vt100_c.specs.Due.{IsAnswer, OnBoth, OnScreen, due_on, due_on_both, has_start, of_one_size};
 ghost use Rattle.vt100_c.specs.Due.{same_size, status_in};
 ghost use Rattle.vt100_c.specs.Sources.{screen_in};
-ghost use Rattle.vt100_c.specs.Status.{ok};
-ghost use Rattle.vt100_c.specs.Texts.{IsDifference, due_for, due_for_both, text_of};
+ghost use Rattle.vt100_c.specs.Status.{ok, out_of_memory};
+ghost use Rattle.vt100_c.specs.Texts.{HasDifference, HasText, IsDifference, due_for, due_for_both, text_of};
 ghost use Rattle.vt100_c.specs.declared.making.Difference.TheVariants as between;
 
 use crate::object::{Source, screen_of};
@@ -68,6 +68,7 @@ pub(crate) fn text_in(source: &Source, text: Text) -> Result<String, u8>
     ensures text { IfOk result
         (λ made. OnScreen (screen_in source.now) (λ screen. string_bytes made ≡ text_of text screen)) }
     ensures answer { IsAnswer (due_on (due_for text) (screen_in source.now)) (status_in result) }
+    ensures some { status_in result ≡ out_of_memory → OnScreen (screen_in source.now) (HasText text) }
     ensures refused { IfErr result (λ status. ¬ (status ≡ ok)) }
 {
     match screen_of(source) {
@@ -80,6 +81,7 @@ pub(crate) fn text_in(source: &Source, text: Text) -> Result<String, u8>
 fn text_of(screen: &Screen, text: Text) -> Result<String, u8>
     ensures text { IfOk result (λ made. string_bytes made ≡ text_of text screen.now) }
     ensures answer { IsAnswer (due_for text screen.now) (status_in result) }
+    ensures some { status_in result ≡ out_of_memory → HasText text screen.now }
     ensures refused { IfErr result (λ status. ¬ (status ≡ ok)) }
 {
     match text {
@@ -99,10 +101,13 @@ fn text_of(screen: &Screen, text: Text) -> Result<String, u8>
 
 /// The text from a row and a column up to a row and a column, if it begins on
 /// the screen.
+#[tactic(auto, using(crate::proofs::Refused::where_some))]
 fn between(screen: &Screen, start: (u16, u16), end: (u16, u16)) -> Result<String, u8>
     ensures text { IfOk result
         (λ made. string_bytes made ≡ between_of start.0 start.1 end.0 end.1 screen.now) }
     ensures answer { IsAnswer (has_start start.0 start.1 end.0 screen.now) (status_in result) }
+    ensures some { status_in result ≡ out_of_memory →
+        0 < length (between_of start.0 start.1 end.0 end.1 screen.now) }
     ensures refused { IfErr result (λ status. ¬ (status ≡ ok)) }
 {
     if is_outside(screen, start, end.0) {
@@ -130,6 +135,8 @@ pub(crate) fn difference_in(
         (λ screen prev. IsDifference difference screen prev (string_bytes made))) }
     ensures answer { IsAnswer (due_on_both (due_for_both difference) (screen_in source.now) (screen_in prev.now))
         (status_in result) }
+    ensures some { status_in result ≡ out_of_memory →
+        OnBoth (screen_in source.now) (screen_in prev.now) (HasDifference difference) }
     ensures refused { IfErr result (λ status. ¬ (status ≡ ok)) }
 {
     let Some(screen) = screen_of(source) else {
@@ -143,9 +150,11 @@ pub(crate) fn difference_in(
 
 /// The difference of two screens is made a text, if they are of one size where
 /// it wants that.
+#[tactic(auto, using(crate::proofs::Refused::where_some))]
 fn difference_of(screen: &Screen, prev: &Screen, difference: Difference) -> Result<String, u8>
     ensures text { IfOk result (λ made. IsDifference difference screen.now prev.now (string_bytes made)) }
     ensures answer { IsAnswer (due_for_both difference screen.now prev.now) (status_in result) }
+    ensures some { status_in result ≡ out_of_memory → HasDifference difference screen.now prev.now }
     ensures refused { IfErr result (λ status. ¬ (status ≡ ok)) }
 {
     match difference {
@@ -157,9 +166,11 @@ fn difference_of(screen: &Screen, prev: &Screen, difference: Difference) -> Resu
 }
 
 /// What takes the one to the other, if they are of one size.
+#[tactic(auto, using(crate::proofs::Refused::where_some))]
 fn contents_diff(screen: &Screen, prev: &Screen) -> Result<String, u8>
     ensures text { IfOk result (λ made. IsDifference between.Contents screen.now prev.now (string_bytes made)) }
     ensures answer { IsAnswer (of_one_size screen.now prev.now) (status_in result) }
+    ensures some { status_in result ≡ out_of_memory → HasDifference between.Contents screen.now prev.now }
     ensures refused { IfErr result (λ status. ¬ (status ≡ ok)) }
 {
     if !is_sized_as(screen, prev) {
@@ -169,9 +180,11 @@ fn contents_diff(screen: &Screen, prev: &Screen) -> Result<String, u8>
 }
 
 /// The same, where rows may move first.
+#[tactic(auto, using(crate::proofs::Refused::where_some))]
 fn contents_diff_scrolling(screen: &Screen, prev: &Screen) -> Result<String, u8>
     ensures text { IfOk result (λ made. IsDifference between.Scrolling screen.now prev.now (string_bytes made)) }
     ensures answer { IsAnswer (of_one_size screen.now prev.now) (status_in result) }
+    ensures some { status_in result ≡ out_of_memory → HasDifference between.Scrolling screen.now prev.now }
     ensures refused { IfErr result (λ status. ¬ (status ≡ ok)) }
 {
     if !is_sized_as(screen, prev) {
@@ -181,9 +194,11 @@ fn contents_diff_scrolling(screen: &Screen, prev: &Screen) -> Result<String, u8>
 }
 
 /// The same with the input modes.
+#[tactic(auto, using(crate::proofs::Refused::where_some))]
 fn state_diff(screen: &Screen, prev: &Screen) -> Result<String, u8>
     ensures text { IfOk result (λ made. IsDifference between.State screen.now prev.now (string_bytes made)) }
     ensures answer { IsAnswer (of_one_size screen.now prev.now) (status_in result) }
+    ensures some { status_in result ≡ out_of_memory → HasDifference between.State screen.now prev.now }
     ensures refused { IfErr result (λ status. ¬ (status ≡ ok)) }
 {
     if !is_sized_as(screen, prev) {
@@ -207,6 +222,7 @@ pub(crate) fn or_status(made: Result<String, Error>) -> Result<String, u8>
     requires { OnlyOutOfMemory made }
     ensures text { IfOk result (λ text. made ≡ Ok text) }
     ensures answer { IsAnswer ok (status_in result) }
+    ensures memory { status_in result ≡ out_of_memory → IsErr made }
     ensures refused { IfErr result (λ status. ¬ (status ≡ ok)) }
 {
     match made {

@@ -1,6 +1,6 @@
 //! Texts of a screen.
 
-ghost use Rattle.std.specs.Prelude.{◌≡◌, length, string_bytes};
+ghost use Rattle.std.specs.Prelude.{◌≡◌, ◌<◌, length, string_bytes};
 ghost use Rattle.vt_cells.specs.Op.{bytes_of_all};
 ghost use Rattle.vt_redraw.specs.Redraw.{cursor_state, redraw};
 ghost use Rattle.vt_rows.specs.Basic.{unwritten};
@@ -14,8 +14,8 @@ ghost use Rattle.vt_screen.specs.States.{state_text};
 ghost use Rattle.vt100_c.specs.Due.{HoldsScreen, IsAnswer, OnScreen, any_screen, due_at, due_on, has_start};
 ghost use Rattle.vt100_c.specs.Due.{source_at, text_at};
 ghost use Rattle.vt100_c.specs.Sources.{screen_in};
-ghost use Rattle.vt100_c.specs.Status.{ok};
-ghost use Rattle.vt100_c.specs.Texts.{due_for, text_of};
+ghost use Rattle.vt100_c.specs.Status.{ok, out_of_memory};
+ghost use Rattle.vt100_c.specs.Texts.{HasText, due_for, text_of};
 
 use crate::handle::Handle;
 use crate::making::{Text, keep, text_in};
@@ -52,6 +52,8 @@ pub extern "C" fn vt100_contents_between(
 ) -> u8
     ensures source { source_at handle.new.held ≡ source_at handle.old.held }
     ensures answer { IsAnswer (due_at (has_start start_row start_col end_row) handle.old.held) result }
+    ensures some { result ≡ out_of_memory → HoldsScreen handle.old.held
+        (λ screen. 0 < length (between_of start_row start_col end_row end_col screen)) }
     ensures text { result ≡ ok → HoldsScreen handle.old.held
         (λ screen. text_at handle.new.held ≡ between_of start_row start_col end_row end_col screen) }
     ensures len { result ≡ ok → len.new ≡ length (text_at handle.new.held) }
@@ -194,6 +196,7 @@ pub extern "C" fn vt100_input_mode_formatted(
 fn make(alloc: Global, handle: &mut Handle, text: Text, len: &mut usize) -> u8
     ensures source { source_at handle.new.held ≡ source_at handle.old.held }
     ensures answer { IsAnswer (due_at (due_for text) handle.old.held) result }
+    ensures some { result ≡ out_of_memory → HoldsScreen handle.old.held (HasText text) }
     ensures text { result ≡ ok → HoldsScreen handle.old.held
         (λ screen. text_at handle.new.held ≡ text_of text screen) }
     ensures len { result ≡ ok → len.new ≡ length (text_at handle.new.held) }
@@ -213,6 +216,7 @@ fn make(alloc: Global, handle: &mut Handle, text: Text, len: &mut usize) -> u8
 fn renew(object: &mut Object, text: Text, len: &mut usize) -> u8
     ensures source { object.new.source ≡ object.old.source }
     ensures answer { IsAnswer (due_on (due_for text) (screen_in object.old.source)) result }
+    ensures some { result ≡ out_of_memory → OnScreen (screen_in object.old.source) (HasText text) }
     ensures text { result ≡ ok → OnScreen (screen_in object.old.source)
         (λ screen. string_bytes object.new.text ≡ text_of text screen) }
     ensures len { result ≡ ok → len.new ≡ length (string_bytes object.new.text) }

@@ -201,6 +201,9 @@ fn reads_runs(rt: HostRuntime) -> Result<(), Fail> {
     assert!(rt; !scanner.final_byte(b' '));
     assert!(rt; scanner.final_byte(b'm'));
     assert_eq!(rt; scanner.parameters().number(1), 22);
+    assert_eq!(rt; scanner.lead_in(b"\x1B(B"), 2);
+    assert!(rt; !scanner.escape_byte(b'(') && scanner.escape_byte(b'B'));
+    assert_eq!(rt; scanner.intermediates(), &b"("[..]);
     assert!(rt; scanner.is_control(b'\r') && !scanner.is_control(0x1B));
     let mut text = String::new(rt.alloc());
     feed_all(&mut text, &mut scanner, b"\x1BP")?;

@@ -14,7 +14,7 @@ use Rattle.vt_redraw.specs.Script.{attr_ops}
 use Rattle.vt_redraw.specs.declared.pen.Pen.{Pen}
 use Rattle.vt_redraw.specs.Picture.{Picture, IsPicture, SamePictureSize, picture_of}
 use Rattle.vt_redraw.specs.Steady.{IsSteady}
-use Rattle.vt_redraw.specs.Script.{Linked, no_link, starts_other, link, is_at}
+use Rattle.vt_redraw.specs.Script.{Linked, no_link, starts_other, row_link, is_at}
 use Rattle.vt_redraw.specs.Redraw.{link_of, rows_below, rows_written, pen_of, cursor_written, script, difference}
 use Rattle.vt_redraw.proofs.Standing.{row_nothing, starts_none}
 use Rattle.vt_redraw.proofs.Difference.{difference_draws}
@@ -25,13 +25,13 @@ neither : (b c : Bool) → c ≡ false → (not true || (b && c)) ≡ false
 neither b c h = grind (arith, h)
 
 link_nothing : (r : ℕ) (pen : Pen) (above : List CellValue) (flag : Bool) (xs : List CellValue) →
-    link r pen above true flag xs xs ≡ no_link pen flag
-unfolding link
+    row_link r pen above true flag xs xs ≡ no_link pen flag
+unfolding row_link
 link_nothing r pen above flag xs = rw (neither (is_at pen r (length above)) (starts_other xs xs) (starts_none xs)) refl
 
 join_nothing : (r : ℕ) (pen : Pen) (above x : RowValue) → link_of r pen above above.wrapped x x ≡ no_link pen x.wrapped
 join_nothing r pen above x =
-    cond_both above.wrapped (link r pen above.cells above.wrapped x.wrapped x.cells x.cells)
+    cond_both above.wrapped (row_link r pen above.cells above.wrapped x.wrapped x.cells x.cells)
     (no_link pen x.wrapped) (λ (j : Linked). j ≡ no_link pen x.wrapped)
     (λ (t : above.wrapped ≡ true). rw t (link_nothing r pen above.cells x.wrapped x.cells)) (λ _. refl)
 

@@ -23,8 +23,14 @@ const RUN: i32 = 4;
 /// How long a text is at least that a move may shorten.
 const LEAST_TEXT: usize = 20;
 
+/// How many columns behind the margin tell rows apart at first sight.
+const KEYED: u16 = 16;
+
 /// A number for each row that is looked at.
 type Numbers = [i32; 256];
+
+/// The same, to tell rows apart.
+type Keys = [u32; 256];
 
 /// By how many rows, and whether up.
 #[derive(Clone, Copy)]
@@ -81,19 +87,56 @@ fn costs(view: &View<'_>, prev: &View<'_>, height: u16) -> Numbers
 /// and a move to each run of them.
 fn cost(cells: &PictureRow<'_>, over: &PictureRow<'_>) -> i32 {
     let cols = cells.cols().min(over.cols());
-    let same = cells.same_run(over, 0);
-    let first = u16::try_from(same).unwrap_or(cols);
     let mut bytes = 0_i32;
     let mut differed = false;
-    for col in first..cols {
+    let mut next = same_up_to(cells, over, 0);
+    for col in 0..cols {
+        if col < next {
+            continue;
+        }
         let differs = *cells.cell(col) != *over.cell(col);
         if differs {
             let more = if differed { 1 } else { 1 + RUN };
             bytes = bytes.saturating_add(more);
+        } else {
+            next = same_up_to(cells, over, col);
         }
         differed = differs;
     }
     bytes
+}
+
+/// A column up to which two rows are the same from this one on.
+fn same_up_to(cells: &PictureRow<'_>, over: &PictureRow<'_>, col: u16) -> u16 {
+    let same = cells.same_run(over, col);
+    col.saturating_add(u16::try_from(same).unwrap_or(0))
+}
+
+/// A number for what stands behind the margin of each row; rows that are alike
+/// have the same.
+fn keys(view: &View<'_>, height: u16) -> Keys
+    requires inside { height ≤ length view.now.rows }
+    requires few { height ≤ 256 }
+{
+    let mut keys = [0; 256];
+    for row in 0..height {
+        keys[usize::from(row)] = key(&view.row(row));
+    }
+    keys
+}
+
+/// The number of a row: of the first bytes of some cells.
+fn key(cells: &PictureRow<'_>) -> u32 {
+    let stop = cells.cols().min(MARGIN + KEYED);
+    let mut key = 0_u32;
+    for col in MARGIN..stop {
+        let first = cells.cell(col).contents().as_bytes().first();
+        key = key.wrapping_mul(31).wrapping_add(match first {
+            Some(byte) => u32::from(*byte),
+            None => 0,
+        });
+    }
+    key
 }
 
 /// The shift by which most of what differs would come to stand.
@@ -102,11 +145,12 @@ fn likely_shift(view: &View<'_>, prev: &View<'_>, height: u16, here: &Numbers) -
     requires inside { height ≤ length view.now.rows }
     requires few { height ≤ 256 }
 {
+    let keys = keys(prev, height);
     let mut votes = [0_i32; 512];
     for row in 0..height {
         let weight = here[usize::from(row)];
         if weight > 0 {
-            vote(&mut votes, &view.row(row), prev, row, weight, height);
+            vote(&mut votes, &view.row(row), prev, &keys, row, weight, height);
         }
     }
     heaviest(&votes)
@@ -117,6 +161,7 @@ fn vote(
     votes: &mut [i32; 512],
     cells: &PictureRow<'_>,
     prev: &View<'_>,
+    keys: &Keys,
     row: u16,
     weight: i32,
     height: u16,
@@ -128,8 +173,10 @@ fn vote(
     let Some(start) = compared_from(cells) else {
         return;
     };
+    let key = key(cells);
     for from in 0..height {
-        if from != row && are_alike(cells, &prev.row(from), start) {
+        let may_be = from != row && keys[usize::from(from)] == key;
+        if may_be && are_alike(cells, &prev.row(from), start) {
             let shift = usize::from(256 + from - row);
             votes[shift] = votes[shift].saturating_add(weight);
         }

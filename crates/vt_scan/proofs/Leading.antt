@@ -1,4 +1,4 @@
--- Bytes that lead into a control sequence have no event.
+-- Bytes that lead into a sequence have no event; and the bytes that end one.
 use Rattle.std.proofs.Common.{◌≡◌, ◌⊎◌, ℕ, ◌≤◌, true, not, List, [], ◌∷◌, ◌++◌, take}
 use Rattle.std.proofs.Common.{◌≢◌, ◌<◌, ◌==◌, false, length, filter, inl, inr, refl, sym, subst, ◌∙◌, ap, arith}
 use Rattle.std.specs.List.{AllByRecursion}
@@ -14,18 +14,21 @@ use Rattle.vt_scan.specs.Automaton.{State, Step, is_parameter, after, step_in}
 use Rattle.vt_scan.specs.Internals.{Begins, Fits, IsUnended, Opens}
 use Rattle.vt_scan.specs.Parameters.{table_of}
 use Rattle.vt_scan.specs.Run.{run}
-use Rattle.vt_scan.specs.Scanner.{Feeds, FeedsAll, Held, Reads, ReadsSequence, Follows, StandsFor, is_final}
+use Rattle.vt_scan.specs.Scanner.{EndsEscape, Feeds, FeedsAll, Held, Reads, ReadsSequence, Follows, StandsFor}
+use Rattle.vt_scan.specs.Scanner.{is_final, is_intermediate}
 use Rattle.vt_scan.specs.Texts.{IsParameterText}
 use Rattle.vt_scan.specs.Table.{class_of, turn_of}
 use Rattle.vt_scan.specs.declared.table.Kind.{Kind}
-use Rattle.vt_scan.specs.declared.table.Kind.TheVariants.{Ground, Escape, CsiEntry, CsiParam, OscString, Skip}
+use Rattle.vt_scan.specs.declared.table.Kind.TheVariants.{Ground, Escape, EscapeIntermediate, CsiEntry, CsiParam}
+use Rattle.vt_scan.specs.declared.table.Kind.TheVariants.{OscString, Skip}
 use Rattle.vt_scan.specs.declared.event.Event.TheVariants as event
 use Rattle.vt_scan.specs.declared.table.Turn.TheVariants.{Collect, End}
-use Rattle.vt_scan.specs.declared.table.Ending.TheVariants.{CsiDispatch}
-use Rattle.vt_scan.proofs.Feeding.{fed_end, no_event, one_event, fresh_escape}
+use Rattle.vt_scan.specs.declared.table.Ending.TheVariants.{CsiDispatch, EscDispatch}
+use Rattle.vt_scan.proofs.Collecting.{collect_intermediate}
+use Rattle.vt_scan.proofs.Feeding.{fed_end, follows_as, no_event, one_event, fresh_escape}
 use Rattle.vt_scan.proofs.Readback.{run-known}
 use Rattle.vt_scan.proofs.Sequences.{class_of-final, class_of-parameter, no_intermediates, parameters_only, step_parameter}
-use Rattle.vt_scan.proofs.Stepping.{gives, either, class_of-control, class_of-text}
+use Rattle.vt_scan.proofs.Stepping.{gives, either, class_of-control, class_of-text, step_in-table}
 
 pub escape_feeds : (old new : Held) (b : ℕ) → old.kind ≡ Ground →
     old.unfinished ≡ [] → b ≡ 0x1B → Begins old new Escape → Feeds old b new no_event
@@ -51,6 +54,32 @@ bracket_feeds old new b is same begun = λ s stands.
     subst (λ (k : Kind). Follows new no_event (step_in k s.collected b)) (sym (sym stands.kind ∙ is))
     (subst (λ (x : ℕ). Follows new no_event (step_in Escape s.collected x)) (sym same)
     (bracket new s.collected begun.kind begun.reads))
+
+intermediate_turn : (b : ℕ) → 0x20 ≤ b → b ≤ 0x2F → turn_of Escape (class_of b) ≡ Collect EscapeIntermediate
+intermediate_turn b low high =
+    let t0 : nat_lt b 0x30 ≡ true = grind (arith, nat_tests) in
+    class_of-text (λ k. turn_of Escape k ≡ Collect EscapeIntermediate) b low (rw t0 refl)
+
+pub intermediate_feeds : (old new : Held) (b : ℕ) → old.kind ≡ Escape → is_intermediate b ≡ true →
+    new.kind ≡ EscapeIntermediate → new.table ≡ old.table →
+    ((all : List ℕ) → old.intermediates ≡ take 2 all → new.intermediates ≡ take 2 (all ++ b ∷ [])) →
+    Feeds old b new no_event
+intermediate_feeds old new b was tells is same pushed = λ s stands.
+    let low : 0x20 ≤ b = grind (arith, nat_tests) in
+    let high : b ≤ 0x2F = grind (arith, nat_tests) in
+    let other : is_parameter b ≡ false = grind (arith, nat_tests) in
+    let kind : s.kind ≡ Escape = sym stands.kind ∙ was in
+    let fits : Fits old.kind (Collect EscapeIntermediate) =
+    subst (λ (k : Kind). Fits k (Collect EscapeIntermediate)) (sym was) (inl (tt, tt)) in
+    let reads : Reads new EscapeIntermediate (s.collected ++ b ∷ []) =
+    collect_intermediate old new EscapeIntermediate b fits (λ e. cc) other same pushed s.collected stands.reads in
+    follows_as new no_event (step_in s.kind s.collected b) (gives EscapeIntermediate (s.collected ++ b ∷ []) [])
+    (step_in-table s.kind s.collected b (λ e. cc)
+    ∙ ap (after s.kind s.collected b) (ap (λ k. turn_of k (class_of b)) kind ∙ intermediate_turn b low high))
+    (record {
+      stands = record { kind = is; reads = subst (λ (k : Kind). Reads new k (s.collected ++ b ∷ [])) (sym is) reads };
+      means = refl;
+    })
 
 -- ---- the parameter text
 
@@ -169,6 +198,18 @@ final_feeds old new b within final begun =
     let fits = final_fits old.kind within in
     fed_end old new Ground CsiDispatch b (one_event (event.Csi b)) fits.0
     (final_turn old.kind b within final) fits.1 begun refl
+
+-- ---- the last byte of an escape sequence
+
+escape_other : (kind : Kind) → Fits kind (End Ground EscDispatch) → kind ≢ Ground
+escape_other kind fits = λ is.
+    let none : Fits Ground (End Ground EscDispatch) = subst (λ (k : Kind). Fits k (End Ground EscDispatch)) is fits in
+    none.0
+
+pub escape_byte_feeds : (old new : Held) (b : ℕ) → EndsEscape old.kind b → Fits old.kind (End Ground EscDispatch) →
+    Begins old new Ground → Feeds old b new (one_event (event.Escape b))
+escape_byte_feeds old new b ends fits begun =
+    fed_end old new Ground EscDispatch b (one_event (event.Escape b)) (escape_other old.kind fits) ends fits begun refl
 
 -- ---- strings that are passed over
 

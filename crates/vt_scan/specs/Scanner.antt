@@ -1,6 +1,6 @@
 -- What the scanner holds of the bytes that it has read, which states of the automaton that stands for, and what its
 -- answer means.
-use Rattle.std.specs.Prelude.{◌≡◌, ℕ, ◌<◌, ◌≤◌, ◌==◌, ◌&&◌, nat_le, Bool, false, List, [], ◌++◌, length, map, option_to_list}
+use Rattle.std.specs.Prelude.{◌≡◌, ℕ, ◌<◌, ◌≤◌, ◌==◌, ◌&&◌, ◌||◌, nat_le, Bool, false, List, [], ◌++◌, length, map, option_to_list}
 use Rattle.vt_scan.specs.Parameters.{GroupTable, table_of}
 use Rattle.vt_scan.specs.Automaton as automaton
 use Rattle.vt_scan.specs.Automaton.{State, Step, is_parameter, parameter_text, intermediates_of, parts_of, step_in}
@@ -8,6 +8,9 @@ use Rattle.vt_scan.specs.Run.{run}
 use Rattle.vt_scan.specs.declared.table.Kind.{Kind}
 use Rattle.vt_scan.specs.declared.table.Kind.TheVariants.{Ground, Escape, CsiEntry, CsiParam}
 use Rattle.vt_scan.specs.declared.table.Kind.TheVariants.{CsiIgnore, OscString, Skip}
+use Rattle.vt_scan.specs.Table.{class_of, turn_of}
+use Rattle.vt_scan.specs.declared.table.Ending.TheVariants.{EscDispatch}
+use Rattle.vt_scan.specs.declared.table.Turn.TheVariants.{End}
 use Rattle.vt_scan.specs.declared.event.Event as event
 use Rattle.vt_scan.specs.declared.event.Event.TheVariants as given
 use Rattle.vt_scan.specs.declared.event.Events.{Events}
@@ -76,11 +79,15 @@ abbrev pub FeedsAll : Held → List ℕ → Held → List automaton.Event → Ty
 FeedsAll old bytes new events =
     (state : State) → StandsFor old state → StandsFor new (run state bytes).state × ((run state bytes).events ≡ events)
 
--- a byte that leads into a control sequence: ESC in plain text with nothing unfinished, then `[`,
--- then what is of the parameter text
+-- an intermediate byte (ECMA-48, section 5.4, and ECMA-35)
+abbrev pub is_intermediate : ℕ → Bool
+is_intermediate b = nat_le 0x20 b && nat_le b 0x2F
+
+-- a byte that leads into a sequence: ESC in plain text with nothing unfinished, then an intermediate,
+-- or `[` and then what is of the parameter text
 abbrev pub leads_in : Kind → List ℕ → ℕ → Bool
 leads_in Ground unfinished b = (length unfinished == 0) && (b == 0x1B)
-leads_in Escape unfinished b = b == 0x5B
+leads_in Escape unfinished b = (b == 0x5B) || is_intermediate b
 leads_in CsiEntry unfinished b = is_parameter b
 leads_in CsiParam unfinished b = is_parameter b
 leads_in _ unfinished b = false
@@ -94,3 +101,7 @@ abbrev pub ends_sequence : Kind → ℕ → Bool
 ends_sequence CsiEntry b = is_final b
 ends_sequence CsiParam b = is_final b
 ends_sequence _ b = false
+
+-- a byte that ends an escape sequence, which is then dispatched
+abbrev pub EndsEscape : Kind → ℕ → Type 0
+EndsEscape kind b = turn_of kind (class_of b) ≡ End Ground EscDispatch

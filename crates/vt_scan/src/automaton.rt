@@ -13,7 +13,7 @@ ghost use Rattle.vt_scan.specs.Characters.{is_character};
 ghost use Rattle.vt_scan.specs.Internals.{Begins, Fits, answer_of};
 ghost use Rattle.vt_scan.specs.Scanner.{Feeds, FeedsAll, Follows, IsPrintableByte, Reads, ReadsItself, StandsFor};
 ghost use Rattle.std.specs.List.{AllByRecursion};
-ghost use Rattle.vt_scan.specs.Scanner.{ends_sequence, is_final, leads_in};
+ghost use Rattle.vt_scan.specs.Scanner.{EndsEscape, ends_sequence, is_final, is_intermediate, leads_in};
 ghost use Rattle.vt_scan.specs.Internals.{IsUnended, Opens};
 ghost use Rattle.vt_scan.specs.Table.{class_of, turn_of};
 ghost use Rattle.vt_scan.specs.declared.event.Event.{Event};

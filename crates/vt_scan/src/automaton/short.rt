@@ -13,7 +13,7 @@ ghost use Rattle.vt_scan.specs.Characters.{is_character};
 ghost use Rattle.vt_scan.specs.Internals.{Begins, Fits, answer_of};
 ghost use Rattle.vt_scan.specs.Scanner.{Feeds, FeedsAll, Follows, IsPrintableByte, Reads, ReadsItself, StandsFor};
 ghost use Rattle.std.specs.List.{AllByRecursion};
-ghost use Rattle.vt_scan.specs.Scanner.{ends_sequence, is_final, leads_in};
+ghost use Rattle.vt_scan.specs.Scanner.{EndsEscape, ends_sequence, is_final, is_intermediate, leads_in};
 ghost use Rattle.vt_scan.specs.Internals.{IsUnended, Opens};
 ghost use Rattle.vt_scan.specs.Table.{class_of, turn_of};
 ghost use Rattle.vt_scan.specs.declared.event.Event.{Event};
@@ -21,7 +21,7 @@ ghost use Rattle.vt_scan.specs.declared.table.Kind.{Kind};
 ghost use Rattle.vt_scan.specs.declared.table.Turn.{Turn};
 
 use super::Scanner;
-use crate::table::Kind;
+use crate::table::{Ending, Kind, Turn, turn_at};
 use crate::unfinished::first_character;
 use std::simd::prelude::*;
 use vt_cells::Error;
@@ -58,9 +58,10 @@ impl Scanner {
     }
 
     /// Reads what comes first of these bytes, as far as they lead into a
-    /// control sequence: ESC in plain text, `[`, and bytes of the parameter
-    /// text. None of them has an event or takes memory. Answers how many they
-    /// were; where it is all, the next bytes may go on from there.
+    /// sequence: ESC in plain text, and behind it an intermediate, or `[` and
+    /// bytes of the parameter text. None of them has an event or takes memory.
+    /// Answers how many they were; where it is all, the next bytes may go on
+    /// from there.
     #[inline]
     pub fn lead_in(&mut self, bytes: &[u8]) -> usize
         ensures inside { result ≤ length bytes.now }
@@ -88,6 +89,24 @@ impl Scanner {
     {
         match self.kind {
             Kind::CsiEntry | Kind::CsiParam => self.ends_with(byte),
+            _ => false,
+        }
+    }
+
+    /// Reads the last byte of an escape sequence, if it is one: the answer
+    /// tells. The byte's one event is then the escape sequence.
+    #[inline]
+    pub fn escape_byte(&mut self, byte: u8) -> bool
+        ensures tells { IsTrue result ↔ EndsEscape self.old.kind byte }
+        ensures fed { IsTrue result
+            → Feeds self.old byte self.new (record { first = Some (Event.Escape byte); second = None }) }
+        ensures kept { result ≡ false → self.new ≡ self.old }
+    {
+        match turn_at(self.kind, byte) {
+            Turn::End(Kind::Ground, Ending::EscDispatch) => {
+                self.begin(Kind::Ground);
+                true
+            }
             _ => false,
         }
     }
@@ -211,6 +230,9 @@ impl Scanner {
         if bytes.is_empty() {
             return 0;
         }
+        if self.takes_intermediate(bytes[0]) {
+            return 1;
+        }
         if !self.takes_bracket(bytes[0]) {
             return 0;
         }
@@ -279,6 +301,23 @@ impl Scanner {
         let takes = byte == b'[';
         if takes {
             self.begin(Kind::CsiEntry);
+        }
+        takes
+    }
+
+    /// Reads an intermediate after ESC.
+    #[inline]
+    fn takes_intermediate(&mut self, byte: u8) -> bool
+        requires { self.old.kind ≡ Kind.Escape }
+        ensures tells { result ≡ is_intermediate byte }
+        ensures kind { IsTrue result → self.new.kind ≡ Kind.EscapeIntermediate }
+        ensures fed { IsTrue result → Feeds self.old byte self.new (record { first = None; second = None }) }
+        ensures kept { result ≡ false → self.new ≡ self.old }
+    {
+        let takes = is_intermediate_byte(byte);
+        if takes {
+            self.kind = Kind::EscapeIntermediate;
+            self.intermediates.push(byte);
         }
         takes
     }
@@ -386,6 +425,14 @@ fn is_opening(bytes: &[u8]) -> bool
     ensures { IsTrue result → Opens bytes.now }
 {
     bytes.len() >= 2 && bytes[0] == 0x1B && bytes[1] == b'['
+}
+
+/// Whether the byte is an intermediate.
+#[inline(always)]
+fn is_intermediate_byte(byte: u8) -> bool
+    ensures { result ≡ is_intermediate byte }
+{
+    byte >= 0x20 && byte <= 0x2F
 }
 
 /// Whether the byte ends a control sequence.
