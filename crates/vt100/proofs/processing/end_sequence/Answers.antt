@@ -1,5 +1,5 @@
 -- The byte that ends a control sequence or an escape sequence.
-use Rattle.std.proofs.Common.{◌≡◌, ◌∷◌, [], List, ℕ, get_or, inl, inr, refl, subst, sym, take}
+use Rattle.std.proofs.Common.{[], List, ℕ, get_or, inl, inr, refl, subst, sym}
 use Rattle.std.proofs.lemmas.List.{take_more}
 use Rattle.vt_scan.specs.Scanner.{Feeds, Held}
 use Rattle.vt_scan.specs.declared.event.Event.TheVariants.{Csi, Escape}

@@ -1,6 +1,5 @@
 -- What led in, and the byte behind it where that ends the sequence.
-use Rattle.std.proofs.Common.{◌≡◌, ◌-◌, [], List, ℕ, ap, arith, drop, length, refl, subst, take}
-use Rattle.std.proofs.lemmas.List.{length-drop}
+use Rattle.std.proofs.Common.{[], List, ℕ, refl, subst, take}
 use Rattle.vt_scan.proofs.Lists.{all_left}
 use Rattle.vt100.specs.Parser.{Ran, Stopped, parsing}
 use Rattle.vt100.proofs.Running.{known_ran, ran_on, stopped_then}

@@ -1,5 +1,5 @@
 -- One more number is done, as the group that it is.
-use Rattle.std.proofs.Common.{◌≡◌, ◌<◌, ◌∙◌, ◌∷◌, [], List, ℕ, ap, arith, get_or, length, map, sym}
+use Rattle.std.proofs.Common.{◌≡◌, ◌<◌, ◌∙◌, ◌∷◌, [], List, ℕ, ap, arith, get_or, length, sym}
 use Rattle.std.proofs.lemmas.List.{get_or-map, length-map}
 use Rattle.vt_screen.specs.Sgr.{group_read}
 use Rattle.vt100.proofs.Remaining.{settings_left}
