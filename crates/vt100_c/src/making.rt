@@ -5,8 +5,8 @@ ghost use Rattle.std.specs.Prelude.{nat_lt, string_bytes, true};
 ghost use Rattle.vt_cells.specs.Refusals.{OnlyOutOfMemory};
 ghost use Rattle.vt_grid.specs.Page.{SameSize};
 ghost use Rattle.vt_screen.specs.Contents.{between_of};
-ghost use Rattle.vt100_c.specs.Due.{IsAnswer, OnBoth, OnScreen, due_on, due_on_both, has_start, of_one_size};
-ghost use Rattle.vt100_c.specs.Due.{same_size, status_in};
+ghost use Rattle.vt100_c.specs.Due.{IsAnswer, OnBoth, OnScreen, any_screens, due_on, due_on_both, has_start};
+ghost use Rattle.vt100_c.specs.Due.{of_one_size, same_size, status_in};
 ghost use Rattle.vt100_c.specs.Sources.{screen_in};
 ghost use Rattle.vt100_c.specs.Status.{ok, out_of_memory};
 ghost use Rattle.vt100_c.specs.Texts.{HasDifference, HasText, IsDifference, due_for, due_for_both, text_of};
@@ -150,7 +150,6 @@ pub(crate) fn difference_in(
 
 /// The difference of two screens is made a text, if they are of one size where
 /// it wants that.
-#[tactic(auto, using(crate::proofs::Refused::where_some))]
 fn difference_of(screen: &Screen, prev: &Screen, difference: Difference) -> Result<String, u8>
     ensures text { IfOk result (λ made. IsDifference difference screen.now prev.now (string_bytes made)) }
     ensures answer { IsAnswer (due_for_both difference screen.now prev.now) (status_in result) }
@@ -161,7 +160,7 @@ fn difference_of(screen: &Screen, prev: &Screen, difference: Difference) -> Resu
         Difference::Contents => contents_diff(screen, prev),
         Difference::Scrolling => contents_diff_scrolling(screen, prev),
         Difference::State => state_diff(screen, prev),
-        Difference::InputMode => or_status(screen.input_mode_diff(prev)),
+        Difference::InputMode => input_mode_diff(screen, prev),
     }
 }
 
@@ -205,6 +204,17 @@ fn state_diff(screen: &Screen, prev: &Screen) -> Result<String, u8>
         return Err(OTHER_SIZE);
     }
     or_status(screen.state_diff(prev))
+}
+
+/// The same of the input modes alone.
+#[tactic(auto, using(crate::proofs::Refused::where_some))]
+fn input_mode_diff(screen: &Screen, prev: &Screen) -> Result<String, u8>
+    ensures text { IfOk result (λ made. IsDifference between.InputMode screen.now prev.now (string_bytes made)) }
+    ensures answer { IsAnswer (any_screens screen.now prev.now) (status_in result) }
+    ensures some { status_in result ≡ out_of_memory → HasDifference between.InputMode screen.now prev.now }
+    ensures refused { IfErr result (λ status. ¬ (status ≡ ok)) }
+{
+    or_status(screen.input_mode_diff(prev))
 }
 
 /// Whether both screens are of one size.
