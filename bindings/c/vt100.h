@@ -49,9 +49,20 @@
  *     object of their type. What the pointers of one call lead to does not overlap; the same handle
  *     twice is answered by a status.
  *
+ * REDRAWS
+ *     What is said below of terminals that read redraws and differences is proved for plain
+ *     terminals and steady screens. A terminal is plain where its scroll region is the whole page,
+ *     origin mode is off, no scrollback is in view and no sequence is unfinished, as every fresh
+ *     one is. A screen is steady where U+FE0F has not changed how wide a character is.
+ *
+ * THE ALTERNATE SCREEN
+ *     It has no scrollback: while it is shown, none is in view, none is counted, and calls that
+ *     bring it into view or drop it do nothing.
+ *
  * RETURN VALUE
  *     Most calls answer a status. Where it is not VT100_OK, nothing is written to the results and
- *     nothing has changed, except where a call says what has.
+ *     nothing has changed, except where a call says what has. Where several statuses fit, it is one
+ *     of them.
  */
 #ifndef VT100_H
 #define VT100_H
@@ -79,8 +90,8 @@ enum {
     VT100_OK = 0,            /* done */
     VT100_OUT_OF_MEMORY = 1, /* memory was refused */
     VT100_FAILED = 2,        /* a parser or mirror ran out of memory before, and reads no more */
-    VT100_BAD_ARGUMENT = 3,  /* no rows, no columns, no such row, cell, event or viewer; too little
-                                room; the same handle twice */
+    VT100_BAD_ARGUMENT = 3,  /* no rows, no columns, no such row, column, cell, event, viewer or
+                                place in a text; too little room; the same handle twice */
     VT100_WRONG_KIND = 4,    /* the handle holds something of a kind that the call isn't for */
     VT100_OTHER_SIZE = 5,    /* two screens of different sizes */
     VT100_NO_OBJECT = 6,     /* the handle is empty */
@@ -118,7 +129,7 @@ enum {
 /* A cell: 40 bytes, no padding. */
 typedef struct vt100_cell {
     uint8_t text[30]; /* UTF-8, the first len bytes; the others are 0 */
-    uint8_t len;      /* 0 to 29; 0: nothing was written */
+    uint8_t len;      /* 0 to 29; 0: nothing was written, or what is behind a wide character */
     uint8_t flags;
     vt100_color fgcolor, bgcolor;
 } vt100_cell;
@@ -142,7 +153,7 @@ typedef struct vt100_state {
                                           drawn with */
     uint8_t reserved[3];               /* 0 */
     vt100_color fgcolor, bgcolor;      /* what the next character is drawn with */
-    size_t scrollback;                 /* how many rows of scrollback are in view */
+    size_t scrollback;                 /* by how many rows it is scrolled back */
     size_t scrollback_len;             /* how many are kept */
     size_t scrollback_capacity;        /* how many are kept at most */
 } vt100_state;
@@ -198,8 +209,8 @@ vt100_status vt100_process(vt100_handle *handle, const uint8_t *bytes, size_t le
 
 /*
  * Reads up to and with the first byte that left an event, or would have left one and was refused
- * memory for it; `*used` is how many bytes were read, whatever the status. Call it until all are.
- * A parser alone. Statuses: as vt100_process.
+ * memory for it; `*used` is how many bytes were read whole, whatever the status. Call it until all
+ * are. A parser alone. Statuses: as vt100_process, but VT100_OK where there are no bytes.
  */
 vt100_status vt100_process_until(vt100_handle *handle, const uint8_t *bytes, size_t len,
                                  size_t *used);
@@ -218,8 +229,9 @@ vt100_status vt100_set_size(vt100_handle *handle, uint16_t rows, uint16_t cols);
 vt100_status vt100_screen_set_size(vt100_handle *handle, uint16_t rows, uint16_t cols);
 
 /*
- * Brings so many rows of scrollback into view, at most as many as are kept; 0 is the page itself.
- * All that is shown, and all texts, are of what is in view. A parser or a saved screen.
+ * Scrolls back by so many rows, at most as many as are kept; 0 is the page itself. Cells and texts
+ * are of what is in view then, but captures of all rows and the cursor of the page. A parser or a
+ * saved screen.
  * VT100_NO_OBJECT, VT100_WRONG_KIND, VT100_OUT_OF_MEMORY.
  */
 vt100_status vt100_set_scrollback(vt100_handle *handle, size_t rows);
@@ -259,7 +271,10 @@ vt100_status vt100_row_wrapped(vt100_handle *handle, uint16_t row, uint8_t *out)
  * VT100_NO_OBJECT, VT100_WRONG_KIND, VT100_OUT_OF_MEMORY: the text before stands.
  */
 
-/* The plain text, rows parted by a newline where they do not go on. */
+/*
+ * The plain text, a newline behind each row that does not go on, and before one that has no text;
+ * none at the end.
+ */
 vt100_status vt100_contents(vt100_handle *handle, size_t *len);
 
 /*
@@ -270,27 +285,32 @@ vt100_status vt100_contents_between(vt100_handle *handle, uint16_t start_row, ui
                                     uint16_t end_row, uint16_t end_col, size_t *len);
 
 /*
- * A redraw: any plain terminal of this size that reads it shows this screen. A terminal is plain
- * where its scroll region is the whole page and origin mode is off, as those of a fresh one are.
+ * A redraw: any plain terminal of this size that reads it shows this screen (REDRAWS above).
  */
 vt100_status vt100_contents_formatted(vt100_handle *handle, size_t *len);
 
-/* A redraw for terminals in any scroll region and origin mode. */
+/* A redraw for terminals of this size in any scroll region and origin mode. */
 vt100_status vt100_contents_formatted_reset(vt100_handle *handle, size_t *len);
 
 /* The text with its colours and attributes, and no sequences but those. */
 vt100_status vt100_contents_formatted_basic(vt100_handle *handle, size_t *len);
 
-/* A redraw, and the input modes. */
+/* A redraw, and the input modes, for a terminal as vt100_input_mode_formatted wants one. */
 vt100_status vt100_state_formatted(vt100_handle *handle, size_t *len);
 
-/* The part of a redraw that sets the cursor; it may change attributes. */
+/*
+ * The part of a redraw that sets the cursor, for a plain terminal that shows these rows and draws
+ * with default attributes; it may print and erase on the way.
+ */
 vt100_status vt100_cursor_state_formatted(vt100_handle *handle, size_t *len);
 
 /* The part that sets what the next character is drawn with. */
 vt100_status vt100_attributes_formatted(vt100_handle *handle, size_t *len);
 
-/* The input modes: keypad, cursor keys, bracketed paste, mouse, and the cursor's style. */
+/*
+ * The input modes: keypad, cursor keys and bracketed paste, and the mouse and the cursor's style
+ * where they are not the default ones, which a terminal has that reads this.
+ */
 vt100_status vt100_input_mode_formatted(vt100_handle *handle, size_t *len);
 
 /*
@@ -299,7 +319,7 @@ vt100_status vt100_input_mode_formatted(vt100_handle *handle, size_t *len);
  */
 vt100_status vt100_contents_diff(vt100_handle *handle, vt100_handle *prev, size_t *len);
 
-/* The same; rows are moved where that is shorter. */
+/* The same, never longer; rows may move first. */
 vt100_status vt100_contents_diff_scrolling(vt100_handle *handle, vt100_handle *prev, size_t *len);
 
 /* The difference of the contents, and of the input modes. VT100_BAD_ARGUMENT, VT100_OTHER_SIZE. */
@@ -317,15 +337,16 @@ vt100_status vt100_rows(vt100_handle *handle, uint16_t start, uint16_t width, si
                         size_t room, size_t *len);
 
 /*
- * The same with what redraws each row, the cursor at its start.
- * VT100_BAD_ARGUMENT: start is no column, too.
+ * The same with what draws each row on a blank one of a terminal, if default attributes are current
+ * and the cursor is in it at column `start`, and no wide character lies on an end of the range.
+ * That a row goes on is drawn with the one below. VT100_BAD_ARGUMENT: start is no column, too.
  */
 vt100_status vt100_rows_formatted(vt100_handle *handle, uint16_t start, uint16_t width,
                                   size_t *ends, size_t room, size_t *len);
 
 /*
- * The same with what turns each row of `prev` into that of this screen.
- * VT100_BAD_ARGUMENT: the same handle twice, too. VT100_OTHER_SIZE.
+ * The same with what turns each row of `prev` into that of this screen, with the cursor and the
+ * attributes as there. VT100_BAD_ARGUMENT: the same handle twice, too. VT100_OTHER_SIZE.
  */
 vt100_status vt100_rows_diff(vt100_handle *handle, vt100_handle *prev, uint16_t start,
                              uint16_t width, size_t *ends, size_t room, size_t *len);
@@ -346,6 +367,7 @@ size_t vt100_copy(vt100_handle *handle, uint8_t *out, size_t room);
 /*
  * The text of all rows of a parser's or a saved screen, with scrollback, behind what was captured.
  * VT100_NO_OBJECT, VT100_WRONG_KIND of either, VT100_OUT_OF_MEMORY: the capture stands as before.
+ * VT100_BAD_ARGUMENT: the same handle twice.
  */
 vt100_status vt100_capture_screen(vt100_handle *handle, vt100_handle *capture, size_t *len);
 
@@ -353,7 +375,7 @@ vt100_status vt100_capture_screen(vt100_handle *handle, vt100_handle *capture, s
  * The text of a row that left a parser's screen: that of the index-th on_scroll event that is kept,
  * from 0, behind what was captured.
  * VT100_NO_OBJECT, VT100_WRONG_KIND of either, VT100_OUT_OF_MEMORY: the capture stands as before.
- * VT100_BAD_ARGUMENT: there is no such event.
+ * VT100_BAD_ARGUMENT: there is no such event, or the same handle twice.
  */
 vt100_status vt100_capture_row(vt100_handle *parser, size_t index, vt100_handle *capture,
                                size_t *len);
@@ -361,7 +383,7 @@ vt100_status vt100_capture_row(vt100_handle *parser, size_t index, vt100_handle 
 /*
  * The next piece of a capture's text that is no sequence, from byte `at` on: text[*start] to before
  * text[*end]. Both are len where there is none. Go on at *end.
- * VT100_BAD_ARGUMENT: it isn't UTF-8, or no character begins or ends at `at`.
+ * VT100_BAD_ARGUMENT: it isn't UTF-8, or `at` is within a character or past its end.
  */
 vt100_status vt100_next_plain(const uint8_t *text, size_t len, size_t at, size_t *start,
                               size_t *end);
@@ -431,7 +453,7 @@ vt100_status vt100_leave(vt100_handle *mirror, uint64_t viewer);
 vt100_status vt100_update(vt100_handle *mirror, uint64_t viewer, uint16_t *rows, uint16_t *cols,
                           size_t *len);
 
-/* The same; rows are moved where that is shorter. */
+/* The same; a difference is never longer, and may move rows first. */
 vt100_status vt100_update_scrolling(vt100_handle *mirror, uint64_t viewer, uint16_t *rows,
                                     uint16_t *cols, size_t *len);
 

@@ -86,7 +86,7 @@ impl Mirror {
         self.next(Updates::DRAWN, viewer)
     }
 
-    /// The same; a difference is never longer, and moves rows where that is shorter. A viewer may
+    /// The same; a difference is never longer, and may move rows first. A viewer may
     /// get either kind from one update to the next.
     pub fn update_scrolling(&mut self, viewer: u64) -> Option<Update> {
         self.next(Updates::SCROLLING, viewer)

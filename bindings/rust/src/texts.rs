@@ -103,7 +103,7 @@ impl Screen {
             .unwrap_or_else(|| self.contents_formatted())
     }
 
-    /// The same, never longer; rows are moved where that is shorter. Not in the crate `vt100`.
+    /// The same, never longer; rows may move first. Not in the crate `vt100`.
     #[must_use]
     pub fn contents_diff_scrolling(&self, prev: &Self) -> String {
         self.difference(prev, Difference::SCROLLING)
