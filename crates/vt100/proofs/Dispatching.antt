@@ -87,7 +87,7 @@ pub plain_place : (groups : List (List ℕ)) (b : ℕ) (seen : Seen) → b ≡ 0
 unfolding counted_step scrolling_steps other_steps
 plain_place groups b seen is = rw is refl
 
--- sequences by their intermediates, and those without a intermediate by what they count
+-- sequences by their intermediates, and those without an intermediate by what they count
 pub ruleset by_intermediates = (plain_does, plain_stops, intermediate_does, intermediate_stops)
 
 pub ruleset by_counts = (plain_counted, plain_other, plain_other_stops)

@@ -15,7 +15,7 @@ use Rattle.vt_screen.specs.Run.{Takes, state}
 use Rattle.vt_screen.specs.Screen.{ScreenValue}
 use Rattle.vt_screen.specs.Controls.{character_steps}
 use Rattle.vt_screen.specs.Steps.{Step, Print, display_after}
-use Rattle.vt_screen.specs.Texts.{text_stepped}
+use Rattle.vt_screen.specs.Texts.{screen_after_text}
 use Rattle.vt_screen.proofs.Sizes.{same_printed}
 use Rattle.vt_screen.proofs.TextSteps.{print_scrolls}
 use Rattle.vt100.specs.Parser.{Ran, parsing, stage}
@@ -51,7 +51,7 @@ column_printed c screen low high room =
 pub text_ran : {S : Type 0} (does : CallValue → S → ScreenValue → S → ScreenValue → Type 0)
     (text : List ℕ) (held : Held) (s : S) (screen : ScreenValue) →
     All (ReadsItself held) text → screen.page.column + length text ≤ screen.page.width →
-    Ran does (parsing held screen s) text (parsing held (text_stepped text screen) s)
+    Ran does (parsing held screen s) text (parsing held (screen_after_text text screen) s)
 text_ran does [] held s screen plain room = λ st stands. (stands, refl)
 text_ran does (c ∷ text) held s screen plain room =
     let first = All-head (ReadsItself held) c text plain in
@@ -60,7 +60,7 @@ text_ran does (c ∷ text) held s screen plain room =
     let moved = column_printed c screen first.2 first.3 here in
     let same = same_printed c screen.attrs screen.page in
     let left : next.page.column + length text ≤ next.page.width = omega (arith, moved, same.width, room) in
-    ran_then does (parsing held screen s) (parsing held next s) (parsing held (text_stepped text next) s) (c ∷ []) text
+    ran_then does (parsing held screen s) (parsing held next s) (parsing held (screen_after_text text next) s) (c ∷ []) text
     (character_ran does c held s screen first here)
     (text_ran does text held s next (All-tail (ReadsItself held) c text plain) left)
 

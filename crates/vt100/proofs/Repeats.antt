@@ -6,7 +6,7 @@ use Rattle.vt_screen.specs.Calls.{CallValue}
 use Rattle.vt_screen.specs.Run.{Refuses, state}
 use Rattle.vt_screen.specs.Screen.{ScreenValue}
 use Rattle.vt_screen.specs.Steps.{Step, Print, display_after}
-use Rattle.vt_screen.specs.Texts.{text_stepped}
+use Rattle.vt_screen.specs.Texts.{screen_after_text}
 use Rattle.vt_screen.proofs.Sizes.{same_printed}
 use Rattle.vt_screen.proofs.TextSteps.{print_scrolls}
 use Rattle.vt100.specs.Internals.{Does, Stops}
@@ -16,7 +16,7 @@ use Rattle.vt100.proofs.Stepping.{Left, left_through}
 -- a text of one character is its prints
 pub prints_done : {S : Type 0} (does : CallValue → S → ScreenValue → S → ScreenValue → Type 0)
     (n c : ℕ) (s : S) (screen : ScreenValue) → 0x20 ≤ c → c < 0x7F → screen.page.column + n ≤ screen.page.width →
-    Does does s screen (replicate n (Print c)) s (text_stepped (replicate n c) screen)
+    Does does s screen (replicate n (Print c)) s (screen_after_text (replicate n c) screen)
 prints_done does zero c s screen low high room = refl
 prints_done does (suc n) c s screen low high room =
     let here : screen.page.column < screen.page.width = omega (arith, room) in

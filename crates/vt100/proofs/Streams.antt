@@ -17,9 +17,9 @@ use Rattle.vt_screen.specs.Screen.{ScreenValue, IsScreen, fresh_screen, scrolled
 use Rattle.vt_screen.specs.Streamed.{AreSameTrimmed, HasNoRis, HasWideFlags, without_scrollback, ris}
 use Rattle.vt_screen.specs.Streamed.{row_told, rows_told, sent_off_in, streamed_text}
 use Rattle.vt_screen.specs.Telling.{CalledOnSomeScreen, LeavesScreen, calls_in, screen_in}
-use Rattle.vt_screen.proofs.Bare.{SameBare, bare_scrolled_back, both_screen_in, both_sent_in}
+use Rattle.vt_screen.proofs.WhateverScrollback.{SameBare, bare_scrolled_back, both_screen_in, both_sent_in}
 use Rattle.vt_screen.proofs.EventSteps.{run_streams}
-use Rattle.vt_screen.proofs.Heard.{Hearing, heard_events}
+use Rattle.vt_screen.proofs.CallsOfRun.{Hearing, heard_events}
 use Rattle.vt_screen.proofs.StepLists.{screen_in_then, sent_in_then}
 use Rattle.vt_screen.proofs.StreamedTexts.{after_then, streamed_is, texts_then}
 use Rattle.vt_screen.proofs.Streaming.{Held, Streamed, held_fresh, held_screen, streamed_then, view_streams}

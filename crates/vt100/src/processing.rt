@@ -37,8 +37,8 @@ pub fn process<CB: Callbacks>(
 
 /// Reads what comes first of these bytes: plain characters as one run, as far
 /// as the cursor's row has room for them, a control function of one byte, a
-/// sequence as far as it is there, or else one character or byte. Answers how
-/// many bytes that were, unless memory is refused.
+/// sequence as far as it is there, bytes of a string, or else one character or
+/// byte. Answers how many bytes that were, unless memory is refused.
 #[inline(always)]
 fn process_some<CB: Callbacks>(
     scanner: &mut Scanner,
@@ -131,8 +131,8 @@ fn end_sequence<CB: Callbacks>(
 }
 
 /// Reads what comes first of these bytes: a character of more than one byte
-/// that is all here, bytes of a string, or else one byte. Answers how many bytes that were, unless
-/// memory is refused.
+/// that is all here, bytes of a string, or else one byte. Answers how many bytes
+/// that were, unless memory is refused.
 #[inline(always)]
 fn process_one<CB: Callbacks>(
     scanner: &mut Scanner,

@@ -5,7 +5,7 @@ ghost use Rattle.vt_cells.specs.Refusals.{OnlyOutOfMemory};
 ghost use Rattle.vt100.specs.Internals.{Does, Stops};
 ghost use Rattle.vt_screen.specs.Controls.{repeated};
 ghost use Rattle.vt_screen.specs.Steps as step;
-ghost use Rattle.vt_screen.specs.Texts.{text_stepped};
+ghost use Rattle.vt_screen.specs.Texts.{screen_after_text};
 
 use vt_cells::Error;
 use vt_screen::{Callbacks, Screen};
@@ -98,7 +98,7 @@ fn repeat_in_row(screen: &mut Screen, byte: u8, count: u16)
     requires some { 0 < count }
     requires most { count ≤ 64 }
     requires room { screen.old.page.column + count ≤ screen.old.page.width }
-    ensures { screen.new ≡ text_stepped (replicate count byte) screen.old }
+    ensures { screen.new ≡ screen_after_text (replicate count byte) screen.old }
 {
     let text = [byte; TEXT_ROOM];
     screen.print_text(&text[..usize::from(count)]);

@@ -1,5 +1,5 @@
 -- A parser's and a mirror's answers as statuses, and bytes up to an event.
-use Rattle.std.proofs.Common.{◌≡◌, ◌≢◌, ◌↔◌, ◌+◌, ◌<◌, inl, inr, ℕ, List, length, take, drop, refl, sym, subst, arith, Bool, true, false, not, ◌||◌, ◌==◌, ◌&&◌}
+use Rattle.std.proofs.Common.{◌≡◌, ◌≢◌, ◌↔◌, ◌+◌, ◌<◌, inl, inr, ℕ, List, length, take, drop, refl, sym, subst, ◌∙◌, arith, Bool, true, false, not, ◌||◌, ◌==◌, ◌&&◌}
 use Rattle.std.proofs.Math.Seq.{take-add, take-length}
 use Rattle.std.proofs.lemmas.Bool.Decides.{nat_tests}
 use Rattle.std.specs.Prelude.{Result, Ok, Err, IfErr, IfOk, IsErr}
@@ -71,10 +71,27 @@ pub record HasReadQuietly (len : ℕ) (whole : Bool) (old : Parsing Logged) (byt
     (now : Parsing Logged) : Type 0 where
   pub ran : Ran Logs old (take count bytes) now
   pub quiet : is_quiet len whole now.callbacks ≡ true
+  pub still : now.is_failed ≡ old.is_failed
+  pub nothing : old.is_failed ≡ true → (count ≡ 0) × (now ≡ old)
 
 pub quiet_at_first : (len : ℕ) (whole : Bool) (old : Parsing Logged) (bytes : List ℕ)
     → is_quiet len whole old.callbacks ≡ true → HasReadQuietly len whole old bytes 0 old
-quiet_at_first len whole old bytes quiet = record { ran = λ s stands. (stands, refl); quiet = quiet }
+quiet_at_first len whole old bytes quiet = record {
+  ran = λ s stands. (stands, refl);
+  quiet = quiet;
+  still = refl;
+  nothing = λ _. (refl, refl);
+}
+
+-- a parser that reads a byte did not fail before
+unfailed : (now new : Parsing Logged) (bytes : List ℕ) (status : ℕ) → ReadsParser now bytes status new → status ≡ ok →
+    now.is_failed ≡ false
+unfailed now new bytes status reads well =
+    not_true now.is_failed (λ e. absurd (omega (arith, well, (reads.failed_before e).0)))
+
+unfailed_at_first : (old now : Parsing Logged) → now.is_failed ≡ old.is_failed → now.is_failed ≡ false →
+    old.is_failed ≡ false
+unfailed_at_first old now still good = sym still ∙ good
 
 next_ran : (old now new : Parsing Logged) (bytes : List ℕ) (count : ℕ) → Ran Logs old (take count bytes) now
     → Ran Logs now (take 1 (drop count bytes)) new → Ran Logs old (take (count + 1) bytes) new
@@ -85,10 +102,15 @@ next_ran old now new bytes count first second =
 pub quiet_more : (len : ℕ) (whole : Bool) (old now new : Parsing Logged) (bytes : List ℕ) (count status : ℕ)
     → HasReadQuietly len whole old bytes count now → ReadsParser now (take 1 (drop count bytes)) status new
     → status ≡ ok → is_quiet len whole new.callbacks ≡ true → HasReadQuietly len whole old bytes (count + 1) new
-quiet_more len whole old now new bytes count status read last well quiet = record {
-  ran = next_ran old now new bytes count read.ran (last.ran well);
-  quiet = quiet;
-}
+quiet_more len whole old now new bytes count status read last well quiet =
+    let good : old.is_failed ≡ false =
+    unfailed_at_first old now read.still (unfailed now new (take 1 (drop count bytes)) status last well) in
+    record {
+      ran = next_ran old now new bytes count read.ran (last.ran well);
+      quiet = quiet;
+      still = last.goes_on well ∙ sym good;
+      nothing = λ e. absurd (cc (sym good ∙ e));
+    }
 
 pub event_left : (len : ℕ) (whole : Bool) (old now new : Parsing Logged) (bytes : List ℕ) (count status : ℕ)
     → HasReadQuietly len whole old bytes count now → count < length bytes
@@ -105,6 +127,7 @@ event_left len whole old now new bytes count status read inside last well event 
   status_is = refl;
   used_is = refl;
   ran = next_ran old now new bytes count read.ran (last.ran well);
+  sound = unfailed_at_first old now read.still (unfailed now new (take 1 (drop count bytes)) status last well);
 }))
 
 pub left_unread : (len : ℕ) (whole : Bool) (old now new : Parsing Logged) (bytes : List ℕ) (count status : ℕ)
@@ -118,6 +141,8 @@ left_unread len whole old now new bytes count status read inside last refused = 
   quiet = read.quiet;
   last = last;
   refused = refused;
+  still = read.still;
+  nothing = read.nothing;
 }))
 
 pub all_quiet : (len : ℕ) (whole : Bool) (old now : Parsing Logged) (bytes : List ℕ)
@@ -127,4 +152,6 @@ all_quiet len whole old now bytes read = inl (record {
   used_is = refl;
   ran = subst (λ (all : List ℕ). Ran Logs old all now) (take-length bytes) read.ran;
   quiet = read.quiet;
+  still = read.still;
+  nothing = read.nothing;
 })

@@ -44,13 +44,15 @@ Reads bytes old status new = ⊥
 abbrev pub is_quiet : (len : ℕ) (whole : Bool) → Logged → Bool
 is_quiet len whole log = (length log.records == len) && (log.is_whole || not whole)
 
--- all bytes are read, and none leaves an event
+-- all bytes are read, and none leaves an event; a parser that failed before reads all only of no bytes
 pub record ReadsAll (len : ℕ) (whole : Bool) (old : Parsing Logged) (bytes : List ℕ) (used status : ℕ)
     (new : Parsing Logged) : Type 0 where
   pub status_is : status ≡ ok
   pub used_is : used ≡ length bytes
   pub ran : Ran Logs old bytes new
   pub quiet : is_quiet len whole new.callbacks ≡ true
+  pub still : new.is_failed ≡ old.is_failed
+  pub nothing : old.is_failed ≡ true → (used ≡ 0) × (new ≡ old)
 
 -- some bytes leave no event, and the next one leaves one, or loses one, and is the last that is read
 pub record ReadsEvent (len : ℕ) (whole : Bool) (old : Parsing Logged) (bytes : List ℕ) (used status : ℕ)
@@ -65,6 +67,7 @@ pub record ReadsEvent (len : ℕ) (whole : Bool) (old : Parsing Logged) (bytes :
   pub status_is : status ≡ ok
   pub used_is : used ≡ count + 1
   pub ran : Ran Logs old (take used bytes) new
+  pub sound : old.is_failed ≡ false
 
 -- some bytes leave no event, and the next one is refused: memory for it is, or the parser failed before
 pub record StopsUnread (len : ℕ) (whole : Bool) (old : Parsing Logged) (bytes : List ℕ) (used status : ℕ)
@@ -75,6 +78,8 @@ pub record StopsUnread (len : ℕ) (whole : Bool) (old : Parsing Logged) (bytes 
   pub quiet : is_quiet len whole between.callbacks ≡ true
   pub last : ReadsParser between (take 1 (drop used bytes)) status new
   pub refused : ¬ (status ≡ ok)
+  pub still : between.is_failed ≡ old.is_failed
+  pub nothing : old.is_failed ≡ true → (used ≡ 0) × (between ≡ old)
 
 -- bytes are read until the log says more than one of this length, that was whole or not
 abbrev pub ReadsFrom : (len : ℕ) (whole : Bool) → List ℕ → (used : ℕ) → Parsing Logged → ℕ → Parsing Logged → Type 0

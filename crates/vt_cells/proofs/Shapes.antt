@@ -1,5 +1,5 @@
 -- What a cell is, in one byte.
-use Rattle.std.proofs.Common.{◌≡◌, ℕ, ◌+◌, ◌*◌, ◌/◌, ◌%◌, ◌<◌, ◌≤◌, ◌==◌, Bool, true, false}
+use Rattle.std.proofs.Common.{◌≡◌, ◌≢◌, ℕ, ◌+◌, ◌*◌, ◌/◌, ◌%◌, ◌<◌, ◌≤◌, ◌==◌, Bool, true, false}
 use Rattle.std.proofs.Common.{refl, arith, ap, sym, ◌∙◌, eqb-true, if◌then◌else◌, nat_le}
 use Rattle.std.proofs.lemmas.Bool.Decides.{nat_tests}
 use Rattle.vt_cells.specs.Attrs.{Attrs}
@@ -99,6 +99,10 @@ heads_same m n p q =
 -- where two of its bits are 0, the text of a head is short
 pub short_head : (word : ℕ) → word / 8 % 4 ≡ 0 → word % 128 % 32 < 8
 short_head word none = omega arith
+
+-- where one of them is not, it is long
+pub long_head : (word : ℕ) → word / 8 % 4 ≢ 0 → 7 < word % 128 % 32
+long_head word some = omega arith
 
 -- the highest bit is known by size
 pub high_bit : (m : ℕ) → shape_bits (shape_of m) ≡ m → nat_le 64 m ≡ (m / 64 == 1)

@@ -11,7 +11,7 @@ use Rattle.vt_cells.specs.Cell.{CellValue, blank, glyph, right_half, cell_of, is
 use Rattle.vt_cells.specs.Cell.{is_wide, text_of, attrs_of, IsCell}
 use Rattle.vt_cells.specs.Glyph.{mark_limit}
 
--- the bytes of a cell's array: a text below the limit of marks, and one character of four bytes
+-- the bytes of a cell's array: the limit of marks, and one character of four bytes
 abbrev pub text_room : ℕ
 text_room = mark_limit + 4
 

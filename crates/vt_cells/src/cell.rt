@@ -293,8 +293,16 @@ impl Cell {
         self.has_bytes_of(other)
     }
 
-    /// Bits that are all 0 only where both are the same cell, and its text has
-    /// at most seven bytes.
+    /// The same test, of each byte.
+    #[inline(never)]
+    fn has_bytes_of(&self, other: &Cell) -> bool
+        ensures { result ≡ bytes_eq (text_of self.now) (text_of other.now) }
+    {
+        self.contents() == other.contents()
+    }
+
+    /// Bits that are all 0 only where both are the same cell. A text of more
+    /// than seven bytes sets some, since only so many are compared.
     #[inline(always)]
     pub(crate) fn odd_bits(&self, other: &Cell) -> u64
         ensures { result ≡ 0 → self.now ≡ other.now }
@@ -311,14 +319,6 @@ impl Cell {
         u64::from_le_bytes([
             bytes[0], bytes[1], bytes[2], bytes[3], bytes[4], bytes[5], bytes[6], bytes[7],
         ])
-    }
-
-    /// The same test, of each byte.
-    #[inline(never)]
-    fn has_bytes_of(&self, other: &Cell) -> bool
-        ensures { result ≡ bytes_eq (text_of self.now) (text_of other.now) }
-    {
-        self.contents() == other.contents()
     }
 
     /// The attributes; default ones for a right half.

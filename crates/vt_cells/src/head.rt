@@ -1,6 +1,6 @@
 //! What a cell is beside its text, in one word.
 
-ghost use Rattle.std.specs.Prelude.{◌≡◌, ◌<◌, false};
+ghost use Rattle.std.specs.Prelude.{◌≡◌, ◌<◌, false, IsTrue};
 ghost use Rattle.vt_cells.specs.Attrs.{default_attrs, same_attrs};
 ghost use Rattle.vt_cells.specs.CellInternals.{blank_shape, half_shape, same_head, same_shape};
 
@@ -80,9 +80,10 @@ impl Head {
 
     /// Whether the text has more than seven bytes.
     #[inline]
-    #[tactic(auto, using(crate::proofs::Shapes::short_head))]
+    #[tactic(auto, using(crate::proofs::Shapes::short_head, crate::proofs::Shapes::long_head))]
     pub fn is_long(&self) -> bool
-        ensures { result ≡ false → self.now.shape.len < 8 }
+        ensures short { result ≡ false → self.now.shape.len < 8 }
+        ensures long { IsTrue result → 7 < self.now.shape.len }
     {
         self.word / 8 % 4 != 0
     }

@@ -5,8 +5,8 @@ ghost use Rattle.vt_cells.specs.Cell.{CellValue};
 
 use crate::cell::Cell;
 
-/// How many cells of both rows are the same, from the first on, as far as
-/// groups of four are with texts of at most seven bytes. There may be more.
+/// A number of cells, from the first on, that are the same in both rows. There
+/// may be more: groups of four are compared, with texts of at most seven bytes.
 pub fn same_run(own: &[Cell], others: &[Cell]) -> usize
     ensures own { result ≤ length own.now }
     ensures others { result ≤ length others.now }
@@ -21,8 +21,9 @@ pub fn same_run(own: &[Cell], others: &[Cell]) -> usize
     count
 }
 
-/// Whether four cells are the same as four others, and have short texts. What
-/// differs is gathered in one word, so that the compiler can compare vectors.
+/// True only where four cells are the same as four others; their texts are short
+/// then. What differs is gathered in one word, so that the compiler can compare
+/// vectors.
 #[inline(always)]
 fn four_same(own: &[Cell], others: &[Cell]) -> bool
     requires own { length own.now ≡ 4 }

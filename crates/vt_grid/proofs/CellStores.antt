@@ -15,13 +15,13 @@ use borrow.Rule.Slice.PartMut.{put_mid, same_len_mid}
 use Rattle.vt_cells.specs.Cell.{CellValue, blank, default_blank}
 use Rattle.vt_cells.specs.Attrs.{Attrs, default_attrs}
 use Rattle.vt_rows.specs.Cells.{blanks, ends_blank}
-use Rattle.vt_grid.specs.PageRows.{SheetValue, blank_sheet, sheet_row, with_sheet_row, with_row_cells}
+use Rattle.vt_grid.specs.PageRows.{PageRowsValue, blank_page_rows, page_row, with_page_row, with_row_cells}
 use Rattle.vt_rows.proofs.Columns.{blanks_is}
 use Rattle.vt_rows.specs.Row.{RowValue, blank_row}
 use Rattle.vt_grid.specs.Page.{row_or}
 use Rattle.vt_grid.specs.declared.cell_store.Line.{Line}
 use Rattle.vt_grid.specs.declared.cell_store.CellStore.{CellStore}
-use Rattle.vt_grid.specs.CellStore.{IsFlat, rows_of, cells_at, row_in, rows_in, no_line, line_at, in_order, IsTable}
+use Rattle.vt_grid.specs.CellStore.{IsCellStore, rows_of, cells_at, row_in, rows_in, no_line, line_at, in_order, IsTable}
 
 -- ---- places
 
@@ -275,17 +275,17 @@ length-cells_at w n p cells e h =
 
 -- ---- edits of a row
 
-abbrev pub page_rows_of : CellStore → SheetValue
+abbrev pub page_rows_of : CellStore → PageRowsValue
 page_rows_of cell_store = record { rows = rows_of cell_store; width = cell_store.width }
 
 -- the cells of row r were lent and became `new`, and its flag is another
 pub row_changed : (r a b : ℕ) (cell_store edited : CellStore) (xs new : List CellValue) (flag : Bool) →
-    IsFlat cell_store → r < length cell_store.lines.items →
+    IsCellStore cell_store → r < length cell_store.lines.items →
     edited.cells ≡ with_items cell_store.cells (put_mid a (b - a) xs new) → xs ≡ cell_store.cells.items →
     a ≡ (line_at cell_store.lines.items r).place * cell_store.width → b ≡ a + cell_store.width → b ≤ length cell_store.cells.items →
     length new ≡ length (take (b - a) (drop a xs)) → edited.width ≡ cell_store.width →
     edited.lines.items ≡ set cell_store.lines.items r (record (line_at cell_store.lines.items r) { wrapped = flag }) →
-    (page_rows_of edited ≡ with_sheet_row r (record { cells = new; wrapped = flag }) (page_rows_of cell_store)) × IsFlat edited
+    (page_rows_of edited ≡ with_page_row r (record { cells = new; wrapped = flag }) (page_rows_of cell_store)) × IsCellStore edited
 row_changed r a b cell_store edited xs new flag t inside e was i j m size w f =
     let lines = cell_store.lines.items in
     let l : length new ≡ cell_store.width =
@@ -301,29 +301,29 @@ row_changed r a b cell_store edited xs new flag t inside e was i j m size w f =
 
 -- by a print or an erase
 pub row_printed : (r a b : ℕ) (cell_store edited : CellStore) (xs new : List CellValue) (was_flag flag : Bool) →
-    IsFlat cell_store → r < length cell_store.lines.items →
+    IsCellStore cell_store → r < length cell_store.lines.items →
     edited.cells ≡ with_items cell_store.cells (put_mid a (b - a) xs new) → xs ≡ cell_store.cells.items →
     a ≡ (line_at cell_store.lines.items r).place * cell_store.width → b ≡ a + cell_store.width → b ≤ length cell_store.cells.items →
     length new ≡ length (take (b - a) (drop a xs)) → edited.width ≡ cell_store.width →
     edited.lines.items ≡ set cell_store.lines.items r (record (line_at cell_store.lines.items r) { wrapped = flag }) →
     was_flag ≡ (row_or cell_store.width (rows_of cell_store) r).wrapped → flag ≡ (was_flag && not (ends_blank new)) →
-    (page_rows_of edited ≡ with_row_cells r new (page_rows_of cell_store)) × IsFlat edited
+    (page_rows_of edited ≡ with_row_cells r new (page_rows_of cell_store)) × IsCellStore edited
 row_printed r a b cell_store edited xs new was_flag flag t inside e was i j m size w f g k =
     let all = row_changed r a b cell_store edited xs new flag t inside e was i j m size w f in (
       all.0
-          ∙ ap (λ (x : Bool). with_sheet_row r (record { cells = new; wrapped = x }) (page_rows_of cell_store))
+          ∙ ap (λ (x : Bool). with_page_row r (record { cells = new; wrapped = x }) (page_rows_of cell_store))
           (k ∙ ap (λ (x : Bool). x && not (ends_blank new)) g),
       all.1,
     )
 
 -- row r was made blank
-pub row_blanked : (r : ℕ) (attrs : Attrs) (cell_store edited : CellStore) → IsFlat cell_store → r < length (rows_of cell_store) →
+pub row_blanked : (r : ℕ) (attrs : Attrs) (cell_store edited : CellStore) → IsCellStore cell_store → r < length (rows_of cell_store) →
     cells_at cell_store.width edited.cells.items (line_at cell_store.lines.items r).place ≡ blanks attrs cell_store.width →
     ((q : ℕ) → q < length cell_store.lines.items → q ≢ (line_at cell_store.lines.items r).place →
     cells_at cell_store.width edited.cells.items q ≡ cells_at cell_store.width cell_store.cells.items q) →
     edited.width ≡ cell_store.width →
     edited.lines.items ≡ set cell_store.lines.items r (record (line_at cell_store.lines.items r) { wrapped = false }) →
-    page_rows_of edited ≡ with_sheet_row r (blank_row attrs cell_store.width) (page_rows_of cell_store)
+    page_rows_of edited ≡ with_page_row r (blank_row attrs cell_store.width) (page_rows_of cell_store)
 row_blanked r attrs cell_store edited t h own others w f =
     let inside : r < length cell_store.lines.items =
     omega (arith, h, rows_counted cell_store.width cell_store.cells.items cell_store.lines.items) in
@@ -337,11 +337,11 @@ row_blanked r attrs cell_store edited t h own others w f =
 pub row_flagged : (r : ℕ) (flag : Bool) (cell_store edited : CellStore) →
     r < length cell_store.lines.items → edited.cells ≡ cell_store.cells → edited.width ≡ cell_store.width →
     edited.lines.items ≡ set cell_store.lines.items r (record (line_at cell_store.lines.items r) { wrapped = flag }) →
-    page_rows_of edited ≡ with_sheet_row r (record (sheet_row (page_rows_of cell_store) r) { wrapped = flag }) (page_rows_of cell_store)
+    page_rows_of edited ≡ with_page_row r (record (page_row (page_rows_of cell_store) r) { wrapped = flag }) (page_rows_of cell_store)
 row_flagged r flag cell_store edited h c w f =
     let n = rows_counted cell_store.width cell_store.cells.items cell_store.lines.items in
     let d = row_in cell_store.width cell_store.cells.items no_line in
-    let rows : rows_of edited ≡ set (rows_of cell_store) r (record (sheet_row (page_rows_of cell_store) r) { wrapped = flag }) =
+    let rows : rows_of edited ≡ set (rows_of cell_store) r (record (page_row (page_rows_of cell_store) r) { wrapped = flag }) =
     (λ z. rows_in (w z) (c z).items (f z)) ∙ (rows_in-flagged cell_store.width r cell_store.cells.items flag cell_store.lines.items h
     ∙ ap (λ (row : RowValue). set (rows_of cell_store) r (record row { wrapped = flag }))
     (get_or_default (rows_of cell_store) r d (blank_row default_attrs cell_store.width) (omega (arith, n)))) in
@@ -349,10 +349,10 @@ row_flagged r flag cell_store edited h c w f =
 
 -- ---- the whole table
 
-pub flat_turned : (from to n : ℕ) (cell_store turned : CellStore) → IsFlat cell_store → from + n ≤ to → to ≤ length (rows_of cell_store) →
+pub cell_store_turned : (from to n : ℕ) (cell_store turned : CellStore) → IsCellStore cell_store → from + n ≤ to → to ≤ length (rows_of cell_store) →
     turned.cells ≡ cell_store.cells → turned.width ≡ cell_store.width → length turned.lines.items ≡ length cell_store.lines.items →
-    ((k : ℕ) → line_at turned.lines.items k ≡ line_at cell_store.lines.items (turn_source from to n k)) → IsFlat turned
-flat_turned from to n cell_store turned t h i c w e f =
+    ((k : ℕ) → line_at turned.lines.items k ≡ line_at cell_store.lines.items (turn_source from to n k)) → IsCellStore turned
+cell_store_turned from to n cell_store turned t h i c w e f =
     let all = rows_counted cell_store.width cell_store.cells.items cell_store.lines.items in
     subst (λ (x : ℕ × List CellValue). IsTable x.0 x.1 turned.lines.items) (λ z. (sym w z, (sym c z).items))
     (IsTable-turned cell_store.width from to n cell_store.cells.items
@@ -372,7 +372,7 @@ rows_turned from to n cell_store turned h i c w e f k d l =
 -- ---- a fresh page
 
 pub fresh_flat : (rows width : ℕ) (cell_store : CellStore) → cell_store.cells.items ≡ blanks default_attrs (rows * width) →
-    cell_store.lines.items ≡ in_order rows → cell_store.width ≡ width → (page_rows_of cell_store ≡ blank_sheet rows width) × IsFlat cell_store
+    cell_store.lines.items ≡ in_order rows → cell_store.width ≡ width → (page_rows_of cell_store ≡ blank_page_rows rows width) × IsCellStore cell_store
 fresh_flat rows width cell_store c l w = (
   (λ z. record { rows = rows_in (w z) (c z) (l z); width = w z })
       ∙ (λ z. record { rows = rows_in_order width rows default_attrs z; width = width }),
@@ -381,12 +381,12 @@ fresh_flat rows width cell_store c l w = (
 )
 
 -- all rows were made blank
-pub all_blanked : (attrs : Attrs) (cell_store edited : CellStore) → IsFlat cell_store →
+pub all_blanked : (attrs : Attrs) (cell_store edited : CellStore) → IsCellStore cell_store →
     edited.cells.items ≡ blanks attrs (length cell_store.cells.items) → edited.width ≡ cell_store.width →
     length edited.lines.items ≡ length cell_store.lines.items →
     ((k : ℕ) → k < length cell_store.lines.items →
     line_at edited.lines.items k ≡ record (line_at cell_store.lines.items k) { wrapped = false }) →
-    (rows_of edited ≡ replicate (length (rows_of cell_store)) (blank_row attrs cell_store.width)) × IsFlat edited
+    (rows_of edited ≡ replicate (length (rows_of cell_store)) (blank_row attrs cell_store.width)) × IsCellStore edited
 all_blanked attrs cell_store edited t cells w l f =
     let lines = cell_store.lines.items in
     let now = edited.lines.items in

@@ -25,7 +25,7 @@ use Rattle.vt_grid.specs.Page.{Page, IsPage, blank_page, by_row, row_or}
 use Rattle.vt_grid.specs.Resize.{leaving, returning, window, rows_resized, row_resized}
 use Rattle.vt_grid.specs.Resize.{page_resized, out_of_view, taken_back, scrollback_resized}
 use Rattle.vt_grid.specs.Scrollback.{Scrollback, IsScrollback, kept_after, grown_in_view, pushed}
-use Rattle.vt_grid.specs.PageRows.{SheetValue}
+use Rattle.vt_grid.specs.PageRows.{PageRowsValue}
 use Rattle.vt_grid.specs.Shifts.{unflagged}
 use Rattle.vt_grid.proofs.Pages.{IsRow-row_or}
 use Rattle.vt_grid.proofs.Scrolling.{IsScrollback-pushed}
@@ -420,7 +420,7 @@ pushed_none : (h w n : ℕ) (rows : List RowValue) (above : Scrollback) →
 pushed_none h w n rows above z = ap (λ (m : ℕ). (pushed h w (take m rows) (out_of_view above)).rows) z
 
 pub page_by_steps : (h w r c down up : ℕ) (above mid : Scrollback)
-    (page : Page) (left page_rows : SheetValue) (pos saved : Pos) (rows cols : ℕ) →
+    (page : Page) (left page_rows : PageRowsValue) (pos saved : Pos) (rows cols : ℕ) →
     rows ≡ h → cols ≡ w → down ≡ leaving h page → up ≡ returning h above page →
     mid ≡ pushed r c (take down page.rows) (out_of_view above) →
     left.width ≡ page.width → drop down left.rows ≡ drop down page.rows →

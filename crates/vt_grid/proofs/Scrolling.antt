@@ -67,18 +67,18 @@ IsScrollback-grown_in_view h w above a =
 
 -- ---- the offset is set
 
-pub IsScrollback-viewed : (h w n : ℕ) (above : Scrollback) → IsScrollback above → IsScrollback (with_view h w n above)
+pub IsScrollback-with_view : (h w n : ℕ) (above : Scrollback) → IsScrollback above → IsScrollback (with_view h w n above)
 unfolding with_view
-IsScrollback-viewed h w n above a =
+IsScrollback-with_view h w n above a =
     IsScrollback-grown_in_view h w (record above { offset = min n (length above.rows) })
     (record { kept = a.kept; in_view = omega arith; sound = a.sound })
 
-pub viewed_is : (h w n offset : ℕ) (above : Scrollback) (rows : List RowValue) →
+pub with_view_is : (h w n offset : ℕ) (above : Scrollback) (rows : List RowValue) →
     offset ≡ min n (length above.rows) → rows ≡ grown_from (length above.rows - offset) h w above.rows →
     record { rows = rows; capacity = above.capacity; theoretical = above.theoretical; offset = offset }
     ≡ with_view h w n above
 unfolding with_view grown_in_view
-viewed_is h w n offset above rows e f =
+with_view_is h w n offset above rows e f =
     let g : rows ≡ grown_from (length above.rows - min n (length above.rows)) h w above.rows =
     f ∙ ap (λ (m : ℕ). grown_from (length above.rows - m) h w above.rows) e in
     λ i. record { rows = g i; capacity = above.capacity; theoretical = above.theoretical; offset = e i }

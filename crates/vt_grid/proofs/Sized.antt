@@ -16,7 +16,7 @@ use Rattle.vt_grid.specs.Erasing.{erased_columns, blanked_below}
 use Rattle.vt_grid.specs.Moves.{at_bottom, line_feed}
 use Rattle.vt_grid.specs.Printing.{with_cursor_cells, glyph_put, mark_put, made_narrow}
 use Rattle.vt_grid.specs.Printing.{flagged_left, left_row, goes_down}
-use Rattle.vt_grid.specs.PageRows.{SheetValue, sheet_flagged}
+use Rattle.vt_grid.specs.PageRows.{PageRowsValue, with_page_row_flag}
 use Rattle.vt_grid.proofs.Prints.{page_glyph_put, page_left, width_flagged_left, height_line_feed, height_flagged_left}
 use Rattle.vt_grid.proofs.Marks.{page_mark_put, page_widened, page_made_narrow}
 use Rattle.vt_grid.proofs.Pages.{page_at, page_cursor_cells, page_scrolled_up}
@@ -82,9 +82,9 @@ sized_glyph_put rows cols text true attrs page t h s =
 -- ---- a wrap
 
 -- the page of a grid whose page got a flag, and whose cursor went to the first column
-pub flagged_page : (left : Option ℕ) (goes_on : Bool) (page_rows : SheetValue)
+pub flagged_page : (left : Option ℕ) (goes_on : Bool) (page_rows : PageRowsValue)
     (pos saved : Pos) (top bottom : ℕ) (origin saved_origin : Bool) →
-    page_of (sheet_flagged left goes_on page_rows) (record { row = pos.row; col = 0 }) saved top bottom origin saved_origin
+    page_of (with_page_row_flag left goes_on page_rows) (record { row = pos.row; col = 0 }) saved top bottom origin saved_origin
     ≡ record (flagged_left left goes_on (page_of page_rows pos saved top bottom origin saved_origin)) { column = 0 }
 flagged_page (Some r) goes_on page_rows pos saved top bottom origin saved_origin = refl
 flagged_page None goes_on page_rows pos saved top bottom origin saved_origin = refl

@@ -9,7 +9,7 @@ use Rattle.vt_grid.specs.declared.cell_store.CellStore.{CellStore}
 use Rattle.vt_grid.specs.CellStore.{rows_of, line_at}
 use Rattle.vt_grid.specs.Page.{rows_up, moved_rows}
 use Rattle.vt_grid.specs.Shifts.{down_source}
-use Rattle.vt_grid.specs.PageRows.{SheetValue}
+use Rattle.vt_grid.specs.PageRows.{PageRowsValue}
 use Rattle.vt_grid.proofs.CellStores.{rows_turned, rows_counted}
 use Rattle.vt_grid.proofs.Scrolls.{scrolled_is, scrolled_down_is, cleared_is, cleared_before_is}
 
@@ -23,7 +23,7 @@ counted_turned cell_store turned e = omega (
 )
 
 -- what the blank rows are, in the words of a page before the turn
-cleared_by : (from to : ℕ) (cell_store turned : CellStore) (attrs : Attrs) (cleared : SheetValue) →
+cleared_by : (from to : ℕ) (cell_store turned : CellStore) (attrs : Attrs) (cleared : PageRowsValue) →
     turned.width ≡ cell_store.width → length turned.lines.items ≡ length cell_store.lines.items → attrs ≡ default_attrs →
     ((k : ℕ) (d : RowValue) → k < length (rows_of turned) →
     get_or cleared.rows k d
@@ -35,7 +35,7 @@ cleared_by from to cell_store turned attrs cleared w e a f k d h =
     f k d (omega (arith, h, counted_turned cell_store turned e))
     ∙ (λ z. if nat_le from k && nat_lt k to then blank_row (a z) (w z) else get_or (rows_of turned) k d)
 
-pub turned_up : (top bottom count n : ℕ) (cell_store turned : CellStore) (attrs : Attrs) (cleared : SheetValue) →
+pub turned_up : (top bottom count n : ℕ) (cell_store turned : CellStore) (attrs : Attrs) (cleared : PageRowsValue) →
     n ≡ min count (bottom + 1 - top) → top ≤ bottom → bottom < length (rows_of cell_store) →
     turned.cells ≡ cell_store.cells → turned.width ≡ cell_store.width → length turned.lines.items ≡ length cell_store.lines.items →
     ((k : ℕ) → line_at turned.lines.items k ≡ line_at cell_store.lines.items (turn_source top (bottom + 1) n k)) →
@@ -52,7 +52,7 @@ turned_up top bottom count n cell_store turned attrs cleared m o i c w e f a l v
     (cleared_by (bottom + 1 - n) (bottom + 1) cell_store turned attrs cleared w e a g) in
     λ z. record { rows = rows z; width = (v ∙ w) z }
 
-pub turned_down : (top bottom count n : ℕ) (cell_store turned : CellStore) (attrs : Attrs) (cleared : SheetValue) →
+pub turned_down : (top bottom count n : ℕ) (cell_store turned : CellStore) (attrs : Attrs) (cleared : PageRowsValue) →
     n ≡ min count (bottom + 1 - top) → top ≤ bottom → bottom < length (rows_of cell_store) →
     turned.cells ≡ cell_store.cells → turned.width ≡ cell_store.width → length turned.lines.items ≡ length cell_store.lines.items →
     ((k : ℕ) →
@@ -75,7 +75,7 @@ turned_down top bottom count n cell_store turned attrs cleared m o i c w e f a l
 
 -- ---- rows made blank
 
-pub blank_from : (from to : ℕ) (attrs : Attrs) (was cleared : SheetValue) → from ≤ length was.rows →
+pub blank_from : (from to : ℕ) (attrs : Attrs) (was cleared : PageRowsValue) → from ≤ length was.rows →
     to ≡ length was.rows → length cleared.rows ≡ length was.rows → cleared.width ≡ was.width →
     ((k : ℕ) (d : RowValue) → k < length was.rows →
     get_or cleared.rows k d
@@ -90,7 +90,7 @@ blank_from from to attrs was cleared h e l v f =
     ∙ ap (λ (n : ℕ). if nat_le from k && nat_lt k n then blank_row attrs was.width else get_or was.rows k d) e) in
     λ z. record { rows = rows z; width = v z }
 
-pub blank_before : (to : ℕ) (attrs : Attrs) (was cleared : SheetValue) →
+pub blank_before : (to : ℕ) (attrs : Attrs) (was cleared : PageRowsValue) →
     to ≤ length was.rows → length cleared.rows ≡ length was.rows → cleared.width ≡ was.width →
     ((k : ℕ) (d : RowValue) → k < length was.rows →
     get_or cleared.rows k d ≡ (if nat_le 0 k && nat_lt k to then blank_row attrs was.width else get_or was.rows k d)) →

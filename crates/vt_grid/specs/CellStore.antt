@@ -36,8 +36,8 @@ pub record IsTable (width : ℕ) (cells : List CellValue) (lines : List Line) : 
 abbrev pub rows_of : CellStore → List RowValue
 rows_of cell_store = rows_in cell_store.width cell_store.cells.items cell_store.lines.items
 
-abbrev pub IsFlat : CellStore → Type 0
-IsFlat cell_store = IsTable cell_store.width cell_store.cells.items cell_store.lines.items
+abbrev pub IsCellStore : CellStore → Type 0
+IsCellStore cell_store = IsTable cell_store.width cell_store.cells.items cell_store.lines.items
 
 -- each row at the place of its number, none of which goes on below
 abbrev pub in_order : ℕ → List Line

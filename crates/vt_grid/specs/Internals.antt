@@ -9,10 +9,10 @@ use Rattle.vt_rows.specs.Row.{RowValue, blank_row, resized_row}
 use Rattle.vt_grid.specs.Page.{Page, IsPage, cursor_row}
 use Rattle.vt_grid.specs.Printing.{lacks_room, carries}
 use Rattle.vt_grid.specs.Outgoing.{fed_out, left_by}
-use Rattle.vt_grid.specs.PageRows.{SheetValue}
+use Rattle.vt_grid.specs.PageRows.{PageRowsValue}
 
--- the page of a page, a cursor, a saved one, a region and origin modes
-abbrev pub page_of : SheetValue → Pos → Pos → ℕ → ℕ → Bool → Bool → Page
+-- the page of these rows, a cursor, a saved one, a region and origin modes
+abbrev pub page_of : PageRowsValue → Pos → Pos → ℕ → ℕ → Bool → Bool → Page
 page_of page_rows pos saved_pos top bottom origin saved_origin = record {
   rows = page_rows.rows;
   row = pos.row;

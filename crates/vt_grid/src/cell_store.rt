@@ -34,7 +34,7 @@ pub struct CellStore {
 }
 
 impl CellStore {
-    ghost use Rattle.vt_grid.specs.CellStore.{IsFlat, cells_at, in_order, rows_of};
+    ghost use Rattle.vt_grid.specs.CellStore.{IsCellStore, cells_at, in_order, rows_of};
     ghost use Rattle.vt_grid.specs.Page.{row_or};
 
     /// Rows of default blanks, each at the place of its number.
@@ -76,7 +76,7 @@ impl CellStore {
     #[tactic(auto, using(crate::proofs::CellStores::rows_counted))]
     #[inline]
     pub fn part(&self, row: usize) -> (usize, usize)
-        requires cell_store { IsFlat self.now }
+        requires cell_store { IsCellStore self.now }
         requires inside { row < length (rows_of self.now) }
         ensures start { result.0 ≡ (line_at self.now.lines.items row).place * self.now.width }
         ensures end { result.1 ≡ result.0 + self.now.width }
@@ -130,7 +130,7 @@ impl CellStore {
     /// place stay.
     #[tactic(auto, using(crate::proofs::CellStores::rows_counted))]
     pub fn blank(&mut self, row: usize, attrs: Attrs)
-        requires cell_store { IsFlat self.old }
+        requires cell_store { IsCellStore self.old }
         requires inside { row < length (rows_of self.old) }
         ensures own { cells_at self.old.width self.new.cells.items (line_at self.old.lines.items row).place
             ≡ blanks attrs self.old.width }

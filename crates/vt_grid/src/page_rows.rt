@@ -13,7 +13,7 @@ ghost use Rattle.vt_rows.specs.Texts.{IsPrintableAscii, put_text};
 ghost use Rattle.vt_grid.specs.Page.{rows_up};
 ghost use Rattle.vt_grid.specs.Shifts.{rows_down};
 ghost use Rattle.vt_grid.specs.Scrollback.{Sends, TakesMemory};
-ghost use Rattle.vt_grid.specs.PageRows.{blank_sheet, sheet_flagged, sheet_row, with_sheet_row, with_row_cells};
+ghost use Rattle.vt_grid.specs.PageRows.{blank_page_rows, with_page_row_flag, page_row, with_page_row, with_row_cells};
 
 mod resizing;
 
@@ -36,14 +36,14 @@ pub struct PageRows {
 }
 
 impl Model for PageRows {
-    ghost use Rattle.vt_grid.specs.CellStore.{IsFlat, rows_of};
-    ghost use Rattle.vt_grid.specs.PageRows.{SheetValue};
+    ghost use Rattle.vt_grid.specs.CellStore.{IsCellStore, rows_of};
+    ghost use Rattle.vt_grid.specs.PageRows.{PageRowsValue};
 
-    ghost Value = { SheetValue };
+    ghost Value = { PageRowsValue };
 
     ghost view = { λ s. record { rows = rows_of s.cell_store; width = s.cell_store.width } };
 
-    ghost invariant = { λ s. IsFlat s.cell_store };
+    ghost invariant = { λ s. IsCellStore s.cell_store };
 }
 
 impl PageRows {
@@ -51,7 +51,7 @@ impl PageRows {
     ///
     /// Fails where memory for them is refused.
     pub fn new(alloc: Global, size: Size) -> Result<PageRows, Error>
-        ensures ok { IfOk result (λ page_rows. page_rows ≡ blank_sheet size.rows size.cols) }
+        ensures ok { IfOk result (λ page_rows. page_rows ≡ blank_page_rows size.rows size.cols) }
         ensures memory { OnlyOutOfMemory result }
     {
         let cell_store = CellStore::new(alloc, size)?;
@@ -95,7 +95,7 @@ impl PageRows {
     pub fn row(&self, row: usize) -> RowContents<'_>
         requires inside { row < length self.now.rows }
         requires sound { All (IsRow self.now.width) self.now.rows }
-        ensures { result ≡ sheet_row self.now row }
+        ensures { result ≡ page_row self.now row }
     {
         let (start, end) = self.cell_store.part(row);
         lent(
@@ -108,7 +108,7 @@ impl PageRows {
     #[inline]
     pub fn wrapped(&self, row: u16) -> bool
         requires { row < length self.now.rows }
-        ensures { result ≡ (sheet_row self.now row).wrapped }
+        ensures { result ≡ (page_row self.now row).wrapped }
     {
         self.cell_store.wrapped(usize::from(row))
     }
@@ -117,8 +117,8 @@ impl PageRows {
     #[inline]
     pub fn cell(&self, row: u16, col: u16) -> &Cell
         requires inside { row < length self.now.rows }
-        requires column { col < length (sheet_row self.now row).cells }
-        ensures { result.now ≡ at (sheet_row self.now row).cells col }
+        requires column { col < length (page_row self.now row).cells }
+        ensures { result.now ≡ at (page_row self.now row).cells col }
     {
         let (start, end) = self.cell_store.part(usize::from(row));
         &self.cell_store.cells[start..end][usize::from(col)]
@@ -128,7 +128,7 @@ impl PageRows {
     #[inline]
     pub fn ends_blank(&self, row: u16) -> bool
         requires { row < length self.now.rows }
-        ensures { result ≡ ends_blank (sheet_row self.now row).cells }
+        ensures { result ≡ ends_blank (page_row self.now row).cells }
     {
         let (start, end) = self.cell_store.part(usize::from(row));
         cells::ends_blank(&self.cell_store.cells[start..end])
@@ -139,7 +139,7 @@ impl PageRows {
     #[tactic(auto, using(crate::proofs::CellStores::rows_counted))]
     pub fn wrap(&mut self, row: usize, wrapped: bool)
         requires { row < length self.old.rows }
-        ensures { self.new ≡ with_sheet_row row (record (sheet_row self.old row) { wrapped = wrapped }) self.old }
+        ensures { self.new ≡ with_page_row row (record (page_row self.old row) { wrapped = wrapped }) self.old }
     {
         self.cell_store.wrap(row, wrapped);
     }
@@ -147,7 +147,7 @@ impl PageRows {
     /// Says whether the row that a wrap left, if there is one, goes on below.
     pub fn wrap_left(&mut self, left: Option<u16>, goes_on: bool)
         requires { IfSome left (λ row. row < length self.old.rows) }
-        ensures { self.new ≡ sheet_flagged left goes_on self.old }
+        ensures { self.new ≡ with_page_row_flag left goes_on self.old }
     {
         if let Some(row) = left {
             self.wrap(usize::from(row), goes_on);
@@ -158,12 +158,12 @@ impl PageRows {
     #[inline(always)]
     pub fn put_narrow(&mut self, row: u16, col: u16, c: char, attrs: Attrs)
         requires inside { row < length self.old.rows }
-        requires paired { IsPaired (sheet_row self.old row).cells }
-        requires column { col < length (sheet_row self.old row).cells }
+        requires paired { IsPaired (page_row self.old row).cells }
+        requires column { col < length (page_row self.old row).cells }
         requires reported { c ≢ 0xFFFD }
         requires columns { columns_of c ≡ Some 1 }
         ensures { self.new
-            ≡ with_row_cells row (put_narrow col (encode_utf8 c) attrs (sheet_row self.old row).cells) self.old }
+            ≡ with_row_cells row (put_narrow col (encode_utf8 c) attrs (page_row self.old row).cells) self.old }
     {
         let row = usize::from(row);
         let goes_on = self.cell_store.wrapped(row);
@@ -179,11 +179,11 @@ impl PageRows {
     #[inline]
     pub fn put_text(&mut self, row: u16, col: u16, text: &[u8], attrs: Attrs)
         requires inside { row < length self.old.rows }
-        requires paired { IsPaired (sheet_row self.old row).cells }
+        requires paired { IsPaired (page_row self.old row).cells }
         requires some { 0 < length text.now }
-        requires columns { col + length text.now ≤ length (sheet_row self.old row).cells }
+        requires columns { col + length text.now ≤ length (page_row self.old row).cells }
         requires printable { IsPrintableAscii text.now }
-        ensures { self.new ≡ with_row_cells row (put_text col text.now attrs (sheet_row self.old row).cells) self.old }
+        ensures { self.new ≡ with_row_cells row (put_text col text.now attrs (page_row self.old row).cells) self.old }
     {
         let row = usize::from(row);
         let goes_on = self.cell_store.wrapped(row);
@@ -198,12 +198,12 @@ impl PageRows {
     #[inline(always)]
     pub fn put_wide(&mut self, row: u16, col: u16, c: char, attrs: Attrs)
         requires inside { row < length self.old.rows }
-        requires paired { IsPaired (sheet_row self.old row).cells }
-        requires column { col + 1 < length (sheet_row self.old row).cells }
+        requires paired { IsPaired (page_row self.old row).cells }
+        requires column { col + 1 < length (page_row self.old row).cells }
         requires reported { c ≢ 0xFFFD }
         requires columns { columns_of c ≡ Some 2 }
         ensures { self.new
-            ≡ with_row_cells row (put_wide col (encode_utf8 c) attrs (sheet_row self.old row).cells) self.old }
+            ≡ with_row_cells row (put_wide col (encode_utf8 c) attrs (page_row self.old row).cells) self.old }
     {
         let row = usize::from(row);
         let goes_on = self.cell_store.wrapped(row);
@@ -217,10 +217,10 @@ impl PageRows {
     /// Puts a mark on the cell at a column of a row; see `cells::append`.
     pub fn append(&mut self, row: u16, col: u16, mark: char)
         requires inside { row < length self.old.rows }
-        requires column { col < length (sheet_row self.old row).cells }
-        requires shown { is_right_half (at (sheet_row self.old row).cells col) ≡ false }
+        requires column { col < length (page_row self.old row).cells }
+        requires shown { is_right_half (at (page_row self.old row).cells col) ≡ false }
         requires mark { columns_of mark ≡ Some 0 }
-        ensures { self.new ≡ with_row_cells row (marked_at col mark (sheet_row self.old row).cells) self.old }
+        ensures { self.new ≡ with_row_cells row (marked_at col mark (page_row self.old row).cells) self.old }
     {
         let row = usize::from(row);
         let goes_on = self.cell_store.wrapped(row);
@@ -234,12 +234,12 @@ impl PageRows {
     /// Makes the glyph at a column of a row wide; see `cells::widen`.
     pub fn widen(&mut self, row: u16, col: u16, attrs: Attrs)
         requires inside { row < length self.old.rows }
-        requires paired { IsPaired (sheet_row self.old row).cells }
-        requires column { col + 1 < length (sheet_row self.old row).cells }
-        requires glyph { is_blank (at (sheet_row self.old row).cells col) ≡ false }
-        requires shown { is_right_half (at (sheet_row self.old row).cells col) ≡ false }
-        requires fits { IsCell (widened true (at (sheet_row self.old row).cells col)) }
-        ensures { self.new ≡ with_row_cells row (widened_at col attrs (sheet_row self.old row).cells) self.old }
+        requires paired { IsPaired (page_row self.old row).cells }
+        requires column { col + 1 < length (page_row self.old row).cells }
+        requires glyph { is_blank (at (page_row self.old row).cells col) ≡ false }
+        requires shown { is_right_half (at (page_row self.old row).cells col) ≡ false }
+        requires fits { IsCell (widened true (at (page_row self.old row).cells col)) }
+        ensures { self.new ≡ with_row_cells row (widened_at col attrs (page_row self.old row).cells) self.old }
     {
         let row = usize::from(row);
         let goes_on = self.cell_store.wrapped(row);
@@ -253,11 +253,11 @@ impl PageRows {
     /// Makes the glyph at a column of a row narrow; see `cells::narrow`.
     pub fn narrow(&mut self, row: u16, col: u16, attrs: Attrs)
         requires inside { row < length self.old.rows }
-        requires paired { IsPaired (sheet_row self.old row).cells }
-        requires column { col < length (sheet_row self.old row).cells }
-        requires shown { is_right_half (at (sheet_row self.old row).cells col) ≡ false }
-        requires fits { IsCell (widened false (at (sheet_row self.old row).cells col)) }
-        ensures { self.new ≡ with_row_cells row (narrowed_at col attrs (sheet_row self.old row).cells) self.old }
+        requires paired { IsPaired (page_row self.old row).cells }
+        requires column { col < length (page_row self.old row).cells }
+        requires shown { is_right_half (at (page_row self.old row).cells col) ≡ false }
+        requires fits { IsCell (widened false (at (page_row self.old row).cells col)) }
+        ensures { self.new ≡ with_row_cells row (narrowed_at col attrs (page_row self.old row).cells) self.old }
     {
         let row = usize::from(row);
         let goes_on = self.cell_store.wrapped(row);
@@ -271,10 +271,10 @@ impl PageRows {
     /// Takes the cell at a column of a row out; see `cells::lift`.
     pub fn lift(&mut self, row: u16, col: u16, attrs: Attrs) -> Cell
         requires inside { row < length self.old.rows }
-        requires paired { IsPaired (sheet_row self.old row).cells }
-        requires column { col < length (sheet_row self.old row).cells }
-        ensures lifted { result ≡ at (sheet_row self.old row).cells col }
-        ensures value { self.new ≡ with_row_cells row (erased col 1 attrs (sheet_row self.old row).cells) self.old }
+        requires paired { IsPaired (page_row self.old row).cells }
+        requires column { col < length (page_row self.old row).cells }
+        ensures lifted { result ≡ at (page_row self.old row).cells col }
+        ensures value { self.new ≡ with_row_cells row (erased col 1 attrs (page_row self.old row).cells) self.old }
     {
         let row = usize::from(row);
         let goes_on = self.cell_store.wrapped(row);
@@ -290,10 +290,10 @@ impl PageRows {
     /// flag; the cells beside it stay.
     pub fn put_back(&mut self, row: u16, col: u16, cell: Cell, goes_on: bool)
         requires inside { row < length self.old.rows }
-        requires column { col < length (sheet_row self.old row).cells }
+        requires column { col < length (page_row self.old row).cells }
         ensures { self.new
-            ≡ with_sheet_row row
-            (record { cells = slice_set (sheet_row self.old row).cells col cell; wrapped = goes_on }) self.old }
+            ≡ with_page_row row
+            (record { cells = slice_set (page_row self.old row).cells col cell; wrapped = goes_on }) self.old }
     {
         let row = usize::from(row);
         let (start, end) = self.cell_store.part(row);
@@ -305,11 +305,11 @@ impl PageRows {
     /// Puts a wide cell at a column of a row and the next; see `cells::put_wide_cell`.
     pub fn put_wide_cell(&mut self, row: u16, col: u16, cell: Cell)
         requires inside { row < length self.old.rows }
-        requires paired { IsPaired (sheet_row self.old row).cells }
-        requires column { col + 1 < length (sheet_row self.old row).cells }
+        requires paired { IsPaired (page_row self.old row).cells }
+        requires column { col + 1 < length (page_row self.old row).cells }
         requires wide { is_wide cell ≡ true }
         ensures { self.new
-            ≡ with_row_cells row (put_wide col (text_of cell) (attrs_of cell) (sheet_row self.old row).cells) self.old }
+            ≡ with_row_cells row (put_wide col (text_of cell) (attrs_of cell) (page_row self.old row).cells) self.old }
     {
         let row = usize::from(row);
         let goes_on = self.cell_store.wrapped(row);
@@ -323,11 +323,11 @@ impl PageRows {
     /// Makes the columns of a row from `from` up to `to` blank; see `cells::erase`.
     pub fn erase(&mut self, row: u16, from: u16, to: u16, attrs: Attrs)
         requires inside { row < length self.old.rows }
-        requires paired { IsPaired (sheet_row self.old row).cells }
+        requires paired { IsPaired (page_row self.old row).cells }
         requires some { from < to }
-        requires columns { to ≤ length (sheet_row self.old row).cells }
+        requires columns { to ≤ length (page_row self.old row).cells }
         ensures { self.new
-            ≡ with_row_cells row (erased from (to - from) attrs (sheet_row self.old row).cells) self.old }
+            ≡ with_row_cells row (erased from (to - from) attrs (page_row self.old row).cells) self.old }
     {
         let row = usize::from(row);
         let goes_on = self.cell_store.wrapped(row);
@@ -341,9 +341,9 @@ impl PageRows {
     /// Inserts default blanks at a column of a row; see `shifts::insert`.
     pub fn insert(&mut self, row: u16, col: u16, count: u16)
         requires inside { row < length self.old.rows }
-        requires paired { IsPaired (sheet_row self.old row).cells }
-        requires column { col ≤ length (sheet_row self.old row).cells }
-        ensures { self.new ≡ with_sheet_row row (inserted_row col count (sheet_row self.old row)) self.old }
+        requires paired { IsPaired (page_row self.old row).cells }
+        requires column { col ≤ length (page_row self.old row).cells }
+        ensures { self.new ≡ with_page_row row (inserted_row col count (page_row self.old row)) self.old }
     {
         let row = usize::from(row);
         let (start, end) = self.cell_store.part(row);
@@ -355,9 +355,9 @@ impl PageRows {
     /// Deletes columns of a row; see `shifts::delete`.
     pub fn delete(&mut self, row: u16, col: u16, count: u16)
         requires inside { row < length self.old.rows }
-        requires paired { IsPaired (sheet_row self.old row).cells }
-        requires column { col ≤ length (sheet_row self.old row).cells }
-        ensures { self.new ≡ with_sheet_row row (deleted_row col count (sheet_row self.old row)) self.old }
+        requires paired { IsPaired (page_row self.old row).cells }
+        requires column { col ≤ length (page_row self.old row).cells }
+        ensures { self.new ≡ with_page_row row (deleted_row col count (page_row self.old row)) self.old }
     {
         let row = usize::from(row);
         let (start, end) = self.cell_store.part(row);
@@ -369,7 +369,7 @@ impl PageRows {
     /// Makes a row blank.
     pub fn clear_row(&mut self, row: usize, attrs: Attrs)
         requires inside { row < length self.old.rows }
-        ensures { self.new ≡ with_sheet_row row (blank_row attrs self.old.width) self.old }
+        ensures { self.new ≡ with_page_row row (blank_row attrs self.old.width) self.old }
     {
         self.cell_store.blank(row, attrs);
     }

@@ -30,7 +30,8 @@ use vt100::Callbacks;
 ///
 /// Premises are that the mirror's screen was steady at these updates (see
 /// `Screen::contents_formatted`), and that the viewer's own calls of
-/// `set_size` answered Ok; its calls of `process` do so. That each viewer's
+/// `set_size` answered Ok; its calls of `process` do so, by
+/// `vt100::laws::quiet_pieces`. That each viewer's
 /// screen is one (`IsScreen`) is said there, and it holds of every parser, by
 /// the clause `whole` of `Screen::size`.
 ///

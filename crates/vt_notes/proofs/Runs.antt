@@ -20,7 +20,7 @@ use Rattle.vt_screen.specs.Steps.{ScrollDown, Render, HideCursor, UseApplication
 use Rattle.vt_screen.specs.Steps.{ClearMouseMode, SetMouseEncoding, ClearMouseEncoding, SetCursorStyle, SaveCursor}
 use Rattle.vt_screen.specs.Steps.{RestoreCursor, EnterAlternate, EnterFresh, LeaveAlternate, LeaveRestoring, Reset}
 use Rattle.vt_screen.specs.Steps.{UseApplicationKeypad, CallBack, reports, screen_after, display_after}
-use Rattle.vt_screen.specs.Telling.{calls_of, calls_of_all, stepped_all, steps_of_all, steps_in, calls_in, screen_in}
+use Rattle.vt_screen.specs.Telling.{calls_of, calls_of_all, screen_after_all, steps_of_all, steps_in, calls_in, screen_in}
 use Rattle.vt100.specs.Parser.{Parsing, Ran, pieces_joined, parsing, stage}
 use Rattle.vt_rows.proofs.Folds.{folds_then}
 use Rattle.vt100.proofs.Running.{ran_joined}
@@ -148,14 +148,14 @@ done_step (UseApplicationKeypad on) a b t = done_quietly a b (display_after (Use
 -- ---- steps and events
 
 done_steps : (steps : List Step) (a b : act.State Noted) → FoldsTo (Takes NotesIt) a steps b →
-    Done a (calls_of_all steps a.screen) (stepped_all steps a.screen) b
+    Done a (calls_of_all steps a.screen) (screen_after_all steps a.screen) b
 done_steps [] a b e = subst (λ (s : act.State Noted). Done a [] a.screen s) e (done_nothing a)
 done_steps (x ∷ steps) a b t =
     let one = done_step x a t.0 t.1 in
-    let rest = subst (λ (screen : ScreenValue). Done t.0 (calls_of_all steps screen) (stepped_all steps screen) b)
+    let rest = subst (λ (screen : ScreenValue). Done t.0 (calls_of_all steps screen) (screen_after_all steps screen) b)
     one.shown (done_steps steps t.0 b t.2) in
     done_then a t.0 b (calls_of x a.screen) (calls_of_all steps (screen_after x a.screen))
-    (screen_after x a.screen) (stepped_all steps (screen_after x a.screen)) one rest
+    (screen_after x a.screen) (screen_after_all steps (screen_after x a.screen)) one rest
 
 -- the steps of all events are those that the model lists
 same_steps : (events : List Event) (a b : act.State Noted) → FoldsTo (Performs NotesIt) a events b →
@@ -166,7 +166,7 @@ same_steps (event ∷ events) a b t =
     let there = (done_steps steps a t.0 t.1).shown in
     let rest = subst (λ (screen : ScreenValue). FoldsTo (Takes NotesIt) t.0 (steps_of_all events screen) b)
     there (same_steps events t.0 b t.2) in
-    folds_then (Takes NotesIt) steps (steps_of_all events (stepped_all steps a.screen)) a t.0 b t.1 rest
+    folds_then (Takes NotesIt) steps (steps_of_all events (screen_after_all steps a.screen)) a t.0 b t.1 rest
 
 -- ---- parsers
 

@@ -21,7 +21,7 @@ pub mod Rows
 pub mod Cursor
 pub mod Local
 pub mod Difference
-pub mod Nothing
+pub mod EmptyDifference
 pub mod Clear
 pub mod Redrawing
 pub mod Refusals

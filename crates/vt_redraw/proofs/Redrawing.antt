@@ -15,7 +15,7 @@ use Rattle.vt_redraw.specs.Steady.{IsSteady}
 use Rattle.vt_redraw.specs.Redraw.{script, blank_like, redraw}
 use Rattle.vt_redraw.proofs.Clear.{cleared}
 use Rattle.vt_redraw.proofs.Difference.{Shows, script_draws}
-use Rattle.vt_redraw.proofs.Nothing.{showing, showing_plain, same_picture, draws_tell}
+use Rattle.vt_redraw.proofs.EmptyDifference.{showing, showing_plain, same_picture, draws_tell}
 
 -- what a canvas with a page shows is a picture
 pub page_picture : (canvas : Canvas) → IsPage canvas.page → IsPicture (picture_of canvas)

@@ -49,9 +49,9 @@ visible_sound above rows width is page =
 
 -- ---- the picture of a page with scrollback above it
 
-pub viewed_is : (above : Scrollback) (canvas : Canvas) → IsScrollback above →
+pub shown_view_is : (above : Scrollback) (canvas : Canvas) → IsScrollback above →
     IsPage canvas.page → IsPicture (picture_over (visible above canvas.page.rows) canvas)
-viewed_is above canvas is page =
+shown_view_is above canvas is page =
     picture_over_is (visible above canvas.page.rows) canvas page (visible_length above canvas.page.rows)
     (visible_sound above canvas.page.rows canvas.page.width is page.rows)
 
@@ -135,7 +135,7 @@ pub new_is : (above : Scrollback) (page : Page) (rows : List RowValue)
     IsPicture (picture_of_source InView above rows width (pen_at row column attrs) hidden)
 new_is above page rows width row column attrs hidden is sound e f g h =
     let canvas : Canvas = record { page = page; attrs = attrs; saved_attrs = attrs; hidden = hidden } in
-    rw (e, f, g, h) (viewed_is above canvas is sound)
+    rw (e, f, g, h) (shown_view_is above canvas is sound)
 
 pub blanked_is : (s : Source) (above : Scrollback) (rows : List RowValue) (width : ℕ) (pen new : Pen) (hidden : Bool) →
     new ≡ pen_at 0 0 default_attrs →

@@ -1,4 +1,4 @@
--- One more collected byte of a sequence: a byte of the parameter text, or a intermediate.
+-- One more collected byte of a sequence: a byte of the parameter text, or an intermediate.
 use Rattle.std.proofs.Common.{◌≡◌, ◌≢◌, ℕ, Bool, true, false, not, cond, List, []}
 use Rattle.std.proofs.Common.{◌∷◌, ◌++◌, take, filter, sym, ◌∙◌, ap, inl, inr}
 use Rattle.std.proofs.lemmas.List.{append-nil}

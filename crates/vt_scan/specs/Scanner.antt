@@ -1,6 +1,6 @@
 -- What the scanner holds of the bytes that it has read, which states of the automaton that stands for, and what its
 -- answer means.
-use Rattle.std.specs.Prelude.{◌≡◌, ℕ, ◌<◌, ◌≤◌, ◌==◌, ◌&&◌, ◌||◌, nat_le, Bool, false, List, [], ◌++◌, length, map, option_to_list}
+use Rattle.std.specs.Prelude.{◌≡◌, ◌≢◌, ℕ, ◌<◌, ◌≤◌, ◌==◌, ◌&&◌, ◌||◌, nat_le, Bool, false, List, [], ◌++◌, length, map, option_to_list}
 use Rattle.vt_scan.specs.Parameters.{GroupTable, table_of}
 use Rattle.vt_scan.specs.Automaton as automaton
 use Rattle.vt_scan.specs.Automaton.{State, Step, is_parameter, parameter_text, intermediates_of, parts_of, step_in}
@@ -68,6 +68,10 @@ IsPrintableByte b = (0x20 ≤ b) × (b < 0x7F)
 -- plain text with nothing unfinished, and a printable byte of ASCII
 abbrev pub ReadsItself : Held → ℕ → Type 0
 ReadsItself held b = (held.kind ≡ Ground) × (held.unfinished ≡ []) × (0x20 ≤ b) × (b < 0x7F)
+
+-- plain text with nothing unfinished, and a control function of one byte that is not ESC
+abbrev pub ExecutesItself : Held → ℕ → Type 0
+ExecutesItself held b = (held.kind ≡ Ground) × (held.unfinished ≡ []) × (b < 0x20) × (b ≢ 0x1B)
 
 -- whatever state the scanner was in, it is then in the one that follows by this byte
 abbrev pub Feeds : Held → ℕ → Held → Events → Type 0

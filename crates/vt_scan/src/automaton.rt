@@ -90,7 +90,7 @@ impl Scanner {
     }
 
     /// Reads one byte and answers its events. The lists of a sequence are
-    /// lent by `groups`, `intermediates` and `parts` until the next byte.
+    /// lent by `parameters`, `intermediates` and `parts` until the next byte.
     ///
     /// Memory is taken only for a byte of the text of an operating system
     /// command; where that is refused, the answer is `OutOfMemory`, nothing

@@ -99,7 +99,7 @@ impl Unfinished {
 /// The character of more than one byte that these bytes begin with, and how
 /// many bytes it takes, if all of them are here.
 pub fn first_character(bytes: &[u8]) -> Option<(char, usize)>
-    ensures inside { IfSome result (λ found. (0 < found.1) × (found.1 ≤ length bytes.now)) }
+    ensures inside { IfSome result (λ found. (1 < found.1) × (found.1 ≤ length bytes.now)) }
     ensures is { IfSome result (λ found. is_character (take found.1 bytes.now) ≡ true) }
     ensures means { IfSome result (λ found. found.0 ≡ character_of (take found.1 bytes.now)) }
     ensures all { (n : ℕ) → is_character (take n bytes.now) ≡ true → IsSome result }

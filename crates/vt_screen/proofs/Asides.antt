@@ -14,7 +14,7 @@ use Rattle.vt_grid.specs.Moves.{feeds_out}
 use Rattle.vt_grid.specs.Outgoing.{fed_out, scrolled_out, printed_out, left_by}
 use Rattle.vt_grid.specs.Printing.{mark_column, pushes}
 use Rattle.vt_grid.proofs.Carries.{page_lifted}
-use Rattle.vt_grid.proofs.Scrolling.{IsScrollback-pushed, IsScrollback-viewed}
+use Rattle.vt_grid.proofs.Scrolling.{IsScrollback-pushed, IsScrollback-with_view}
 use Rattle.vt_grid.specs.Page.{Page, IsPage, blank_page, cursor_row, row_or}
 use Rattle.vt_grid.proofs.Pages.{page_blank, IsRow-cursor_row}
 use Rattle.vt_screen.proofs.Stable.{stable_blank}
@@ -137,7 +137,7 @@ pub kept_viewed : (height width n : ℕ) (page : Page) (last : Option ℕ) (asid
 kept_viewed height width n page last aside k =
     kept_above page last aside (with_view height width n aside.active) (nothing_viewed height width n aside.active)
     (λ a. record {
-      sound = IsScrollback-viewed height width n aside.active a.sound;
+      sound = IsScrollback-with_view height width n aside.active a.sound;
       colored = stable_viewed coloring height width n aside.active a.colored;
     })
     k

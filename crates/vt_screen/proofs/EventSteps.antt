@@ -15,7 +15,7 @@ use Rattle.vt_screen.specs.Calls.{CallValue}
 use Rattle.vt_screen.specs.Screen.{ScreenValue, IsPrintable}
 use Rattle.vt_screen.specs.Sgr.{group_read}
 use Rattle.vt_screen.specs.Streamed.{HasNoRis, ris, row_told, sent_off_in}
-use Rattle.vt_screen.specs.Telling.{calls_in, screen_in, stepped_all, steps_in, steps_of_all}
+use Rattle.vt_screen.specs.Telling.{calls_in, screen_in, screen_after_all, steps_in, steps_of_all}
 use Rattle.vt_screen.specs.Controls.{alternate_step, character_steps, clipboard_steps, control_steps, counted_step}
 use Rattle.vt_screen.specs.Controls.{csi_steps, encoding_step, escape_steps, fresh_alternate_step, intermediate_steps}
 use Rattle.vt_screen.specs.Controls.{intermediate_at, mode_step, mode_steps, mouse_step, named_steps, number_or, one_or}
@@ -257,8 +257,8 @@ stream_events (event ∷ events) s coded others k =
     let now : AllAmong IsPrintable ⊥ steps =
     stream_event event (seen_of s) coded.0 (record { prints = λ c e is. is; resets = others.0 }) k.last in
     let there = steps_stream steps s now.all k in
-    all_then steps (steps_of_all events (stepped_all steps s)) now
-    (stream_events events (stepped_all steps s) coded.1 others.1 there.held)
+    all_then steps (steps_of_all events (screen_after_all steps s)) now
+    (stream_events events (screen_after_all steps s) coded.1 others.1 there.held)
 
 -- a run over bytes
 pub run_streams : (scan : State) (s : ScreenValue) (bytes : List ℕ) → HasNoRis scan bytes → Held s

@@ -38,15 +38,15 @@ pub mod TouchedReads
 pub mod TouchedTexts
 mod Captures
 pub mod CaptureTexts
-pub mod Alike
-pub mod AlikeScrollback
+pub mod TrailingBlanks
+pub mod TrailingBlanksScrollback
 pub mod Streaming
 pub mod EventSteps
 mod Selectors
 mod SelectorRuns
-pub mod Bare
+pub mod WhateverScrollback
 pub mod StreamedTexts
-pub mod Heard
+pub mod CallsOfRun
 pub mod StepLists
 pub mod Sizing
 mod WideFlags

@@ -26,7 +26,7 @@ use Rattle.vt_screen.specs.Screen.{IsPrintable, IsScreen, ScreenValue, above_pag
 use Rattle.vt_screen.specs.Screen.{fresh_screen, scrolled_back, visible_row}
 use Rattle.vt_screen.specs.Selectors.{CellHasNoSelector, HasNoSelectors, RowsHaveNoSelector}
 use Rattle.vt_screen.specs.Shown.{ShowsNoSelector}
-use Rattle.vt_screen.specs.Telling.{screen_in, stepped_all, steps_in, steps_of_all}
+use Rattle.vt_screen.specs.Telling.{screen_in, screen_after_all, steps_in, steps_of_all}
 use Rattle.vt_screen.proofs.EventSteps.{AllAmong, Allows, all_then, none, stream_event}
 use Rattle.vt_screen.proofs.Selectors.{ArePlain, IsPlainCell, IsPlainCharacter, StaysPlain}
 use Rattle.vt_screen.proofs.Selectors.{plain_aside, selecting, steps_plain}
@@ -112,8 +112,8 @@ events_plain (event ∷ events) s coded others k =
     let now : AllAmong IsPlainCharacter (Unit {0}) steps =
     stream_event event (seen_of s) coded.0 (allows event others.0) k.last in
     let there = steps_plain steps s now.all k in
-    all_then steps (steps_of_all events (stepped_all steps s)) now
-    (events_plain events (stepped_all steps s) coded.1 others.1 there)
+    all_then steps (steps_of_all events (screen_after_all steps s)) now
+    (events_plain events (screen_after_all steps s) coded.1 others.1 there)
 
 pub run_keeps : (scan : State) (s : ScreenValue) (bytes : List ℕ) → IsScreen s → HasNoSelectors s
     → ReadsNoSelector scan bytes → HasNoSelectors (screen_in scan s bytes)

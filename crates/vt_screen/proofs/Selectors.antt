@@ -30,7 +30,7 @@ use Rattle.vt_screen.specs.Steps.{ScrollDown, Render, HideCursor, UseApplication
 use Rattle.vt_screen.specs.Steps.{UseBracketedPaste, SetMouseMode, ClearMouseMode, SetMouseEncoding, ClearMouseEncoding}
 use Rattle.vt_screen.specs.Steps.{SetCursorStyle, SaveCursor, RestoreCursor, EnterAlternate, EnterFresh, LeaveAlternate}
 use Rattle.vt_screen.specs.Steps.{LeaveRestoring, Reset, CallBack, becomes_last, screen_after, display_after}
-use Rattle.vt_screen.specs.Telling.{stepped_all}
+use Rattle.vt_screen.specs.Telling.{screen_after_all}
 use Rattle.vt_screen.proofs.Stable.{EachCell, EachRow, IsStable, stable_blank, stable_erased_below, stable_erased_chars}
 use Rattle.vt_screen.proofs.Stable.{stable_erased_rest, stable_line_feed, stable_printed, stable_scrolled_up}
 use Rattle.vt_screen.proofs.StableMoves.{stable_chars_deleted, stable_chars_inserted, stable_erased_above}
@@ -278,6 +278,6 @@ step_plain (ClearMouseEncoding form) s i k = record { rows = k.rows; other = k.o
 step_plain (SetCursorStyle look) s i k = record { rows = k.rows; other = k.other; above = k.above; last = k.last }
 
 pub steps_plain : (steps : List Step) (s : ScreenValue) → AllByRecursion (IsAmong IsPlainCharacter (Unit {0})) steps
-    → StaysPlain s → StaysPlain (stepped_all steps s)
+    → StaysPlain s → StaysPlain (screen_after_all steps s)
 steps_plain [] s i k = k
 steps_plain (x ∷ steps) s i k = steps_plain steps (screen_after x s) i.1 (step_plain x s i.0 k)

@@ -8,29 +8,29 @@ use Rattle.vt_screen.specs.Screen.{ScreenValue}
 use Rattle.vt_screen.specs.Controls.{seen_of, steps_of}
 use Rattle.vt_screen.specs.Steps.{Step, screen_after}
 use Rattle.vt_screen.specs.Streamed.{sent_off, sent_off_all, sent_off_in}
-use Rattle.vt_screen.specs.Telling.{screen_in, stepped_all, steps_in, steps_of_all}
+use Rattle.vt_screen.specs.Telling.{screen_in, screen_after_all, steps_in, steps_of_all}
 
-pub stepped_then : (xs ys : List Step) (s : ScreenValue) → stepped_all (xs ++ ys) s ≡ stepped_all ys (stepped_all xs s)
+pub stepped_then : (xs ys : List Step) (s : ScreenValue) → screen_after_all (xs ++ ys) s ≡ screen_after_all ys (screen_after_all xs s)
 stepped_then [] ys s = refl
 stepped_then (x ∷ xs) ys s = stepped_then xs ys (screen_after x s)
 
 sent_all_then : (xs ys : List Step) (s : ScreenValue) →
-    sent_off_all (xs ++ ys) s ≡ sent_off_all xs s ++ sent_off_all ys (stepped_all xs s)
+    sent_off_all (xs ++ ys) s ≡ sent_off_all xs s ++ sent_off_all ys (screen_after_all xs s)
 sent_all_then [] ys s = refl
 sent_all_then (x ∷ xs) ys s =
     ap (λ (rows : List RowValue). sent_off x s ++ rows) (sent_all_then xs ys (screen_after x s))
     ∙ sym
-    (append_assoc (sent_off x s) (sent_off_all xs (screen_after x s)) (sent_off_all ys (stepped_all xs (screen_after x s))))
+    (append_assoc (sent_off x s) (sent_off_all xs (screen_after x s)) (sent_off_all ys (screen_after_all xs (screen_after x s))))
 
 steps_then : (events more : List Event) (s : ScreenValue) →
-    steps_of_all (events ++ more) s ≡ steps_of_all events s ++ steps_of_all more (stepped_all (steps_of_all events s) s)
+    steps_of_all (events ++ more) s ≡ steps_of_all events s ++ steps_of_all more (screen_after_all (steps_of_all events s) s)
 steps_then [] more s = refl
 steps_then (event ∷ events) more s =
     let steps = steps_of event (seen_of s) in
-    let there = stepped_all steps s in
+    let there = screen_after_all steps s in
     let rest = steps_of_all events there in
     ap (λ (xs : List Step). steps ++ xs) (steps_then events more there)
-    ∙ (sym (append_assoc steps rest (steps_of_all more (stepped_all rest there)))
+    ∙ (sym (append_assoc steps rest (steps_of_all more (screen_after_all rest there)))
     ∙ ap (λ (t : ScreenValue). (steps ++ rest) ++ steps_of_all more t) (sym (stepped_then steps rest s)))
 
 steps_in_then : (scan : State) (s : ScreenValue) (a b : List ℕ) →
@@ -42,7 +42,7 @@ steps_in_then scan s a b =
 pub screen_in_then : (scan : State) (s : ScreenValue) (a b : List ℕ) →
     screen_in scan s (a ++ b) ≡ screen_in (run scan a).state (screen_in scan s a) b
 screen_in_then scan s a b =
-    ap (λ (steps : List Step). stepped_all steps s) (steps_in_then scan s a b)
+    ap (λ (steps : List Step). screen_after_all steps s) (steps_in_then scan s a b)
     ∙ stepped_then (steps_in scan s a) (steps_in (run scan a).state (screen_in scan s a) b) s
 
 pub sent_in_then : (scan : State) (s : ScreenValue) (a b : List ℕ) →

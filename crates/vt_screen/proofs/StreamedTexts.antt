@@ -8,8 +8,8 @@ use Rattle.vt_screen.specs.Calls.{CallValue}
 use Rattle.vt_screen.specs.Capture.{all_rows, basic_texts, written_after_all}
 use Rattle.vt_screen.specs.Screen.{ScreenValue}
 use Rattle.vt_screen.specs.Streamed.{AreSameTrimmed, rows_told, streamed_text}
-use Rattle.vt_screen.proofs.Alike.{trimmed_twice}
-use Rattle.vt_screen.proofs.AlikeScrollback.{alike_then}
+use Rattle.vt_screen.proofs.TrailingBlanks.{trimmed_twice}
+use Rattle.vt_screen.proofs.TrailingBlanksScrollback.{alike_then}
 use Rattle.vt_screen.proofs.Streaming.{Streamed}
 
 -- ---- rows that are alike have one text

@@ -43,10 +43,10 @@ use Rattle.vt_screen.specs.Steps.{ClearMouseMode, SetMouseEncoding, ClearMouseEn
 use Rattle.vt_screen.specs.Steps.{RestoreCursor, EnterAlternate, EnterFresh, LeaveAlternate, LeaveRestoring, Reset}
 use Rattle.vt_screen.specs.Steps.{UseApplicationKeypad, CallBack, becomes_last, screen_after, display_after}
 use Rattle.vt_screen.specs.Streamed.{AreSameTrimmed, HasWideFlags, row_told, rows_told, sent_off, sent_off_all}
-use Rattle.vt_screen.specs.Telling.{calls_of, calls_of_all, stepped_all}
-use Rattle.vt_screen.proofs.Alike.{IsWide}
-use Rattle.vt_screen.proofs.AlikeScrollback.{AreSound, alike_pushed, alike_then, alike_viewed}
-use Rattle.vt_screen.proofs.AlikeScrollback.{sound_pushed, sound_viewed, wide_pushed, wide_viewed}
+use Rattle.vt_screen.specs.Telling.{calls_of, calls_of_all, screen_after_all}
+use Rattle.vt_screen.proofs.TrailingBlanks.{IsWide}
+use Rattle.vt_screen.proofs.TrailingBlanksScrollback.{AreSound, alike_pushed, alike_then, alike_viewed}
+use Rattle.vt_screen.proofs.TrailingBlanksScrollback.{sound_pushed, sound_viewed, wide_pushed, wide_viewed}
 use Rattle.vt_screen.proofs.Asides.{rows_fed_out, rows_printed_out, rows_scrolled_out}
 use Rattle.vt_screen.proofs.Sizes.{same_back, same_itself, same_through, same_carriage_return, same_cursor_saved}
 use Rattle.vt_screen.proofs.Sizes.{same_cursor_restored, same_moved_right, same_moved_to, same_line_feed}
@@ -419,12 +419,12 @@ streamed_then calls more gone later s t u a b = record {
 }
 
 pub steps_stream : (steps : List Step) (s : ScreenValue) → AllByRecursion IsStreamed steps →
-    Held s → Streamed (calls_of_all steps s) (sent_off_all steps s) s (stepped_all steps s)
+    Held s → Streamed (calls_of_all steps s) (sent_off_all steps s) s (screen_after_all steps s)
 steps_stream [] s i k = record { held = k; alike = ap (map trimmed_row) (sym (append-nil s.scrollback.rows)) }
 steps_stream (x ∷ steps) s i k =
     let one = step_streams x s i.0 k in
     streamed_then (calls_of x s) (calls_of_all steps (screen_after x s)) (sent_off x s)
-    (sent_off_all steps (screen_after x s)) s (screen_after x s) (stepped_all steps (screen_after x s)) one
+    (sent_off_all steps (screen_after x s)) s (screen_after x s) (screen_after_all steps (screen_after x s)) one
     (steps_stream steps (screen_after x s) i.1 one.held)
 
 -- ---- other rows come into view

@@ -6,8 +6,8 @@ use Rattle.vt_redraw.specs.Redraw.{redraw, difference}
 use Rattle.vt_redraw.specs.Steady.{IsSteady}
 use Rattle.vt_redraw.proofs.Difference.{difference_draws}
 use Rattle.vt_redraw.proofs.Fitting.{difference_fits, redraw_fits}
-use Rattle.vt_redraw.proofs.Nothing.{showing_plain, same_picture, difference_self}
-use Rattle.vt_redraw.proofs.Nothing as canvas
+use Rattle.vt_redraw.proofs.EmptyDifference.{showing_plain, same_picture, difference_self}
+use Rattle.vt_redraw.proofs.EmptyDifference as canvas
 use Rattle.vt_redraw.proofs.Redrawing.{redraw_draws}
 use Rattle.vt_scan.specs.Automaton.{start}
 use Rattle.vt_screen.specs.Reading.{Terminal, read, terminal}

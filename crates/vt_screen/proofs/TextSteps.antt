@@ -23,7 +23,7 @@ use Rattle.vt_screen.specs.Internals.{Aside, IsKept}
 use Rattle.vt_screen.specs.Run.{CalledOnScroll, Scrolls, state}
 use Rattle.vt_screen.specs.Screen.{ScreenValue, IsPrintable, above_page}
 use Rattle.vt_screen.specs.Steps.{Print, last_after, display_after}
-use Rattle.vt_screen.specs.Texts.{text_stepped}
+use Rattle.vt_screen.specs.Texts.{screen_after_text}
 use Rattle.vt_screen.proofs.Asides.{kept_last}
 use Rattle.vt_screen.proofs.Kept.{kept_printed}
 use Rattle.vt_screen.proofs.Sizes.{same_printed}
@@ -43,7 +43,7 @@ with_text text screen =
     record screen { page = printed_text text screen.attrs screen.page; last = Some (get_or text (length text - 1) 0) }
 
 pub text_stepped_is : (text : List ℕ) (screen : ScreenValue) → 0 < length text →
-    IsPrintableAscii text → 0 < screen.page.width → text_stepped text screen ≡ with_text text screen
+    IsPrintableAscii text → 0 < screen.page.width → screen_after_text text screen ≡ with_text text screen
 text_stepped_is [] screen some h width = absurd (omega (arith, some))
 text_stepped_is (c ∷ []) screen some h width =
     let first = All-head (λ b. (0x20 ≤ b) × (b < 0x7F)) c [] h in

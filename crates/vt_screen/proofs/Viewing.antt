@@ -31,12 +31,12 @@ active_is true active idle n a = nothing_is active n
 active_is false active idle n a = a.sound
 
 -- the picture over scrollback above the active page
-pub viewed_is : (s : ScreenValue) (active idle : Scrollback) → s.scrollback ≡ main_scrollback s.is_alternate active idle
+pub with_view_is : (s : ScreenValue) (active idle : Scrollback) → s.scrollback ≡ main_scrollback s.is_alternate active idle
     → IsNothing (alternate_scrollback s.is_alternate active idle)
     → picture_over (visible active s.page.rows)
     (record { page = s.page; attrs = s.attrs; saved_attrs = s.attrs; hidden = s.hidden })
     ≡ shown s
-viewed_is s active idle w n =
+with_view_is s active idle w n =
     ap (λ (rows : List RowValue). picture_over rows (canvas_of s))
     (visible_if s.is_alternate s.page.rows active idle s.scrollback w n)
 

@@ -17,9 +17,9 @@ use Rattle.vt_screen.specs.Screen.{IsPrintable, IsScreen, ScreenValue, above_pag
 use Rattle.vt_screen.specs.Controls.{escape_steps, seen_of, steps_of}
 use Rattle.vt_screen.specs.Steps.{EraseScrollback, screen_after}
 use Rattle.vt_screen.specs.Streamed.{HasWideFlags, ris}
-use Rattle.vt_screen.specs.Telling.{screen_in, stepped_all, steps_of_all}
-use Rattle.vt_screen.proofs.Alike.{IsWide}
-use Rattle.vt_screen.proofs.AlikeScrollback.{AreSound, wide_pushed, wide_viewed}
+use Rattle.vt_screen.specs.Telling.{screen_in, screen_after_all, steps_of_all}
+use Rattle.vt_screen.proofs.TrailingBlanks.{IsWide}
+use Rattle.vt_screen.proofs.TrailingBlanksScrollback.{AreSound, wide_pushed, wide_viewed}
 use Rattle.vt_screen.proofs.EventSteps.{AllAmong, stream_event}
 use Rattle.vt_screen.proofs.Sizes.{same_itself}
 use Rattle.vt_screen.proofs.Sizing.{width_is}
@@ -63,27 +63,27 @@ held_reset s k = record {
   by (Some page) = record { sound = fresh.sound; same = same_itself (fresh_page s) }
   by None = tt
 
-held_ris : (s : ScreenValue) → Held s → Held (stepped_all (steps_of ris (seen_of s)) s)
+held_ris : (s : ScreenValue) → Held s → Held (screen_after_all (steps_of ris (seen_of s)) s)
 unfolding escape_steps
 held_ris s k = held_reset s k
 
 held_event : (event : Event) (s : ScreenValue) → IsCoded event → Held s
-    → Held (stepped_all (steps_of event (seen_of s)) s)
+    → Held (screen_after_all (steps_of event (seen_of s)) s)
 held_event event s coded k = by_test (is_ris event) refl where
   streamed : event ≢ ris → AllAmong IsPrintable ⊥ (steps_of event (seen_of s))
   streamed other = stream_event event (seen_of s) coded (record { prints = λ c e is. is; resets = other }) k.last
 
-  by_test : (b : Bool) → is_ris event ≡ b → Held (stepped_all (steps_of event (seen_of s)) s)
+  by_test : (b : Bool) → is_ris event ≡ b → Held (screen_after_all (steps_of event (seen_of s)) s)
   by_test true e =
-      subst (λ (x : Event). Held (stepped_all (steps_of x (seen_of s)) s)) (sym (ris_is event e)) (held_ris s k)
+      subst (λ (x : Event). Held (screen_after_all (steps_of x (seen_of s)) s)) (sym (ris_is event e)) (held_ris s k)
   by_test false e = (steps_stream (steps_of event (seen_of s)) s (streamed (not_ris event e)).all k).held
 
 held_events : (events : List Event) (s : ScreenValue) → AreCoded events → Held s
-    → Held (stepped_all (steps_of_all events s) s)
+    → Held (screen_after_all (steps_of_all events s) s)
 held_events [] s coded k = k
 held_events (event ∷ events) s coded k =
     let steps = steps_of event (seen_of s) in
-    let there = stepped_all steps s in
+    let there = screen_after_all steps s in
     subst (λ (t : ScreenValue). Held t) (sym (stepped_then steps (steps_of_all events there) s))
     (held_events events there coded.1 (held_event event s coded.0 k))
 

@@ -115,7 +115,7 @@ mouse_encoding_without was form = if same_mouse_encoding was form then encoding.
 abbrev pub with_modes : (Modes → Modes) → ScreenValue → ScreenValue
 with_modes f screen = record screen { modes = f (screen.modes) }
 
--- a step that is no callback
+-- the screen after a step, but for what that does to scrollback
 abbrev pub display_after : Step → ScreenValue → ScreenValue
 display_after (Print c) screen = record screen { page = printed c screen.attrs screen.page; last = last_after c screen }
 display_after CarriageReturn screen = with_page (carriage_return screen.page) screen

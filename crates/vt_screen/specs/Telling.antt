@@ -28,15 +28,15 @@ calls_of_all [] screen = []
 calls_of_all (step ∷ steps) screen = calls_of step screen ++ calls_of_all steps (screen_after step screen)
 
 -- the screen after steps
-abbrev pub stepped_all : List Step → ScreenValue → ScreenValue
-stepped_all [] screen = screen
-stepped_all (step ∷ steps) screen = stepped_all steps (screen_after step screen)
+abbrev pub screen_after_all : List Step → ScreenValue → ScreenValue
+screen_after_all [] screen = screen
+screen_after_all (step ∷ steps) screen = screen_after_all steps (screen_after step screen)
 
 -- the steps of events, each event as it meets the screen
 abbrev pub steps_of_all : List Event → ScreenValue → List Step
 steps_of_all [] screen = []
 steps_of_all (event ∷ events) screen =
-    let steps = steps_of event (seen_of screen) in steps ++ steps_of_all events (stepped_all steps screen)
+    let steps = steps_of event (seen_of screen) in steps ++ steps_of_all events (screen_after_all steps screen)
 
 -- the steps of a run over bytes
 abbrev pub steps_in : State → ScreenValue → List ℕ → List Step
@@ -48,4 +48,4 @@ calls_in scan screen bytes = calls_of_all (steps_in scan screen bytes) screen
 
 -- the screen after it
 abbrev pub screen_in : State → ScreenValue → List ℕ → ScreenValue
-screen_in scan screen bytes = stepped_all (steps_in scan screen bytes) screen
+screen_in scan screen bytes = screen_after_all (steps_in scan screen bytes) screen

@@ -4,6 +4,6 @@ use Rattle.vt_screen.specs.Screen.{ScreenValue}
 use Rattle.vt_screen.specs.Steps.{Print, display_after}
 
 -- characters are printed, one after the other
-abbrev pub text_stepped : List ℕ → ScreenValue → ScreenValue
-text_stepped [] screen = screen
-text_stepped (c ∷ text) screen = text_stepped text (display_after (Print c) screen)
+abbrev pub screen_after_text : List ℕ → ScreenValue → ScreenValue
+screen_after_text [] screen = screen
+screen_after_text (c ∷ text) screen = screen_after_text text (display_after (Print c) screen)

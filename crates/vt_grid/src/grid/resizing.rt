@@ -8,7 +8,7 @@ ghost use Rattle.vt_grid.specs.Page.{blank_page};
 ghost use Rattle.vt_grid.specs.Resize.{out_of_view, page_resized, resize_reports, row_resized, scrollback_resized};
 ghost use Rattle.vt_grid.specs.Resize as resize;
 ghost use Rattle.vt_grid.specs.Scrollback.{TakesMemory};
-ghost use Rattle.vt_grid.specs.PageRows.{blank_sheet};
+ghost use Rattle.vt_grid.specs.PageRows.{blank_page_rows};
 
 use super::Grid;
 use crate::page_rows::PageRows;
@@ -62,7 +62,7 @@ impl Grid {
         above: &mut Scrollback,
         leaving: &mut L,
     ) -> Result<(), Error>
-        requires blank { fresh ≡ blank_sheet (length fresh.rows) fresh.width }
+        requires blank { fresh ≡ blank_page_rows (length fresh.rows) fresh.width }
         requires rows { 0 < length fresh.rows }
         requires height { length fresh.rows < 2 ^ 16 }
         requires cols { 0 < fresh.width }

@@ -7,7 +7,7 @@ ghost use Rattle.vt_rows.specs.Row.{RowValue, IsRow, blank_row, resized_row};
 ghost use Rattle.vt_grid.specs.Internals.{refilled};
 ghost use Rattle.vt_rows.specs.Cells.{IsPaired};
 ghost use Rattle.vt_grid.specs.Resize.{rows_resized, taken_back, window};
-ghost use Rattle.vt_grid.specs.PageRows.{blank_sheet, sheet_row, with_sheet_row};
+ghost use Rattle.vt_grid.specs.PageRows.{blank_page_rows, page_row, with_page_row};
 
 use super::PageRows;
 use crate::scrollback::Scrollback;
@@ -21,7 +21,7 @@ impl PageRows {
     /// rows, but for the first `down`, below them. The last row goes on no
     /// more.
     pub fn refit(&mut self, mut fresh: PageRows, down: u16, up: u16, above: &mut Scrollback)
-        requires blank { fresh ≡ blank_sheet (length fresh.rows) fresh.width }
+        requires blank { fresh ≡ blank_page_rows (length fresh.rows) fresh.width }
         requires either { 0 < up → down ≡ 0 }
         requires inside { up < length fresh.rows }
         requires hidden { above.old.offset ≡ 0 }
@@ -42,11 +42,11 @@ impl PageRows {
     /// The flag stays where they are as many as the row's columns.
     pub fn fit_row(&mut self, row: usize, from: &[Cell], wrapped: bool)
         requires inside { row < length self.old.rows }
-        requires blank { sheet_row self.old row ≡ blank_row default_attrs (length (sheet_row self.old row).cells) }
+        requires blank { page_row self.old row ≡ blank_row default_attrs (length (page_row self.old row).cells) }
         requires paired { IsPaired from.now }
         ensures { self.new
-            ≡ with_sheet_row row
-            (resized_row (length (sheet_row self.old row).cells) (record { cells = from.now; wrapped = wrapped }))
+            ≡ with_page_row row
+            (resized_row (length (page_row self.old row).cells) (record { cells = from.now; wrapped = wrapped }))
             self.old }
     {
         let (start, end) = self.cell_store.part(row);
@@ -85,7 +85,7 @@ impl PageRows {
 /// Fills a page of blank rows with the newest `up` rows of scrollback and,
 /// below them, with the rows of another one, but for the first `down`.
 fn fill(fresh: &mut PageRows, rows: &PageRows, down: usize, up: usize, above: &mut Scrollback)
-    requires blank { fresh.old ≡ blank_sheet (length fresh.old.rows) fresh.old.width }
+    requires blank { fresh.old ≡ blank_page_rows (length fresh.old.rows) fresh.old.width }
     requires inside { up ≤ length fresh.old.rows }
     requires hidden { above.old.offset ≡ 0 }
     requires sound { All (IsRow rows.now.width) rows.now.rows }

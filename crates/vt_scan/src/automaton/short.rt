@@ -11,7 +11,7 @@ ghost use Rattle.vt_cells.specs.Refusals.{OnlyOutOfMemory};
 ghost use Rattle.vt_scan.specs.Automaton.{Character, State, fresh_step, is_parameter, parts_of, start, step_in};
 ghost use Rattle.vt_scan.specs.Characters.{is_character};
 ghost use Rattle.vt_scan.specs.Internals.{Begins, Fits, answer_of};
-ghost use Rattle.vt_scan.specs.Scanner.{Feeds, FeedsAll, Follows, IsPrintableByte, Reads, ReadsItself, StandsFor};
+ghost use Rattle.vt_scan.specs.Scanner.{ExecutesItself, Feeds, FeedsAll, Follows, IsPrintableByte, Reads, ReadsItself, StandsFor};
 ghost use Rattle.std.specs.List.{AllByRecursion};
 ghost use Rattle.vt_scan.specs.Scanner.{EndsEscape, ends_sequence, is_final, is_intermediate, leads_in};
 ghost use Rattle.vt_scan.specs.Internals.{IsUnended, Opens};
@@ -117,8 +117,9 @@ impl Scanner {
     /// be fed.
     #[inline(always)]
     pub fn is_control(&self, byte: u8) -> bool
-        ensures { IsTrue result
+        ensures feeds { IsTrue result
             → Feeds self.now byte self.now (record { first = Some (Event.Executed byte); second = None }) }
+        ensures control { IsTrue result ↔ ExecutesItself self.now byte }
     {
         is_control_byte(byte) && self.is_fresh()
     }
@@ -133,6 +134,7 @@ impl Scanner {
         ensures fed { FeedsAll self.now (take result bytes.now) self.now [] }
         ensures longest { self.now.kind ≡ Kind.Skip → result < length bytes.now →
             IsUnended (slice_index_or bytes.now result 0) → ⊥ }
+        ensures none { self.now.kind ≢ Kind.Skip → result ≡ 0 }
     {
         match self.kind {
             Kind::Skip => unended_len(bytes),
@@ -153,6 +155,7 @@ impl Scanner {
         ensures fed { IfOk result (λ count. FeedsAll self.old (take count bytes.now) self.new []) }
         ensures longest { IfOk result (λ count. self.old.kind ≡ Kind.OscString → count < length bytes.now →
             slice_index_or bytes.now count 0 < 0x20) }
+        ensures none { IfOk result (λ count. self.old.kind ≢ Kind.OscString → count ≡ 0) }
         ensures err { OnErr result (self.new ≡ self.old) }
         ensures only { OnlyOutOfMemory result }
         ensures text { IsErr result → (0 < length bytes.now)
@@ -170,7 +173,7 @@ impl Scanner {
     /// leaves the scanner as it is, so that they need not be fed.
     #[inline(always)]
     pub fn whole_character(&self, bytes: &[u8]) -> Option<(char, usize)>
-        ensures inside { IfSome result (λ found. (0 < found.1) × (found.1 ≤ length bytes.now)) }
+        ensures inside { IfSome result (λ found. (1 < found.1) × (found.1 ≤ length bytes.now)) }
         ensures fed { IfSome result
             (λ found. FeedsAll self.now (take found.1 bytes.now) self.now (Character found.0 ∷ [])) }
         ensures all { (n : ℕ) → self.now.kind ≡ Kind.Ground → self.now.unfinished ≡ [] →
@@ -411,10 +414,10 @@ fn odd_lanes(lanes: u8x16) -> u64
         .to_bitmask()
 }
 
-/// Whether the byte is a control function of one byte.
+/// Whether the byte is a control function of one byte, but not ESC.
 #[inline(always)]
 fn is_control_byte(byte: u8) -> bool
-    ensures { IsTrue result → (byte < 0x20) × (byte ≢ 0x1B) }
+    ensures { IsTrue result ↔ ((byte < 0x20) × (byte ≢ 0x1B)) }
 {
     byte < 0x20 && byte != 0x1B
 }

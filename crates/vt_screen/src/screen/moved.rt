@@ -1,4 +1,4 @@
-//! Differences that move rows first, where that makes them shorter.
+//! Differences that may move rows first, and are never longer than the others.
 //!
 //! What is shown, which terminals are plain and which pictures are steady, is
 //! said beside the texts that redraw a screen.
@@ -33,8 +33,9 @@ impl Screen {
     /// [`Screen::contents_formatted`], to the same end. The text is empty where
     /// both show the same, and by `empty` only there. It may touch any row.
     ///
-    /// Fails where memory for the text is refused, and by `never` not where both
-    /// screens show the same.
+    /// Fails where memory for the text, or for the plain difference that it is
+    /// compared with, is refused, and by `never` not where both screens show the
+    /// same.
     ///
     /// ```text
     /// // three rows of four columns: from `one`, `two`, `six` to `two`, `six`

@@ -2,7 +2,7 @@
 
 ghost use Rattle.std.specs.Prelude.{◌≡◌, ◌+◌, ◌-◌, ◌<◌, ◌≤◌, length};
 ghost use Rattle.vt_rows.specs.Texts.{IsPrintableAscii};
-ghost use Rattle.vt_screen.specs.Texts.{text_stepped};
+ghost use Rattle.vt_screen.specs.Texts.{screen_after_text};
 
 use super::Screen;
 
@@ -24,7 +24,7 @@ impl Screen {
         requires some { 0 < length text.now }
         requires room { self.old.page.column + length text.now ≤ self.old.page.width }
         requires printable { IsPrintableAscii text.now }
-        ensures { self.new ≡ text_stepped text.now self.old }
+        ensures { self.new ≡ screen_after_text text.now self.old }
     {
         self.grid.print_text(text, self.attrs);
         self.last = Some(char::from(text[text.len() - 1]));

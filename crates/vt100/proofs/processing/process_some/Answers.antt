@@ -16,7 +16,7 @@ returns-then-is_control-clause-ran g c =
     let before = parsing held c.args.screen.now c.args.callbacks.now in
     let now = parsing held c.execute.new.screen c.execute.new.callbacks in
     subst (λ (text : List ℕ). Ran does before text now) (sym (take_more bytes 0 0 c.requires))
-    (byte_ran does before now byte (one_event (Executed byte)) (c.is_control.ensures c.if-is_control.true)
+    (byte_ran does before now byte (one_event (Executed byte)) (c.is_control.ensures.feeds c.if-is_control.true)
     (stage now, c.in_ok-execute.ensures.done, refl))
 
 pub returns-clause-stopped : goal.returns-clause-stopped

@@ -6,7 +6,7 @@ use Rattle.std.proofs.lemmas.List.{length-take, length-set, take_all}
 use Rattle.vt_cells.specs.Attrs.{default_attrs}
 use Rattle.vt_rows.specs.Cells.{IsPaired}
 use Rattle.vt_rows.specs.Row.{RowValue, blank_row, resized_row}
-use Rattle.vt_grid.specs.PageRows.{SheetValue}
+use Rattle.vt_grid.specs.PageRows.{PageRowsValue}
 use Rattle.vt_grid.proofs.Moving.{MovedInto, moved_none, blank_there, moved_more, moved_all}
 use Rattle.vt_grid.proofs.Moving.{last_taken, last_paired, left_taken, none_left}
 use Rattle.vt_grid.proofs.scrollback.give_rows.Goals as goal
@@ -95,7 +95,7 @@ loop-k-preserved c =
     let d = blank_row default_attrs at.page.width in
     let new = resized_row (length (get_or at.page.rows (at.k - 1) d).cells) row in
     let rows : c.fit_row.new.self.rows ≡ set at.page.rows (at.k - 1) new =
-    ap (λ (s : SheetValue). s.rows) c.fit_row.ensures
+    ap (λ (s : PageRowsValue). s.rows) c.fit_row.ensures
     ∙ (λ z. set at.page.rows (at.k - 1)
     (resized_row (length (get_or at.page.rows (at.k - 1) d).cells)
     (record { cells = c.cells.ensures z; wrapped = c.wrapped.ensures z }))) in
@@ -114,7 +114,7 @@ loop-k-preserved c =
           left_taken (length kept + at.k - n) (length kept + (at.k - 1) - n)
           kept at.kept.items c.pop_back.new.self.items inv.left (omega arith)
           (c.in-Some.ensures.rest ∙ ap (λ (m : ℕ). take m at.kept.items) (omega (arith, len, some)));
-      width = ap (λ (s : SheetValue). s.width) c.fit_row.ensures ∙ inv.width;
+      width = ap (λ (s : PageRowsValue). s.width) c.fit_row.ensures ∙ inv.width;
       few = omega (arith, inv.few);
       some = omega (arith, len, some);
     }

@@ -12,4 +12,4 @@ pub returns-then-not-is_long : goal.returns-then-not-is_long
 returns-then-not-is_long c =
     let len = ap (λ h. h.shape.len) (head_stored _ _ _ c.self.invariant c.self.view_is) in
     same_words _ _ _ _ c.front_word.ensures c.front_word-2.ensures c.if-front_word.false
-    c.requires (omega (arith, len, c.is_long.ensures c.if-not-is_long.true))
+    c.requires (omega (arith, len, c.is_long.ensures.short c.if-not-is_long.true))

@@ -4,7 +4,7 @@ use Rattle.std.proofs.lemmas.List.{length-set}
 use Rattle.vt_rows.specs.Row.{deleted_row}
 use Rattle.vt_grid.specs.Page.{cursor_row}
 use Rattle.vt_grid.specs.Shifts.{chars_deleted}
-use Rattle.vt_grid.specs.PageRows.{SheetValue}
+use Rattle.vt_grid.specs.PageRows.{PageRowsValue}
 use Rattle.vt_grid.proofs.Shifting.{page_chars_deleted}
 use Rattle.vt_grid.proofs.Sized.{sized}
 use Rattle.vt_grid.proofs.grid.Grid.delete_cells.Goals as goal
@@ -14,7 +14,7 @@ invariant_of-self c =
     let s = c.self.inside in
     let i = c.self.invariant in
     let page = page_of s.page_rows s.pos s.saved_pos s.scroll_top s.scroll_bottom s.origin_mode s.saved_origin_mode in
-    subst (λ (page_rows : SheetValue). IsSized s.size.rows s.size.cols
+    subst (λ (page_rows : PageRowsValue). IsSized s.size.rows s.size.cols
     (page_of page_rows s.pos s.saved_pos s.scroll_top s.scroll_bottom s.origin_mode s.saved_origin_mode))
     (sym c.delete.ensures)
     (sized s.size.rows s.size.cols page (chars_deleted c.args.count page) i

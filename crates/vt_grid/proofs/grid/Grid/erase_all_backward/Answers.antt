@@ -1,7 +1,7 @@
 use Rattle.std.proofs.Common.{refl, sym, subst}
 use Rattle.vt_grid.specs.Internals.{IsSized, page_of}
 use Rattle.vt_grid.specs.Erasing.{blanked_above}
-use Rattle.vt_grid.specs.PageRows.{SheetValue}
+use Rattle.vt_grid.specs.PageRows.{PageRowsValue}
 use Rattle.vt_grid.proofs.Blanking.{length-blanked_above, page_blanked_above}
 use Rattle.vt_grid.proofs.Sized.{sized}
 use Rattle.vt_grid.proofs.grid.Grid.erase_all_backward.Goals as goal
@@ -11,7 +11,7 @@ invariant_of-self c =
     let s = c.self.inside in
     let i = c.self.invariant in
     let page = page_of s.page_rows s.pos s.saved_pos s.scroll_top s.scroll_bottom s.origin_mode s.saved_origin_mode in
-    subst (λ (page_rows : SheetValue). IsSized s.size.rows s.size.cols
+    subst (λ (page_rows : PageRowsValue). IsSized s.size.rows s.size.cols
     (page_of page_rows s.pos s.saved_pos s.scroll_top s.scroll_bottom s.origin_mode s.saved_origin_mode))
     (sym c.clear_above.ensures)
     (sized s.size.rows s.size.cols page (blanked_above c.args.attrs page) i

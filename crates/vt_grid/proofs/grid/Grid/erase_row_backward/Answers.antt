@@ -1,6 +1,6 @@
 use Rattle.std.proofs.Common.{◌-◌, sym, subst, arith}
 use Rattle.vt_grid.specs.Internals.{IsSized, page_of}
-use Rattle.vt_grid.specs.PageRows.{SheetValue}
+use Rattle.vt_grid.specs.PageRows.{PageRowsValue}
 use Rattle.vt_grid.proofs.Sized.{sized_erased_columns}
 use Rattle.vt_grid.proofs.grid.Grid.erase_row_backward.Goals as goal
 
@@ -10,7 +10,7 @@ invariant_of-self c =
     let i = c.self.invariant in
     let w = i.width in
     let page = page_of s.page_rows s.pos s.saved_pos s.scroll_top s.scroll_bottom s.origin_mode s.saved_origin_mode in
-    subst (λ (page_rows : SheetValue). IsSized s.size.rows s.size.cols
+    subst (λ (page_rows : PageRowsValue). IsSized s.size.rows s.size.cols
     (page_of page_rows s.pos s.saved_pos s.scroll_top s.scroll_bottom s.origin_mode s.saved_origin_mode))
     (sym c.erase.ensures)
     (sized_erased_columns s.size.rows s.size.cols 0 (c.min-end.result - 0)

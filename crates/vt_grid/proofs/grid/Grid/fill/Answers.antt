@@ -3,7 +3,7 @@ use Rattle.vt_grid.specs.Internals.{IsSized, page_of}
 use Rattle.vt_grid.specs.Page.{Page}
 use Rattle.vt_grid.specs.Resize.{out_of_view, leaving, returning, page_resized, scrollback_resized}
 use Rattle.vt_grid.specs.Scrollback.{Scrollback, pushed}
-use Rattle.vt_grid.specs.PageRows.{SheetValue}
+use Rattle.vt_grid.specs.PageRows.{PageRowsValue}
 use Rattle.vt_grid.proofs.Resizing.{offset-pushed, page_by_steps, above_by_steps, page_page_resized, sized_resized}
 use Rattle.vt_grid.proofs.grid.Grid.fill.Goals as goal
 
@@ -35,7 +35,7 @@ invariant_of-self g c =
     down up sent refl refl c.refit.ensures.rows c.refit.ensures.width
     c.resized-self-inside.ensures.row c.resized-self-inside.ensures.col
     c.resized-self-inside-2.ensures.row c.resized-self-inside-2.ensures.col in
-    let width : w < 2 ^ 16 = omega (arith, ap (λ (page_rows : SheetValue). page_rows.width) c.fresh.view_is) in
+    let width : w < 2 ^ 16 = omega (arith, ap (λ (page_rows : PageRowsValue). page_rows.width) c.fresh.view_is) in
     subst (IsSized c.size-size.result.rows c.size-size.result.cols) (sym steps)
     (sized_resized c.size-size.result.rows c.size-size.result.cols h w above page rows c.size-size.ensures.cols
     (page_page_resized h w above page i.sound c.theoretical_len.ensures.sound

@@ -2,7 +2,7 @@ use Rattle.std.proofs.Common.{◌+◌, true, sym, subst}
 use Rattle.vt_cells.specs.declared.pos.Pos.{Pos}
 use Rattle.vt_cells.specs.Cell.{text_of, attrs_of}
 use Rattle.vt_grid.specs.Internals.{IsSized, page_of}
-use Rattle.vt_grid.specs.PageRows.{SheetValue}
+use Rattle.vt_grid.specs.PageRows.{PageRowsValue}
 use Rattle.vt_grid.proofs.Sized.{sized_glyph_put}
 use Rattle.vt_grid.proofs.grid.Grid.put_wide_cell.Goals as goal
 
@@ -13,7 +13,7 @@ invariant_of-self c =
     let room = rw (← c.self.view_is) at c.requires.room in
     let pos : Pos = record { row = s.pos.row; col = s.pos.col + 2 } in
     let page = page_of s.page_rows s.pos s.saved_pos s.scroll_top s.scroll_bottom s.origin_mode s.saved_origin_mode in
-    subst (λ (page_rows : SheetValue). IsSized s.size.rows s.size.cols
+    subst (λ (page_rows : PageRowsValue). IsSized s.size.rows s.size.cols
     (page_of page_rows pos s.saved_pos s.scroll_top s.scroll_bottom s.origin_mode s.saved_origin_mode))
     (sym c.put_wide_cell.ensures)
     (sized_glyph_put s.size.rows s.size.cols (text_of c.args.cell)

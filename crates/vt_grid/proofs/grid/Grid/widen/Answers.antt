@@ -2,7 +2,7 @@ use Rattle.std.proofs.Common.{◌+◌, sym, subst}
 use Rattle.vt_cells.specs.declared.pos.Pos.{Pos}
 use Rattle.vt_grid.specs.Internals.{IsSized, IsSelected, page_of}
 use Rattle.vt_grid.specs.Page.{Page}
-use Rattle.vt_grid.specs.PageRows.{SheetValue}
+use Rattle.vt_grid.specs.PageRows.{PageRowsValue}
 use Rattle.vt_grid.proofs.Sized.{sized_widened}
 use Rattle.vt_grid.proofs.grid.Grid.widen.Goals as goal
 
@@ -13,7 +13,7 @@ invariant_of-self c =
     let w = i.width in
     let pos : Pos = record { row = s.pos.row; col = s.pos.col + 1 } in
     let page = page_of s.page_rows s.pos s.saved_pos s.scroll_top s.scroll_bottom s.origin_mode s.saved_origin_mode in
-    subst (λ (page_rows : SheetValue). IsSized s.size.rows s.size.cols
+    subst (λ (page_rows : PageRowsValue). IsSized s.size.rows s.size.cols
     (page_of page_rows pos s.saved_pos s.scroll_top s.scroll_bottom s.origin_mode s.saved_origin_mode))
     (sym c.widen.ensures)
     (let before = rw (← c.self.view_is) at c.requires.before in

@@ -2,7 +2,7 @@ use Rattle.std.proofs.Common.{List, ap, ◌∙◌}
 use Rattle.std.specs.List.{slice_range}
 use Rattle.vt_cells.specs.Cell.{CellValue}
 use Rattle.vt_rows.specs.Cells.{marked_at}
-use Rattle.vt_grid.specs.PageRows.{sheet_row, with_row_cells}
+use Rattle.vt_grid.specs.PageRows.{page_row, with_row_cells}
 use Rattle.vt_grid.proofs.CellStores.{row_printed, page_rows_of}
 use Rattle.vt_grid.proofs.page_rows.PageRows.append.Goals as goal
 
@@ -32,5 +32,5 @@ returns c =
     ∙ (ap (λ (xs : List CellValue). with_row_cells r xs (page_rows_of cell_store))
     (c.append.ensures.value ∙ ap (λ (xs : List CellValue). marked_at c.from.result c.args.mark xs) cells)
     ∙ (λ z. with_row_cells (c.from-row.ensures z)
-    (marked_at (c.from.ensures z) c.args.mark (sheet_row (c.self.view_is z) (c.from-row.ensures z)).cells)
+    (marked_at (c.from.ensures z) c.args.mark (page_row (c.self.view_is z) (c.from-row.ensures z)).cells)
     (c.self.view_is z)))

@@ -4,7 +4,7 @@ use Rattle.std.proofs.lemmas.List.{length-take, length-drop}
 use Rattle.vt_cells.specs.Cell.{CellValue}
 use Rattle.vt_rows.specs.Cells.{resized}
 use Rattle.vt_rows.specs.Row.{resized_row}
-use Rattle.vt_grid.specs.PageRows.{SheetValue, sheet_row, with_sheet_row}
+use Rattle.vt_grid.specs.PageRows.{PageRowsValue, page_row, with_page_row}
 use Rattle.vt_grid.proofs.CellStores.{row_changed, page_rows_of}
 use Rattle.vt_grid.proofs.page_rows.PageRows.fit_row.Goals as goal
 
@@ -36,15 +36,15 @@ returns c =
       c.part-start.ensures.inside,
       c.part-start.ensures.end,
     ) in
-    let columns : b - a ≡ length (sheet_row (page_rows_of cell_store) r).cells = sym size ∙ ap length cells in
+    let columns : b - a ≡ length (page_row (page_rows_of cell_store) r).cells = sym size ∙ ap length cells in
     let flag = c.flag_kept.ensures ∙ (λ z. c.args.wrapped && (length c.args.from.now == columns z)) in
     edited.0
-    ∙ ((λ z. with_sheet_row r
+    ∙ ((λ z. with_page_row r
     (record {
       cells = (c.refit.ensures ∙ ap (λ (ys : List CellValue). resized (length ys) c.args.from.now) cells) z;
       wrapped = flag z;
     })
     (page_rows_of cell_store))
-    ∙ ap (λ (s : SheetValue). with_sheet_row r
-    (resized_row (length (sheet_row s r).cells) (record { cells = c.args.from.now; wrapped = c.args.wrapped })) s)
+    ∙ ap (λ (s : PageRowsValue). with_page_row r
+    (resized_row (length (page_row s r).cells) (record { cells = c.args.from.now; wrapped = c.args.wrapped })) s)
     c.self.view_is)

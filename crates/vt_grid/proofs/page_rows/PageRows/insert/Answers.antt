@@ -3,7 +3,7 @@ use Rattle.std.specs.List.{slice_range}
 use Rattle.vt_cells.specs.Cell.{CellValue}
 use Rattle.vt_rows.specs.Cells.{inserted}
 use Rattle.vt_rows.specs.Row.{inserted_row}
-use Rattle.vt_grid.specs.PageRows.{sheet_row, with_sheet_row}
+use Rattle.vt_grid.specs.PageRows.{page_row, with_page_row}
 use Rattle.vt_grid.proofs.CellStores.{row_changed, page_rows_of}
 use Rattle.vt_grid.proofs.page_rows.PageRows.insert.Goals as goal
 
@@ -26,8 +26,8 @@ returns c =
     c.deref_mut.ensures.value
     ∙ c.part-start.ensures.row in
     edited.0
-    ∙ (ap (λ (xs : List CellValue). with_sheet_row r (record { cells = xs; wrapped = false }) (page_rows_of cell_store))
+    ∙ (ap (λ (xs : List CellValue). with_page_row r (record { cells = xs; wrapped = false }) (page_rows_of cell_store))
     (c.insert.ensures.value ∙ ap (λ (xs : List CellValue). inserted c.from.result c.from-2.result xs) cells)
-    ∙ (λ z. with_sheet_row (c.from-row.ensures z)
-    (inserted_row (c.from.ensures z) (c.from-2.ensures z) (sheet_row (c.self.view_is z) (c.from-row.ensures z)))
+    ∙ (λ z. with_page_row (c.from-row.ensures z)
+    (inserted_row (c.from.ensures z) (c.from-2.ensures z) (page_row (c.self.view_is z) (c.from-row.ensures z)))
     (c.self.view_is z)))

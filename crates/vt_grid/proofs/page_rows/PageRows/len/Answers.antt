@@ -1,5 +1,5 @@
 use Rattle.std.proofs.Common.{length, ap, sym, ◌∙◌}
-use Rattle.vt_grid.specs.PageRows.{SheetValue}
+use Rattle.vt_grid.specs.PageRows.{PageRowsValue}
 use Rattle.vt_grid.proofs.CellStores.{rows_counted}
 use Rattle.vt_grid.proofs.page_rows.PageRows.len.Goals as goal
 
@@ -9,4 +9,4 @@ returns c =
     c.len.ensures
     ∙ (cell_store.lines.ok.0
     ∙ (sym (rows_counted cell_store.width cell_store.cells.items cell_store.lines.items)
-    ∙ ap (λ (s : SheetValue). length s.rows) c.self.view_is))
+    ∙ ap (λ (s : PageRowsValue). length s.rows) c.self.view_is))

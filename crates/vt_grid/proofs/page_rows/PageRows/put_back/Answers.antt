@@ -2,7 +2,7 @@ use Rattle.std.proofs.Common.{◌-◌, List, take, drop, set, ap, ◌∙◌}
 use Rattle.std.specs.List.{slice_range}
 use Rattle.std.proofs.lemmas.List.{length-set}
 use Rattle.vt_cells.specs.Cell.{CellValue}
-use Rattle.vt_grid.specs.PageRows.{sheet_row, with_sheet_row}
+use Rattle.vt_grid.specs.PageRows.{page_row, with_page_row}
 use Rattle.vt_grid.proofs.CellStores.{row_changed, page_rows_of}
 use Rattle.vt_grid.proofs.page_rows.PageRows.put_back.Goals as goal
 
@@ -20,12 +20,12 @@ returns c =
     let cells =
     ap (λ (items : List CellValue). slice_range items a b) c.deref_mut.ensures.value ∙ c.part-start.ensures.row in
     edited.0
-    ∙ (ap (λ (xs : List CellValue). with_sheet_row r
+    ∙ (ap (λ (xs : List CellValue). with_page_row r
     (record { cells = set xs c.from.result c.args.cell; wrapped = c.args.goes_on }) (page_rows_of cell_store))
     cells
-    ∙ (λ z. with_sheet_row (c.from-row.ensures z)
+    ∙ (λ z. with_page_row (c.from-row.ensures z)
     (record {
-      cells = set (sheet_row (c.self.view_is z) (c.from-row.ensures z)).cells (c.from.ensures z) c.args.cell;
+      cells = set (page_row (c.self.view_is z) (c.from-row.ensures z)).cells (c.from.ensures z) c.args.cell;
       wrapped = c.args.goes_on;
     })
     (c.self.view_is z)))

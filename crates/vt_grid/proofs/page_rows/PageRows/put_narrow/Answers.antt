@@ -2,7 +2,7 @@ use Rattle.std.proofs.Common.{List, encode_utf8, ap, ◌∙◌}
 use Rattle.std.specs.List.{slice_range}
 use Rattle.vt_cells.specs.Cell.{CellValue}
 use Rattle.vt_rows.specs.Cells.{put_narrow}
-use Rattle.vt_grid.specs.PageRows.{sheet_row, with_row_cells}
+use Rattle.vt_grid.specs.PageRows.{page_row, with_row_cells}
 use Rattle.vt_grid.proofs.CellStores.{row_printed, page_rows_of}
 use Rattle.vt_grid.proofs.page_rows.PageRows.put_narrow.Goals as goal
 
@@ -34,5 +34,5 @@ returns c =
     ∙ ap (λ (xs : List CellValue). put_narrow c.from.result (encode_utf8 c.args.c) c.args.attrs xs) cells)
     ∙ (λ z. with_row_cells (c.from-row.ensures z)
     (put_narrow (c.from.ensures z) (encode_utf8 c.args.c) c.args.attrs
-    (sheet_row (c.self.view_is z) (c.from-row.ensures z)).cells)
+    (page_row (c.self.view_is z) (c.from-row.ensures z)).cells)
     (c.self.view_is z)))

@@ -2,7 +2,7 @@ use Rattle.std.proofs.Common.{List, ap, ◌∙◌}
 use Rattle.std.specs.List.{slice_range}
 use Rattle.vt_cells.specs.Cell.{CellValue}
 use Rattle.vt_rows.specs.Texts.{put_text}
-use Rattle.vt_grid.specs.PageRows.{sheet_row, with_row_cells}
+use Rattle.vt_grid.specs.PageRows.{page_row, with_row_cells}
 use Rattle.vt_grid.proofs.CellStores.{row_printed, page_rows_of}
 use Rattle.vt_grid.proofs.page_rows.PageRows.put_text.Goals as goal
 
@@ -34,5 +34,5 @@ returns c =
     ∙ ap (λ (xs : List CellValue). put_text c.from.result c.args.text.now c.args.attrs xs) cells)
     ∙ (λ z. with_row_cells (c.from-row.ensures z)
     (put_text (c.from.ensures z) c.args.text.now c.args.attrs
-    (sheet_row (c.self.view_is z) (c.from-row.ensures z)).cells)
+    (page_row (c.self.view_is z) (c.from-row.ensures z)).cells)
     (c.self.view_is z)))

@@ -1,6 +1,6 @@
 use Rattle.std.proofs.Common.{◌-◌, ℕ, length, ap, ◌∙◌, arith}
 use Rattle.vt_grid.specs.Resize.{rows_resized, window}
-use Rattle.vt_grid.specs.PageRows.{SheetValue}
+use Rattle.vt_grid.specs.PageRows.{PageRowsValue}
 use Rattle.vt_grid.proofs.Resizing.{settled}
 use Rattle.vt_grid.proofs.page_rows.PageRows.refit.Goals as goal
 
@@ -10,11 +10,11 @@ returns-clause-rows c =
     let fresh = c.args.fresh in
     let h = length fresh.rows in
     let either = c.requires.either in
-    ap (λ (s : SheetValue). s.rows) c.fresh.view_is
-    ∙ (ap (λ (s : SheetValue). s.rows) c.wrap.ensures
+    ap (λ (s : PageRowsValue). s.rows) c.fresh.view_is
+    ∙ (ap (λ (s : PageRowsValue). s.rows) c.wrap.ensures
     ∙ (settled own.width fresh.width c.fill.new.fresh.width h c.from.result c.from-2.result
     (c.len-last.result - 1) c.args.above.now.rows own.rows fresh.rows c.fill.new.fresh.rows
-    (ap (λ (s : SheetValue). s.rows) c.requires.blank) c.fill.ensures.width
+    (ap (λ (s : PageRowsValue). s.rows) c.requires.blank) c.fill.ensures.width
     (omega (arith, c.requires.inside)) (ap (λ (n : ℕ). n - 1) c.len-last.ensures) c.fill.ensures.len
     (λ some. omega (arith, either (omega (arith, some, c.from-2.ensures)), c.from.ensures)) c.fill.ensures.by_index
     ∙ (λ z. rows_resized fresh.width
@@ -22,5 +22,5 @@ returns-clause-rows c =
 
 pub returns-clause-width : goal.returns-clause-width
 returns-clause-width c =
-    ap (λ (s : SheetValue). s.width) c.fresh.view_is
-    ∙ (ap (λ (s : SheetValue). s.width) c.wrap.ensures ∙ c.fill.ensures.width)
+    ap (λ (s : PageRowsValue). s.width) c.fresh.view_is
+    ∙ (ap (λ (s : PageRowsValue). s.width) c.wrap.ensures ∙ c.fill.ensures.width)

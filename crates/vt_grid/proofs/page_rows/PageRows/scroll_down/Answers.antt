@@ -2,27 +2,27 @@ use Rattle.std.proofs.Common.{false, ◌+◌, ◌-◌, ◌<◌, length, ap, ◌�
 use Rattle.vt_grid.specs.CellStore.{rows_of}
 use Rattle.vt_grid.specs.Page.{moved_rows}
 use Rattle.vt_grid.specs.Shifts.{down_source}
-use Rattle.vt_grid.specs.PageRows.{SheetValue, sheet_row, with_sheet_row}
-use Rattle.vt_grid.proofs.CellStores.{flat_turned}
+use Rattle.vt_grid.specs.PageRows.{PageRowsValue, page_row, with_page_row}
+use Rattle.vt_grid.proofs.CellStores.{cell_store_turned}
 use Rattle.vt_grid.proofs.Turns.{counted_turned, turned_down}
 use Rattle.vt_grid.proofs.page_rows.PageRows.scroll_down.Goals as goal
 
 pub invariant_of-self : goal.invariant_of-self
 invariant_of-self c =
     let cell_store = c.self.inside.cell_store in
-    let all = ap (λ (s : SheetValue). length s.rows) c.self.view_is in
+    let all = ap (λ (s : PageRowsValue). length s.rows) c.self.view_is in
     let bottom : c.from-end.result < length (rows_of cell_store) =
     omega (arith, all, c.requires.inside, c.from-end.ensures) in
     let order = c.requires.in_order in
     let few = c.min-count.ensures in
-    flat_turned c.from-top.result (c.from-end.result + 1)
+    cell_store_turned c.from-top.result (c.from-end.result + 1)
     (c.from-end.result + 1 - c.from-top.result - c.min-count.result) cell_store c.rotate.new.self c.self.invariant
     (omega (arith, few, order, c.from-top.ensures, c.from-end.ensures)) (omega (arith, bottom))
     c.rotate.ensures.cells c.rotate.ensures.width c.rotate.ensures.len c.rotate.ensures.lines
 
 pub clear_rows-requires-clause-inside : goal.clear_rows-requires-clause-inside
 clear_rows-requires-clause-inside c =
-    let all = ap (λ (s : SheetValue). length s.rows) c.self.view_is in
+    let all = ap (λ (s : PageRowsValue). length s.rows) c.self.view_is in
     omega (
       arith,
       all,
@@ -36,7 +36,7 @@ clear_rows-requires-clause-inside c =
 
 pub wrap-requires : goal.wrap-requires
 wrap-requires c =
-    let all = ap (λ (s : SheetValue). length s.rows) c.self.view_is in
+    let all = ap (λ (s : PageRowsValue). length s.rows) c.self.view_is in
     omega (
       arith,
       all,
@@ -49,7 +49,7 @@ wrap-requires c =
 pub returns : goal.returns
 returns c =
     let cell_store = c.self.inside.cell_store in
-    let all = ap (λ (s : SheetValue). length s.rows) c.self.view_is in
+    let all = ap (λ (s : PageRowsValue). length s.rows) c.self.view_is in
     let moved = turned_down c.from-top.result c.from-end.result c.from.result c.min-count.result
     cell_store c.rotate.new.self c.new.result c.clear_rows.new.self c.min-count.ensures
     (omega (arith, c.requires.in_order, c.from-top.ensures, c.from-end.ensures))
@@ -66,5 +66,5 @@ returns c =
       width = (c.self.view_is z).width;
     }) in
     c.wrap.ensures
-    ∙ (λ z. with_sheet_row (c.from-2.ensures z)
-    (record (sheet_row (moved z) (c.from-2.ensures z)) { wrapped = false }) (moved z))
+    ∙ (λ z. with_page_row (c.from-2.ensures z)
+    (record (page_row (moved z) (c.from-2.ensures z)) { wrapped = false }) (moved z))

@@ -1,5 +1,5 @@
 use Rattle.std.proofs.Common.{◌≡◌, length, ap, sym, ◌∙◌, arith}
-use Rattle.vt_grid.specs.PageRows.{SheetValue}
+use Rattle.vt_grid.specs.PageRows.{PageRowsValue}
 use Rattle.vt_grid.proofs.CellStores.{rows_counted}
 use Rattle.vt_grid.proofs.page_rows.PageRows.size.Goals as goal
 
@@ -10,7 +10,7 @@ overflow_cast-result c =
     c.len.ensures
     ∙ (cell_store.lines.ok.0
     ∙ (sym (rows_counted cell_store.width cell_store.cells.items cell_store.lines.items)
-    ∙ ap (λ (s : SheetValue). length s.rows) c.self.view_is)) in
+    ∙ ap (λ (s : PageRowsValue). length s.rows) c.self.view_is)) in
     omega (arith, all, c.requires)
 
 pub returns-clause-rows : goal.returns-clause-rows
@@ -19,4 +19,4 @@ returns-clause-rows c =
     c.len.ensures
     ∙ (cell_store.lines.ok.0
     ∙ (sym (rows_counted cell_store.width cell_store.cells.items cell_store.lines.items)
-    ∙ ap (λ (s : SheetValue). length s.rows) c.self.view_is))
+    ∙ ap (λ (s : PageRowsValue). length s.rows) c.self.view_is))

@@ -4,7 +4,7 @@ use Rattle.std.proofs.lemmas.Bool.Decides.{nat_tests}
 use Rattle.std.proofs.lemmas.List.{length-set, get_or_default}
 use Rattle.vt_cells.specs.Attrs.{default_attrs}
 use Rattle.vt_rows.specs.Row.{RowValue, blank_row, resized_row}
-use Rattle.vt_grid.specs.PageRows.{SheetValue}
+use Rattle.vt_grid.specs.PageRows.{PageRowsValue}
 use Rattle.vt_grid.proofs.Moving.{MovedInto, moved_none, moved_more, moved_all, still_blank}
 use Rattle.vt_grid.proofs.page_rows.PageRows.take_rows.Goals as goal
 
@@ -65,7 +65,7 @@ loop-k-preserved c =
     ∙ get_or_default from (c.args.down + (up + k - up)) (blank_row default_attrs c.args.rows.now.width) row there) in
     let new = resized_row (length (get_or at.self.rows (up + k) d).cells) row in
     let rows : c.fit_row.new.self.rows ≡ set at.self.rows (up + k) new =
-    ap (λ (s : SheetValue). s.rows) c.fit_row.ensures
+    ap (λ (s : PageRowsValue). s.rows) c.fit_row.ensures
     ∙ (λ z. set at.self.rows (up + k)
     (resized_row (length (get_or at.self.rows (up + k) d).cells)
     (record { cells = c.cells.ensures.value z; wrapped = c.wrapped.ensures z }))) in
@@ -75,7 +75,7 @@ loop-k-preserved c =
           (omega (arith, inv.few)) (omega (arith, inv.few)) inv.long there found refl
           (subst (λ (i : ℕ). MovedInto source i n from old at.self.rows) s inv.moved));
       long = ap length rows ∙ (length-set at.self.rows (up + k) new ∙ inv.long);
-      width = ap (λ (s : SheetValue). s.width) c.fit_row.ensures ∙ inv.width;
+      width = ap (λ (s : PageRowsValue). s.width) c.fit_row.ensures ∙ inv.width;
       few = omega (arith, inv.few);
     }
 

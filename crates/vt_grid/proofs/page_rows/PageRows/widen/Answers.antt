@@ -2,7 +2,7 @@ use Rattle.std.proofs.Common.{List, ap, ◌∙◌}
 use Rattle.std.specs.List.{slice_range}
 use Rattle.vt_cells.specs.Cell.{CellValue}
 use Rattle.vt_rows.specs.Cells.{widened_at}
-use Rattle.vt_grid.specs.PageRows.{sheet_row, with_row_cells}
+use Rattle.vt_grid.specs.PageRows.{page_row, with_row_cells}
 use Rattle.vt_grid.proofs.CellStores.{row_printed, page_rows_of}
 use Rattle.vt_grid.proofs.page_rows.PageRows.widen.Goals as goal
 
@@ -32,5 +32,5 @@ returns c =
     ∙ (ap (λ (xs : List CellValue). with_row_cells r xs (page_rows_of cell_store))
     (c.widen.ensures.value ∙ ap (λ (xs : List CellValue). widened_at c.from.result c.args.attrs xs) cells)
     ∙ (λ z. with_row_cells (c.from-row.ensures z)
-    (widened_at (c.from.ensures z) c.args.attrs (sheet_row (c.self.view_is z) (c.from-row.ensures z)).cells)
+    (widened_at (c.from.ensures z) c.args.attrs (page_row (c.self.view_is z) (c.from-row.ensures z)).cells)
     (c.self.view_is z)))

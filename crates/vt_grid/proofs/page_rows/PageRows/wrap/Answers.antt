@@ -1,5 +1,5 @@
 use Rattle.std.proofs.Common.{◌<◌, length, ap, ◌∙◌, arith}
-use Rattle.vt_grid.specs.PageRows.{SheetValue, sheet_row, with_sheet_row}
+use Rattle.vt_grid.specs.PageRows.{PageRowsValue, page_row, with_page_row}
 use Rattle.vt_grid.proofs.CellStores.{row_flagged, rows_counted}
 use Rattle.vt_grid.proofs.page_rows.PageRows.wrap.Goals as goal
 
@@ -10,10 +10,10 @@ returns c =
       arith,
       c.requires,
       rows_counted cell_store.width cell_store.cells.items cell_store.lines.items,
-      ap (λ (s : SheetValue). length s.rows) c.self.view_is,
+      ap (λ (s : PageRowsValue). length s.rows) c.self.view_is,
     ) in
     row_flagged c.args.row c.args.wrapped cell_store c.wrap.new.self inside
     c.wrap.ensures.cells c.wrap.ensures.width c.wrap.ensures.lines
     ∙ ap
-    (λ (s : SheetValue). with_sheet_row c.args.row (record (sheet_row s c.args.row) { wrapped = c.args.wrapped }) s)
+    (λ (s : PageRowsValue). with_page_row c.args.row (record (page_row s c.args.row) { wrapped = c.args.wrapped }) s)
     c.self.view_is

@@ -1,18 +1,18 @@
 use Rattle.std.proofs.Common.{length, ap}
-use Rattle.vt_grid.specs.PageRows.{SheetValue}
+use Rattle.vt_grid.specs.PageRows.{PageRowsValue}
 use Rattle.vt_grid.proofs.Resizing.{all_blank, refilled_by, still_fresh}
 use Rattle.vt_grid.proofs.page_rows.resizing.fill.Goals as goal
 
 pub give_back-requires-clause-blank : goal.give_back-requires-clause-blank
 give_back-requires-clause-blank c =
     all_blank (length c.args.fresh.now.rows) c.args.fresh.now.width
-    c.args.fresh.now.rows (ap (λ (s : SheetValue). s.rows) c.requires.blank)
+    c.args.fresh.now.rows (ap (λ (s : PageRowsValue). s.rows) c.requires.blank)
 
 pub take_rows-requires-clause-blank : goal.take_rows-requires-clause-blank
 take_rows-requires-clause-blank c =
     still_fresh c.args.up c.args.above.now.rows c.args.fresh.now.rows c.give_back.new.page.rows c.give_back.ensures.len
     (all_blank (length c.args.fresh.now.rows) c.args.fresh.now.width
-    c.args.fresh.now.rows (ap (λ (s : SheetValue). s.rows) c.requires.blank))
+    c.args.fresh.now.rows (ap (λ (s : PageRowsValue). s.rows) c.requires.blank))
     c.give_back.ensures.by_index
 
 pub returns-clause-by_index : goal.returns-clause-by_index

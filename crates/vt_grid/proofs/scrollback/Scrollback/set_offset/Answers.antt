@@ -1,6 +1,6 @@
 use Rattle.std.proofs.Common.{◌∙◌, ap, sym, subst, arith}
 use Rattle.vt_grid.specs.Scrollback.{Scrollback, IsScrollback, with_view}
-use Rattle.vt_grid.proofs.Scrolling.{IsScrollback-viewed, viewed_is}
+use Rattle.vt_grid.proofs.Scrolling.{IsScrollback-with_view, with_view_is}
 use Rattle.vt_grid.proofs.scrollback.Scrollback.set_offset.Goals as goal
 
 pub invariant_of-self : goal.invariant_of-self
@@ -12,9 +12,9 @@ invariant_of-self c =
       theoretical = inside.theoretical;
       offset = inside.offset;
     } in
-    subst IsScrollback (sym (viewed_is c.args.size.rows c.args.size.cols c.args.n c.min-offset.result
+    subst IsScrollback (sym (with_view_is c.args.size.rows c.args.size.cols c.args.n c.min-offset.result
     above c.grow_in_view.new.rows.items (omega (arith, inside.rows.ok.0)) c.grow_in_view.ensures))
-    (IsScrollback-viewed c.args.size.rows c.args.size.cols c.args.n above c.self.invariant)
+    (IsScrollback-with_view c.args.size.rows c.args.size.cols c.args.n above c.self.invariant)
 
 pub returns-clause-ok : goal.returns-clause-ok
 returns-clause-ok c =
@@ -25,6 +25,6 @@ returns-clause-ok c =
       theoretical = inside.theoretical;
       offset = inside.offset;
     } in
-    viewed_is c.args.size.rows c.args.size.cols c.args.n c.min-offset.result above
+    with_view_is c.args.size.rows c.args.size.cols c.args.n c.min-offset.result above
     c.grow_in_view.new.rows.items (omega (arith, inside.rows.ok.0)) c.grow_in_view.ensures
     ∙ ap (with_view c.args.size.rows c.args.size.cols c.args.n) c.self.view_is

@@ -1,4 +1,4 @@
--- A byte of the parameter text, or a intermediate; and the bytes of a command are all that it is read from.
+-- A byte of the parameter text, or an intermediate; and the bytes of a command are all that it is read from.
 use Rattle.std.proofs.Common.{◌≡◌, ◌≢◌, ◌∙◌, ap, refl, subst, sym, rules}
 use Rattle.vt_scan.specs.Automaton.{State}
 use Rattle.vt_scan.specs.Scanner.{Held, StandsFor}

@@ -4,7 +4,7 @@ use Rattle.vt_screen.specs.Screen.{ScreenValue}
 use Rattle.vt_screen.specs.Shown.{shown}
 use Rattle.vt_screen.specs.contracts.screen.Screen.{the_view}
 use Rattle.vt_screen.proofs.Shown.{shown_height}
-use Rattle.vt_screen.proofs.Viewing.{active_is, viewed_is}
+use Rattle.vt_screen.proofs.Viewing.{active_is, with_view_is}
 use Rattle.vt_screen.proofs.screen.Screen.moved_view.Goals as goal
 
 pub moved-requires-clause-above : goal.moved-requires-clause-above
@@ -24,4 +24,4 @@ returns c =
     let s = the_view inside in
     c.moved.ensures s.attrs
     ∙ ap (moved c.args.band)
-    (viewed_is s inside.scrollback inside.other_scrollback refl c.self.invariant.nothing ∙ ap shown c.self.view_is)
+    (with_view_is s inside.scrollback inside.other_scrollback refl c.self.invariant.nothing ∙ ap shown c.self.view_is)

@@ -3,7 +3,7 @@ use Rattle.std.proofs.Common.{◌-◌, ◌<◌, length, sym, ap, ◌∙◌, arit
 use Rattle.std.specs.Prelude.{Some}
 use Rattle.std.proofs.Common.{rules}
 use Rattle.vt_cells.proofs.Packing.{attrs_fit}
-use Rattle.vt_screen.specs.Texts.{text_stepped}
+use Rattle.vt_screen.specs.Texts.{screen_after_text}
 use Rattle.vt_screen.specs.contracts.screen.Screen.{the_view}
 use Rattle.vt_screen.proofs.TextSteps.{kept_text, text_stepped_is}
 use Rattle.vt_screen.proofs.screen.Screen.print_text.Goals as goal
@@ -21,4 +21,4 @@ returns c =
     let s = the_view c.self.inside in
     (λ z. record s { page = c.print_text.ensures z; last = Some (c.from.ensures z) })
     ∙ (sym (text_stepped_is c.args.text.now s c.requires.some c.requires.printable c.self.invariant.sound.has_columns)
-    ∙ ap (text_stepped c.args.text.now) c.self.view_is)
+    ∙ ap (screen_after_text c.args.text.now) c.self.view_is)

@@ -7,7 +7,7 @@ use Rattle.vt_screen.specs.Shown.{shown}
 use Rattle.vt_screen.specs.contracts.screen.Screen.{the_view}
 use Rattle.vt_cells.specs.Op.{FitsAttrs}
 use Rattle.vt_screen.specs.Screen.{ScreenValue, AreColored}
-use Rattle.vt_screen.proofs.Viewing.{active_is, viewed_is}
+use Rattle.vt_screen.proofs.Viewing.{active_is, with_view_is}
 use Rattle.vt_screen.proofs.screen.Screen.view.Goals as goal
 
 pub returns-clause-colored : goal.returns-clause-colored
@@ -33,4 +33,4 @@ returns-clause-value c =
     ∙ (ap (λ (a : Attrs). picture_over (visible inside.scrollback s.page.rows)
     (record { page = s.page; attrs = a; saved_attrs = a; hidden = s.hidden }))
     attrs
-    ∙ (viewed_is s inside.scrollback inside.other_scrollback refl c.self.invariant.nothing ∙ ap shown c.self.view_is))
+    ∙ (with_view_is s inside.scrollback inside.other_scrollback refl c.self.invariant.nothing ∙ ap shown c.self.view_is))

@@ -18,7 +18,7 @@ use Rattle.vt_screen.specs.Steps.{ClearMouseMode, SetMouseEncoding, ClearMouseEn
 use Rattle.vt_screen.specs.Steps.{RestoreCursor, EnterAlternate, EnterFresh, LeaveAlternate, LeaveRestoring, Reset}
 use Rattle.vt_screen.specs.Steps.{UseApplicationKeypad, CallBack, screen_after, display_after}
 use Rattle.vt_screen.specs.Streamed.{without_scrollback, sent_off, sent_off_all, sent_off_in}
-use Rattle.vt_screen.specs.Telling.{screen_in, stepped_all, steps_in, steps_of_all}
+use Rattle.vt_screen.specs.Telling.{screen_in, screen_after_all, steps_in, steps_of_all}
 
 -- screens that are the same but for scrollback
 abbrev pub SameBare : ScreenValue → ScreenValue → Type 0
@@ -162,7 +162,7 @@ both_sent x s t e = sent_bare x s ∙ (ap (sent_off x) e ∙ sym (sent_bare x t)
 -- ---- steps, one after the other
 
 pub both_stepped : (steps : List Step) (s t : ScreenValue) →
-    SameBare s t → SameBare (stepped_all steps s) (stepped_all steps t)
+    SameBare s t → SameBare (screen_after_all steps s) (screen_after_all steps t)
 both_stepped [] s t e = e
 both_stepped (x ∷ steps) s t e = both_stepped steps (screen_after x s) (screen_after x t) (both_step x s t e)
 
@@ -184,8 +184,8 @@ both_steps_all [] s t e = refl
 both_steps_all (event ∷ events) s t e =
     let steps = steps_of event (seen_of s) in
     ap₂ (λ (xs ys : List Step). xs ++ ys) (both_steps event s t e)
-    (both_steps_all events (stepped_all steps s) (stepped_all (steps_of event (seen_of t)) t)
-    (both_stepped steps s t e ∙ ap (λ (xs : List Step). without_scrollback (stepped_all xs t)) (both_steps event s t e)))
+    (both_steps_all events (screen_after_all steps s) (screen_after_all (steps_of event (seen_of t)) t)
+    (both_stepped steps s t e ∙ ap (λ (xs : List Step). without_scrollback (screen_after_all xs t)) (both_steps event s t e)))
 
 -- ---- bytes
 
@@ -199,7 +199,7 @@ pub both_screen_in : (scan : State) (s t : ScreenValue) (bytes : List ℕ) →
     SameBare s t → SameBare (screen_in scan s bytes) (screen_in scan t bytes)
 both_screen_in scan s t bytes e =
     both_stepped (steps_in scan s bytes) s t e
-    ∙ ap (λ (steps : List Step). without_scrollback (stepped_all steps t)) (both_steps_all (run scan bytes).events s t e)
+    ∙ ap (λ (steps : List Step). without_scrollback (screen_after_all steps t)) (both_steps_all (run scan bytes).events s t e)
 
 -- another number of rows in view
 pub bare_scrolled_back : (n : ℕ) (s : ScreenValue) → SameBare (scrolled_back n s) s

@@ -18,7 +18,7 @@ use Rattle.vt_screen.specs.Steps.{ScrollDown, Render, HideCursor, UseApplication
 use Rattle.vt_screen.specs.Steps.{ClearMouseMode, SetMouseEncoding, ClearMouseEncoding, SetCursorStyle, SaveCursor}
 use Rattle.vt_screen.specs.Steps.{RestoreCursor, EnterAlternate, EnterFresh, LeaveAlternate, LeaveRestoring, Reset}
 use Rattle.vt_screen.specs.Steps.{UseApplicationKeypad, CallBack, reports, screen_after, display_after}
-use Rattle.vt_screen.specs.Telling.{CalledOnSomeScreen, LeavesScreen, calls_of, calls_of_all, stepped_all, steps_of_all}
+use Rattle.vt_screen.specs.Telling.{CalledOnSomeScreen, LeavesScreen, calls_of, calls_of_all, screen_after_all, steps_of_all}
 use Rattle.vt_screen.proofs.Reporting.{told_rows}
 
 -- a screen was reached, and these calls were heard on the way
@@ -123,13 +123,13 @@ heard_step does leaves (SetCursorStyle look) a b t = heard_nothing does a b (dis
 
 heard_steps : {S : Type 0} (does : CallValue → S → ScreenValue → S → ScreenValue → Type 0) →
     LeavesScreen does → (steps : List Step) (a b : act.State S) → FoldsTo (Takes does) a steps b →
-    Hearing does a (calls_of_all steps a.screen) (stepped_all steps a.screen) b
+    Hearing does a (calls_of_all steps a.screen) (screen_after_all steps a.screen) b
 heard_steps {S} does leaves [] a b e =
     record { shown = sym (ap (λ (s : act.State S). s.screen) e); heard = ap (λ (s : act.State S). s.callbacks) e }
 heard_steps does leaves (x ∷ steps) a b t =
     let one = heard_step does leaves x a t.0 t.1 in
     let rest = subst
-    (λ (screen : ScreenValue). Hearing does t.0 (calls_of_all steps screen) (stepped_all steps screen) b)
+    (λ (screen : ScreenValue). Hearing does t.0 (calls_of_all steps screen) (screen_after_all steps screen) b)
     one.shown (heard_steps does leaves steps t.0 b t.2) in
     record {
       shown = rest.shown;
@@ -148,11 +148,11 @@ steps_listed does leaves (event ∷ events) a b t =
     let there = (heard_steps does leaves steps a t.0 t.1).shown in
     let rest = subst (λ (screen : ScreenValue). FoldsTo (Takes does) t.0 (steps_of_all events screen) b)
     there (steps_listed does leaves events t.0 b t.2) in
-    folds_then (Takes does) steps (steps_of_all events (stepped_all steps a.screen)) a t.0 b t.1 rest
+    folds_then (Takes does) steps (steps_of_all events (screen_after_all steps a.screen)) a t.0 b t.1 rest
 
 pub heard_events : {S : Type 0} (does : CallValue → S → ScreenValue → S → ScreenValue → Type 0)
     → LeavesScreen does → (events : List Event) (a b : act.State S) → FoldsTo (Performs does) a events b
     → Hearing does a (calls_of_all (steps_of_all events a.screen) a.screen)
-    (stepped_all (steps_of_all events a.screen) a.screen) b
+    (screen_after_all (steps_of_all events a.screen) a.screen) b
 heard_events does leaves events a b t =
     heard_steps does leaves (steps_of_all events a.screen) a b (steps_listed does leaves events a b t)

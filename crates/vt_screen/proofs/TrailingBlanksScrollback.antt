@@ -13,7 +13,7 @@ use Rattle.vt_grid.specs.Scrollback.{Scrollback, before_last, grown_in_view, gro
 use Rattle.vt_grid.specs.Scrollback.{kept_after, pushed, reported, stacked, with_view}
 use Rattle.vt_grid.proofs.Stacking.{All-stacked}
 use Rattle.vt_screen.specs.Streamed.{AreSameTrimmed}
-use Rattle.vt_screen.proofs.Alike.{IsWide, trimmed_twice, trimmed_grown}
+use Rattle.vt_screen.proofs.TrailingBlanks.{IsWide, trimmed_twice, trimmed_grown}
 
 pub map-append : {X Y : Type 0} (f : X → Y) (xs ys : List X) → map f (xs ++ ys) ≡ map f xs ++ map f ys
 map-append f [] ys = refl
