@@ -33,7 +33,6 @@ use vt100::{Error, Parser, Screen};
 ///     assert_eq!(text.as_str(), "\x1b[?25h\x1b[m\x1b[H\x1b[Jab");
 /// }
 /// ```
-#[derive(Drop)]
 pub struct Mirror {
     parser: Parser,
     viewers: Viewers,
@@ -47,6 +46,16 @@ impl Model for Mirror {
     ghost view = { λ m. record { parser = m.parser; viewers = m.viewers } };
 
     ghost invariant = { λ m. IsMirror (record { parser = m.parser; viewers = m.viewers }) };
+}
+
+// One call wherever it is given up, as of a screen.
+impl Drop for Mirror {
+    fn drop(self) {
+        let Mirror {
+            parser: _,
+            viewers: _,
+        } = self;
+    }
 }
 
 impl Mirror {

@@ -11,7 +11,6 @@ use vt100::capture::RowContents;
 use vt100::{Call, Callbacks, Screen};
 
 /// The calls so far. Memory for one may be refused: that call is then missing, which isn't forgotten.
-#[derive(Drop)]
 pub struct Notes {
     alloc: Global,
     calls: Vec<Note>,
@@ -26,6 +25,17 @@ impl Model for Notes {
     ghost Value = { Noted };
 
     ghost view = { λ n. record { calls = map value_of n.calls.items; is_complete = n.is_complete } };
+}
+
+// One call wherever it is given up, as of a screen.
+impl Drop for Notes {
+    fn drop(self) {
+        let Notes {
+            alloc: _,
+            calls: _,
+            is_complete: _,
+        } = self;
+    }
 }
 
 impl Notes {

@@ -12,7 +12,6 @@ use vt100::{Call, Callbacks, Error, Screen};
 
 /// The capture so far: the basic texts of the rows that left the main page and
 /// aren't kept. Memory for one may be refused, which isn't forgotten.
-#[derive(Drop)]
 pub struct Recorder {
     text: String,
     state: BasicFormattedCaptureState,
@@ -26,6 +25,17 @@ impl Model for Recorder {
     ghost Value = { Recorded };
 
     ghost view = { λ r. record { text = string_bytes r.text; state = r.state; is_whole = r.is_whole } };
+}
+
+// One call wherever it is given up, as of a screen.
+impl Drop for Recorder {
+    fn drop(self) {
+        let Recorder {
+            text: _,
+            state: _,
+            is_whole: _,
+        } = self;
+    }
 }
 
 impl Recorder {
