@@ -6,7 +6,7 @@ use Rattle.vt_cells.specs.Glyph.{IsMark, columns_of, glyph_columns, has_room}
 use Rattle.vt_cells.specs.Attrs.{Attrs}
 use Rattle.vt_cells.proofs.Glyphs.{IsGlyphText-first, IsGlyphText-marked, IsGlyphText-selector, IsGlyphText-space}
 
--- what `Cell::glyph` makes is a cell
+-- what `cell::glyph` makes is a cell
 pub IsCell-glyph : (c : ℕ) (wide : Bool) (attrs : Attrs) → IsScalar c → c ≢ 0xFFFD →
     columns_of c ≡ Some (glyph_columns wide) → IsCell (glyph (encode_utf8 c) wide attrs)
 IsCell-glyph c wide attrs scalar reported columns = IsGlyphText-first c wide scalar reported columns

@@ -1,18 +1,21 @@
 //! One cell of a screen.
 
-ghost use Rattle.std.specs.Prelude.{◌≡◌, ◌≢◌, ◌<◌, ◌≤◌, ◌++◌, ◌+◌, ◌%◌, ◌&&◌, ◌↔◌, [], ◌∷◌, ℕ};
-ghost use Rattle.std.specs.Prelude.{length, slice_index, take};
-ghost use Rattle.std.specs.Prelude.{false, Some, if◌then◌else◌, IsTrue, encode_utf8, bytes_eq};
+ghost use Rattle.std.specs.Prelude.{◌≡◌, ◌&&◌, ◌↔◌, length, IsTrue, bytes_eq};
 ghost use Rattle.std.specs.Int.{to_le_bytes, w64};
-ghost use Rattle.vt_cells.specs.Attrs.{default_attrs, is_bold, is_dim, same_attrs};
-ghost use Rattle.vt_cells.specs.Cell.{blank, glyph, right_half, cell_of, is_wide, is_blank, is_glyph, is_right_half};
-ghost use Rattle.vt_cells.specs.Cell.{text_of, attrs_of, same_cell, marked, widened, redrawn, IsCell};
-ghost use Rattle.vt_cells.specs.CellInternals.{front, head_of_cell, same_head, spaced};
-ghost use Rattle.vt_cells.specs.Glyph.{columns_of, is_wide_text};
+ghost use Rattle.vt_cells.specs.Attrs.{is_bold, is_dim, same_attrs};
+ghost use Rattle.vt_cells.specs.Cell.{is_wide, is_blank, is_glyph, is_right_half};
+ghost use Rattle.vt_cells.specs.Cell.{text_of, attrs_of, same_cell, IsCell};
+ghost use Rattle.vt_cells.specs.CellInternals.{front, head_of_cell, same_head};
+ghost use Rattle.vt_cells.specs.Glyph.{is_wide_text};
+
+mod editing;
+mod making;
 
 use crate::attrs::Attrs;
 use crate::color::Color;
 use crate::head::Head;
+pub use editing::{append, clear, set_attrs, set_glyph, set_wide};
+pub use making::{ascii, blank, default_blank, glyph, right_half, space};
 use std::marker::Model;
 use std::str;
 use unicode_width::UnicodeWidthStr;
@@ -53,157 +56,6 @@ impl Model for Cell {
 }
 
 impl Cell {
-    /// A blank with default attributes.
-    #[inline]
-    pub fn new() -> Self
-        ensures { result ≡ blank default_attrs }
-    {
-        Cell::blank(Attrs::new())
-    }
-
-    /// A blank with these attributes.
-    #[inline]
-    pub fn blank(attrs: Attrs) -> Self
-        ensures { result ≡ blank attrs }
-    {
-        Cell {
-            head: Head::text(0, false, attrs),
-            contents: [0; TEXT_ROOM],
-        }
-    }
-
-    /// The right half of a wide glyph: no text, default attributes.
-    #[inline]
-    pub fn right_half() -> Self
-        ensures { result ≡ right_half }
-    {
-        Cell {
-            head: Head::right_half(),
-            contents: [0; TEXT_ROOM],
-        }
-    }
-
-    /// A glyph of one character that takes two columns, if it is wide, or one.
-    ///
-    /// [`columns`](crate::columns) tells its width; U+FFFD is never drawn.
-    #[inline]
-    pub fn glyph(c: char, wide: bool, attrs: Attrs) -> Self
-        requires reported { c ≢ 0xFFFD }
-        requires columns { columns_of c ≡ Some (if wide then 2 else 1) }
-        ensures { result ≡ glyph (encode_utf8 c) wide attrs }
-    {
-        let mut contents = [0; TEXT_ROOM];
-        let len = push_char(&mut contents, 0, c);
-        Cell {
-            head: Head::text(len, wide, attrs),
-            contents,
-        }
-    }
-
-    /// A glyph of one byte of printable ASCII.
-    #[inline(always)]
-    pub fn ascii(byte: u8, attrs: Attrs) -> Self
-        requires low { 0x20 ≤ byte }
-        requires high { byte < 0x7F }
-        ensures { result ≡ glyph (encode_utf8 byte) false attrs }
-    {
-        let mut contents = [0; TEXT_ROOM];
-        let len = push_byte(&mut contents, 0, byte);
-        Cell {
-            head: Head::text(len, false, attrs),
-            contents,
-        }
-    }
-
-    /// The glyph of a space.
-    #[inline]
-    pub fn space(attrs: Attrs) -> Self
-        ensures { result ≡ glyph (0x20 ∷ []) false attrs }
-    {
-        Cell::ascii(b' ', attrs)
-    }
-
-    /// Makes the cell a blank with these attributes.
-    #[inline]
-    pub fn clear(&mut self, attrs: Attrs)
-        ensures { self.new ≡ blank attrs }
-    {
-        *self = Cell::blank(attrs);
-    }
-
-    /// Makes the cell a glyph of one character, as [`Cell::glyph`] makes one.
-    #[inline(always)]
-    pub fn set_glyph(&mut self, c: char, wide: bool, attrs: Attrs)
-        requires reported { c ≢ 0xFFFD }
-        requires columns { columns_of c ≡ Some (if wide then 2 else 1) }
-        ensures { self.new ≡ glyph (encode_utf8 c) wide attrs }
-    {
-        *self = Cell::glyph(c, wide, attrs);
-    }
-
-    /// Puts a mark, a character of width 0, on the cell.
-    ///
-    /// A blank becomes a space glyph first, in its attributes. From
-    /// [`MARK_LIMIT`] bytes on nothing happens. A right half takes no mark:
-    /// its left half does.
-    pub fn append(&mut self, c: char)
-        requires shown { is_right_half self.old ≡ false }
-        requires mark { columns_of c ≡ Some 0 }
-        ensures { self.new ≡ marked c self.old }
-    {
-        self.fill_blank();
-        self.put_mark(c);
-    }
-
-    /// Makes a blank the glyph of a space.
-    fn fill_blank(&mut self)
-        ensures { self.new ≡ spaced self.old }
-    {
-        if self.is_blank() {
-            *self = Cell::space(self.attrs());
-        }
-    }
-
-    /// Puts a mark on a glyph that has room for it.
-    fn put_mark(&mut self, c: char)
-        requires glyph { is_blank self.old ≡ false }
-        requires shown { is_right_half self.old ≡ false }
-        requires mark { columns_of c ≡ Some 0 }
-        ensures { self.new ≡ marked c self.old }
-    {
-        let shape = self.head.shape();
-        let len = shape.len();
-        if len < MARK_LIMIT {
-            let longer = push_char(&mut self.contents, len, c);
-            self.head = Head::text(longer, shape.wide(), self.head.attrs());
-        }
-    }
-
-    /// Makes a glyph wide or narrow; any other cell stays.
-    ///
-    /// A glyph is as wide as its first character, unless U+FE0F was put on
-    /// it: then it may be of either width.
-    pub fn set_wide(&mut self, wide: bool)
-        requires { IsCell (widened wide self.old) }
-        ensures { self.new ≡ widened wide self.old }
-    {
-        let len = self.head.shape().len();
-        if len > 0 {
-            self.head = Head::text(len, wide, self.head.attrs());
-        }
-    }
-
-    /// Gives a blank or a glyph other attributes; a right half stays.
-    #[inline]
-    pub fn set_attrs(&mut self, attrs: Attrs)
-        ensures { self.new ≡ redrawn attrs self.old }
-    {
-        let shape = self.head.shape();
-        if !shape.is_right_half() {
-            self.head = Head::of(shape, attrs);
-        }
-    }
-
     /// The text: a character and its marks, 1 to 29 bytes, or nothing for a
     /// blank and a right half.
     #[inline]
@@ -237,22 +89,6 @@ impl Cell {
         ensures { result ≡ is_right_half self.now }
     {
         self.head.shape().is_right_half()
-    }
-
-    /// Whether the cell is a blank.
-    #[inline]
-    pub fn is_blank(&self) -> bool
-        ensures { result ≡ is_blank self.now }
-    {
-        self.head.shape().is_blank()
-    }
-
-    /// Whether `unicode_width` gives the whole text more than one column.
-    #[tactic(auto, unfolding(crate::specs::Glyph::is_wide_text))]
-    pub fn is_wide_text(&self) -> bool
-        ensures { result ≡ is_wide_text (text_of self.now) }
-    {
-        self.contents().width() > 1
     }
 
     /// Whether both are the same cell.
@@ -319,22 +155,6 @@ impl Cell {
         u64::from_le_bytes([
             bytes[0], bytes[1], bytes[2], bytes[3], bytes[4], bytes[5], bytes[6], bytes[7],
         ])
-    }
-
-    /// The attributes; default ones for a right half.
-    #[inline]
-    pub fn attrs(&self) -> Attrs
-        ensures { result ≡ attrs_of self.now }
-    {
-        self.head.attrs()
-    }
-
-    /// Whether these are its attributes; they are compared where they lie.
-    #[inline]
-    pub fn has_attrs(&self, attrs: &Attrs) -> bool
-        ensures { result ≡ same_attrs attrs.now (attrs_of self.now) }
-    {
-        attrs.is_same(&self.head.attrs())
     }
 
     /// The foreground colour.
@@ -421,52 +241,34 @@ impl Eq for Cell {
     ghost laws = { cell_eq_equiv };
 }
 
-/// Writes a character in UTF-8 behind the first `len` bytes, and answers the
-/// new length (Unicode, Table 3-6).
+/// Whether the cell is a blank.
 #[inline]
-fn push_char(contents: &mut [u8; TEXT_ROOM], len: u8, c: char) -> u8
-    requires { len < MARK_LIMIT }
-    ensures text { take result contents.new ≡ take len contents.old ++ encode_utf8 c }
-    ensures len { result ≡ len + length (encode_utf8 c) }
-    ensures fits { result ≤ TEXT_ROOM }
-    ensures rest { (k : ℕ) → result ≤ k
-        → slice_index contents.new k ≡ slice_index contents.old k }
+pub fn is_blank(cell: &Cell) -> bool
+    ensures { result ≡ is_blank cell.now }
 {
-    let code = c as u32;
-    if code < 0x80 {
-        push_byte(contents, len, code as u8)
-    } else if code < 0x800 {
-        let lead = push_byte(contents, len, (0xC0 + code / 64) as u8);
-        push_byte(contents, lead, low_bits(code))
-    } else if code < 0x1_0000 {
-        let lead = push_byte(contents, len, (0xE0 + code / 4096) as u8);
-        let second = push_byte(contents, lead, low_bits(code / 64));
-        push_byte(contents, second, low_bits(code))
-    } else {
-        let lead = push_byte(contents, len, (0xF0 + code / 262_144) as u8);
-        let second = push_byte(contents, lead, low_bits(code / 4096));
-        let third = push_byte(contents, second, low_bits(code / 64));
-        push_byte(contents, third, low_bits(code))
-    }
+    cell.head.shape().is_blank()
 }
 
-/// Writes a byte behind the first `len`, and answers the new length.
-#[inline]
-fn push_byte(contents: &mut [u8; TEXT_ROOM], len: u8, byte: u8) -> u8
-    requires { len < TEXT_ROOM }
-    ensures text { take result contents.new ≡ take len contents.old ++ byte ∷ [] }
-    ensures len { result ≡ len + 1 }
-    ensures rest { (k : ℕ) → result ≤ k
-        → slice_index contents.new k ≡ slice_index contents.old k }
+/// Whether `unicode_width` gives the whole text more than one column.
+#[tactic(auto, unfolding(crate::specs::Glyph::is_wide_text))]
+pub fn is_wide_text(cell: &Cell) -> bool
+    ensures { result ≡ is_wide_text (text_of cell.now) }
 {
-    contents[usize::from(len)] = byte;
-    len + 1
+    cell.contents().width() > 1
 }
 
-/// A byte with the lowest six bits, as it stands behind the first of a character.
+/// The attributes; default ones for a right half.
 #[inline]
-fn low_bits(bits: u32) -> u8
-    ensures { result ≡ 0x80 + bits % 64 }
+pub fn attrs(cell: &Cell) -> Attrs
+    ensures { result ≡ attrs_of cell.now }
 {
-    (0x80 + bits % 64) as u8
+    cell.head.attrs()
+}
+
+/// Whether these are its attributes; they are compared where they lie.
+#[inline]
+pub fn has_attrs(cell: &Cell, attrs: &Attrs) -> bool
+    ensures { result ≡ same_attrs attrs.now (attrs_of cell.now) }
+{
+    attrs.is_same(&cell.head.attrs())
 }

@@ -14,7 +14,7 @@ ghost use Rattle.vt_redraw.specs.Script.{placed_op, erase_run, flag_behind, flag
 use crate::pen::Pen;
 use crate::picture_row::PictureRow;
 use vt_cells::term::{BufWrite, ClearRowForward, EraseChar};
-use vt_cells::{Attrs, Cell, Piece, Pos, Sink};
+use vt_cells::{Attrs, Cell, Piece, Pos, Sink, cell};
 
 /// How many columns a glyph takes.
 #[inline]
@@ -46,7 +46,7 @@ pub fn print_at<S: Sink>(sink: &mut S, pen: &mut Pen, pos: Pos, cell: &Cell) -> 
         (bytes_of_all (placed_op pen.old pos.row pos.col (attrs_of cell.now) (Print (text_of cell.now)))) }
 {
     pen.move_to(sink, pos)?;
-    pen.change_attrs(sink, cell.attrs())?;
+    pen.change_attrs(sink, cell::attrs(cell))?;
     write_text(sink, cell.contents())
 }
 
@@ -279,13 +279,13 @@ fn write_next<S: Sink>(
         (cells_from pos.row pos.col pen.old flag.old cells.now.cells over.now.cells).ops) }
 {
     let cell = cells.cell(pos.col);
-    if !cell.is_blank() {
+    if !cell::is_blank(cell) {
         let count = columns(cell);
         gather_glyph(sink, piece, pen, pos, cell)?;
         *flag = flag_behind(*flag, cell.is_wide(), over, pos.col + count);
         return Ok(count);
     }
-    let attrs = cell.attrs();
+    let attrs = cell::attrs(cell);
     let count = cells.run(pos.col, attrs);
     write_run_behind(sink, piece, pen, pos, attrs, count, over)?;
     *flag = flag_past(*flag, over, pos.col + count);

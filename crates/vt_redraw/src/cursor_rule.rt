@@ -16,7 +16,7 @@ use crate::links::write_last;
 use crate::pen::{Pen, write_change};
 use crate::view::View;
 use vt_cells::term::{Backspace, BufWrite, EraseChar, LineFeed, MoveTo, RestoreCursor, SaveCursor};
-use vt_cells::{Attrs, Pos, Sink};
+use vt_cells::{Attrs, Pos, Sink, cell};
 
 /// The nearest row, at or above `row`, that does not end blank.
 pub fn nearest(view: &View<'_>, row: u16) -> Option<u16>
@@ -100,7 +100,7 @@ fn write_over_blank<S: Sink>(
         (attrs_of (at (row_or view.now.width view.now.rows row).cells (view.now.width - 1))))) }
 {
     let col = view.cols() - 1;
-    let attrs = view.row(row).cell(col).attrs();
+    let attrs = cell::attrs(view.row(row).cell(col));
     let mut last = pen;
     last.move_to(sink, Pos { row, col })?;
     write_passed(sink, pen.attrs, attrs)
@@ -160,9 +160,9 @@ fn write_under_last_alone<S: Sink>(
     let cell = cells.cell(col);
     let pos = Pos { row: found, col };
     MoveTo { pos }.write_buf(sink)?;
-    write_change(sink, Attrs::new(), cell.attrs())?;
+    write_change(sink, Attrs::new(), cell::attrs(cell))?;
     sink.write_str(cell.contents())?;
-    write_change(sink, cell.attrs(), Attrs::new())?;
+    write_change(sink, cell::attrs(cell), Attrs::new())?;
     write_feeds(sink, row - found)
 }
 
@@ -174,7 +174,7 @@ fn write_over_blank_alone<S: Sink>(sink: &mut S, view: &View<'_>, row: u16) -> R
         (S.text sink.new ≡ S.text sink.old ++ bytes_of_all (pending_alone None view.now.width view.now.rows row)) }
 {
     let col = view.cols() - 1;
-    let attrs = view.row(row).cell(col).attrs();
+    let attrs = cell::attrs(view.row(row).cell(col));
     let pos = Pos { row, col };
     MoveTo { pos }.write_buf(sink)?;
     write_passed(sink, Attrs::new(), attrs)

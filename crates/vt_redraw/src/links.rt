@@ -13,7 +13,7 @@ use crate::cells::{columns, flag_behind, print_at, write_text};
 use crate::pen::Pen;
 use crate::picture_row::PictureRow;
 use vt_cells::term::{Backspace, BufWrite, EraseChar};
-use vt_cells::{Cell, Pos, Sink};
+use vt_cells::{Cell, Pos, Sink, cell};
 
 /// What stands after a link: whether the reader's row that was linked goes on
 /// below itself, and how many of its first cells need nothing any more.
@@ -70,7 +70,7 @@ fn write_first_blank<S: Sink>(
     ensures some { RefusedOnlyIfSome result
         (bytes_of_all (first_written row pen.old flag cells.now.cells over.now.cells).ops) }
 {
-    pen.change_attrs(sink, cell.attrs())?;
+    pen.change_attrs(sink, cell::attrs(cell))?;
     sink.write_str(" ")?;
     Backspace.write_buf(sink)?;
     EraseChar { count: 1 }.write_buf(sink)?;
@@ -110,7 +110,7 @@ fn write_first_glyph<S: Sink>(
     ensures some { RefusedOnlyIfSome result
         (bytes_of_all (first_written row pen.old flag cells.now.cells over.now.cells).ops) }
 {
-    pen.change_attrs(sink, cell.attrs())?;
+    pen.change_attrs(sink, cell::attrs(cell))?;
     write_text(sink, cell.contents())?;
     let settled = columns(cell);
     pen.row = row;
@@ -139,7 +139,7 @@ pub fn write_first<S: Sink>(
         (bytes_of_all (first_written row pen.old flag cells.now.cells over.now.cells).ops) }
 {
     let cell = cells.cell(0);
-    if cell.is_blank() {
+    if cell::is_blank(cell) {
         // For the proof: a value in the tail, so that its clause is found.
         let link = write_first_blank(sink, pen, row, flag, cell, cells, over)?;
         return Ok(link);
@@ -240,7 +240,7 @@ pub fn write_break<S: Sink>(
     let cell = cells.cell(col);
     pen.move_to(sink, Pos { row, col })?;
     EraseChar { count: 1 }.write_buf(sink)?;
-    pen.change_attrs(sink, cell.attrs())?;
+    pen.change_attrs(sink, cell::attrs(cell))?;
     write_text(sink, cell.contents())?;
     pen.col = cells.cols();
     Ok(false)

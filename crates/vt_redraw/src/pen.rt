@@ -9,7 +9,7 @@ ghost use Rattle.vt_redraw.specs.Refusals.{RefusedOnlyIfSome};
 ghost use Rattle.vt_redraw.specs.Script.{attr_ops, move_ops, is_at, pen_at};
 
 use vt_cells::term::{BufWrite, ChangeAttrs, MoveFromTo};
-use vt_cells::{Attrs, Cell, Piece, Pos, Sink};
+use vt_cells::{Attrs, Cell, Piece, Pos, Sink, cell};
 
 /// Where the reading terminal's cursor is, and what it draws with.
 ///
@@ -146,10 +146,10 @@ impl Pen {
         ensures grows { OnOk result (length (S.text sink.old) ≤ length (S.text sink.new)) }
         ensures some { RefusedOnlyIfSome result (bytes_of_all (attr_ops self.old.attrs (attrs_of cell.now))) }
     {
-        if cell.has_attrs(&self.attrs) {
+        if cell::has_attrs(cell, &self.attrs) {
             return Ok(());
         }
-        let new = cell.attrs();
+        let new = cell::attrs(cell);
         add_change(sink, piece, self.attrs, new)?;
         self.attrs = new;
         Ok(())

@@ -11,7 +11,7 @@ ghost use Rattle.vt_redraw.specs.Script.{is_blank_of, is_torn, last_column, blan
 
 use std::marker::Model;
 use vt_cells::runs::same_run;
-use vt_cells::{Attrs, Cell};
+use vt_cells::{Attrs, Cell, cell};
 use vt_rows::RowContents;
 use vt_rows::capture::cells_of;
 
@@ -46,7 +46,7 @@ impl<'a> PictureRow<'a> {
     {
         PictureRow {
             cells: &[],
-            end: Cell::new(),
+            end: cell::default_blank(),
             cols,
             wrapped: false,
         }
@@ -169,7 +169,7 @@ impl<'a> PictureRow<'a> {
         requires { 0 < length self.now.cells }
         ensures { result ≡ ends_blank self.now.cells }
     {
-        self.cell(self.cols - 1).is_blank()
+        cell::is_blank(self.cell(self.cols - 1))
     }
 
     /// Where the glyph begins that covers the last column.
@@ -235,9 +235,9 @@ fn end_cell(cells: &[Cell], cols: u16) -> Cell
 {
     let cols = usize::from(cols);
     if cols < cells.len() && cells[cols - 1].is_wide() {
-        return Cell::blank(cells[cols - 1].attrs());
+        return cell::blank(cell::attrs(&cells[cols - 1]));
     }
-    Cell::new()
+    cell::default_blank()
 }
 
 /// Whether the cell is a blank in these attributes.
@@ -245,5 +245,5 @@ fn end_cell(cells: &[Cell], cols: u16) -> Cell
 pub fn is_blank_of(cell: &Cell, attrs: Attrs) -> bool
     ensures { result ≡ is_blank_of attrs cell.now }
 {
-    cell.is_blank() && cell.has_attrs(&attrs)
+    cell::is_blank(cell) && cell::has_attrs(cell, &attrs)
 }

@@ -23,7 +23,7 @@ pub use plain::{
 pub use rows::{BasicFormattedRows, basic_formatted_rows};
 use std::marker::Model;
 use vt_cells::term::ChangeAttrs;
-use vt_cells::{Attrs, Cell, Piece, Sink};
+use vt_cells::{Attrs, Cell, Piece, Sink, cell};
 
 /// The contents of a row: its cells, and whether its text goes on in the row
 /// below. It is as a row of a page is, in its own width.
@@ -205,7 +205,7 @@ fn add_cell<S: Sink>(
         return piece.add(sink, shown_text(cell));
     }
     let was = *attrs;
-    *attrs = cell.attrs();
+    *attrs = cell::attrs(cell);
     ChangeAttrs { was, new: *attrs }.add(sink, piece)?;
     piece.add(sink, shown_text(cell))
 }
@@ -219,7 +219,7 @@ fn keeps_attrs(cell: &Cell, attrs: &Attrs) -> bool
         (attrs_after attrs.now cell.now ≡ attrs.now) × (change_text attrs.now (attrs_after attrs.now cell.now) ≡ []) }
     ensures no { result ≡ false → attrs_after attrs.now cell.now ≡ attrs_of cell.now }
 {
-    if cell.has_attrs(attrs) {
+    if cell::has_attrs(cell, attrs) {
         return true;
     }
     if cell.is_wide_continuation() {
@@ -233,7 +233,7 @@ fn keeps_attrs(cell: &Cell, attrs: &Attrs) -> bool
 fn shown_text(cell: &Cell) -> &str
     ensures { result.now ≡ shown_text cell.now }
 {
-    if cell.is_blank() {
+    if cell::is_blank(cell) {
         " "
     } else {
         cell.contents()

@@ -16,7 +16,7 @@ ghost use Rattle.vt_rows.specs.Internals.{HasRoom, left_blanked, right_replaced}
 ghost use Rattle.vt_rows.specs.Texts.{IsPrintableAscii, glyphs_of, put_text};
 
 use std::mem;
-use vt_cells::{Attrs, Cell};
+use vt_cells::{Attrs, Cell, cell};
 
 /// How many default blanks are made at a time: so few that the C library sets
 /// them by vector instructions.
@@ -44,7 +44,7 @@ pub fn put_narrow(cells: &mut [Cell], column: usize, c: char, attrs: Attrs)
     blank_left(cells, column);
     space_right(cells, column, attrs);
     let cell = &mut cells[column];
-    cell.set_glyph(c, false, attrs);
+    cell::set_glyph(cell, c, false, attrs);
 }
 
 /// Puts a narrow glyph for each byte of a text of printable ASCII, from a
@@ -96,7 +96,7 @@ fn write_each(cells: &mut [Cell], text: &[u8], attrs: Attrs)
 {
     let count = cells.len().min(text.len());
     for k in 0..count {
-        cells[k] = Cell::ascii(text[k], attrs);
+        cells[k] = cell::ascii(text[k], attrs);
     }
 }
 
@@ -115,7 +115,7 @@ pub fn put_wide(cells: &mut [Cell], column: usize, c: char, attrs: Attrs)
     ensures paired { IsPaired cells.new }
     ensures sound { All IsCell cells.old → All IsCell cells.new }
 {
-    put_wide_cell(cells, column, Cell::glyph(c, true, attrs));
+    put_wide_cell(cells, column, cell::glyph(c, true, attrs));
 }
 
 /// Puts a wide cell at a column, and its right half at the next; neighbours as
@@ -130,9 +130,9 @@ pub fn put_wide_cell(cells: &mut [Cell], column: usize, cell: Cell)
     ensures sound { IsCell cell → All IsCell cells.old → All IsCell cells.new }
 {
     blank_left(cells, column);
-    blank_right(cells, column + 1, cell.attrs());
+    blank_right(cells, column + 1, cell::attrs(&cell));
     cells[column] = cell;
-    cells[column + 1] = Cell::right_half();
+    cells[column + 1] = cell::right_half();
 }
 
 /// Takes the cell at a column out, and leaves a blank; a half whose partner
@@ -147,13 +147,13 @@ pub fn lift(cells: &mut [Cell], column: usize, attrs: Attrs) -> Cell
 {
     blank_left(cells, column);
     blank_right(cells, column, Attrs::new());
-    mem::replace(&mut cells[column], Cell::blank(attrs))
+    mem::replace(&mut cells[column], cell::blank(attrs))
 }
 
 /// Puts a mark, a character of width 0, on the cell at a column.
 ///
-/// A blank becomes a space glyph first, and keeps its attributes. From 18
-/// bytes of text on nothing happens.
+/// A blank becomes a space glyph first, and keeps its attributes. From
+/// [`MARK_LIMIT`](vt_cells::MARK_LIMIT) bytes of text on nothing happens.
 pub fn append(cells: &mut [Cell], column: usize, mark: char)
     requires inside { column < length cells.old }
     requires shown { is_right_half (at cells.old column) ≡ false }
@@ -163,7 +163,7 @@ pub fn append(cells: &mut [Cell], column: usize, mark: char)
     ensures sound { All IsCell cells.old → All IsCell cells.new }
 {
     let cell = &mut cells[column];
-    cell.append(mark);
+    cell::append(cell, mark);
 }
 
 /// Makes the glyph at a column wide, and the next column its right half.
@@ -182,8 +182,8 @@ pub fn widen(cells: &mut [Cell], column: usize, attrs: Attrs)
 {
     blank_right(cells, column + 1, attrs);
     let cell = &mut cells[column];
-    cell.set_wide(true);
-    cells[column + 1] = Cell::right_half();
+    cell::set_wide(cell, true);
+    cells[column + 1] = cell::right_half();
 }
 
 /// Makes the glyph at a column narrow; its right half becomes a space in
@@ -199,7 +199,7 @@ pub fn narrow(cells: &mut [Cell], column: usize, attrs: Attrs)
 {
     space_right(cells, column, attrs);
     let cell = &mut cells[column];
-    cell.set_wide(false);
+    cell::set_wide(cell, false);
 }
 
 /// Makes all columns blank.
@@ -223,7 +223,7 @@ fn clear_default(cells: &mut [Cell])
     let len = cells.len();
     let mut done = 0;
     while len - done >= RUN {
-        cells[done..done + RUN].copy_from_slice(&[Cell::new(); RUN]);
+        cells[done..done + RUN].copy_from_slice(&[cell::default_blank(); RUN]);
         done += RUN;
     }
     clear_each(&mut cells[done..len], Attrs::new());
@@ -235,7 +235,7 @@ fn clear_each(cells: &mut [Cell], attrs: Attrs)
     ensures { cells.new ≡ blanks attrs (length cells.old) }
 {
     for cell in cells.iter_mut() {
-        cell.clear(attrs);
+        cell::clear(cell, attrs);
     }
 }
 
@@ -261,7 +261,7 @@ pub fn ends_blank(cells: &[Cell]) -> bool
     ensures { result ≡ ends_blank cells.now }
 {
     match cells.last() {
-        Some(cell) => cell.is_blank(),
+        Some(cell) => cell::is_blank(cell),
         None => true,
     }
 }
@@ -284,8 +284,8 @@ pub(crate) fn blank_left(cells: &mut [Cell], column: usize)
     ensures { cells.new ≡ left_blanked column cells.old }
 {
     if cells[column].is_wide_continuation() {
-        let attrs = cells[column - 1].attrs();
-        cells[column - 1] = Cell::blank(attrs);
+        let attrs = cell::attrs(&cells[column - 1]);
+        cells[column - 1] = cell::blank(attrs);
     }
 }
 
@@ -299,7 +299,7 @@ fn space_right(cells: &mut [Cell], column: usize, attrs: Attrs)
     ensures { cells.new ≡ right_replaced column (glyph (0x20 ∷ []) false attrs) cells.old }
 {
     if cells[column].is_wide() {
-        cells[column + 1] = Cell::space(attrs);
+        cells[column + 1] = cell::space(attrs);
     }
 }
 
@@ -312,6 +312,6 @@ pub(crate) fn blank_right(cells: &mut [Cell], column: usize, attrs: Attrs)
     ensures { cells.new ≡ right_replaced column (blank attrs) cells.old }
 {
     if cells[column].is_wide() {
-        cells[column + 1] = Cell::blank(attrs);
+        cells[column + 1] = cell::blank(attrs);
     }
 }

@@ -6,7 +6,7 @@ ghost use Rattle.vt_cells.specs.Refusals.{OnlyOutOfMemory};
 ghost use Rattle.vt_rows.specs.Cells.{blanks};
 
 use std::alloc::Global;
-use vt_cells::{Cell, Error};
+use vt_cells::{Cell, Error, cell};
 
 /// How many cells are copied at a time: so few that the C library moves them by
 /// vector instructions.
@@ -37,7 +37,7 @@ pub fn blank_cells(alloc: Global, count: usize) -> Result<Vec<Cell>, Error>
     let mut cells = Vec::with_capacity(alloc, count)?;
     while cells.len() < count {
         let end = count.min(cells.len() + BLANKS);
-        let _ = cells.resize(end, Cell::new());
+        let _ = cells.resize(end, cell::default_blank());
     }
     Ok(cells)
 }

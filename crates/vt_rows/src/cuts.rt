@@ -8,7 +8,7 @@ ghost use Rattle.vt_rows.specs.Internals.{end_blanked};
 ghost use Rattle.vt_rows.specs.Row.{trimmed};
 
 use crate::copies::copy_over;
-use vt_cells::{Attrs, Cell};
+use vt_cells::{Attrs, Cell, cell};
 
 /// How many columns are left without the default blanks at the end.
 pub fn trimmed_len(cells: &[Cell]) -> usize
@@ -69,8 +69,8 @@ pub fn blank_end(cells: &mut [Cell])
         return;
     }
     if cells[len - 1].is_wide() {
-        let attrs = cells[len - 1].attrs();
-        cells[len - 1] = Cell::blank(attrs);
+        let attrs = cell::attrs(&cells[len - 1]);
+        cells[len - 1] = cell::blank(attrs);
     }
 }
 
@@ -79,5 +79,5 @@ pub fn blank_end(cells: &mut [Cell])
 pub(crate) fn is_default(cell: &Cell) -> bool
     ensures { result ≡ is_default_blank cell.now }
 {
-    cell.is_blank() && cell.attrs().is_same(&Attrs::new())
+    cell::is_blank(cell) && cell::attrs(cell).is_same(&Attrs::new())
 }

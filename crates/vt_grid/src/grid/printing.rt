@@ -17,7 +17,7 @@ ghost use Rattle.vt_grid.specs.Texts.{printed_text, text_put};
 
 use super::Grid;
 use crate::scrollback::Scrollback;
-use vt_cells::{Attrs, Cell, Error, MARK_LIMIT};
+use vt_cells::{Attrs, Cell, Error, MARK_LIMIT, cell};
 use vt_rows::Leaving;
 
 impl Grid {
@@ -217,8 +217,8 @@ impl Grid {
         ensures { result ≡ is_wide_text (text_of (marked mark (at (cursor_row self.now).cells col))) }
     {
         let mut cell = *self.page_rows.cell(self.pos.row, col);
-        cell.append(mark);
-        cell.is_wide_text()
+        cell::append(&mut cell, mark);
+        cell::is_wide_text(&cell)
     }
 
     /// Puts a mark on the glyph before the cursor, if that has room for it;
@@ -283,7 +283,7 @@ impl Grid {
         requires { col < length (cursor_row self.now).cells }
         ensures { result ≡ (is_wide_text (text_of (at (cursor_row self.now).cells col)) && nat_lt 1 self.now.width) }
     {
-        self.page_rows.cell(self.pos.row, col).is_wide_text() && self.size.cols > 1
+        cell::is_wide_text(self.page_rows.cell(self.pos.row, col)) && self.size.cols > 1
     }
 
     /// Whether the cell at a column of the cursor's row is a wide glyph.
@@ -466,8 +466,8 @@ fn widened(mut cell: Cell, mark: char, attrs: Attrs) -> Cell
     requires shown { is_right_half cell ≡ false }
     ensures { result ≡ glyph (text_of (marked mark cell)) true attrs }
 {
-    cell.append(mark);
-    cell.set_attrs(attrs);
-    cell.set_wide(true);
+    cell::append(&mut cell, mark);
+    cell::set_attrs(&mut cell, attrs);
+    cell::set_wide(&mut cell, true);
     cell
 }

@@ -15,7 +15,7 @@ loop-done-preserved c =
     let new = c.copy_from_slice.new.self in
     let run = done + 40 - done in
     let made : new ≡ blanks default_attrs 40 =
-    c.copy_from_slice.ensures.after ∙ ap (λ (x : CellValue). replicate 40 x) c.new.ensures in
+    c.copy_from_slice.ensures.after ∙ ap (λ (x : CellValue). replicate 40 x) c.default_blank.ensures in
     let size : length new ≡ run = omega (arith, ap (λ (xs : List CellValue). length xs) made) in
     record {
       within = omega arith;
@@ -37,7 +37,7 @@ returns c =
     let size = length-piece cells done len (omega arith) (omega arith) in
     let made : new ≡ blanks default_attrs rest =
     c.clear_each.ensures
-    ∙ (ap (λ (n : ℕ). blanks c.new-2.result n) size ∙ ap (λ (a : Attrs). blanks a rest) c.new-2.ensures) in
+    ∙ (ap (λ (n : ℕ). blanks c.new.result n) size ∙ ap (λ (a : Attrs). blanks a rest) c.new.ensures) in
     let new_size : length new ≡ rest =
     ap (λ (xs : List CellValue). length xs) made ∙ length-replicate rest default_blank in
     let whole = length-put_mid done rest cells new new_size (omega arith) in

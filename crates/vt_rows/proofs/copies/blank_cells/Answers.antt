@@ -23,9 +23,9 @@ loop-cells-preserved c =
       room = omega arith;
       made =
           c.resize.ensures.items
-          ∙ (ap (λ (ok : Bool). if ok then take end cells.items ++ replicate (end - len) c.new.result else cells.items) ok
-          ∙ (ap (λ (xs : List CellValue). take end xs ++ replicate (end - len) c.new.result) c.loop-cells.invariant.made
-          ∙ (ap (λ (xs : List CellValue). xs ++ replicate (end - len) c.new.result) all
-          ∙ (ap (λ (blank : CellValue). blanks default_attrs len ++ replicate (end - len) blank) c.new.ensures
+          ∙ (ap (λ (ok : Bool). if ok then take end cells.items ++ replicate (end - len) c.default_blank.result else cells.items) ok
+          ∙ (ap (λ (xs : List CellValue). take end xs ++ replicate (end - len) c.default_blank.result) c.loop-cells.invariant.made
+          ∙ (ap (λ (xs : List CellValue). xs ++ replicate (end - len) c.default_blank.result) all
+          ∙ (ap (λ (blank : CellValue). blanks default_attrs len ++ replicate (end - len) blank) c.default_blank.ensures
           ∙ (replicate-append-replicate len (end - len) default_blank ∙ ap (blanks default_attrs) whole)))));
     }

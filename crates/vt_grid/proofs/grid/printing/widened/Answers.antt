@@ -6,7 +6,7 @@ use Rattle.vt_grid.proofs.grid.printing.widened.Goals as goal
 pub set_wide-requires : goal.set_wide-requires
 set_wide-requires c =
     let x = c.args.cell in
-    let drawn : c.set_attrs.new.self ≡ redrawn c.args.attrs (marked c.args.mark x) =
+    let drawn : c.set_attrs.new.cell ≡ redrawn c.args.attrs (marked c.args.mark x) =
     c.set_attrs.ensures ∙ ap (redrawn c.args.attrs) c.append.ensures in
     let cell = selected_cell c.args.mark true x (c.ranges.mark.0, c.requires.mark)
     c.requires.selector c.requires.room c.requires.sound in

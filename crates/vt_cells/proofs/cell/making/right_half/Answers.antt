@@ -1,5 +1,5 @@
 use Rattle.vt_cells.proofs.KeptCells.{IsStored-half}
-use Rattle.vt_cells.proofs.cell.Cell.right_half.Goals as goal
+use Rattle.vt_cells.proofs.cell.making.right_half.Goals as goal
 
 pub invariant_of-result : goal.invariant_of-result
 invariant_of-result c = rw c.right_half.ensures IsStored-half

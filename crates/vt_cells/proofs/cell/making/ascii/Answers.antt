@@ -3,7 +3,7 @@ use Rattle.std.proofs.Math.Utf8.{low_scalar}
 use Rattle.vt_cells.proofs.KeptCells.{IsKept-first, cell_of-first, zeros_at}
 use Rattle.vt_cells.proofs.Encoding.{one_byte}
 use Rattle.vt_cells.proofs.Widths.{columns_of-ascii}
-use Rattle.vt_cells.proofs.cell.Cell.ascii.Goals as goal
+use Rattle.vt_cells.proofs.cell.making.ascii.Goals as goal
 
 pub invariant_of-result : goal.invariant_of-result
 invariant_of-result c =

@@ -1,6 +1,6 @@
 use Rattle.std.proofs.Common.{◌∙◌, zero-add}
 use Rattle.vt_cells.proofs.KeptCells.{IsKept-first, cell_of-first, zeros_at}
-use Rattle.vt_cells.proofs.cell.Cell.glyph.Goals as goal
+use Rattle.vt_cells.proofs.cell.making.glyph.Goals as goal
 
 pub invariant_of-result : goal.invariant_of-result
 invariant_of-result c =
