@@ -278,6 +278,17 @@ length-cells_at w n p cells e h =
 abbrev pub page_rows_of : CellStore → PageRowsValue
 page_rows_of cell_store = record { rows = rows_of cell_store; width = cell_store.width }
 
+-- each row has the page's width
+pub columns_counted : (cell_store : CellStore) (r : ℕ) → IsCellStore cell_store → r < length (rows_of cell_store) →
+    length (page_row (page_rows_of cell_store) r).cells ≡ cell_store.width
+columns_counted cell_store r t h =
+    let w = cell_store.width in
+    let cells = cell_store.cells.items in
+    let lines = cell_store.lines.items in
+    let i : r < length lines = omega (arith, h, rows_counted w cells lines) in
+    ap (λ (row : RowValue). length row.cells) (row_found w r cells lines (blank_row default_attrs w) i)
+    ∙ length-cells_at w (length lines) (line_at lines r).place cells t.filled (t.inside r i)
+
 -- the cells of row r were lent and became `new`, and its flag is another
 pub row_changed : (r a b : ℕ) (cell_store edited : CellStore) (xs new : List CellValue) (flag : Bool) →
     IsCellStore cell_store → r < length cell_store.lines.items →

@@ -1,9 +1,10 @@
 //! The rows of a page, without its cursor.
 
+ghost use Rattle.std.specs.Fn.{FnOnceReturnsAtMut, FnOnceTakesAtMut};
 ghost use Rattle.std.specs.Prelude.{◌≡◌, ◌≢◌, ◌+◌, ◌-◌, ◌^◌, ◌&&◌, ◌++◌, ◌<◌, ◌≤◌, ◌↔◌, ℕ, IfOk, IfSome, IsErr};
-ghost use Rattle.std.specs.Prelude.{IsSome, OnErr, OnOk, Some, All, true, false, encode_utf8, if◌then◌else◌, length};
+ghost use Rattle.std.specs.Prelude.{List, IsSome, OnErr, OnOk, Some, All, true, false, encode_utf8, if◌then◌else◌, length};
 ghost use Rattle.std.specs.Prelude.{min, nat_le, nat_lt, replicate, slice_index_or, slice_set, take, drop};
-ghost use Rattle.vt_cells.specs.Cell.{IsCell, attrs_of, is_blank, is_right_half, is_wide, text_of, widened};
+ghost use Rattle.vt_cells.specs.Cell.{CellValue, IsCell, attrs_of, is_blank, is_right_half, is_wide, text_of, widened};
 ghost use Rattle.vt_cells.specs.Glyph.{columns_of};
 ghost use Rattle.vt_cells.specs.Refusals.{OnlyOutOfMemory};
 ghost use Rattle.vt_rows.specs.Cells.{IsPaired, at, ends_blank, erased, marked_at};
@@ -154,6 +155,40 @@ impl PageRows {
         }
     }
 
+    /// Edits the cells of a row, which goes on no more where its last column is
+    /// left blank.
+    #[inline(always)]
+    fn edit_row<R, F: FnOnce(&mut [Cell]) -> R>(&mut self, row: u16, edit: F) -> R
+        requires inside { row < length self.old.rows }
+        requires callable { FnOnceTakesAtMut F.FnOnce edit (page_row self.old row).cells }
+        ensures { (cells : List CellValue)
+            × FnOnceReturnsAtMut F.FnOnce edit (page_row self.old row).cells result cells
+            × (self.new ≡ with_row_cells row cells self.old) }
+    {
+        let row = usize::from(row);
+        let goes_on = self.cell_store.wrapped(row);
+        let (start, end) = self.cell_store.part(row);
+        let cells = &mut self.cell_store.cells[start..end];
+        let edited = edit(cells);
+        let goes_on = cells::flag_left(cells, goes_on);
+        self.cell_store.wrap(row, goes_on);
+        edited
+    }
+
+    /// Edits the cells of a row, which then goes on if `goes_on`.
+    #[inline(always)]
+    fn edit_row_and_flag<F: FnOnce(&mut [Cell])>(&mut self, row: usize, goes_on: bool, edit: F)
+        requires inside { row < length self.old.rows }
+        requires callable { FnOnceTakesAtMut F.FnOnce edit (page_row self.old row).cells }
+        ensures { (cells : List CellValue)
+            × FnOnceReturnsAtMut F.FnOnce edit (page_row self.old row).cells tt cells
+            × (self.new ≡ with_page_row row (record { cells = cells; wrapped = goes_on }) self.old) }
+    {
+        let (start, end) = self.cell_store.part(row);
+        edit(&mut self.cell_store.cells[start..end]);
+        self.cell_store.wrap(row, goes_on);
+    }
+
     /// Puts a narrow glyph at a column of a row; see `cells::put_narrow`.
     #[inline(always)]
     pub fn put_narrow(&mut self, row: u16, col: u16, c: char, attrs: Attrs)
@@ -165,13 +200,9 @@ impl PageRows {
         ensures { self.new
             ≡ with_row_cells row (put_narrow col (encode_utf8 c) attrs (page_row self.old row).cells) self.old }
     {
-        let row = usize::from(row);
-        let goes_on = self.cell_store.wrapped(row);
-        let (start, end) = self.cell_store.part(row);
-        let cells = &mut self.cell_store.cells[start..end];
-        cells::put_narrow(cells, usize::from(col), c, attrs);
-        let goes_on = cells::flag_left(cells, goes_on);
-        self.cell_store.wrap(row, goes_on);
+        self.edit_row(row, |cells| {
+            cells::put_narrow(cells, usize::from(col), c, attrs);
+        });
     }
 
     /// Puts a narrow glyph for each byte of a text of printable ASCII, from a
@@ -185,13 +216,9 @@ impl PageRows {
         requires printable { IsPrintableAscii text.now }
         ensures { self.new ≡ with_row_cells row (put_text col text.now attrs (page_row self.old row).cells) self.old }
     {
-        let row = usize::from(row);
-        let goes_on = self.cell_store.wrapped(row);
-        let (start, end) = self.cell_store.part(row);
-        let cells = &mut self.cell_store.cells[start..end];
-        cells::put_text(cells, usize::from(col), text, attrs);
-        let goes_on = cells::flag_left(cells, goes_on);
-        self.cell_store.wrap(row, goes_on);
+        self.edit_row(row, |cells| {
+            cells::put_text(cells, usize::from(col), text, attrs);
+        });
     }
 
     /// Puts a wide glyph at a column of a row and the next; see `cells::put_wide`.
@@ -205,13 +232,9 @@ impl PageRows {
         ensures { self.new
             ≡ with_row_cells row (put_wide col (encode_utf8 c) attrs (page_row self.old row).cells) self.old }
     {
-        let row = usize::from(row);
-        let goes_on = self.cell_store.wrapped(row);
-        let (start, end) = self.cell_store.part(row);
-        let cells = &mut self.cell_store.cells[start..end];
-        cells::put_wide(cells, usize::from(col), c, attrs);
-        let goes_on = cells::flag_left(cells, goes_on);
-        self.cell_store.wrap(row, goes_on);
+        self.edit_row(row, |cells| {
+            cells::put_wide(cells, usize::from(col), c, attrs);
+        });
     }
 
     /// Puts a mark on the cell at a column of a row; see `cells::append`.
@@ -222,13 +245,7 @@ impl PageRows {
         requires mark { columns_of mark ≡ Some 0 }
         ensures { self.new ≡ with_row_cells row (marked_at col mark (page_row self.old row).cells) self.old }
     {
-        let row = usize::from(row);
-        let goes_on = self.cell_store.wrapped(row);
-        let (start, end) = self.cell_store.part(row);
-        let cells = &mut self.cell_store.cells[start..end];
-        cells::append(cells, usize::from(col), mark);
-        let goes_on = cells::flag_left(cells, goes_on);
-        self.cell_store.wrap(row, goes_on);
+        self.edit_row(row, |cells| cells::append(cells, usize::from(col), mark));
     }
 
     /// Makes the glyph at a column of a row wide; see `cells::widen`.
@@ -241,13 +258,7 @@ impl PageRows {
         requires fits { IsCell (widened true (at (page_row self.old row).cells col)) }
         ensures { self.new ≡ with_row_cells row (widened_at col attrs (page_row self.old row).cells) self.old }
     {
-        let row = usize::from(row);
-        let goes_on = self.cell_store.wrapped(row);
-        let (start, end) = self.cell_store.part(row);
-        let cells = &mut self.cell_store.cells[start..end];
-        cells::widen(cells, usize::from(col), attrs);
-        let goes_on = cells::flag_left(cells, goes_on);
-        self.cell_store.wrap(row, goes_on);
+        self.edit_row(row, |cells| cells::widen(cells, usize::from(col), attrs));
     }
 
     /// Makes the glyph at a column of a row narrow; see `cells::narrow`.
@@ -259,13 +270,7 @@ impl PageRows {
         requires fits { IsCell (widened false (at (page_row self.old row).cells col)) }
         ensures { self.new ≡ with_row_cells row (narrowed_at col attrs (page_row self.old row).cells) self.old }
     {
-        let row = usize::from(row);
-        let goes_on = self.cell_store.wrapped(row);
-        let (start, end) = self.cell_store.part(row);
-        let cells = &mut self.cell_store.cells[start..end];
-        cells::narrow(cells, usize::from(col), attrs);
-        let goes_on = cells::flag_left(cells, goes_on);
-        self.cell_store.wrap(row, goes_on);
+        self.edit_row(row, |cells| cells::narrow(cells, usize::from(col), attrs));
     }
 
     /// Takes the cell at a column of a row out; see `cells::lift`.
@@ -276,14 +281,7 @@ impl PageRows {
         ensures lifted { result ≡ at (page_row self.old row).cells col }
         ensures value { self.new ≡ with_row_cells row (erased col 1 attrs (page_row self.old row).cells) self.old }
     {
-        let row = usize::from(row);
-        let goes_on = self.cell_store.wrapped(row);
-        let (start, end) = self.cell_store.part(row);
-        let cells = &mut self.cell_store.cells[start..end];
-        let cell = cells::lift(cells, usize::from(col), attrs);
-        let goes_on = cells::flag_left(cells, goes_on);
-        self.cell_store.wrap(row, goes_on);
-        cell
+        self.edit_row(row, |cells| cells::lift(cells, usize::from(col), attrs))
     }
 
     /// Puts a cell that was taken out back at a column of a row, and the row's
@@ -295,11 +293,9 @@ impl PageRows {
             ≡ with_page_row row
             (record { cells = slice_set (page_row self.old row).cells col cell; wrapped = goes_on }) self.old }
     {
-        let row = usize::from(row);
-        let (start, end) = self.cell_store.part(row);
-        let cells = &mut self.cell_store.cells[start..end];
-        cells[usize::from(col)] = cell;
-        self.cell_store.wrap(row, goes_on);
+        self.edit_row_and_flag(usize::from(row), goes_on, |cells| {
+            cells[usize::from(col)] = cell;
+        });
     }
 
     /// Puts a wide cell at a column of a row and the next; see `cells::put_wide_cell`.
@@ -311,13 +307,9 @@ impl PageRows {
         ensures { self.new
             ≡ with_row_cells row (put_wide col (text_of cell) (attrs_of cell) (page_row self.old row).cells) self.old }
     {
-        let row = usize::from(row);
-        let goes_on = self.cell_store.wrapped(row);
-        let (start, end) = self.cell_store.part(row);
-        let cells = &mut self.cell_store.cells[start..end];
-        cells::put_wide_cell(cells, usize::from(col), cell);
-        let goes_on = cells::flag_left(cells, goes_on);
-        self.cell_store.wrap(row, goes_on);
+        self.edit_row(row, |cells| {
+            cells::put_wide_cell(cells, usize::from(col), cell);
+        });
     }
 
     /// Makes the columns of a row from `from` up to `to` blank; see `cells::erase`.
@@ -329,13 +321,9 @@ impl PageRows {
         ensures { self.new
             ≡ with_row_cells row (erased from (to - from) attrs (page_row self.old row).cells) self.old }
     {
-        let row = usize::from(row);
-        let goes_on = self.cell_store.wrapped(row);
-        let (start, end) = self.cell_store.part(row);
-        let cells = &mut self.cell_store.cells[start..end];
-        cells::erase(cells, usize::from(from), usize::from(to), attrs);
-        let goes_on = cells::flag_left(cells, goes_on);
-        self.cell_store.wrap(row, goes_on);
+        self.edit_row(row, |cells| {
+            cells::erase(cells, usize::from(from), usize::from(to), attrs);
+        });
     }
 
     /// Inserts default blanks at a column of a row; see `shifts::insert`.
@@ -345,11 +333,9 @@ impl PageRows {
         requires column { col ≤ length (page_row self.old row).cells }
         ensures { self.new ≡ with_page_row row (inserted_row col count (page_row self.old row)) self.old }
     {
-        let row = usize::from(row);
-        let (start, end) = self.cell_store.part(row);
-        let cells = &mut self.cell_store.cells[start..end];
-        shifts::insert(cells, usize::from(col), usize::from(count));
-        self.cell_store.wrap(row, false);
+        self.edit_row_and_flag(usize::from(row), false, |cells| {
+            shifts::insert(cells, usize::from(col), usize::from(count));
+        });
     }
 
     /// Deletes columns of a row; see `shifts::delete`.
@@ -359,11 +345,9 @@ impl PageRows {
         requires column { col ≤ length (page_row self.old row).cells }
         ensures { self.new ≡ with_page_row row (deleted_row col count (page_row self.old row)) self.old }
     {
-        let row = usize::from(row);
-        let (start, end) = self.cell_store.part(row);
-        let cells = &mut self.cell_store.cells[start..end];
-        shifts::delete(cells, usize::from(col), usize::from(count));
-        self.cell_store.wrap(row, false);
+        self.edit_row_and_flag(usize::from(row), false, |cells| {
+            shifts::delete(cells, usize::from(col), usize::from(count));
+        });
     }
 
     /// Makes a row blank.

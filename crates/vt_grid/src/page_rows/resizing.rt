@@ -40,6 +40,7 @@ impl PageRows {
 
     /// Gives a blank row cells and a flag, as far as they fit; see `cuts::refit`.
     /// The flag stays where they are as many as the row's columns.
+    #[tactic(auto, using(crate::proofs::CellStores::columns_counted))]
     pub fn fit_row(&mut self, row: usize, from: &[Cell], wrapped: bool)
         requires inside { row < length self.old.rows }
         requires blank { page_row self.old row ≡ blank_row default_attrs (length (page_row self.old row).cells) }
@@ -49,11 +50,8 @@ impl PageRows {
             (resized_row (length (page_row self.old row).cells) (record { cells = from.now; wrapped = wrapped }))
             self.old }
     {
-        let (start, end) = self.cell_store.part(row);
-        let cells = &mut self.cell_store.cells[start..end];
-        cuts::refit(cells, from);
-        self.cell_store
-            .wrap(row, flag_kept(wrapped, from.len() == end - start));
+        let goes_on = flag_kept(wrapped, from.len() == usize::from(self.cell_store.width));
+        self.edit_row_and_flag(row, goes_on, |cells| cuts::refit(cells, from));
     }
 
     /// Copies the rows of another page from `down` on into blank rows from
