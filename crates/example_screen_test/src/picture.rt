@@ -47,9 +47,9 @@ fn row_text(alloc: Global, screen: &Screen, row: u16) -> Result<String, AllocErr
 pub fn shown(cell: &Cell) -> &str
     ensures { result.now ≡ shown_text cell.now }
 {
-    if cell.is_blank() {
-        " "
-    } else {
+    if cell.has_contents() || cell.is_wide_continuation() {
         cell.contents()
+    } else {
+        " "
     }
 }

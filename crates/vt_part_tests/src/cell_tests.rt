@@ -2,19 +2,19 @@
 
 use std::test::Fail;
 use vt_cells::runs::same_run;
-use vt_cells::{Attrs, Cell, Color, Intensity, columns};
+use vt_cells::{Attrs, Cell, Color, Intensity, cell, columns};
 
 /// The cell in which a character and the marks after it come to stand.
 fn cell_of_text(text: &str) -> Cell {
-    let mut cell = Cell::new();
+    let mut cell = cell::default_blank();
     for c in text.chars() {
         match columns(c) {
-            Some(0) if !cell.is_wide_continuation() => cell.append(c),
+            Some(0) if !cell.is_wide_continuation() => cell::append(&mut cell, c),
             Some(1) if c != char::REPLACEMENT_CHARACTER => {
-                cell = Cell::glyph(c, false, Attrs::new());
+                cell = cell::glyph(c, false, Attrs::new());
             }
             Some(2) if c != char::REPLACEMENT_CHARACTER => {
-                cell = Cell::glyph(c, true, Attrs::new());
+                cell = cell::glyph(c, true, Attrs::new());
             }
             _ => {}
         }
@@ -61,11 +61,11 @@ fn keeps_a_character_and_its_marks(rt: HostRuntime) {
         let is_blank = contents.is_empty();
         assert_eq!(rt; cell.contents(), *contents);
         assert!(rt;
-            cell.has_contents() != is_blank && cell.is_blank() == is_blank,
+            cell.has_contents() != is_blank && cell::is_blank(&cell) == is_blank,
             "at {text}"
         );
         assert!(rt;
-            cell.is_wide() == *wide && cell.is_wide_text() == *wide_text,
+            cell.is_wide() == *wide && cell::is_wide_text(&cell) == *wide_text,
             "at {text}"
         );
     }
@@ -76,12 +76,12 @@ fn keeps_a_character_and_its_marks(rt: HostRuntime) {
 fn heart(wide: bool) -> Cell {
     match (columns('\u{2764}'), columns('\u{fe0f}')) {
         (Some(1), Some(0)) => {
-            let mut cell = Cell::glyph('\u{2764}', false, Attrs::new());
-            cell.append('\u{fe0f}');
-            cell.set_wide(wide);
+            let mut cell = cell::glyph('\u{2764}', false, Attrs::new());
+            cell::append(&mut cell, '\u{fe0f}');
+            cell::set_wide(&mut cell, wide);
             cell
         }
-        _ => Cell::new(),
+        _ => cell::default_blank(),
     }
 }
 
@@ -92,13 +92,13 @@ fn compares_text_width_flags_and_attributes(rt: HostRuntime) {
     let mut red = Attrs::new();
     red.set_fgcolor(Color::Idx(1));
     let mut shorter = cell_of_text("e\u{301}\u{301}\u{301}\u{301}");
-    shorter.clear(Attrs::new());
+    cell::clear(&mut shorter, Attrs::new());
     for (cell, other, same) in &[
-        (Cell::new(), Cell::blank(Attrs::new()), true),
-        (shorter, Cell::new(), true),
-        (Cell::new(), Cell::blank(bold), false),
-        (Cell::new(), Cell::right_half(), false),
-        (Cell::new(), Cell::space(Attrs::new()), false),
+        (cell::default_blank(), cell::blank(Attrs::new()), true),
+        (shorter, cell::default_blank(), true),
+        (cell::default_blank(), cell::blank(bold), false),
+        (cell::default_blank(), cell::right_half(), false),
+        (cell::default_blank(), cell::space(Attrs::new()), false),
         (cell_of_text("e"), cell_of_text("e"), true),
         (cell_of_text("e"), cell_of_text("e\u{301}"), false),
         (cell_of_text("e"), cell_of_text("f"), false),
@@ -111,11 +111,11 @@ fn compares_text_width_flags_and_attributes(rt: HostRuntime) {
         ),
         (heart(true), heart(true), true),
         (heart(true), heart(false), false),
-        (Cell::blank(bold), Cell::blank(bold), true),
-        (Cell::blank(red), Cell::blank(bold), false),
-        (Cell::space(bold), Cell::space(bold), true),
-        (Cell::space(bold), Cell::space(Attrs::new()), false),
-        (Cell::space(bold), Cell::space(red), false),
+        (cell::blank(bold), cell::blank(bold), true),
+        (cell::blank(red), cell::blank(bold), false),
+        (cell::space(bold), cell::space(bold), true),
+        (cell::space(bold), cell::space(Attrs::new()), false),
+        (cell::space(bold), cell::space(red), false),
     ] {
         assert_eq!(rt; cell == other, *same);
     }
@@ -126,9 +126,9 @@ fn is_cloned_whole(rt: HostRuntime) -> Result<(), Fail> {
     let mut bold = Attrs::new();
     bold.set_intensity(Intensity::Bold);
     for cell in &[
-        Cell::blank(bold),
-        Cell::space(bold),
-        Cell::right_half(),
+        cell::blank(bold),
+        cell::space(bold),
+        cell::right_half(),
         cell_of_text("e\u{301}"),
         cell_of_text("中"),
     ] {
@@ -147,7 +147,7 @@ fn runs_of_the_same_cells_are_found(rt: HostRuntime) {
     assert_eq!(rt; same_run(&row, &[e, e, e]), 0);
     other[7] = cell_of_text("f");
     assert_eq!(rt; same_run(&row, &other), 4);
-    other[3] = Cell::space(Attrs::new());
+    other[3] = cell::space(Attrs::new());
     assert_eq!(rt; same_run(&row, &other), 0);
 }
 
@@ -159,12 +159,12 @@ fn lends_its_attributes(rt: HostRuntime) {
     attrs.set_intensity(Intensity::Dim);
     attrs.set_italic(true);
     attrs.set_inverse(true);
-    let cell = Cell::space(attrs);
+    let cell = cell::space(attrs);
     assert_eq!(rt; cell.contents(), " ");
-    assert_eq!(rt; cell.attrs(), attrs);
+    assert_eq!(rt; cell::attrs(&cell), attrs);
     assert_eq!(rt; cell.fgcolor(), Color::Idx(1));
     assert_eq!(rt; cell.bgcolor(), Color::Rgb(2, 3, 4));
     assert!(rt; cell.dim() && cell.italic() && cell.inverse());
     assert!(rt; !cell.bold() && !cell.underline());
-    assert!(rt; Cell::right_half().is_wide_continuation());
+    assert!(rt; cell::right_half().is_wide_continuation());
 }
