@@ -1,27 +1,28 @@
 -- What a control sequence does, from the tests that the code makes.
 use Rattle.std.proofs.Common.{◌≡◌, ℕ, ◌-◌, true, false, List, [], ◌∷◌, Option, None, Some, refl, subst, rules}
+use Rattle.vt_grid.specs.PageStep.{PageStep, MoveTo}
 use Rattle.vt_screen.specs.Calls.{CallValue}
 use Rattle.vt_screen.specs.Screen.{ScreenValue}
 use Rattle.vt_screen.specs.Controls.{counted_step, csi_steps, intermediate_at, intermediate_steps, number_or}
 use Rattle.vt_screen.specs.Controls.{Seen, one_or, other_steps, plain_steps, scrolling_steps, seen_of, sgr_steps}
-use Rattle.vt_screen.specs.Steps.{MoveTo, Step}
+use Rattle.vt_screen.specs.Steps.{Step, OnPage}
 use Rattle.vt100.specs.Internals.{Does, MadeIf, Stops}
 use Rattle.vt100.proofs.Stepping.{stepping}
 
 made_one : {S : Type 0} (does : CallValue → S → ScreenValue → S → ScreenValue → Type 0)
-    (made : Option Step) (others : List Step) (s : S) (d e : ScreenValue) →
+    (made : Option PageStep) (others : List Step) (s : S) (d e : ScreenValue) →
     MadeIf made true d e → Does does s d (one_or made others) s e
-made_one does (Some step) others s d e (h, (own, same)) = stepping does step s d e own same
+made_one does (Some step) others s d e (h, same) = stepping does (OnPage step) s d e refl same
 made_one does None others s d e h = absurd cc
 
 made_none : {S : Type 0} (does : CallValue → S → ScreenValue → S → ScreenValue → Type 0)
-    (made : Option Step) (others : ScreenValue → List Step) (s t : S) (d e f : ScreenValue) →
+    (made : Option PageStep) (others : ScreenValue → List Step) (s t : S) (d e f : ScreenValue) →
     MadeIf made false d e → Does does s e (others e) t f → Does does s d (one_or made (others d)) t f
 made_none does (Some step) others s t d e f h k = absurd cc
 made_none does None others s t d e f (h, same) k = subst (λ (x : ScreenValue). Does does s x (others x) t f) same k
 
 made_none_stops : {S : Type 0} (does : CallValue → S → ScreenValue → S → ScreenValue → Type 0)
-    (made : Option Step) (others : ScreenValue → List Step) (s t : S) (d e f : ScreenValue) →
+    (made : Option PageStep) (others : ScreenValue → List Step) (s t : S) (d e f : ScreenValue) →
     MadeIf made false d e → Stops does s e (others e) t f → Stops does s d (one_or made (others d)) t f
 made_none_stops does (Some step) others s t d e f h k = absurd cc
 made_none_stops does None others s t d e f (h, same) k =
@@ -83,7 +84,7 @@ unfolding counted_step scrolling_steps other_steps
 plain_sgr groups b seen is = rw is refl
 
 pub plain_place : (groups : List (List ℕ)) (b : ℕ) (seen : Seen) → b ≡ 0x48 →
-    plain_steps groups b seen ≡ MoveTo (number_or 1 0 groups - 1) (number_or 1 1 groups - 1) ∷ []
+    plain_steps groups b seen ≡ OnPage (MoveTo (number_or 1 0 groups - 1) (number_or 1 1 groups - 1)) ∷ []
 unfolding counted_step scrolling_steps other_steps
 plain_place groups b seen is = rw is refl
 

@@ -20,14 +20,9 @@ use Rattle.vt_screen.specs.Screen.{ScreenValue, above_page}
 use Rattle.vt_screen.specs.Run as act
 use Rattle.vt_screen.specs.Run.{Performs, Breaks, CalledOnScroll, Refuses, StopsIn, Takes, state}
 use Rattle.vt_screen.specs.Controls.{seen_of, steps_of}
-use Rattle.vt_screen.specs.Steps.{Step, Print, CarriageReturn, LineFeed, ReverseIndex, MoveUp, MoveDown, MoveLeft}
-use Rattle.vt_screen.specs.Steps.{NextLine, PreviousLine, Tab, MoveToColumn, MoveToRow, SetRegion, UseOrigin}
-use Rattle.vt_screen.specs.Steps.{EraseAbove, ErasePage, EraseScrollback, EraseStart, EraseRow, InsertChars}
-use Rattle.vt_screen.specs.Steps.{DeleteChars, InsertLines, DeleteLines, ScrollDown, ScrollUp, MoveRight, MoveTo}
-use Rattle.vt_screen.specs.Steps.{EraseBelow, EraseRest, EraseChars, Render, HideCursor, UseApplicationCursor}
-use Rattle.vt_screen.specs.Steps.{UseBracketedPaste, SetMouseMode, ClearMouseMode, SetMouseEncoding, ClearMouseEncoding}
-use Rattle.vt_screen.specs.Steps.{SetCursorStyle, SaveCursor, RestoreCursor, EnterAlternate, EnterFresh, LeaveAlternate}
-use Rattle.vt_screen.specs.Steps.{LeaveRestoring, Reset, UseApplicationKeypad, CallBack, Grows, outgoing, display_after}
+use Rattle.vt_screen.specs.Steps.{Step, Print, LineFeed, ScrollUp, OnPage, SaveCursor, RestoreCursor, EnterAlternate}
+use Rattle.vt_screen.specs.Steps.{EnterFresh, LeaveAlternate, LeaveRestoring, Reset, EraseScrollback, Render}
+use Rattle.vt_screen.specs.Steps.{HideCursor, SetMode, CallBack, Grows, outgoing, display_after}
 use Rattle.vt_screen.specs.Reading.{Terminal, terminal, grows, quiet_step, quiet_steps, quiet_events, read, read_byte}
 use Rattle.vt_screen.proofs.Readback.{and_then-some}
 use Rattle.vt100.specs.Parser.{IsHarmless, Parsing, Ran, Stopped, Collects, stage}
@@ -97,45 +92,8 @@ quiet_takes does LineFeed held screen after b e t =
     unsent does held screen (display_after LineFeed screen) (outgoing LineFeed screen) b none refl t.screen t.heard
     ∙ ap (state held) (same_some (display_after LineFeed screen) after calm.1)
 quiet_takes does (CallBack call) held screen after b e t = absurd (subst IsNone e tt)
-quiet_takes does CarriageReturn held screen after b e t =
-    t ∙ ap (state held) (same_some (display_after CarriageReturn screen) after e)
-quiet_takes does ReverseIndex held screen after b e t =
-    t ∙ ap (state held) (same_some (display_after ReverseIndex screen) after e)
-quiet_takes does (MoveUp count) held screen after b e t =
-    t ∙ ap (state held) (same_some (display_after (MoveUp count) screen) after e)
-quiet_takes does (MoveDown count) held screen after b e t =
-    t ∙ ap (state held) (same_some (display_after (MoveDown count) screen) after e)
-quiet_takes does (MoveLeft count) held screen after b e t =
-    t ∙ ap (state held) (same_some (display_after (MoveLeft count) screen) after e)
-quiet_takes does (NextLine count) held screen after b e t =
-    t ∙ ap (state held) (same_some (display_after (NextLine count) screen) after e)
-quiet_takes does (PreviousLine count) held screen after b e t =
-    t ∙ ap (state held) (same_some (display_after (PreviousLine count) screen) after e)
-quiet_takes does Tab held screen after b e t = t ∙ ap (state held) (same_some (display_after Tab screen) after e)
-quiet_takes does (MoveToColumn col) held screen after b e t =
-    t ∙ ap (state held) (same_some (display_after (MoveToColumn col) screen) after e)
-quiet_takes does (MoveToRow row) held screen after b e t =
-    t ∙ ap (state held) (same_some (display_after (MoveToRow row) screen) after e)
-quiet_takes does (SetRegion top bottom) held screen after b e t =
-    t ∙ ap (state held) (same_some (display_after (SetRegion top bottom) screen) after e)
-quiet_takes does (UseOrigin on) held screen after b e t =
-    t ∙ ap (state held) (same_some (display_after (UseOrigin on) screen) after e)
-quiet_takes does EraseAbove held screen after b e t =
-    t ∙ ap (state held) (same_some (display_after EraseAbove screen) after e)
-quiet_takes does ErasePage held screen after b e t = t ∙ ap (state held) (same_some (display_after ErasePage screen) after e)
-quiet_takes does EraseStart held screen after b e t =
-    t ∙ ap (state held) (same_some (display_after EraseStart screen) after e)
-quiet_takes does EraseRow held screen after b e t = t ∙ ap (state held) (same_some (display_after EraseRow screen) after e)
-quiet_takes does (InsertChars count) held screen after b e t =
-    t ∙ ap (state held) (same_some (display_after (InsertChars count) screen) after e)
-quiet_takes does (DeleteChars count) held screen after b e t =
-    t ∙ ap (state held) (same_some (display_after (DeleteChars count) screen) after e)
-quiet_takes does (InsertLines count) held screen after b e t =
-    t ∙ ap (state held) (same_some (display_after (InsertLines count) screen) after e)
-quiet_takes does (DeleteLines count) held screen after b e t =
-    t ∙ ap (state held) (same_some (display_after (DeleteLines count) screen) after e)
-quiet_takes does (ScrollDown count) held screen after b e t =
-    t ∙ ap (state held) (same_some (display_after (ScrollDown count) screen) after e)
+quiet_takes does (OnPage x) held screen after b e t =
+    t ∙ ap (state held) (same_some (display_after (OnPage x) screen) after e)
 quiet_takes does (ScrollUp count) held screen after b e t =
     let calm = calm_of (screen.page.top == 0) (Some (display_after (ScrollUp count) screen)) after e in
     let none : outgoing (ScrollUp count) screen ≡ [] =
@@ -144,33 +102,12 @@ quiet_takes does (ScrollUp count) held screen after b e t =
     (outgoing (ScrollUp count) screen) b none refl t.screen t.heard
     ∙ ap (state held) (same_some (display_after (ScrollUp count) screen) after calm.1)
 quiet_takes does EraseScrollback held screen after b e t = absurd (subst IsNone e tt)
-quiet_takes does (MoveRight count) held screen after b e t =
-    t ∙ ap (state held) (same_some (display_after (MoveRight count) screen) after e)
-quiet_takes does (MoveTo row col) held screen after b e t =
-    t ∙ ap (state held) (same_some (display_after (MoveTo row col) screen) after e)
-quiet_takes does EraseBelow held screen after b e t =
-    t ∙ ap (state held) (same_some (display_after EraseBelow screen) after e)
-quiet_takes does EraseRest held screen after b e t = t ∙ ap (state held) (same_some (display_after EraseRest screen) after e)
-quiet_takes does (EraseChars count) held screen after b e t =
-    t ∙ ap (state held) (same_some (display_after (EraseChars count) screen) after e)
 quiet_takes does (Render setting) held screen after b e t =
     t ∙ ap (state held) (same_some (display_after (Render setting) screen) after e)
 quiet_takes does (HideCursor hidden) held screen after b e t =
     t ∙ ap (state held) (same_some (display_after (HideCursor hidden) screen) after e)
-quiet_takes does (UseApplicationCursor on) held screen after b e t =
-    t ∙ ap (state held) (same_some (display_after (UseApplicationCursor on) screen) after e)
-quiet_takes does (UseBracketedPaste on) held screen after b e t =
-    t ∙ ap (state held) (same_some (display_after (UseBracketedPaste on) screen) after e)
-quiet_takes does (SetMouseMode mode) held screen after b e t =
-    t ∙ ap (state held) (same_some (display_after (SetMouseMode mode) screen) after e)
-quiet_takes does (ClearMouseMode mode) held screen after b e t =
-    t ∙ ap (state held) (same_some (display_after (ClearMouseMode mode) screen) after e)
-quiet_takes does (SetMouseEncoding form) held screen after b e t =
-    t ∙ ap (state held) (same_some (display_after (SetMouseEncoding form) screen) after e)
-quiet_takes does (ClearMouseEncoding form) held screen after b e t =
-    t ∙ ap (state held) (same_some (display_after (ClearMouseEncoding form) screen) after e)
-quiet_takes does (SetCursorStyle look) held screen after b e t =
-    t ∙ ap (state held) (same_some (display_after (SetCursorStyle look) screen) after e)
+quiet_takes does (SetMode x) held screen after b e t =
+    t ∙ ap (state held) (same_some (display_after (SetMode x) screen) after e)
 quiet_takes does SaveCursor held screen after b e t =
     t ∙ ap (state held) (same_some (display_after SaveCursor screen) after e)
 quiet_takes does RestoreCursor held screen after b e t =
@@ -180,8 +117,6 @@ quiet_takes does LeaveAlternate held screen after b e t =
 quiet_takes does LeaveRestoring held screen after b e t =
     t ∙ ap (state held) (same_some (display_after LeaveRestoring screen) after e)
 quiet_takes does Reset held screen after b e t = t ∙ ap (state held) (same_some (display_after Reset screen) after e)
-quiet_takes does (UseApplicationKeypad on) held screen after b e t =
-    t ∙ ap (state held) (same_some (display_after (UseApplicationKeypad on) screen) after e)
 quiet_takes does EnterAlternate held screen after b e t =
     t
     ∙ ap (state held) (same_some (display_after EnterAlternate screen) after
@@ -231,48 +166,16 @@ quiet_holds (ScrollUp count) screen after e g =
     never_grows (outgoing (ScrollUp count) screen) (above_page screen)
     (ap (λ (whole : Bool). if whole then take (min count (screen.page.bottom + 1)) screen.page.rows else []) calm.0) g
 quiet_holds (CallBack call) screen after e g = never_grows [] (above_page screen) refl g
-quiet_holds CarriageReturn screen after e g = never_grows [] (above_page screen) refl g
-quiet_holds ReverseIndex screen after e g = never_grows [] (above_page screen) refl g
-quiet_holds (MoveUp count) screen after e g = never_grows [] (above_page screen) refl g
-quiet_holds (MoveDown count) screen after e g = never_grows [] (above_page screen) refl g
-quiet_holds (MoveRight count) screen after e g = never_grows [] (above_page screen) refl g
-quiet_holds (MoveLeft count) screen after e g = never_grows [] (above_page screen) refl g
-quiet_holds (NextLine count) screen after e g = never_grows [] (above_page screen) refl g
-quiet_holds (PreviousLine count) screen after e g = never_grows [] (above_page screen) refl g
-quiet_holds Tab screen after e g = never_grows [] (above_page screen) refl g
-quiet_holds (MoveTo row col) screen after e g = never_grows [] (above_page screen) refl g
-quiet_holds (MoveToColumn col) screen after e g = never_grows [] (above_page screen) refl g
-quiet_holds (MoveToRow row) screen after e g = never_grows [] (above_page screen) refl g
-quiet_holds (SetRegion top bottom) screen after e g = never_grows [] (above_page screen) refl g
-quiet_holds (UseOrigin on) screen after e g = never_grows [] (above_page screen) refl g
-quiet_holds EraseBelow screen after e g = never_grows [] (above_page screen) refl g
-quiet_holds EraseAbove screen after e g = never_grows [] (above_page screen) refl g
-quiet_holds ErasePage screen after e g = never_grows [] (above_page screen) refl g
+quiet_holds (OnPage x) screen after e g = never_grows [] (above_page screen) refl g
 quiet_holds EraseScrollback screen after e g = never_grows [] (above_page screen) refl g
-quiet_holds EraseRest screen after e g = never_grows [] (above_page screen) refl g
-quiet_holds EraseStart screen after e g = never_grows [] (above_page screen) refl g
-quiet_holds EraseRow screen after e g = never_grows [] (above_page screen) refl g
-quiet_holds (EraseChars count) screen after e g = never_grows [] (above_page screen) refl g
-quiet_holds (InsertChars count) screen after e g = never_grows [] (above_page screen) refl g
-quiet_holds (DeleteChars count) screen after e g = never_grows [] (above_page screen) refl g
-quiet_holds (InsertLines count) screen after e g = never_grows [] (above_page screen) refl g
-quiet_holds (DeleteLines count) screen after e g = never_grows [] (above_page screen) refl g
-quiet_holds (ScrollDown count) screen after e g = never_grows [] (above_page screen) refl g
 quiet_holds (Render setting) screen after e g = never_grows [] (above_page screen) refl g
 quiet_holds (HideCursor hidden) screen after e g = never_grows [] (above_page screen) refl g
-quiet_holds (UseApplicationCursor on) screen after e g = never_grows [] (above_page screen) refl g
-quiet_holds (UseBracketedPaste on) screen after e g = never_grows [] (above_page screen) refl g
-quiet_holds (SetMouseMode mode) screen after e g = never_grows [] (above_page screen) refl g
-quiet_holds (ClearMouseMode mode) screen after e g = never_grows [] (above_page screen) refl g
-quiet_holds (SetMouseEncoding form) screen after e g = never_grows [] (above_page screen) refl g
-quiet_holds (ClearMouseEncoding form) screen after e g = never_grows [] (above_page screen) refl g
-quiet_holds (SetCursorStyle look) screen after e g = never_grows [] (above_page screen) refl g
+quiet_holds (SetMode x) screen after e g = never_grows [] (above_page screen) refl g
 quiet_holds SaveCursor screen after e g = never_grows [] (above_page screen) refl g
 quiet_holds RestoreCursor screen after e g = never_grows [] (above_page screen) refl g
 quiet_holds LeaveAlternate screen after e g = never_grows [] (above_page screen) refl g
 quiet_holds LeaveRestoring screen after e g = never_grows [] (above_page screen) refl g
 quiet_holds Reset screen after e g = never_grows [] (above_page screen) refl g
-quiet_holds (UseApplicationKeypad on) screen after e g = never_grows [] (above_page screen) refl g
 quiet_holds EnterAlternate screen after e g =
     false≢true (ap is_some (sym g) ∙ (there_of screen.other (Some (display_after EnterAlternate screen)) after e).0)
 quiet_holds EnterFresh screen after e g =

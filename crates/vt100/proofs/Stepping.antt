@@ -8,14 +8,9 @@ use Rattle.vt_screen.specs.Calls.{CallValue}
 use Rattle.vt_screen.specs.Screen.{ScreenValue}
 use Rattle.vt_screen.specs.Run.{State, Takes, Refuses, StopsIn, state}
 use Rattle.vt_screen.specs.Controls.{alternate_step, fresh_alternate_step}
-use Rattle.vt_screen.specs.Steps.{Step, Print, CarriageReturn, LineFeed, ReverseIndex, MoveUp, MoveDown, MoveLeft}
-use Rattle.vt_screen.specs.Steps.{NextLine, PreviousLine, Tab, MoveToColumn, MoveToRow, SetRegion, UseOrigin}
-use Rattle.vt_screen.specs.Steps.{EraseAbove, ErasePage, EraseScrollback, EraseStart, EraseRow, InsertChars}
-use Rattle.vt_screen.specs.Steps.{DeleteChars, InsertLines, DeleteLines, ScrollDown, ScrollUp, MoveRight, MoveTo}
-use Rattle.vt_screen.specs.Steps.{EraseBelow, EraseRest, EraseChars, Render, HideCursor, UseApplicationCursor}
-use Rattle.vt_screen.specs.Steps.{UseBracketedPaste, SetMouseMode, ClearMouseMode, SetMouseEncoding, ClearMouseEncoding}
-use Rattle.vt_screen.specs.Steps.{SetCursorStyle, SaveCursor, RestoreCursor, EnterAlternate, EnterFresh, LeaveAlternate}
-use Rattle.vt_screen.specs.Steps.{LeaveRestoring, Reset, UseApplicationKeypad, CallBack, Grows, display_after}
+use Rattle.vt_screen.specs.Steps.{Step, Print, LineFeed, ScrollUp, OnPage, SaveCursor, RestoreCursor, EnterAlternate}
+use Rattle.vt_screen.specs.Steps.{EnterFresh, LeaveAlternate, LeaveRestoring, Reset, EraseScrollback, Render}
+use Rattle.vt_screen.specs.Steps.{HideCursor, SetMode, CallBack, Grows, display_after}
 use Rattle.vt100.specs.Internals.{Does, Stops, is_own}
 use Rattle.vt_rows.proofs.Folds.{folds_then}
 use Rattle.vt100.proofs.Running.{stops_first, stops_then}
@@ -44,43 +39,12 @@ takes_own : {S : Type 0} (does : CallValue → S → ScreenValue → S → Scree
     (x : Step) (s : S) (d e : ScreenValue) →
     is_own x ≡ true → e ≡ display_after x d → Takes does (state s d) x (state s e)
 takes_own does (Print c) s d e own h = absurd (false≢true own)
-takes_own does CarriageReturn s d e own h = ap (state s) h
+takes_own does (OnPage x) s d e own h = ap (state s) h
 takes_own does LineFeed s d e own h = absurd (false≢true own)
-takes_own does ReverseIndex s d e own h = ap (state s) h
-takes_own does (MoveUp count) s d e own h = ap (state s) h
-takes_own does (MoveDown count) s d e own h = ap (state s) h
-takes_own does (MoveLeft count) s d e own h = ap (state s) h
-takes_own does (NextLine count) s d e own h = ap (state s) h
-takes_own does (PreviousLine count) s d e own h = ap (state s) h
-takes_own does Tab s d e own h = ap (state s) h
-takes_own does (MoveToColumn col) s d e own h = ap (state s) h
-takes_own does (MoveToRow row) s d e own h = ap (state s) h
-takes_own does (SetRegion top bottom) s d e own h = ap (state s) h
-takes_own does (UseOrigin on) s d e own h = ap (state s) h
-takes_own does EraseAbove s d e own h = ap (state s) h
-takes_own does ErasePage s d e own h = ap (state s) h
-takes_own does EraseStart s d e own h = ap (state s) h
-takes_own does EraseRow s d e own h = ap (state s) h
-takes_own does (InsertChars count) s d e own h = ap (state s) h
-takes_own does (DeleteChars count) s d e own h = ap (state s) h
-takes_own does (InsertLines count) s d e own h = ap (state s) h
-takes_own does (DeleteLines count) s d e own h = ap (state s) h
-takes_own does (ScrollDown count) s d e own h = ap (state s) h
 takes_own does (ScrollUp count) s d e own h = absurd (false≢true own)
-takes_own does (MoveRight count) s d e own h = ap (state s) h
-takes_own does (MoveTo row col) s d e own h = ap (state s) h
-takes_own does EraseBelow s d e own h = ap (state s) h
-takes_own does EraseRest s d e own h = ap (state s) h
-takes_own does (EraseChars count) s d e own h = ap (state s) h
 takes_own does (Render setting) s d e own h = ap (state s) h
 takes_own does (HideCursor hidden) s d e own h = ap (state s) h
-takes_own does (UseApplicationCursor on) s d e own h = ap (state s) h
-takes_own does (UseBracketedPaste on) s d e own h = ap (state s) h
-takes_own does (SetMouseMode mode) s d e own h = ap (state s) h
-takes_own does (ClearMouseMode mode) s d e own h = ap (state s) h
-takes_own does (SetMouseEncoding form) s d e own h = ap (state s) h
-takes_own does (ClearMouseEncoding form) s d e own h = ap (state s) h
-takes_own does (SetCursorStyle look) s d e own h = ap (state s) h
+takes_own does (SetMode x) s d e own h = ap (state s) h
 takes_own does SaveCursor s d e own h = ap (state s) h
 takes_own does RestoreCursor s d e own h = ap (state s) h
 takes_own does EnterAlternate s d e own h = absurd (false≢true own)
@@ -88,7 +52,6 @@ takes_own does EnterFresh s d e own h = absurd (false≢true own)
 takes_own does LeaveAlternate s d e own h = ap (state s) h
 takes_own does LeaveRestoring s d e own h = ap (state s) h
 takes_own does Reset s d e own h = ap (state s) h
-takes_own does (UseApplicationKeypad on) s d e own h = ap (state s) h
 takes_own does EraseScrollback s d e own h = absurd (false≢true own)
 takes_own does (CallBack call) s d e own h = absurd (false≢true own)
 

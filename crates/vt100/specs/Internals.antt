@@ -1,9 +1,10 @@
 -- Aids of proofs, which only contracts of private functions cite.
 use Rattle.std.specs.Prelude.{◌≡◌, Bool, true, false, List, Option, Some, None}
 use Rattle.std.specs.List.{FoldsTo}
+use Rattle.vt_grid.specs.PageStep.{PageStep}
 use Rattle.vt_screen.specs.Calls.{CallValue, UnhandledCsi}
 use Rattle.vt_screen.specs.Screen.{ScreenValue}
-use Rattle.vt_screen.specs.Steps.{Step, Print, LineFeed, ScrollUp, EnterAlternate}
+use Rattle.vt_screen.specs.Steps.{Step, Print, LineFeed, ScrollUp, OnPage, EnterAlternate}
 use Rattle.vt_screen.specs.Steps.{EnterFresh, EraseScrollback, CallBack, display_after}
 use Rattle.vt_screen.specs.Run.{Refuses, StopsIn, Takes, state}
 use Rattle.vt100.specs.declared.sequence.Sequence.{Sequence}
@@ -34,7 +35,7 @@ is_own EnterAlternate = false
 is_own EnterFresh = false
 is_own _ = true
 
--- a step was made, if there is one, and else nothing
-abbrev pub MadeIf : Option Step → Bool → ScreenValue → ScreenValue → Type 0
-MadeIf (Some step) made old new = (made ≡ true) × ((is_own step ≡ true) × (new ≡ display_after step old))
+-- a step of the page was made, if there is one, and else nothing
+abbrev pub MadeIf : Option PageStep → Bool → ScreenValue → ScreenValue → Type 0
+MadeIf (Some step) made old new = (made ≡ true) × (new ≡ display_after (OnPage step) old)
 MadeIf None made old new = (made ≡ false) × (new ≡ old)

@@ -7,6 +7,7 @@ ghost use Rattle.vt_screen.specs.Calls.{UnhandledCsi};
 ghost use Rattle.vt_screen.specs.Controls.{counted_step, csi_steps, intermediate_steps, number_at, number_or, other_steps};
 ghost use Rattle.vt_screen.specs.Controls.{scrolling_steps, page_erasing, plain_steps, private_steps};
 ghost use Rattle.vt_screen.specs.Controls.{row_erasing, size_or, space_steps, style_of, window_steps, seen_of};
+ghost use Rattle.vt_grid.specs.PageStep as page;
 ghost use Rattle.vt_screen.specs.Steps.{display_after};
 ghost use Rattle.vt_screen.specs.Steps as step;
 
@@ -188,8 +189,8 @@ fn other<CB: Callbacks>(screen: &mut Screen, callbacks: &mut CB, sequence: Seque
 #[inline(always)]
 fn move_to(screen: &mut Screen, parameters: &Parameters)
     ensures { screen.new
-        ≡ display_after (step.MoveTo (number_or 1 0 parameters.now.groups - 1)
-        (number_or 1 1 parameters.now.groups - 1))
+        ≡ display_after (step.OnPage (page.MoveTo (number_or 1 0 parameters.now.groups - 1)
+        (number_or 1 1 parameters.now.groups - 1)))
         screen.old }
 {
     let row = numbers::number_or(1, parameters, 0);
@@ -200,8 +201,8 @@ fn move_to(screen: &mut Screen, parameters: &Parameters)
 /// DECSTBM, whose numbers count from 1; without the second one, to the last row.
 fn set_region(screen: &mut Screen, parameters: &Parameters)
     ensures { screen.new
-        ≡ display_after (step.SetRegion (number_or 1 0 parameters.now.groups - 1)
-        (number_or (length screen.old.page.rows) 1 parameters.now.groups - 1))
+        ≡ display_after (step.OnPage (page.SetRegion (number_or 1 0 parameters.now.groups - 1)
+        (number_or (length screen.old.page.rows) 1 parameters.now.groups - 1)))
         screen.old }
 {
     let (rows, _) = screen.size();

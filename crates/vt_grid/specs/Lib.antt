@@ -7,6 +7,7 @@ pub mod Spare
 pub mod Outgoing
 pub mod Resize
 pub mod Erasing
+pub mod PageStep
 pub mod Printing
 pub mod Canvas
 pub mod Internals

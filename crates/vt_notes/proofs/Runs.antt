@@ -12,14 +12,9 @@ use Rattle.vt_screen.specs.Screen.{ScreenValue}
 use Rattle.vt_screen.specs.Run as act
 use Rattle.vt_screen.specs.Run.{CalledOnScroll, Performs, Scrolls, Takes, state}
 use Rattle.vt_screen.specs.Controls.{seen_of, steps_of}
-use Rattle.vt_screen.specs.Steps.{Step, Print, CarriageReturn, LineFeed, ReverseIndex, MoveUp, MoveDown, MoveRight}
-use Rattle.vt_screen.specs.Steps.{MoveLeft, NextLine, PreviousLine, Tab, MoveTo, MoveToColumn, MoveToRow, SetRegion}
-use Rattle.vt_screen.specs.Steps.{UseOrigin, EraseBelow, EraseAbove, ErasePage, EraseScrollback, EraseRest, EraseStart}
-use Rattle.vt_screen.specs.Steps.{EraseRow, EraseChars, InsertChars, DeleteChars, InsertLines, DeleteLines, ScrollUp}
-use Rattle.vt_screen.specs.Steps.{ScrollDown, Render, HideCursor, UseApplicationCursor, UseBracketedPaste, SetMouseMode}
-use Rattle.vt_screen.specs.Steps.{ClearMouseMode, SetMouseEncoding, ClearMouseEncoding, SetCursorStyle, SaveCursor}
-use Rattle.vt_screen.specs.Steps.{RestoreCursor, EnterAlternate, EnterFresh, LeaveAlternate, LeaveRestoring, Reset}
-use Rattle.vt_screen.specs.Steps.{UseApplicationKeypad, CallBack, reports, screen_after, display_after}
+use Rattle.vt_screen.specs.Steps.{Step, Print, LineFeed, ScrollUp, OnPage, SaveCursor, RestoreCursor, EnterAlternate}
+use Rattle.vt_screen.specs.Steps.{EnterFresh, LeaveAlternate, LeaveRestoring, Reset, EraseScrollback, Render}
+use Rattle.vt_screen.specs.Steps.{HideCursor, SetMode, CallBack, reports, screen_after, display_after}
 use Rattle.vt_screen.specs.Telling.{calls_of, calls_of_all, screen_after_all, steps_of_all, steps_in, calls_in, screen_in}
 use Rattle.vt100.specs.Parser.{Parsing, Ran, pieces_joined, parsing, stage}
 use Rattle.vt_rows.proofs.Folds.{folds_then}
@@ -101,41 +96,10 @@ done_step (Print c) a b t = done_scrolled (Print c) a b t
 done_step LineFeed a b t = done_scrolled LineFeed a b t
 done_step (ScrollUp count) a b t = done_scrolled (ScrollUp count) a b t
 done_step EraseScrollback a b t = done_scrolled EraseScrollback a b t
-done_step CarriageReturn a b t = done_quietly a b (display_after CarriageReturn a.screen) t
-done_step ReverseIndex a b t = done_quietly a b (display_after ReverseIndex a.screen) t
-done_step (MoveUp count) a b t = done_quietly a b (display_after (MoveUp count) a.screen) t
-done_step (MoveDown count) a b t = done_quietly a b (display_after (MoveDown count) a.screen) t
-done_step (MoveRight count) a b t = done_quietly a b (display_after (MoveRight count) a.screen) t
-done_step (MoveLeft count) a b t = done_quietly a b (display_after (MoveLeft count) a.screen) t
-done_step (NextLine count) a b t = done_quietly a b (display_after (NextLine count) a.screen) t
-done_step (PreviousLine count) a b t = done_quietly a b (display_after (PreviousLine count) a.screen) t
-done_step Tab a b t = done_quietly a b (display_after Tab a.screen) t
-done_step (MoveTo row col) a b t = done_quietly a b (display_after (MoveTo row col) a.screen) t
-done_step (MoveToColumn col) a b t = done_quietly a b (display_after (MoveToColumn col) a.screen) t
-done_step (MoveToRow row) a b t = done_quietly a b (display_after (MoveToRow row) a.screen) t
-done_step (SetRegion top bottom) a b t = done_quietly a b (display_after (SetRegion top bottom) a.screen) t
-done_step (UseOrigin on) a b t = done_quietly a b (display_after (UseOrigin on) a.screen) t
-done_step EraseBelow a b t = done_quietly a b (display_after EraseBelow a.screen) t
-done_step EraseAbove a b t = done_quietly a b (display_after EraseAbove a.screen) t
-done_step ErasePage a b t = done_quietly a b (display_after ErasePage a.screen) t
-done_step EraseRest a b t = done_quietly a b (display_after EraseRest a.screen) t
-done_step EraseStart a b t = done_quietly a b (display_after EraseStart a.screen) t
-done_step EraseRow a b t = done_quietly a b (display_after EraseRow a.screen) t
-done_step (EraseChars count) a b t = done_quietly a b (display_after (EraseChars count) a.screen) t
-done_step (InsertChars count) a b t = done_quietly a b (display_after (InsertChars count) a.screen) t
-done_step (DeleteChars count) a b t = done_quietly a b (display_after (DeleteChars count) a.screen) t
-done_step (InsertLines count) a b t = done_quietly a b (display_after (InsertLines count) a.screen) t
-done_step (DeleteLines count) a b t = done_quietly a b (display_after (DeleteLines count) a.screen) t
-done_step (ScrollDown count) a b t = done_quietly a b (display_after (ScrollDown count) a.screen) t
+done_step (OnPage x) a b t = done_quietly a b (display_after (OnPage x) a.screen) t
 done_step (Render setting) a b t = done_quietly a b (display_after (Render setting) a.screen) t
 done_step (HideCursor hidden) a b t = done_quietly a b (display_after (HideCursor hidden) a.screen) t
-done_step (UseApplicationCursor on) a b t = done_quietly a b (display_after (UseApplicationCursor on) a.screen) t
-done_step (UseBracketedPaste on) a b t = done_quietly a b (display_after (UseBracketedPaste on) a.screen) t
-done_step (SetMouseMode mode) a b t = done_quietly a b (display_after (SetMouseMode mode) a.screen) t
-done_step (ClearMouseMode mode) a b t = done_quietly a b (display_after (ClearMouseMode mode) a.screen) t
-done_step (SetMouseEncoding form) a b t = done_quietly a b (display_after (SetMouseEncoding form) a.screen) t
-done_step (ClearMouseEncoding form) a b t = done_quietly a b (display_after (ClearMouseEncoding form) a.screen) t
-done_step (SetCursorStyle look) a b t = done_quietly a b (display_after (SetCursorStyle look) a.screen) t
+done_step (SetMode x) a b t = done_quietly a b (display_after (SetMode x) a.screen) t
 done_step SaveCursor a b t = done_quietly a b (display_after SaveCursor a.screen) t
 done_step RestoreCursor a b t = done_quietly a b (display_after RestoreCursor a.screen) t
 done_step EnterAlternate a b t = done_quietly a b (display_after EnterAlternate a.screen) t
@@ -143,7 +107,6 @@ done_step EnterFresh a b t = done_quietly a b (display_after EnterFresh a.screen
 done_step LeaveAlternate a b t = done_quietly a b (display_after LeaveAlternate a.screen) t
 done_step LeaveRestoring a b t = done_quietly a b (display_after LeaveRestoring a.screen) t
 done_step Reset a b t = done_quietly a b (display_after Reset a.screen) t
-done_step (UseApplicationKeypad on) a b t = done_quietly a b (display_after (UseApplicationKeypad on) a.screen) t
 
 -- ---- steps and events
 

@@ -5,6 +5,7 @@ use Rattle.std.proofs.Common.{min, Option, Some, None, refl, sym, ap, subst, ◌
 use Rattle.std.specs.Prelude.{IfSome, drop, if◌then◌else◌, nat_lt}
 use Rattle.vt_cells.specs.Op.{bytes_of_all, csi}
 use Rattle.vt_grid.specs.Canvas.{and_then}
+use Rattle.vt_grid.specs.PageStep.{SetRegion, UseOrigin}
 use Rattle.vt_grid.specs.Page.{IsPage, Page, SameSize}
 use Rattle.vt_grid.specs.Regions.{last_row, origin_set, region_set}
 use Rattle.vt_grid.proofs.Regions.{page_origin_set, page_region_set}
@@ -20,7 +21,7 @@ use Rattle.vt_screen.specs.Reading.{Terminal, read, read_byte, terminal}
 use Rattle.vt_screen.specs.Screen.{IsColored, IsScreen, ScreenValue, with_page}
 use Rattle.vt_screen.specs.Shown.{HasCursor, HasRows, IsReadBy, IsReader, Makes, ReadsTo, ShowsPlainly, shown}
 use Rattle.vt_screen.specs.Controls.{counted_step, intermediate_steps, mode_step, other_steps, private_steps, scrolling_steps}
-use Rattle.vt_screen.specs.Steps.{SetRegion, UseOrigin, display_after}
+use Rattle.vt_screen.specs.Steps.{OnPage, display_after}
 use Rattle.vt_screen.proofs.Became.{Redraws, redraw_redraws}
 use Rattle.vt_screen.proofs.ReadbackTexts.{csi_read, reads_append, reads_then}
 use Rattle.vt_screen.proofs.Telling.{redraws_tell}
@@ -34,15 +35,16 @@ whole_page page = record page { top = 0; bottom = last_row page; origin = false;
 abbrev in_whole : ScreenValue → ScreenValue
 in_whole screen = with_page (whole_page screen.page) screen
 
-origin_read : (screen : ScreenValue) → ReadsTo (csi (0x3F ∷ 0x36 ∷ []) 0x6C) screen (display_after (UseOrigin false) screen)
+origin_read : (screen : ScreenValue) →
+    ReadsTo (csi (0x3F ∷ 0x36 ∷ []) 0x6C) screen (display_after (OnPage (UseOrigin false)) screen)
 unfolding read_byte fresh_step class_of table_of groups_of numbers_of number_of private_steps intermediate_steps mode_step
 origin_read screen = refl
 
 region_read : (screen : ScreenValue) →
-    ReadsTo (csi [] 0x72) screen (display_after (SetRegion 0 (last_row screen.page)) screen)
+    ReadsTo (csi [] 0x72) screen (display_after (OnPage (SetRegion 0 (last_row screen.page))) screen)
 unfolding counted_step scrolling_steps other_steps
 region_read screen =
-    csi_read [] 0x72 ((0 ∷ []) ∷ []) screen (display_after (SetRegion 0 (last_row screen.page)) screen)
+    csi_read [] 0x72 ((0 ∷ []) ∷ []) screen (display_after (OnPage (SetRegion 0 (last_row screen.page))) screen)
     tt (omega arith, omega arith) empty_groups refl
 
 -- a region of one row or of more
@@ -61,8 +63,8 @@ whole_is page =
 
 whole_read : (screen : ScreenValue) → ReadsTo whole_region_text screen (in_whole screen)
 whole_read screen =
-    let middle = display_after (UseOrigin false) screen in
-    let end = display_after (SetRegion 0 (last_row screen.page)) middle in
+    let middle = display_after (OnPage (UseOrigin false)) screen in
+    let end = display_after (OnPage (SetRegion 0 (last_row screen.page))) middle in
     reads_then (terminal start screen) (terminal start middle) (terminal start (in_whole screen))
     (csi (0x3F ∷ 0x36 ∷ []) 0x6C) (csi [] 0x72) (origin_read screen)
     (region_read middle ∙ ap (λ (page : Page). Some (terminal start (with_page page screen))) (whole_is screen.page))

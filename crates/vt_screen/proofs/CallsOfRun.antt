@@ -8,16 +8,11 @@ use Rattle.vt_scan.specs.Automaton.{Event}
 use Rattle.vt_screen.specs.Calls.{CallValue, OnScroll}
 use Rattle.vt_screen.specs.Screen.{ScreenValue}
 use Rattle.vt_screen.specs.Run as act
-use Rattle.vt_screen.specs.Run.{CalledOnScroll, Performs, Scrolls, Takes, CalledOnAnyScreen, state}
+use Rattle.vt_screen.specs.Run.{Performs, Scrolls, Takes, CalledOnAnyScreen, state}
 use Rattle.vt_screen.specs.Controls.{seen_of, steps_of}
-use Rattle.vt_screen.specs.Steps.{Step, Print, CarriageReturn, LineFeed, ReverseIndex, MoveUp, MoveDown, MoveRight}
-use Rattle.vt_screen.specs.Steps.{MoveLeft, NextLine, PreviousLine, Tab, MoveTo, MoveToColumn, MoveToRow, SetRegion}
-use Rattle.vt_screen.specs.Steps.{UseOrigin, EraseBelow, EraseAbove, ErasePage, EraseScrollback, EraseRest, EraseStart}
-use Rattle.vt_screen.specs.Steps.{EraseRow, EraseChars, InsertChars, DeleteChars, InsertLines, DeleteLines, ScrollUp}
-use Rattle.vt_screen.specs.Steps.{ScrollDown, Render, HideCursor, UseApplicationCursor, UseBracketedPaste, SetMouseMode}
-use Rattle.vt_screen.specs.Steps.{ClearMouseMode, SetMouseEncoding, ClearMouseEncoding, SetCursorStyle, SaveCursor}
-use Rattle.vt_screen.specs.Steps.{RestoreCursor, EnterAlternate, EnterFresh, LeaveAlternate, LeaveRestoring, Reset}
-use Rattle.vt_screen.specs.Steps.{UseApplicationKeypad, CallBack, reports, screen_after, display_after}
+use Rattle.vt_screen.specs.Steps.{Step, Print, LineFeed, ScrollUp, OnPage, SaveCursor, RestoreCursor, EnterAlternate}
+use Rattle.vt_screen.specs.Steps.{EnterFresh, LeaveAlternate, LeaveRestoring, Reset, EraseScrollback, Render}
+use Rattle.vt_screen.specs.Steps.{HideCursor, SetMode, CallBack, reports, screen_after, display_after}
 use Rattle.vt_screen.specs.Telling.{CalledOnSomeScreen, LeavesScreen, calls_of, calls_of_all, screen_after_all, steps_of_all}
 use Rattle.vt_screen.proofs.Reporting.{told_rows}
 
@@ -71,20 +66,7 @@ heard_step does leaves (Print c) a b t = heard_scroll does (Print c) a b t
 heard_step does leaves LineFeed a b t = heard_scroll does LineFeed a b t
 heard_step does leaves (ScrollUp count) a b t = heard_scroll does (ScrollUp count) a b t
 heard_step does leaves EraseScrollback a b t = heard_scroll does EraseScrollback a b t
-heard_step does leaves CarriageReturn a b t = heard_nothing does a b (display_after CarriageReturn a.screen) t
-heard_step does leaves ReverseIndex a b t = heard_nothing does a b (display_after ReverseIndex a.screen) t
-heard_step does leaves (MoveUp count) a b t = heard_nothing does a b (display_after (MoveUp count) a.screen) t
-heard_step does leaves (MoveDown count) a b t = heard_nothing does a b (display_after (MoveDown count) a.screen) t
-heard_step does leaves (MoveRight count) a b t = heard_nothing does a b (display_after (MoveRight count) a.screen) t
-heard_step does leaves (MoveLeft count) a b t = heard_nothing does a b (display_after (MoveLeft count) a.screen) t
-heard_step does leaves (NextLine count) a b t = heard_nothing does a b (display_after (NextLine count) a.screen) t
-heard_step does leaves (PreviousLine count) a b t = heard_nothing does a b (display_after (PreviousLine count) a.screen) t
-heard_step does leaves Tab a b t = heard_nothing does a b (display_after Tab a.screen) t
-heard_step does leaves (MoveTo row col) a b t = heard_nothing does a b (display_after (MoveTo row col) a.screen) t
-heard_step does leaves (MoveToColumn col) a b t = heard_nothing does a b (display_after (MoveToColumn col) a.screen) t
-heard_step does leaves (MoveToRow row) a b t = heard_nothing does a b (display_after (MoveToRow row) a.screen) t
-heard_step does leaves (SetRegion top bottom) a b t = heard_nothing does a b (display_after (SetRegion top bottom) a.screen) t
-heard_step does leaves (UseOrigin on) a b t = heard_nothing does a b (display_after (UseOrigin on) a.screen) t
+heard_step does leaves (OnPage x) a b t = heard_nothing does a b (display_after (OnPage x) a.screen) t
 heard_step does leaves SaveCursor a b t = heard_nothing does a b (display_after SaveCursor a.screen) t
 heard_step does leaves RestoreCursor a b t = heard_nothing does a b (display_after RestoreCursor a.screen) t
 heard_step does leaves EnterAlternate a b t = heard_nothing does a b (display_after EnterAlternate a.screen) t
@@ -92,32 +74,9 @@ heard_step does leaves EnterFresh a b t = heard_nothing does a b (display_after 
 heard_step does leaves LeaveAlternate a b t = heard_nothing does a b (display_after LeaveAlternate a.screen) t
 heard_step does leaves LeaveRestoring a b t = heard_nothing does a b (display_after LeaveRestoring a.screen) t
 heard_step does leaves Reset a b t = heard_nothing does a b (display_after Reset a.screen) t
-heard_step does leaves EraseBelow a b t = heard_nothing does a b (display_after EraseBelow a.screen) t
-heard_step does leaves EraseAbove a b t = heard_nothing does a b (display_after EraseAbove a.screen) t
-heard_step does leaves ErasePage a b t = heard_nothing does a b (display_after ErasePage a.screen) t
-heard_step does leaves EraseRest a b t = heard_nothing does a b (display_after EraseRest a.screen) t
-heard_step does leaves EraseStart a b t = heard_nothing does a b (display_after EraseStart a.screen) t
-heard_step does leaves EraseRow a b t = heard_nothing does a b (display_after EraseRow a.screen) t
-heard_step does leaves (EraseChars count) a b t = heard_nothing does a b (display_after (EraseChars count) a.screen) t
-heard_step does leaves (InsertChars count) a b t = heard_nothing does a b (display_after (InsertChars count) a.screen) t
-heard_step does leaves (DeleteChars count) a b t = heard_nothing does a b (display_after (DeleteChars count) a.screen) t
-heard_step does leaves (InsertLines count) a b t = heard_nothing does a b (display_after (InsertLines count) a.screen) t
-heard_step does leaves (DeleteLines count) a b t = heard_nothing does a b (display_after (DeleteLines count) a.screen) t
-heard_step does leaves (ScrollDown count) a b t = heard_nothing does a b (display_after (ScrollDown count) a.screen) t
 heard_step does leaves (Render setting) a b t = heard_nothing does a b (display_after (Render setting) a.screen) t
 heard_step does leaves (HideCursor hidden) a b t = heard_nothing does a b (display_after (HideCursor hidden) a.screen) t
-heard_step does leaves (UseApplicationKeypad on) a b t =
-    heard_nothing does a b (display_after (UseApplicationKeypad on) a.screen) t
-heard_step does leaves (UseApplicationCursor on) a b t =
-    heard_nothing does a b (display_after (UseApplicationCursor on) a.screen) t
-heard_step does leaves (UseBracketedPaste on) a b t = heard_nothing does a b (display_after (UseBracketedPaste on) a.screen) t
-heard_step does leaves (SetMouseMode mode) a b t = heard_nothing does a b (display_after (SetMouseMode mode) a.screen) t
-heard_step does leaves (ClearMouseMode mode) a b t = heard_nothing does a b (display_after (ClearMouseMode mode) a.screen) t
-heard_step does leaves (SetMouseEncoding form) a b t =
-    heard_nothing does a b (display_after (SetMouseEncoding form) a.screen) t
-heard_step does leaves (ClearMouseEncoding form) a b t =
-    heard_nothing does a b (display_after (ClearMouseEncoding form) a.screen) t
-heard_step does leaves (SetCursorStyle look) a b t = heard_nothing does a b (display_after (SetCursorStyle look) a.screen) t
+heard_step does leaves (SetMode x) a b t = heard_nothing does a b (display_after (SetMode x) a.screen) t
 
 -- ---- steps and events
 

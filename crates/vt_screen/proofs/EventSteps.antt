@@ -6,8 +6,7 @@ use Rattle.std.specs.Char.{IsScalar}
 use Rattle.std.specs.List.{AllByRecursion}
 use Rattle.std.proofs.lemmas.Bool.{eqb-true}
 use Rattle.vt_cells.specs.declared.modes.CursorStyle.{CursorStyle}
-use Rattle.vt_cells.specs.declared.modes.MouseProtocolMode.{MouseProtocolMode}
-use Rattle.vt_cells.specs.declared.modes.MouseProtocolEncoding.{MouseProtocolEncoding}
+use Rattle.vt_grid.specs.PageStep.{PageStep}
 use Rattle.vt_scan.specs.Automaton.{State, Event, Character, Executed, EscDispatch, CsiDispatch, OscDispatch}
 use Rattle.vt_scan.specs.Run.{run}
 use Rattle.vt_scan.proofs.Scalars.{IsCoded, AreCoded, coded_run}
@@ -17,12 +16,12 @@ use Rattle.vt_screen.specs.Sgr.{group_read}
 use Rattle.vt_screen.specs.Streamed.{HasNoRis, ris, row_told, sent_off_in}
 use Rattle.vt_screen.specs.Telling.{calls_in, screen_in, screen_after_all, steps_in, steps_of_all}
 use Rattle.vt_screen.specs.Controls.{alternate_step, character_steps, clipboard_steps, control_steps, counted_step}
-use Rattle.vt_screen.specs.Controls.{csi_steps, encoding_step, escape_steps, fresh_alternate_step, intermediate_steps}
-use Rattle.vt_screen.specs.Controls.{intermediate_at, mode_step, mode_steps, mouse_step, named_steps, number_or, one_or}
+use Rattle.vt_screen.specs.Controls.{csi_steps, escape_steps, fresh_alternate_step, intermediate_steps}
+use Rattle.vt_screen.specs.Controls.{intermediate_at, mode_step, mode_steps, named_steps, number_or, one_or}
 use Rattle.vt_screen.specs.Controls.{osc_steps, other_steps, page_erasing, plain_steps, private_steps, reading_steps}
 use Rattle.vt_screen.specs.Controls.{repeated, row_erasing, scrolling_steps, Seen, seen_of, sgr_from, space_steps}
 use Rattle.vt_screen.specs.Controls.{steps_of, style_steps, window_steps}
-use Rattle.vt_screen.specs.Steps.{Step, Print, Reset, CallBack}
+use Rattle.vt_screen.specs.Steps.{Step, Print, OnPage, Reset, CallBack}
 use Rattle.vt_screen.specs.declared.sgr.Reading.{Reading}
 use Rattle.vt_screen.specs.declared.sgr.Reading.TheVariants.{Silent, Set, Unhandled}
 use Rattle.vt_screen.specs.declared.sgr.Wanted.{Wanted}
@@ -31,9 +30,6 @@ use Rattle.vt_screen.proofs.Streaming.{Held, IsAmong, Streamed, steps_stream}
 -- all of these steps are so
 pub record AllAmong (Q : ℕ → Type 0) (R : Type 0) (steps : List Step) : Type 0 where
   pub all : AllByRecursion (IsAmong Q R) steps
-
-record SomeAmong (Q : ℕ → Type 0) (R : Type 0) (step : Option Step) : Type 0 where
-  some : IfSome step (IsAmong Q R)
 
 -- what an event prints is so, and it starts the screen anew only where that is allowed
 pub record Allows (Q : ℕ → Type 0) (R : Type 0) (event : Event) : Type 0 where
@@ -58,14 +54,6 @@ all_where : {Q : ℕ → Type 0} {R : Type 0} → (b : Bool) (xs ys : List Step)
     → (b ≡ false → AllAmong Q R ys) → AllAmong Q R (if b then xs else ys)
 all_where true xs ys f g = f refl
 all_where false xs ys f g = g refl
-
-may : {Q : ℕ → Type 0} {R : Type 0} → (x : Step) → IsAmong Q R x → SomeAmong Q R (Some x)
-may x i = record { some = i }
-
-some_if : {Q : ℕ → Type 0} {R : Type 0} → (b : Bool) (x y : Option Step) → SomeAmong Q R x → SomeAmong Q R y
-    → SomeAmong Q R (if b then x else y)
-some_if true x y p q = p
-some_if false x y p q = q
 
 pub all_then : {Q : ℕ → Type 0} {R : Type 0} → (xs ys : List Step) → AllAmong Q R xs → AllAmong Q R ys
     → AllAmong Q R (xs ++ ys)
@@ -146,21 +134,16 @@ stream_scrolling : {Q : ℕ → Type 0} {R : Type 0} → (groups : List (List �
 unfolding scrolling_steps
 stream_scrolling groups b seen k = search (all_if, own, stream_other, stream_repeated) depth 20
 
-stream_counted : {Q : ℕ → Type 0} {R : Type 0} → (b n : ℕ) → SomeAmong Q R (counted_step b n)
-unfolding counted_step
-stream_counted b n = search (some_if, may) depth 20
-
-stream_one_or : {Q : ℕ → Type 0} {R : Type 0} → (step : Option Step) (others : List Step) → SomeAmong Q R step
-    → AllAmong Q R others → AllAmong Q R (one_or step others)
-stream_one_or (Some step) others p q = own step p.some
-stream_one_or None others p q = q
+stream_one_or : {Q : ℕ → Type 0} {R : Type 0} → (step : Option PageStep) (others : List Step) → AllAmong Q R others
+    → AllAmong Q R (one_or step others)
+stream_one_or (Some step) others q = own (OnPage step) tt
+stream_one_or None others q = q
 
 stream_plain : {Q : ℕ → Type 0} {R : Type 0} → (groups : List (List ℕ)) (b : ℕ) (seen : Seen) → IfSome seen.last Q
     → AllAmong Q R (plain_steps groups b seen)
 stream_plain groups b seen k =
-    let n = number_or 1 0 groups in
-    stream_one_or (counted_step b n) (scrolling_steps groups b seen)
-    (stream_counted b n) (stream_scrolling groups b seen k)
+    stream_one_or (counted_step b (number_or 1 0 groups)) (scrolling_steps groups b seen)
+    (stream_scrolling groups b seen k)
 
 -- ---- modes and other marked sequences
 
@@ -168,16 +151,6 @@ stream_style : {Q : ℕ → Type 0} {R : Type 0} → (report : CallValue) (look 
     → AllAmong Q R (style_steps report look)
 stream_style report (Some look) e = (own _ tt)
 stream_style report None e = (told _ e)
-
-stream_mouse : {Q : ℕ → Type 0} {R : Type 0} → (on : Bool) (mode : MouseProtocolMode)
-    → AllAmong Q R (mouse_step on mode ∷ [])
-stream_mouse true mode = (own _ tt)
-stream_mouse false mode = (own _ tt)
-
-stream_encoding : {Q : ℕ → Type 0} {R : Type 0} → (on : Bool) (form : MouseProtocolEncoding)
-    → AllAmong Q R (encoding_step on form ∷ [])
-stream_encoding true form = (own _ tt)
-stream_encoding false form = (own _ tt)
 
 stream_alternate : {Q : ℕ → Type 0} {R : Type 0} → (on : Bool) → AllAmong Q R (alternate_step on ∷ [])
 stream_alternate true = (own _ tt)
@@ -190,7 +163,7 @@ stream_fresh false = (own _ tt)
 stream_mode : {Q : ℕ → Type 0} {R : Type 0} → (on : Bool) (report : CallValue) (n : ℕ) → row_told report ≡ []
     → AllAmong Q R (mode_step on report n)
 unfolding mode_step
-stream_mode on report n e = search (all_if, own, stream_alternate, stream_encoding, stream_fresh, stream_mouse) depth 20
+stream_mode on report n e = search (all_if, own, stream_alternate, stream_fresh) depth 20
 
 stream_modes : {Q : ℕ → Type 0} {R : Type 0} → (on : Bool) (report : CallValue) (groups : List (List ℕ))
     → row_told report ≡ [] → AllAmong Q R (mode_steps on report groups)

@@ -10,7 +10,7 @@ use Rattle.vt_cells.specs.Cell.{marked, text_of, is_wide}
 use Rattle.vt_cells.specs.Glyph.{columns_of, is_selector, is_wide_text}
 use Rattle.vt_rows.specs.Cells.{at, ends_blank, erased, widened_at}
 use Rattle.vt_rows.specs.Row.{blank_row}
-use Rattle.vt_grid.specs.Page.{Page, SameSize, cursor_row, scrolled_up}
+use Rattle.vt_grid.specs.Page.{Page, IsPage, SameSize, cursor_row, scrolled_up}
 use Rattle.vt_grid.specs.Moves.{carriage_return, moved_left, moved_right, moved_to, target_row}
 use Rattle.vt_grid.specs.Moves.{at_bottom, line_feed, cursor_saved, cursor_restored}
 use Rattle.vt_grid.specs.Regions.{in_region, last_row, moved_up, moved_down, next_line, previous_line}
@@ -34,6 +34,9 @@ pub record IsInside (page : Page) : Type 0 where
   pub row : page.row < length page.rows
   pub saved_row : page.saved_row < length page.rows
   pub bottom : page.bottom < length page.rows
+
+pub inside_page : (page : Page) → IsPage page → IsInside page
+inside_page page p = record { row = p.cursor_row; saved_row = p.saved_row; bottom = p.region_end }
 
 -- the rows of two pages are the same in these
 record SameRows (new page : Page) : Type 0 where

@@ -19,6 +19,7 @@ pub mod StableMoves
 mod Coloring
 pub mod Sizes
 pub mod Inside
+pub mod PageSteps
 pub mod Sized
 pub mod SizedRuns
 pub mod StableScrollback

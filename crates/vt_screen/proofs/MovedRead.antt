@@ -1,18 +1,20 @@
 -- A band of rows that moves, and the difference behind it, read by a plain terminal.
-use Rattle.std.proofs.Common.{◌≡◌, ◌⊎◌, inl, inr, ℕ, zero, suc, ◌+◌, ◌-◌, ◌<◌, ◌≤◌, ◌==◌, ◌^◌, Bool, true, false, List, []}
+use Rattle.std.proofs.Common.{◌≡◌, inl, inr, ℕ, zero, suc, ◌+◌, ◌-◌, ◌<◌, ◌≤◌, ◌==◌, ◌^◌, Bool, true, false, List, []}
 use Rattle.std.proofs.Common.{◌∷◌, ◌++◌, length, Option, Some, None, refl, sym, ap, subst, ◌∙◌, arith}
-use Rattle.std.specs.Prelude.{All, IfSome, if◌then◌else◌}
+use Rattle.std.specs.Prelude.{IfSome, if◌then◌else◌}
 use Rattle.std.proofs.lemmas.Bool.Decides.{nat_tests}
-use Rattle.vt_cells.specs.Attrs.{default_attrs, changed_attrs, Attrs}
-use Rattle.vt_cells.specs.Op.{MoveTo, bytes_of, bytes_of_all, counted, change_text}
+use Rattle.vt_cells.specs.Attrs.{default_attrs, Attrs}
+use Rattle.vt_cells.specs.Op.{MoveTo, bytes_of, bytes_of_all, counted}
 use Rattle.vt_cells.proofs.Same.{changed_attrs-new}
-use Rattle.vt_rows.specs.Row.{RowValue, IsRow}
+use Rattle.vt_rows.specs.Row.{RowValue}
 use Rattle.vt_grid.specs.Page.{Page, IsPage, IsPlainPage, SameSize, row_or, rows_up, up_source}
 use Rattle.vt_grid.specs.Shifts.{rows_down}
+use Rattle.vt_grid.specs.Moves.{moved_to}
+use Rattle.vt_grid.specs.PageStep.{DeleteLines, InsertLines}
 use Rattle.vt_grid.proofs.Pages.{length-moved_rows, page_at, page_of_rows}
-use Rattle.vt_redraw.specs.Moved.{IsBand, IsScrolling, band_source, band_text, down_text, last_moved, moved}
+use Rattle.vt_redraw.specs.Moved.{IsBand, IsScrolling, band_text, down_text, last_moved, moved}
 use Rattle.vt_redraw.specs.Moved.{lines_deleted_text, lines_inserted_text, moving_text, rows_moved, scrolling_text, up_text}
-use Rattle.vt_redraw.specs.Picture.{Picture, IsPicture, SamePictureSize, Saved, picture_of, with_picture}
+use Rattle.vt_redraw.specs.Picture.{Picture, SamePictureSize, picture_of, with_picture}
 use Rattle.vt_redraw.specs.Redraw.{difference}
 use Rattle.vt_redraw.specs.Script.{attr_ops}
 use Rattle.vt_redraw.specs.Steady.{IsSteady}
@@ -28,8 +30,7 @@ use Rattle.vt_screen.specs.Controls.{counted_step}
 use Rattle.vt_screen.specs.Reading.{read, terminal}
 use Rattle.vt_screen.specs.Screen.{ScreenValue, IsScreen, IsColored, canvas_of, with_canvas, with_page}
 use Rattle.vt_screen.specs.Shown.{IsPlain, IsReader, IsReaderOf, ReadsTo, shown}
-use Rattle.vt_screen.specs.Steps.{display_after}
-use Rattle.vt_screen.specs.Steps as steps
+use Rattle.vt_screen.specs.Steps.{OnPage, display_after}
 use Rattle.vt_screen.proofs.Became.{Redraws, redraws}
 use Rattle.vt_screen.proofs.Readback.{changed_read, counted_read, moved_to_read}
 use Rattle.vt_screen.proofs.ReadbackTexts.{reads_then}
@@ -40,14 +41,14 @@ use Rattle.vt_screen.proofs.Telling.{difference_none, difference_tells}
 -- ---- lines deleted and inserted
 
 deleted_read : (n : ℕ) (screen : ScreenValue) → suc n < 2 ^ 16 →
-    ReadsTo (counted (suc n) 0x4D) screen (display_after (steps.DeleteLines (suc n)) screen)
+    ReadsTo (counted (suc n) 0x4D) screen (display_after (OnPage (DeleteLines (suc n))) screen)
 unfolding counted_step
-deleted_read n screen h = counted_read n 0x4D steps.DeleteLines screen h (omega arith, omega arith) (λ groups. refl)
+deleted_read n screen h = counted_read n 0x4D DeleteLines screen h (omega arith, omega arith) (λ groups. refl)
 
 inserted_read : (n : ℕ) (screen : ScreenValue) → suc n < 2 ^ 16 →
-    ReadsTo (counted (suc n) 0x4C) screen (display_after (steps.InsertLines (suc n)) screen)
+    ReadsTo (counted (suc n) 0x4C) screen (display_after (OnPage (InsertLines (suc n))) screen)
 unfolding counted_step
-inserted_read n screen h = counted_read n 0x4C steps.InsertLines screen h (omega arith, omega arith) (λ groups. refl)
+inserted_read n screen h = counted_read n 0x4C InsertLines screen h (omega arith, omega arith) (λ groups. refl)
 
 -- a page with other rows, and the cursor at a row's begin
 abbrev at_row : List RowValue → ℕ → ScreenValue → ScreenValue
@@ -59,9 +60,10 @@ lines_deleted_read : (r n : ℕ) (screen : ScreenValue) → IsPlainPage screen.p
     (at_row (rows_up screen.page.width r (length screen.page.rows - 1) n screen.page.rows) r screen)
 lines_deleted_read r zero screen plain inside low some short = absurd (omega arith)
 lines_deleted_read r (suc n) screen plain inside low some short =
-    let middle = display_after (steps.MoveTo r 0) screen in
+    let middle = with_page (moved_to r 0 screen.page) screen in
     reads_then (terminal start screen) (terminal start middle)
-    (terminal start (display_after (steps.DeleteLines (suc n)) middle)) (bytes_of (MoveTo r 0)) (counted (suc n) 0x4D)
+    (terminal start (display_after (OnPage (DeleteLines (suc n))) middle))
+    (bytes_of (MoveTo r 0)) (counted (suc n) 0x4D)
     (moved_to_read r 0 screen low (omega arith)) (deleted_read n middle short)
     ∙ ap (λ (page : Page). Some (terminal start (with_page page screen)))
     (deleted_is r (suc n) screen.page plain inside)
@@ -72,9 +74,10 @@ lines_inserted_read : (r n : ℕ) (screen : ScreenValue) → IsPlainPage screen.
     (at_row (rows_down screen.page.width r (length screen.page.rows - 1) n screen.page.rows) r screen)
 lines_inserted_read r zero screen plain inside low some short = absurd (omega arith)
 lines_inserted_read r (suc n) screen plain inside low some short =
-    let middle = display_after (steps.MoveTo r 0) screen in
+    let middle = with_page (moved_to r 0 screen.page) screen in
     reads_then (terminal start screen) (terminal start middle)
-    (terminal start (display_after (steps.InsertLines (suc n)) middle)) (bytes_of (MoveTo r 0)) (counted (suc n) 0x4C)
+    (terminal start (display_after (OnPage (InsertLines (suc n))) middle))
+    (bytes_of (MoveTo r 0)) (counted (suc n) 0x4C)
     (moved_to_read r 0 screen low (omega arith)) (inserted_read n middle short)
     ∙ ap (λ (page : Page). Some (terminal start (with_page page screen)))
     (inserted_is r (suc n) screen.page plain inside)

@@ -19,6 +19,7 @@ use Rattle.vt_grid.specs.Canvas.{Canvas, and_then, drawn, drawn_all, drawn_text,
 use Rattle.vt_redraw.specs.Fits.{Fits, IsDrawn}
 use Rattle.vt_grid.specs.Moves.{carriage_return, line_feed, feeds_out}
 use Rattle.vt_grid.specs.Printing.{pushes}
+use Rattle.vt_grid.specs.PageStep as page
 use Rattle.vt_scan.specs.Automaton.{Character, Executed, start, fresh_step}
 use Rattle.vt_scan.specs.Parameters.{table_of, groups_of, numbers_of, number_of}
 use Rattle.vt_scan.specs.Table.{class_of}
@@ -30,7 +31,7 @@ use Rattle.vt_screen.specs.Screen.{ScreenValue, canvas_of, with_canvas, with_pag
 use Rattle.vt_screen.specs.Controls.{plain_steps, counted_step, scrolling_steps, other_steps, page_erasing}
 use Rattle.vt_screen.specs.Controls.{row_erasing, character_steps, control_steps, escape_steps, intermediate_steps}
 use Rattle.vt_screen.specs.Controls.{private_steps, mode_step, number_or, seen_of}
-use Rattle.vt_screen.specs.Steps.{display_after}
+use Rattle.vt_screen.specs.Steps.{OnPage, display_after}
 use Rattle.vt_screen.specs.Steps as steps
 use Rattle.vt_screen.specs.Reading.{quiet_step, quiet_steps, terminal, read_byte, read}
 use Rattle.vt_screen.proofs.ReadbackSgr.{sgr_change, sgr_clear, few_changes, some_changes}
@@ -83,45 +84,48 @@ cleared_read screen =
     bare 0x6D screen (record screen { attrs = default_attrs }) (omega arith, omega arith) (sgr_clear screen)
 
 erased_below_read : (screen : ScreenValue) →
-    read (terminal start screen) (csi [] 0x4A) ≡ Some (terminal start (display_after steps.EraseBelow screen))
+    read (terminal start screen) (csi [] 0x4A) ≡ Some (terminal start (display_after (OnPage page.EraseBelow) screen))
 unfolding counted_step scrolling_steps other_steps page_erasing
-erased_below_read screen = bare 0x4A screen (display_after steps.EraseBelow screen) (omega arith, omega arith) refl
+erased_below_read screen =
+    bare 0x4A screen (display_after (OnPage page.EraseBelow) screen) (omega arith, omega arith) refl
 
 erased_rest_read : (screen : ScreenValue) →
-    read (terminal start screen) (csi [] 0x4B) ≡ Some (terminal start (display_after steps.EraseRest screen))
+    read (terminal start screen) (csi [] 0x4B) ≡ Some (terminal start (display_after (OnPage page.EraseRest) screen))
 unfolding counted_step scrolling_steps other_steps row_erasing
-erased_rest_read screen = bare 0x4B screen (display_after steps.EraseRest screen) (omega arith, omega arith) refl
+erased_rest_read screen =
+    bare 0x4B screen (display_after (OnPage page.EraseRest) screen) (omega arith, omega arith) refl
 
 -- a count that isn't 0 is itself
 count_read : (n : ℕ) (rest : List (List ℕ)) → 0 < n → number_or 1 0 ((n ∷ []) ∷ rest) ≡ n
 count_read n rest h = let t : (n == 0) ≡ false = grind (arith, nat_tests) in rw t refl
 
 -- with a count: the step that the sequence is, with this count
-pub counted_read : (n final : ℕ) (step : ℕ → steps.Step) (screen : ScreenValue) → suc n < 2 ^ 16 → IsFinal final
+pub counted_read : (n final : ℕ) (step : ℕ → page.PageStep) (screen : ScreenValue) → suc n < 2 ^ 16 → IsFinal final
     → ((groups : List (List ℕ))
     → quiet_steps (plain_steps groups final (seen_of screen)) screen
-    ≡ Some (display_after (step (number_or 1 0 groups)) screen))
-    → read (terminal start screen) (counted (suc n) final) ≡ Some (terminal start (display_after (step (suc n)) screen))
+    ≡ Some (display_after (OnPage (step (number_or 1 0 groups))) screen))
+    → read (terminal start screen) (counted (suc n) final)
+    ≡ Some (terminal start (display_after (OnPage (step (suc n))) screen))
 counted_read zero final step screen h is_final means =
-    bare final screen (display_after (step 1) screen) is_final (means ((0 ∷ []) ∷ []))
+    bare final screen (display_after (OnPage (step 1)) screen) is_final (means ((0 ∷ []) ∷ []))
 counted_read (suc n) final step screen h is_final means =
     let count : ℕ = suc (suc n) in
     let groups : List (List ℕ) = (count ∷ []) ∷ [] in
-    csi_read (decimal count) final groups screen (display_after (step count) screen)
+    csi_read (decimal count) final groups screen (display_after (OnPage (step count)) screen)
     (decimal_is_parameter count (omega arith)) is_final (decimal_groups count (omega arith))
-    (means groups ∙ ap (λ (k : ℕ). Some (display_after (step k) screen)) (count_read count [] (omega arith)))
+    (means groups ∙ ap (λ (k : ℕ). Some (display_after (OnPage (step k)) screen)) (count_read count [] (omega arith)))
 
 moved_right_read : (n : ℕ) (screen : ScreenValue) → suc n < 2 ^ 16 →
     read (terminal start screen) (counted (suc n) 0x43)
-    ≡ Some (terminal start (display_after (steps.MoveRight (suc n)) screen))
+    ≡ Some (terminal start (display_after (OnPage (page.MoveRight (suc n))) screen))
 unfolding counted_step
-moved_right_read n screen h = counted_read n 0x43 steps.MoveRight screen h (omega arith, omega arith) (λ groups. refl)
+moved_right_read n screen h = counted_read n 0x43 page.MoveRight screen h (omega arith, omega arith) (λ groups. refl)
 
 erased_chars_read : (n : ℕ) (screen : ScreenValue) → suc n < 2 ^ 16 →
     read (terminal start screen) (counted (suc n) 0x58)
-    ≡ Some (terminal start (display_after (steps.EraseChars (suc n)) screen))
+    ≡ Some (terminal start (display_after (OnPage (page.EraseChars (suc n))) screen))
 unfolding counted_step
-erased_chars_read n screen h = counted_read n 0x58 steps.EraseChars screen h (omega arith, omega arith) (λ groups. refl)
+erased_chars_read n screen h = counted_read n 0x58 page.EraseChars screen h (omega arith, omega arith) (λ groups. refl)
 
 -- a row or column counted from 1
 ordinal_read : (n : ℕ) → (if (n + 1) == 0 then 1 else n + 1) - 1 ≡ n
@@ -129,16 +133,16 @@ ordinal_read n = let t : ((n + 1) == 0) ≡ false = grind (arith, nat_tests) in 
 
 placed : (row col : ℕ) (screen : ScreenValue) →
     quiet_steps (plain_steps (((row + 1) ∷ []) ∷ ((col + 1) ∷ []) ∷ []) 0x48 (seen_of screen)) screen
-    ≡ Some (display_after (steps.MoveTo row col) screen)
+    ≡ Some (display_after (OnPage (page.MoveTo row col)) screen)
 unfolding counted_step scrolling_steps other_steps
 placed row col screen =
-    ap (λ (r : ℕ). Some (display_after (steps.MoveTo r ((if (col + 1) == 0 then 1 else col + 1) - 1)) screen))
+    ap (λ (r : ℕ). Some (display_after (OnPage (page.MoveTo r ((if (col + 1) == 0 then 1 else col + 1) - 1))) screen))
     (ordinal_read row)
-    ∙ ap (λ (c : ℕ). Some (display_after (steps.MoveTo row c) screen)) (ordinal_read col)
+    ∙ ap (λ (c : ℕ). Some (display_after (OnPage (page.MoveTo row c)) screen)) (ordinal_read col)
 
 place_read : (row col : ℕ) (screen : ScreenValue) →
     quiet_steps (plain_steps (place_groups row col) 0x48 (seen_of screen)) screen
-    ≡ Some (display_after (steps.MoveTo row col) screen)
+    ≡ Some (display_after (OnPage (page.MoveTo row col)) screen)
 unfolding counted_step scrolling_steps other_steps
 place_read zero zero screen = refl
 place_read zero (suc col) screen = placed zero (suc col) screen
@@ -146,9 +150,9 @@ place_read (suc row) col screen = placed (suc row) col screen
 
 pub moved_to_read : (row col : ℕ) (screen : ScreenValue) → row < 65535 → col < 65535
     → read (terminal start screen) (csi (place row col) 0x48)
-    ≡ Some (terminal start (display_after (steps.MoveTo row col) screen))
+    ≡ Some (terminal start (display_after (OnPage (page.MoveTo row col)) screen))
 moved_to_read row col screen low narrow =
-    csi_read (place row col) 0x48 (place_groups row col) screen (display_after (steps.MoveTo row col) screen)
+    csi_read (place row col) 0x48 (place_groups row col) screen (display_after (OnPage (page.MoveTo row col)) screen)
     (place_is_parameter row col low narrow) (omega arith, omega arith)
     (place_groups_are row col low narrow) (place_read row col screen)
 
@@ -231,7 +235,7 @@ unfolding read_byte fresh_step class_of control_steps
 returned_read screen rest = refl
 
 left_read : (screen : ScreenValue) →
-    read (terminal start screen) (0x08 ∷ []) ≡ Some (terminal start (display_after (steps.MoveLeft 1) screen))
+    read (terminal start screen) (0x08 ∷ []) ≡ Some (terminal start (display_after (OnPage (page.MoveLeft 1)) screen))
 unfolding read_byte fresh_step class_of control_steps
 left_read screen = refl
 
@@ -315,26 +319,29 @@ reads_op (Hide hidden) screen d f h =
 reads_op ClearAttrs screen d f h =
     known (bytes_of ClearAttrs) screen (record (canvas_of screen) { attrs = default_attrs }) d h (cleared_read screen)
 reads_op (MoveTo row col) screen d (low, narrow) h =
-    known (bytes_of (MoveTo row col)) screen (canvas_of (display_after (steps.MoveTo row col) screen))
+    known (bytes_of (MoveTo row col)) screen (canvas_of (display_after (OnPage (page.MoveTo row col)) screen))
     d h (moved_to_read row col screen low narrow)
 reads_op (MoveRight zero) screen d f h = known [] screen (canvas_of screen) d h refl
 reads_op (MoveRight (suc n)) screen d f h =
     known (bytes_of (MoveRight (suc n))) screen
-    (canvas_of (display_after (steps.MoveRight (suc n)) screen)) d h (moved_right_read n screen f)
+    (canvas_of (display_after (OnPage (page.MoveRight (suc n))) screen)) d h (moved_right_read n screen f)
 reads_op NextRow screen d f h =
     let next : ScreenValue = with_page (carriage_return screen.page) screen in
     (screen.last, returned_read screen (0x0A ∷ []) ∙ fed_read next d h)
 reads_op LineFeed screen d f h = (screen.last, fed_read screen d h)
 reads_op Backspace screen d f h =
-    known (bytes_of Backspace) screen (canvas_of (display_after (steps.MoveLeft 1) screen)) d h (left_read screen)
+    known (bytes_of Backspace) screen
+    (canvas_of (display_after (OnPage (page.MoveLeft 1)) screen)) d h (left_read screen)
 reads_op EraseBelow screen d f h =
-    known (bytes_of EraseBelow) screen (canvas_of (display_after steps.EraseBelow screen)) d h (erased_below_read screen)
+    known (bytes_of EraseBelow) screen
+    (canvas_of (display_after (OnPage page.EraseBelow) screen)) d h (erased_below_read screen)
 reads_op EraseRest screen d f h =
-    known (bytes_of EraseRest) screen (canvas_of (display_after steps.EraseRest screen)) d h (erased_rest_read screen)
+    known (bytes_of EraseRest) screen
+    (canvas_of (display_after (OnPage page.EraseRest) screen)) d h (erased_rest_read screen)
 reads_op (EraseChars zero) screen d f h = known [] screen (canvas_of screen) d h refl
 reads_op (EraseChars (suc n)) screen d f h =
     known (bytes_of (EraseChars (suc n))) screen
-    (canvas_of (display_after (steps.EraseChars (suc n)) screen)) d h (erased_chars_read n screen f)
+    (canvas_of (display_after (OnPage (page.EraseChars (suc n))) screen)) d h (erased_chars_read n screen f)
 reads_op SaveCursor screen d f h =
     known (bytes_of SaveCursor) screen (canvas_of (display_after steps.SaveCursor screen)) d h (saved_read screen)
 reads_op RestoreCursor screen d f h =

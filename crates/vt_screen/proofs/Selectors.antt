@@ -14,29 +14,18 @@ use Rattle.vt_cells.specs.Cell.{CellValue, blank, glyph, right_half, marked, tex
 use Rattle.vt_cells.specs.Glyph.{columns_of, has_room, is_selector, marked_text}
 use Rattle.vt_rows.specs.Row.{RowValue}
 use Rattle.vt_grid.specs.Page.{Page}
-use Rattle.vt_grid.specs.Moves.{carriage_return, moved_left, moved_right, moved_to}
-use Rattle.vt_grid.specs.Regions.{moved_down, moved_to_column, moved_to_row, moved_up}
-use Rattle.vt_grid.specs.Regions.{next_line, origin_set, previous_line, tabbed}
 use Rattle.vt_grid.specs.Outgoing.{fed_out, printed_out, scrolled_out}
 use Rattle.vt_grid.specs.Resize.{out_of_view}
 use Rattle.vt_grid.specs.Scrollback.{Scrollback, cleared, pushed}
 use Rattle.vt_screen.specs.Pages.{entered, entered_fresh, fresh_page, left, page_aside, restored, saved}
 use Rattle.vt_screen.specs.Screen.{ScreenValue, with_page}
-use Rattle.vt_screen.specs.Steps.{Step, Print, CarriageReturn, LineFeed, ReverseIndex, MoveUp, MoveDown, MoveRight}
-use Rattle.vt_screen.specs.Steps.{MoveLeft, NextLine, PreviousLine, Tab, MoveTo, MoveToColumn, MoveToRow, SetRegion}
-use Rattle.vt_screen.specs.Steps.{UseOrigin, EraseBelow, EraseAbove, ErasePage, EraseScrollback, EraseRest, EraseStart}
-use Rattle.vt_screen.specs.Steps.{EraseRow, EraseChars, InsertChars, DeleteChars, InsertLines, DeleteLines, ScrollUp}
-use Rattle.vt_screen.specs.Steps.{ScrollDown, Render, HideCursor, UseApplicationKeypad, UseApplicationCursor}
-use Rattle.vt_screen.specs.Steps.{UseBracketedPaste, SetMouseMode, ClearMouseMode, SetMouseEncoding, ClearMouseEncoding}
-use Rattle.vt_screen.specs.Steps.{SetCursorStyle, SaveCursor, RestoreCursor, EnterAlternate, EnterFresh, LeaveAlternate}
-use Rattle.vt_screen.specs.Steps.{LeaveRestoring, Reset, CallBack, becomes_last, screen_after, display_after}
+use Rattle.vt_screen.specs.Steps.{Step, Print, LineFeed, ScrollUp, OnPage, SaveCursor, RestoreCursor, EnterAlternate}
+use Rattle.vt_screen.specs.Steps.{EnterFresh, LeaveAlternate, LeaveRestoring, Reset, EraseScrollback, Render}
+use Rattle.vt_screen.specs.Steps.{HideCursor, SetMode, CallBack, becomes_last, screen_after, display_after}
 use Rattle.vt_screen.specs.Telling.{screen_after_all}
-use Rattle.vt_screen.proofs.Stable.{EachCell, EachRow, IsStable, stable_blank, stable_erased_below, stable_erased_chars}
-use Rattle.vt_screen.proofs.Stable.{stable_erased_rest, stable_line_feed, stable_printed, stable_scrolled_up}
-use Rattle.vt_screen.proofs.StableMoves.{stable_chars_deleted, stable_chars_inserted, stable_erased_above}
-use Rattle.vt_screen.proofs.StableMoves.{stable_erased_page, stable_erased_row, stable_erased_start}
-use Rattle.vt_screen.proofs.StableMoves.{stable_lines_deleted, stable_lines_inserted, stable_region_set}
-use Rattle.vt_screen.proofs.StableMoves.{stable_reverse_index, stable_scrolled_down}
+use Rattle.vt_screen.proofs.Stable.{EachCell, EachRow, IsStable, stable_blank}
+use Rattle.vt_screen.proofs.Stable.{stable_line_feed, stable_printed, stable_scrolled_up}
+use Rattle.vt_screen.proofs.PageSteps.{stable_page_after}
 use Rattle.vt_screen.proofs.StableScrollback.{stable_fed_out, stable_printed_out, stable_pushed, stable_scrolled_out}
 use Rattle.vt_screen.proofs.Streaming.{IsAmong}
 
@@ -206,7 +195,6 @@ plain_reset s None = tt
 
 pub step_plain : (x : Step) (s : ScreenValue) → IsAmong IsPlainCharacter (Unit {0}) x → StaysPlain s
     → StaysPlain (screen_after x s)
-unfolding moved_up moved_down
 step_plain (Print c) s i k =
     sends s.is_alternate s (display_after (Print c) s) (printed_out c s.attrs s.page)
     (stable_printed_out selecting c s.attrs s.page tt k.rows)
@@ -238,44 +226,12 @@ step_plain EnterAlternate s i k = plain_entered s k
 step_plain EnterFresh s i k = plain_entered_fresh s k
 step_plain LeaveAlternate s i k = plain_left s k
 step_plain LeaveRestoring s i k = plain_restored (left s) (plain_left s k)
-step_plain CarriageReturn s i k = on_page (carriage_return s.page) s k.rows k
-step_plain ReverseIndex s i k = on_page _ s (stable_reverse_index selecting s.page k.rows) k
-step_plain (MoveUp count) s i k = on_page (moved_up count s.page) s k.rows k
-step_plain (MoveDown count) s i k = on_page (moved_down count s.page) s k.rows k
-step_plain (MoveRight count) s i k = on_page (moved_right count s.page) s k.rows k
-step_plain (MoveLeft count) s i k = on_page (moved_left count s.page) s k.rows k
-step_plain (NextLine count) s i k = on_page (next_line count s.page) s k.rows k
-step_plain (PreviousLine count) s i k = on_page (previous_line count s.page) s k.rows k
-step_plain Tab s i k = on_page (tabbed s.page) s k.rows k
-step_plain (MoveTo row col) s i k = on_page (moved_to row col s.page) s k.rows k
-step_plain (MoveToColumn col) s i k = on_page (moved_to_column col s.page) s k.rows k
-step_plain (MoveToRow row) s i k = on_page (moved_to_row row s.page) s k.rows k
-step_plain (SetRegion top bottom) s i k = on_page _ s (stable_region_set selecting top bottom s.page k.rows) k
-step_plain (UseOrigin on) s i k = on_page (origin_set on s.page) s k.rows k
-step_plain EraseBelow s i k = on_page _ s (stable_erased_below selecting s.attrs s.page tt k.rows) k
-step_plain EraseAbove s i k = on_page _ s (stable_erased_above selecting s.attrs s.page tt k.rows) k
-step_plain ErasePage s i k = on_page _ s (stable_erased_page selecting s.attrs s.page tt k.rows) k
-step_plain EraseRest s i k = on_page _ s (stable_erased_rest selecting s.attrs s.page tt k.rows) k
-step_plain EraseStart s i k = on_page _ s (stable_erased_start selecting s.attrs s.page tt k.rows) k
-step_plain EraseRow s i k = on_page _ s (stable_erased_row selecting s.attrs s.page tt k.rows) k
-step_plain (EraseChars count) s i k = on_page _ s (stable_erased_chars selecting count s.attrs s.page tt k.rows) k
-step_plain (InsertChars count) s i k = on_page _ s (stable_chars_inserted selecting count s.page k.rows) k
-step_plain (DeleteChars count) s i k = on_page _ s (stable_chars_deleted selecting count s.page k.rows) k
-step_plain (InsertLines count) s i k = on_page _ s (stable_lines_inserted selecting count s.page k.rows) k
-step_plain (DeleteLines count) s i k = on_page _ s (stable_lines_deleted selecting count s.page k.rows) k
-step_plain (ScrollDown count) s i k = on_page _ s (stable_scrolled_down selecting count s.page k.rows) k
+step_plain (OnPage x) s i k = on_page _ s (stable_page_after selecting s.attrs x s.page tt k.rows) k
 step_plain SaveCursor s i k = plain_saved s k
 step_plain RestoreCursor s i k = plain_restored s k
 step_plain (Render setting) s i k = record { rows = k.rows; other = k.other; above = k.above; last = k.last }
 step_plain (HideCursor hidden) s i k = record { rows = k.rows; other = k.other; above = k.above; last = k.last }
-step_plain (UseApplicationKeypad on) s i k = record { rows = k.rows; other = k.other; above = k.above; last = k.last }
-step_plain (UseApplicationCursor on) s i k = record { rows = k.rows; other = k.other; above = k.above; last = k.last }
-step_plain (UseBracketedPaste on) s i k = record { rows = k.rows; other = k.other; above = k.above; last = k.last }
-step_plain (SetMouseMode mode) s i k = record { rows = k.rows; other = k.other; above = k.above; last = k.last }
-step_plain (ClearMouseMode mode) s i k = record { rows = k.rows; other = k.other; above = k.above; last = k.last }
-step_plain (SetMouseEncoding form) s i k = record { rows = k.rows; other = k.other; above = k.above; last = k.last }
-step_plain (ClearMouseEncoding form) s i k = record { rows = k.rows; other = k.other; above = k.above; last = k.last }
-step_plain (SetCursorStyle look) s i k = record { rows = k.rows; other = k.other; above = k.above; last = k.last }
+step_plain (SetMode x) s i k = record { rows = k.rows; other = k.other; above = k.above; last = k.last }
 
 pub steps_plain : (steps : List Step) (s : ScreenValue) → AllByRecursion (IsAmong IsPlainCharacter (Unit {0})) steps
     → StaysPlain s → StaysPlain (screen_after_all steps s)

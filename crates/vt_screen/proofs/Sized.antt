@@ -1,5 +1,5 @@
 -- Steps leave the size of a screen.
-use Rattle.std.proofs.Common.{◌≡◌, ℕ, ◌<◌, ◌-◌, Bool, true, false, List, [], ◌∷◌, length, refl, sym, subst, ◌∙◌, arith}
+use Rattle.std.proofs.Common.{◌≡◌, ℕ, ◌<◌, Bool, true, false, length, refl, sym, subst, ◌∙◌, arith}
 use Rattle.std.specs.Prelude.{IfSome, Option, Some, None, option_map, unwrap_or, if◌then◌else◌}
 use Rattle.std.proofs.lemmas.List.{length-replicate}
 use Rattle.vt_cells.specs.Attrs.{default_attrs}
@@ -7,46 +7,20 @@ use Rattle.vt_rows.specs.Row.{blank_row}
 use Rattle.vt_grid.specs.Page.{Page, SameSize, IsPage, blank_page}
 use Rattle.vt_grid.specs.Resize.{out_of_view}
 use Rattle.vt_grid.specs.Scrollback.{pushed}
-use Rattle.vt_scan.specs.Automaton.{Event}
 use Rattle.vt_screen.specs.Pages.{fresh_page, page_aside, entered, entered_fresh}
-use Rattle.vt_screen.specs.Pages.{left, left_restored, saved, restored, reset}
+use Rattle.vt_screen.specs.Pages.{left, saved, restored, reset}
 use Rattle.vt_screen.specs.Screen.{ScreenValue, IsScreen}
-use Rattle.vt_screen.specs.Controls.{steps_of}
-use Rattle.vt_screen.specs.Steps.{Step, Print, CarriageReturn, LineFeed, ReverseIndex, MoveUp, MoveDown, MoveRight}
-use Rattle.vt_screen.specs.Steps.{MoveLeft, NextLine, PreviousLine, Tab, MoveTo, MoveToColumn, MoveToRow, SetRegion}
-use Rattle.vt_screen.specs.Steps.{UseOrigin, EraseBelow, EraseAbove, ErasePage, EraseScrollback, EraseRest, EraseStart}
-use Rattle.vt_screen.specs.Steps.{EraseRow, EraseChars, InsertChars, DeleteChars, InsertLines, DeleteLines, ScrollUp}
-use Rattle.vt_screen.specs.Steps.{ScrollDown, Render, HideCursor, UseApplicationCursor, UseBracketedPaste, SetMouseMode}
-use Rattle.vt_screen.specs.Steps.{ClearMouseMode, SetMouseEncoding, ClearMouseEncoding, SetCursorStyle, SaveCursor}
-use Rattle.vt_screen.specs.Steps.{RestoreCursor, EnterAlternate, EnterFresh, LeaveAlternate, LeaveRestoring, Reset}
-use Rattle.vt_screen.specs.Steps.{UseApplicationKeypad, CallBack, outgoing, sent, screen_after, display_after}
-use Rattle.vt_grid.specs.Page.{scrolled_up}
-use Rattle.vt_grid.specs.Moves.{carriage_return, moved_left, moved_right, moved_to}
-use Rattle.vt_grid.specs.Moves.{line_feed, cursor_saved, cursor_restored}
-use Rattle.vt_grid.specs.Regions.{moved_up, moved_down, next_line, previous_line, tabbed}
-use Rattle.vt_grid.specs.Regions.{moved_to_column, moved_to_row, region_set, origin_set}
-use Rattle.vt_grid.specs.Shifts.{reverse_index, scrolled_down, lines_inserted}
-use Rattle.vt_grid.specs.Shifts.{lines_deleted, chars_inserted, chars_deleted}
-use Rattle.vt_grid.specs.Erasing.{erased_below, erased_above, erased_page, erased_rest}
-use Rattle.vt_grid.specs.Erasing.{erased_start, erased_row, erased_chars}
-use Rattle.vt_grid.specs.Printing.{printed}
-use Rattle.vt_screen.proofs.Inside.{IsInside, inside_carriage_return, inside_moved_left, inside_moved_right}
-use Rattle.vt_screen.proofs.Inside.{inside_moved_to, inside_moved_up, inside_moved_down, inside_next_line}
-use Rattle.vt_screen.proofs.Inside.{inside_previous_line, inside_moved_to_column, inside_moved_to_row, inside_tabbed}
-use Rattle.vt_screen.proofs.Inside.{inside_region_set, inside_origin_set, inside_cursor_saved, inside_cursor_restored}
-use Rattle.vt_screen.proofs.Inside.{inside_line_feed, inside_scrolled_up, inside_scrolled_down, inside_reverse_index}
-use Rattle.vt_screen.proofs.Inside.{inside_lines_inserted, inside_lines_deleted, inside_chars_inserted}
-use Rattle.vt_screen.proofs.Inside.{inside_chars_deleted, inside_erased_chars, inside_erased_rest, inside_erased_below}
-use Rattle.vt_screen.proofs.Inside.{inside_erased_start, inside_erased_row, inside_erased_above, inside_erased_page}
-use Rattle.vt_screen.proofs.Inside.{inside_printed, same_erased_above}
-use Rattle.vt_screen.proofs.Sizes.{same_itself, same_through, same_carriage_return, same_moved_left}
-use Rattle.vt_screen.proofs.Sizes.{same_moved_right, same_moved_to, same_moved_up, same_moved_down, same_next_line}
-use Rattle.vt_screen.proofs.Sizes.{same_previous_line, same_moved_to_column, same_moved_to_row, same_tabbed}
-use Rattle.vt_screen.proofs.Sizes.{same_region_set, same_origin_set, same_cursor_saved, same_cursor_restored}
-use Rattle.vt_screen.proofs.Sizes.{same_line_feed, same_scrolled_up, same_scrolled_down, same_reverse_index}
-use Rattle.vt_screen.proofs.Sizes.{same_lines_inserted, same_lines_deleted, same_chars_inserted, same_chars_deleted}
-use Rattle.vt_screen.proofs.Sizes.{same_erased_chars, same_erased_rest, same_erased_below, same_erased_start}
-use Rattle.vt_screen.proofs.Sizes.{same_erased_row, same_erased_page, same_printed}
+use Rattle.vt_screen.specs.Steps.{Step, Print, LineFeed, ScrollUp, OnPage, SaveCursor, RestoreCursor, EnterAlternate}
+use Rattle.vt_screen.specs.Steps.{EnterFresh, LeaveAlternate, LeaveRestoring, Reset, EraseScrollback, Render}
+use Rattle.vt_screen.specs.Steps.{HideCursor, SetMode, CallBack, outgoing, sent, display_after}
+use Rattle.vt_screen.proofs.PageSteps.{inside_page_after, same_page_after}
+use Rattle.vt_screen.proofs.Inside.{IsInside, inside_page}
+use Rattle.vt_screen.proofs.Inside.{inside_cursor_saved, inside_cursor_restored}
+use Rattle.vt_screen.proofs.Inside.{inside_line_feed, inside_scrolled_up}
+use Rattle.vt_screen.proofs.Inside.{inside_printed}
+use Rattle.vt_screen.proofs.Sizes.{same_cursor_saved, same_cursor_restored}
+use Rattle.vt_screen.proofs.Sizes.{same_line_feed, same_scrolled_up}
+use Rattle.vt_screen.proofs.Sizes.{same_printed}
 
 -- a page of this size, with its cursors on it
 pub record IsSizedPage (height width : ℕ) (page : Page) : Type 0 where
@@ -153,51 +127,13 @@ pub sized_stepped : (height width : ℕ) (step : Step) (screen : ScreenValue) �
 sized_stepped height width (Print c) screen z =
     paged height width screen (display_after (Print c) screen) refl (same_printed c screen.attrs screen.page)
     (inside_printed c screen.attrs screen.page z.page.inside) z
-sized_stepped height width CarriageReturn screen z =
-    paged height width screen (display_after CarriageReturn screen) refl
-    (same_carriage_return screen.page) (inside_carriage_return screen.page z.page.inside) z
+sized_stepped height width (OnPage x) screen z =
+    paged height width screen (display_after (OnPage x) screen) refl
+    (same_page_after screen.attrs x screen.page z.page.inside)
+    (inside_page_after screen.attrs x screen.page z.page.inside) z
 sized_stepped height width LineFeed screen z =
     paged height width screen (display_after LineFeed screen) refl
     (same_line_feed screen.page) (inside_line_feed screen.page z.page.inside) z
-sized_stepped height width ReverseIndex screen z =
-    paged height width screen (display_after ReverseIndex screen) refl
-    (same_reverse_index screen.page) (inside_reverse_index screen.page z.page.inside) z
-sized_stepped height width (MoveUp n) screen z =
-    paged height width screen (display_after (MoveUp n) screen) refl
-    (same_moved_up n screen.page) (inside_moved_up n screen.page z.page.inside) z
-sized_stepped height width (MoveDown n) screen z =
-    paged height width screen (display_after (MoveDown n) screen) refl
-    (same_moved_down n screen.page) (inside_moved_down n screen.page z.page.inside) z
-sized_stepped height width (MoveRight n) screen z =
-    paged height width screen (display_after (MoveRight n) screen) refl
-    (same_moved_right n screen.page) (inside_moved_right n screen.page z.page.inside) z
-sized_stepped height width (MoveLeft n) screen z =
-    paged height width screen (display_after (MoveLeft n) screen) refl
-    (same_moved_left n screen.page) (inside_moved_left n screen.page z.page.inside) z
-sized_stepped height width (NextLine n) screen z =
-    paged height width screen (display_after (NextLine n) screen) refl
-    (same_next_line n screen.page) (inside_next_line n screen.page z.page.inside) z
-sized_stepped height width (PreviousLine n) screen z =
-    paged height width screen (display_after (PreviousLine n) screen) refl
-    (same_previous_line n screen.page) (inside_previous_line n screen.page z.page.inside) z
-sized_stepped height width Tab screen z =
-    paged height width screen (display_after Tab screen) refl
-    (same_tabbed screen.page) (inside_tabbed screen.page z.page.inside) z
-sized_stepped height width (MoveTo r c) screen z =
-    paged height width screen (display_after (MoveTo r c) screen) refl
-    (same_moved_to r c screen.page) (inside_moved_to r c screen.page z.page.inside) z
-sized_stepped height width (MoveToColumn c) screen z =
-    paged height width screen (display_after (MoveToColumn c) screen) refl
-    (same_moved_to_column c screen.page) (inside_moved_to_column c screen.page z.page.inside) z
-sized_stepped height width (MoveToRow r) screen z =
-    paged height width screen (display_after (MoveToRow r) screen) refl
-    (same_moved_to_row r screen.page) (inside_moved_to_row r screen.page z.page.inside) z
-sized_stepped height width (SetRegion t b) screen z =
-    paged height width screen (display_after (SetRegion t b) screen) refl
-    (same_region_set t b screen.page) (inside_region_set t b screen.page z.page.inside) z
-sized_stepped height width (UseOrigin on) screen z =
-    paged height width screen (display_after (UseOrigin on) screen) refl
-    (same_origin_set on screen.page) (inside_origin_set on screen.page z.page.inside) z
 sized_stepped height width SaveCursor screen z = sized_saved height width screen z
 sized_stepped height width RestoreCursor screen z = sized_restored height width screen z
 sized_stepped height width EnterAlternate screen z = sized_entered height width screen z
@@ -206,57 +142,13 @@ sized_stepped height width LeaveAlternate screen z = sized_left height width scr
 sized_stepped height width LeaveRestoring screen z =
     sized_restored height width (left screen) (sized_left height width screen z)
 sized_stepped height width Reset screen z = sized_reset height width screen z
-sized_stepped height width EraseBelow screen z =
-    paged height width screen (display_after EraseBelow screen) refl (same_erased_below screen.attrs screen.page)
-    (inside_erased_below screen.attrs screen.page z.page.inside) z
-sized_stepped height width EraseAbove screen z =
-    paged height width screen (display_after EraseAbove screen) refl
-    (same_erased_above screen.attrs screen.page z.page.inside)
-    (inside_erased_above screen.attrs screen.page z.page.inside) z
-sized_stepped height width ErasePage screen z =
-    paged height width screen (display_after ErasePage screen) refl (same_erased_page screen.attrs screen.page)
-    (inside_erased_page screen.attrs screen.page z.page.inside) z
 sized_stepped height width EraseScrollback screen z = z
-sized_stepped height width EraseRest screen z =
-    paged height width screen (display_after EraseRest screen) refl (same_erased_rest screen.attrs screen.page)
-    (inside_erased_rest screen.attrs screen.page z.page.inside) z
-sized_stepped height width EraseStart screen z =
-    paged height width screen (display_after EraseStart screen) refl (same_erased_start screen.attrs screen.page)
-    (inside_erased_start screen.attrs screen.page z.page.inside) z
-sized_stepped height width EraseRow screen z =
-    paged height width screen (display_after EraseRow screen) refl (same_erased_row screen.attrs screen.page)
-    (inside_erased_row screen.attrs screen.page z.page.inside) z
-sized_stepped height width (EraseChars n) screen z =
-    paged height width screen (display_after (EraseChars n) screen) refl (same_erased_chars n screen.attrs screen.page)
-    (inside_erased_chars n screen.attrs screen.page z.page.inside) z
-sized_stepped height width (InsertChars n) screen z =
-    paged height width screen (display_after (InsertChars n) screen) refl
-    (same_chars_inserted n screen.page) (inside_chars_inserted n screen.page z.page.inside) z
-sized_stepped height width (DeleteChars n) screen z =
-    paged height width screen (display_after (DeleteChars n) screen) refl
-    (same_chars_deleted n screen.page) (inside_chars_deleted n screen.page z.page.inside) z
-sized_stepped height width (InsertLines n) screen z =
-    paged height width screen (display_after (InsertLines n) screen) refl
-    (same_lines_inserted n screen.page) (inside_lines_inserted n screen.page z.page.inside) z
-sized_stepped height width (DeleteLines n) screen z =
-    paged height width screen (display_after (DeleteLines n) screen) refl
-    (same_lines_deleted n screen.page) (inside_lines_deleted n screen.page z.page.inside) z
 sized_stepped height width (ScrollUp n) screen z =
     paged height width screen (display_after (ScrollUp n) screen) refl
     (same_scrolled_up n screen.page) (inside_scrolled_up n screen.page z.page.inside) z
-sized_stepped height width (ScrollDown n) screen z =
-    paged height width screen (display_after (ScrollDown n) screen) refl
-    (same_scrolled_down n screen.page) (inside_scrolled_down n screen.page z.page.inside) z
 sized_stepped height width (Render setting) screen z = record { page = z.page; other = z.other }
 sized_stepped height width (HideCursor hidden) screen z = record { page = z.page; other = z.other }
-sized_stepped height width (UseApplicationKeypad on) screen z = record { page = z.page; other = z.other }
-sized_stepped height width (UseApplicationCursor on) screen z = record { page = z.page; other = z.other }
-sized_stepped height width (UseBracketedPaste on) screen z = record { page = z.page; other = z.other }
-sized_stepped height width (SetMouseMode mode) screen z = record { page = z.page; other = z.other }
-sized_stepped height width (ClearMouseMode mode) screen z = record { page = z.page; other = z.other }
-sized_stepped height width (SetMouseEncoding form) screen z = record { page = z.page; other = z.other }
-sized_stepped height width (ClearMouseEncoding form) screen z = record { page = z.page; other = z.other }
-sized_stepped height width (SetCursorStyle look) screen z = record { page = z.page; other = z.other }
+sized_stepped height width (SetMode x) screen z = record { page = z.page; other = z.other }
 sized_stepped height width (CallBack call) screen z = z
 
 pub sized_sent : (height width : ℕ) (step : Step) (screen : ScreenValue) →
@@ -278,7 +170,7 @@ sized_screen screen is = record {
   of_page : (page : Page) → IsPage page → page.width ≡ screen.page.width →
       length page.rows ≡ length screen.page.rows → IsSizedPage (length screen.page.rows) screen.page.width page
   of_page page p w h = record {
-    inside = record { row = p.cursor_row; saved_row = p.saved_row; bottom = p.region_end };
+    inside = inside_page page p;
     width_is = w;
     height_is = h;
   }

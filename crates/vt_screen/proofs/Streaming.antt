@@ -9,53 +9,34 @@ use Rattle.vt_cells.specs.Attrs.{default_attrs}
 use Rattle.vt_cells.specs.Glyph.{columns_of}
 use Rattle.vt_rows.specs.Row.{RowValue, IsRow, blank_row, trimmed_row}
 use Rattle.vt_grid.specs.Page.{Page, IsPage, SameSize, blank_page, scrolled_up}
-use Rattle.vt_grid.specs.Moves.{carriage_return, moved_left, moved_right, moved_to}
 use Rattle.vt_grid.specs.Moves.{line_feed, cursor_saved, cursor_restored}
-use Rattle.vt_grid.specs.Regions.{moved_up, moved_down, next_line, previous_line, tabbed}
-use Rattle.vt_grid.specs.Regions.{moved_to_column, moved_to_row, region_set, origin_set}
-use Rattle.vt_grid.specs.Shifts.{reverse_index, scrolled_down, lines_inserted}
-use Rattle.vt_grid.specs.Shifts.{lines_deleted, chars_inserted, chars_deleted}
-use Rattle.vt_grid.specs.Erasing.{erased_below, erased_above, erased_page, erased_rest}
-use Rattle.vt_grid.specs.Erasing.{erased_start, erased_row, erased_chars}
+use Rattle.vt_grid.specs.PageStep.{page_after}
 use Rattle.vt_grid.specs.Printing.{printed}
 use Rattle.vt_grid.specs.Outgoing.{printed_out, fed_out, scrolled_out}
 use Rattle.vt_grid.specs.Resize.{out_of_view}
 use Rattle.vt_grid.specs.Scrollback.{Scrollback, cleared, no_scrollback, pushed, reported, with_view}
-use Rattle.vt_grid.proofs.Blanking.{page_erased_start, page_erased_row, page_erased_above, page_erased_page}
 use Rattle.vt_grid.proofs.Printed.{page_printed}
-use Rattle.vt_grid.proofs.Pages.{page_blank, page_cursor_saved, page_cursor_restored, page_carriage_return}
-use Rattle.vt_grid.proofs.Pages.{page_moved_left, page_moved_right, page_moved_to, page_line_feed}
-use Rattle.vt_grid.proofs.Pages.{page_erased_chars, page_erased_rest, page_erased_below, page_scrolled_up}
-use Rattle.vt_grid.proofs.Regions.{page_moved_up, page_moved_down, page_next_line}
-use Rattle.vt_grid.proofs.Regions.{page_previous_line, page_moved_to_column, page_moved_to_row}
-use Rattle.vt_grid.proofs.Regions.{page_tabbed, page_region_set, page_origin_set}
-use Rattle.vt_grid.proofs.Shifting.{page_scrolled_down, page_reverse_index, page_lines_inserted}
-use Rattle.vt_grid.proofs.Shifting.{page_lines_deleted, page_chars_inserted, page_chars_deleted}
+use Rattle.vt_grid.proofs.Pages.{page_blank, page_cursor_saved, page_cursor_restored}
+use Rattle.vt_grid.proofs.Pages.{page_line_feed}
+use Rattle.vt_grid.proofs.Pages.{page_scrolled_up}
 use Rattle.vt_screen.specs.Calls.{CallValue, OnScroll}
 use Rattle.vt_screen.specs.Pages.{fresh_page, page_aside, entered, entered_fresh, left, left_restored, saved, restored}
 use Rattle.vt_screen.specs.Screen.{IsPrintable, IsScreen, ScreenValue, fresh_screen, scrolled_back, with_page}
-use Rattle.vt_screen.specs.Steps.{Step, Print, CarriageReturn, LineFeed, ReverseIndex, MoveUp, MoveDown, MoveRight}
-use Rattle.vt_screen.specs.Steps.{MoveLeft, NextLine, PreviousLine, Tab, MoveTo, MoveToColumn, MoveToRow, SetRegion}
-use Rattle.vt_screen.specs.Steps.{UseOrigin, EraseBelow, EraseAbove, ErasePage, EraseScrollback, EraseRest, EraseStart}
-use Rattle.vt_screen.specs.Steps.{EraseRow, EraseChars, InsertChars, DeleteChars, InsertLines, DeleteLines, ScrollUp}
-use Rattle.vt_screen.specs.Steps.{ScrollDown, Render, HideCursor, UseApplicationCursor, UseBracketedPaste, SetMouseMode}
-use Rattle.vt_screen.specs.Steps.{ClearMouseMode, SetMouseEncoding, ClearMouseEncoding, SetCursorStyle, SaveCursor}
-use Rattle.vt_screen.specs.Steps.{RestoreCursor, EnterAlternate, EnterFresh, LeaveAlternate, LeaveRestoring, Reset}
-use Rattle.vt_screen.specs.Steps.{UseApplicationKeypad, CallBack, becomes_last, screen_after, display_after}
+use Rattle.vt_screen.specs.Steps.{Step, Print, LineFeed, ScrollUp, OnPage, SaveCursor, RestoreCursor, EnterAlternate}
+use Rattle.vt_screen.specs.Steps.{EnterFresh, LeaveAlternate, LeaveRestoring, Reset, EraseScrollback, Render}
+use Rattle.vt_screen.specs.Steps.{HideCursor, SetMode, CallBack, becomes_last, screen_after, display_after}
 use Rattle.vt_screen.specs.Streamed.{AreSameTrimmed, HasWideFlags, row_told, rows_told, sent_off, sent_off_all}
 use Rattle.vt_screen.specs.Telling.{calls_of, calls_of_all, screen_after_all}
 use Rattle.vt_screen.proofs.TrailingBlanks.{IsWide}
 use Rattle.vt_screen.proofs.TrailingBlanksScrollback.{AreSound, alike_pushed, alike_then, alike_viewed}
 use Rattle.vt_screen.proofs.TrailingBlanksScrollback.{sound_pushed, sound_viewed, wide_pushed, wide_viewed}
+use Rattle.vt_screen.proofs.Inside.{inside_page}
+use Rattle.vt_screen.proofs.PageSteps.{page_page_after, same_page_after}
 use Rattle.vt_screen.proofs.Asides.{rows_fed_out, rows_printed_out, rows_scrolled_out}
-use Rattle.vt_screen.proofs.Sizes.{same_back, same_itself, same_through, same_carriage_return, same_cursor_saved}
-use Rattle.vt_screen.proofs.Sizes.{same_cursor_restored, same_moved_right, same_moved_to, same_line_feed}
-use Rattle.vt_screen.proofs.Sizes.{same_erased_chars, same_erased_rest, same_erased_below, same_printed}
-use Rattle.vt_screen.proofs.Sizes.{same_chars_deleted, same_chars_inserted, same_erased_above, same_erased_page}
-use Rattle.vt_screen.proofs.Sizes.{same_erased_row, same_erased_start, same_lines_deleted, same_lines_inserted}
-use Rattle.vt_screen.proofs.Sizes.{same_moved_down, same_moved_left, same_moved_to_column, same_moved_to_row}
-use Rattle.vt_screen.proofs.Sizes.{same_moved_up, same_next_line, same_origin_set, same_previous_line, same_region_set}
-use Rattle.vt_screen.proofs.Sizes.{same_reverse_index, same_scrolled_down, same_scrolled_up, same_tabbed}
+use Rattle.vt_screen.proofs.Sizes.{same_back, same_itself, same_through, same_cursor_saved}
+use Rattle.vt_screen.proofs.Sizes.{same_cursor_restored, same_line_feed}
+use Rattle.vt_screen.proofs.Sizes.{same_printed}
+use Rattle.vt_screen.proofs.Sizes.{same_scrolled_up}
 
 -- what the steps of events are, by what they print and whether they may start the screen anew
 abbrev pub IsAmong : (ℕ → Type 0) → Type 0 → Step → Type 0
@@ -331,76 +312,14 @@ step_streams LeaveAlternate s i k = by_turn s (left s) (turned_left s k)
 step_streams LeaveRestoring s i k =
     let leaves = turned_left s k in
     by_turn s (left_restored s) (turned_then s (left s) (left_restored s) leaves (turned_restored (left s) leaves.held))
-step_streams CarriageReturn s i k =
-    on_page (carriage_return s.page) s (page_carriage_return s.page k.sound) (same_carriage_return s.page) k
-step_streams ReverseIndex s i k =
-    on_page (reverse_index s.page) s (page_reverse_index s.page k.sound) (same_reverse_index s.page) k
-step_streams (MoveUp count) s i k =
-    on_page (moved_up count s.page) s (page_moved_up count s.page k.sound) (same_moved_up count s.page) k
-step_streams (MoveDown count) s i k =
-    on_page (moved_down count s.page) s (page_moved_down count s.page k.sound) (same_moved_down count s.page) k
-step_streams (MoveRight count) s i k =
-    on_page (moved_right count s.page) s (page_moved_right count s.page k.sound) (same_moved_right count s.page) k
-step_streams (MoveLeft count) s i k =
-    on_page (moved_left count s.page) s (page_moved_left count s.page k.sound) (same_moved_left count s.page) k
-step_streams (NextLine count) s i k =
-    on_page (next_line count s.page) s (page_next_line count s.page k.sound) (same_next_line count s.page) k
-step_streams (PreviousLine count) s i k =
-    on_page (previous_line count s.page) s (page_previous_line count s.page k.sound) (same_previous_line count s.page) k
-step_streams Tab s i k = on_page (tabbed s.page) s (page_tabbed s.page k.sound) (same_tabbed s.page) k
-step_streams (MoveTo row col) s i k =
-    on_page (moved_to row col s.page) s (page_moved_to row col s.page k.sound) (same_moved_to row col s.page) k
-step_streams (MoveToColumn col) s i k =
-    on_page (moved_to_column col s.page) s (page_moved_to_column col s.page k.sound) (same_moved_to_column col s.page) k
-step_streams (MoveToRow row) s i k =
-    on_page (moved_to_row row s.page) s (page_moved_to_row row s.page k.sound) (same_moved_to_row row s.page) k
-step_streams (SetRegion top bottom) s i k =
-    on_page (region_set top bottom s.page) s
-    (page_region_set top bottom s.page k.sound) (same_region_set top bottom s.page) k
-step_streams (UseOrigin on) s i k =
-    on_page (origin_set on s.page) s (page_origin_set on s.page k.sound) (same_origin_set on s.page) k
-step_streams EraseBelow s i k =
-    on_page (erased_below s.attrs s.page) s
-    (page_erased_below s.attrs s.page k.sound) (same_erased_below s.attrs s.page) k
-step_streams EraseAbove s i k =
-    on_page (erased_above s.attrs s.page) s (page_erased_above s.attrs s.page k.sound)
-    (same_erased_above s.attrs s.page k.sound) k
-step_streams ErasePage s i k =
-    on_page (erased_page s.attrs s.page) s (page_erased_page s.attrs s.page k.sound) (same_erased_page s.attrs s.page) k
-step_streams EraseRest s i k =
-    on_page (erased_rest s.attrs s.page) s (page_erased_rest s.attrs s.page k.sound) (same_erased_rest s.attrs s.page) k
-step_streams EraseStart s i k =
-    on_page (erased_start s.attrs s.page) s
-    (page_erased_start s.attrs s.page k.sound) (same_erased_start s.attrs s.page) k
-step_streams EraseRow s i k =
-    on_page (erased_row s.attrs s.page) s (page_erased_row s.attrs s.page k.sound) (same_erased_row s.attrs s.page) k
-step_streams (EraseChars count) s i k =
-    on_page (erased_chars count s.attrs s.page) s
-    (page_erased_chars count s.attrs s.page k.sound) (same_erased_chars count s.attrs s.page) k
-step_streams (InsertChars count) s i k =
-    on_page (chars_inserted count s.page) s
-    (page_chars_inserted count s.page k.sound) (same_chars_inserted count s.page) k
-step_streams (DeleteChars count) s i k =
-    on_page (chars_deleted count s.page) s (page_chars_deleted count s.page k.sound) (same_chars_deleted count s.page) k
-step_streams (InsertLines count) s i k =
-    on_page (lines_inserted count s.page) s
-    (page_lines_inserted count s.page k.sound) (same_lines_inserted count s.page) k
-step_streams (DeleteLines count) s i k =
-    on_page (lines_deleted count s.page) s (page_lines_deleted count s.page k.sound) (same_lines_deleted count s.page) k
-step_streams (ScrollDown count) s i k =
-    on_page (scrolled_down count s.page) s (page_scrolled_down count s.page k.sound) (same_scrolled_down count s.page) k
+step_streams (OnPage x) s i k =
+    on_page (page_after s.attrs x s.page) s (page_page_after s.attrs x s.page k.sound)
+    (same_page_after s.attrs x s.page (inside_page s.page k.sound)) k
 step_streams SaveCursor s i k = by_turn s (saved s) (turned_saved s k)
 step_streams RestoreCursor s i k = by_turn s (restored s) (turned_restored s k)
 step_streams (Render setting) s i k = quietly s (display_after (Render setting) s) k refl
 step_streams (HideCursor hidden) s i k = quietly s (display_after (HideCursor hidden) s) k refl
-step_streams (UseApplicationKeypad on) s i k = quietly s (display_after (UseApplicationKeypad on) s) k refl
-step_streams (UseApplicationCursor on) s i k = quietly s (display_after (UseApplicationCursor on) s) k refl
-step_streams (UseBracketedPaste on) s i k = quietly s (display_after (UseBracketedPaste on) s) k refl
-step_streams (SetMouseMode mode) s i k = quietly s (display_after (SetMouseMode mode) s) k refl
-step_streams (ClearMouseMode mode) s i k = quietly s (display_after (ClearMouseMode mode) s) k refl
-step_streams (SetMouseEncoding form) s i k = quietly s (display_after (SetMouseEncoding form) s) k refl
-step_streams (ClearMouseEncoding form) s i k = quietly s (display_after (ClearMouseEncoding form) s) k refl
-step_streams (SetCursorStyle look) s i k = quietly s (display_after (SetCursorStyle look) s) k refl
+step_streams (SetMode x) s i k = quietly s (display_after (SetMode x) s) k refl
 
 -- ---- steps, one after the other
 

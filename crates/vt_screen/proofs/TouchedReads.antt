@@ -18,6 +18,7 @@ use Rattle.vt_grid.specs.Erasing.{erased_below, erased_rest, erased_chars}
 use Rattle.vt_grid.specs.Moves.{at_bottom, carriage_return, cursor_restored, cursor_saved}
 use Rattle.vt_grid.specs.Moves.{feeds_out, line_feed, moved_left, moved_right, moved_to}
 use Rattle.vt_grid.specs.Printing.{printed, pushes, wraps}
+use Rattle.vt_grid.specs.PageStep as page
 use Rattle.vt_redraw.specs.Fits.{Fits, IsDrawn}
 use Rattle.vt_redraw.specs.Touching.{CharTouches, TextTouches, OpTouches, Touches}
 use Rattle.vt_scan.specs.Automaton.{State, Event, Character, Executed, CsiDispatch, step_in, start, fresh_step}
@@ -33,11 +34,11 @@ use Rattle.vt_screen.specs.Reading.{quiet_steps, quiet_events, Terminal, termina
 use Rattle.vt_screen.specs.Screen.{ScreenValue, canvas_of, with_canvas, with_page}
 use Rattle.vt_screen.specs.Sgr.{group_read}
 use Rattle.vt_screen.specs.Controls.{private_steps, intermediate_steps, mode_step, plain_steps, counted_step, scrolling_steps}
-use Rattle.vt_screen.specs.Controls.{other_steps, page_erasing, row_erasing, character_steps, control_steps}
+use Rattle.vt_screen.specs.Controls.{other_steps, page_erasing, row_erasing, control_steps}
 use Rattle.vt_screen.specs.Controls.{escape_steps, number_or, steps_of, reading_steps, sgr_from, seen_of}
 use Rattle.vt_screen.specs.Steps.{display_after}
 use Rattle.vt_screen.specs.Steps as steps
-use Rattle.vt_screen.specs.Touched.{FeedTouches, StepTouches, StepsTouch, EventsTouch, ReadTouches}
+use Rattle.vt_screen.specs.Touched.{FeedTouches, PageStepTouches, StepsTouch, EventsTouch, ReadTouches}
 use Rattle.vt_screen.specs.declared.sgr.Reading.{Reading}
 use Rattle.vt_screen.specs.declared.sgr.Reading.TheVariants.{Silent, Set, Unhandled}
 use Rattle.vt_screen.specs.declared.sgr.Wanted.{Wanted}
@@ -213,7 +214,7 @@ chars_touch : (M : ℕ → ℕ → Type 0) (n : ℕ) (groups : List (List ℕ)) 
     StepsTouch M (plain_steps groups 0x58 (seen_of screen)) screen
 unfolding counted_step
 chars_touch M n groups screen p e =
-    (subst (λ (k : ℕ). StepTouches M (steps.EraseChars k) screen) (sym e) p, λ next f. tt)
+    (subst (λ (k : ℕ). PageStepTouches M (page.EraseChars k) screen.page) (sym e) p, λ next f. tt)
 
 -- ---- line feeds
 

@@ -9,14 +9,9 @@ use Rattle.vt_scan.specs.Run.{run}
 use Rattle.vt_screen.specs.Pages.{fresh_page, page_aside, entered, left, restored, saved}
 use Rattle.vt_screen.specs.Screen.{ScreenValue, scrolled_back}
 use Rattle.vt_screen.specs.Controls.{seen_of, steps_of}
-use Rattle.vt_screen.specs.Steps.{Step, Print, CarriageReturn, LineFeed, ReverseIndex, MoveUp, MoveDown, MoveRight}
-use Rattle.vt_screen.specs.Steps.{MoveLeft, NextLine, PreviousLine, Tab, MoveTo, MoveToColumn, MoveToRow, SetRegion}
-use Rattle.vt_screen.specs.Steps.{UseOrigin, EraseBelow, EraseAbove, ErasePage, EraseScrollback, EraseRest, EraseStart}
-use Rattle.vt_screen.specs.Steps.{EraseRow, EraseChars, InsertChars, DeleteChars, InsertLines, DeleteLines, ScrollUp}
-use Rattle.vt_screen.specs.Steps.{ScrollDown, Render, HideCursor, UseApplicationCursor, UseBracketedPaste, SetMouseMode}
-use Rattle.vt_screen.specs.Steps.{ClearMouseMode, SetMouseEncoding, ClearMouseEncoding, SetCursorStyle, SaveCursor}
-use Rattle.vt_screen.specs.Steps.{RestoreCursor, EnterAlternate, EnterFresh, LeaveAlternate, LeaveRestoring, Reset}
-use Rattle.vt_screen.specs.Steps.{UseApplicationKeypad, CallBack, screen_after, display_after}
+use Rattle.vt_screen.specs.Steps.{Step, Print, LineFeed, ScrollUp, OnPage, SaveCursor, RestoreCursor, EnterAlternate}
+use Rattle.vt_screen.specs.Steps.{EnterFresh, LeaveAlternate, LeaveRestoring, Reset, EraseScrollback, Render}
+use Rattle.vt_screen.specs.Steps.{HideCursor, SetMode, CallBack, screen_after, display_after}
 use Rattle.vt_screen.specs.Streamed.{without_scrollback, sent_off, sent_off_all, sent_off_in}
 use Rattle.vt_screen.specs.Telling.{screen_in, screen_after_all, steps_in, steps_of_all}
 
@@ -62,87 +57,23 @@ bare_step EnterAlternate s = bare_entered s
 bare_step EnterFresh s = ap (λ (t : ScreenValue). record t { page = fresh_page s }) (bare_entered (saved s))
 bare_step LeaveAlternate s = bare_left s
 bare_step LeaveRestoring s = ap restored (bare_left s)
-bare_step CarriageReturn s = refl
-bare_step ReverseIndex s = refl
-bare_step (MoveUp count) s = refl
-bare_step (MoveDown count) s = refl
-bare_step (MoveRight count) s = refl
-bare_step (MoveLeft count) s = refl
-bare_step (NextLine count) s = refl
-bare_step (PreviousLine count) s = refl
-bare_step Tab s = refl
-bare_step (MoveTo row col) s = refl
-bare_step (MoveToColumn col) s = refl
-bare_step (MoveToRow row) s = refl
-bare_step (SetRegion top bottom) s = refl
-bare_step (UseOrigin on) s = refl
+bare_step (OnPage x) s = refl
 bare_step SaveCursor s = refl
 bare_step RestoreCursor s = refl
 bare_step Reset s = refl
-bare_step EraseBelow s = refl
-bare_step EraseAbove s = refl
-bare_step ErasePage s = refl
-bare_step EraseRest s = refl
-bare_step EraseStart s = refl
-bare_step EraseRow s = refl
-bare_step (EraseChars count) s = refl
-bare_step (InsertChars count) s = refl
-bare_step (DeleteChars count) s = refl
-bare_step (InsertLines count) s = refl
-bare_step (DeleteLines count) s = refl
-bare_step (ScrollDown count) s = refl
 bare_step (Render setting) s = refl
 bare_step (HideCursor hidden) s = refl
-bare_step (UseApplicationKeypad on) s = refl
-bare_step (UseApplicationCursor on) s = refl
-bare_step (UseBracketedPaste on) s = refl
-bare_step (SetMouseMode mode) s = refl
-bare_step (ClearMouseMode mode) s = refl
-bare_step (SetMouseEncoding form) s = refl
-bare_step (ClearMouseEncoding form) s = refl
-bare_step (SetCursorStyle look) s = refl
+bare_step (SetMode x) s = refl
 bare_step (CallBack call) s = refl
 
 sent_bare : (x : Step) (s : ScreenValue) → sent_off x s ≡ sent_off x (without_scrollback s)
-sent_bare CarriageReturn s = refl
-sent_bare ReverseIndex s = refl
-sent_bare (MoveUp count) s = refl
-sent_bare (MoveDown count) s = refl
-sent_bare (MoveRight count) s = refl
-sent_bare (MoveLeft count) s = refl
-sent_bare (NextLine count) s = refl
-sent_bare (PreviousLine count) s = refl
-sent_bare Tab s = refl
-sent_bare (MoveTo row col) s = refl
-sent_bare (MoveToColumn col) s = refl
-sent_bare (MoveToRow row) s = refl
-sent_bare (SetRegion top bottom) s = refl
-sent_bare (UseOrigin on) s = refl
+sent_bare (OnPage x) s = refl
 sent_bare SaveCursor s = refl
 sent_bare RestoreCursor s = refl
 sent_bare Reset s = refl
-sent_bare EraseBelow s = refl
-sent_bare EraseAbove s = refl
-sent_bare ErasePage s = refl
-sent_bare EraseRest s = refl
-sent_bare EraseStart s = refl
-sent_bare EraseRow s = refl
-sent_bare (EraseChars count) s = refl
-sent_bare (InsertChars count) s = refl
-sent_bare (DeleteChars count) s = refl
-sent_bare (InsertLines count) s = refl
-sent_bare (DeleteLines count) s = refl
-sent_bare (ScrollDown count) s = refl
 sent_bare (Render setting) s = refl
 sent_bare (HideCursor hidden) s = refl
-sent_bare (UseApplicationKeypad on) s = refl
-sent_bare (UseApplicationCursor on) s = refl
-sent_bare (UseBracketedPaste on) s = refl
-sent_bare (SetMouseMode mode) s = refl
-sent_bare (ClearMouseMode mode) s = refl
-sent_bare (SetMouseEncoding form) s = refl
-sent_bare (ClearMouseEncoding form) s = refl
-sent_bare (SetCursorStyle look) s = refl
+sent_bare (SetMode x) s = refl
 sent_bare (CallBack call) s = refl
 sent_bare EraseScrollback s = refl
 sent_bare EnterAlternate s = refl

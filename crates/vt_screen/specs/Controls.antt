@@ -9,24 +9,25 @@ use Rattle.vt_cells.specs.declared.modes.MouseProtocolEncoding.{MouseProtocolEnc
 use Rattle.vt_cells.specs.declared.modes.MouseProtocolEncoding.TheVariants as encoding
 use Rattle.vt_cells.specs.declared.modes.CursorStyle.{CursorStyle}
 use Rattle.vt_cells.specs.declared.modes.CursorStyle.TheVariants as style
+use Rattle.vt_grid.specs.PageStep.{PageStep, CarriageReturn, ReverseIndex, MoveUp, MoveDown, MoveRight, MoveLeft}
+use Rattle.vt_grid.specs.PageStep.{NextLine, PreviousLine, Tab, MoveTo, MoveToColumn, MoveToRow, SetRegion, UseOrigin}
+use Rattle.vt_grid.specs.PageStep.{EraseBelow, EraseAbove, ErasePage, EraseRest, EraseStart, EraseRow, EraseChars}
+use Rattle.vt_grid.specs.PageStep.{InsertChars, DeleteChars, InsertLines, DeleteLines, ScrollDown}
 use Rattle.vt_scan.specs.Automaton.{Event, Character, Executed, EscDispatch, CsiDispatch, OscDispatch}
 use Rattle.vt_screen.specs.Calls.{CallValue, AudibleBell, VisualBell, Resize, SetWindowIconName}
 use Rattle.vt_screen.specs.Calls.{SetWindowTitle, CopyToClipboard, PasteFromClipboard, UnhandledChar}
 use Rattle.vt_screen.specs.Calls.{UnhandledControl, UnhandledEscape, UnhandledCsi, UnhandledOsc}
+use Rattle.vt_screen.specs.ModeStep.{UseApplicationKeypad, UseApplicationCursor, UseBracketedPaste}
+use Rattle.vt_screen.specs.ModeStep.{SetMouseMode, ClearMouseMode, SetMouseEncoding, ClearMouseEncoding, SetCursorStyle}
 use Rattle.vt_screen.specs.Sgr.{group_read}
 use Rattle.vt_screen.specs.Screen.{ScreenValue}
 use Rattle.vt_screen.specs.declared.sgr.Wanted.{Wanted}
 use Rattle.vt_screen.specs.declared.sgr.Wanted.TheVariants.{Any}
 use Rattle.vt_screen.specs.declared.sgr.Reading.{Reading}
 use Rattle.vt_screen.specs.declared.sgr.Reading.TheVariants.{Silent, Set, Unhandled}
-use Rattle.vt_screen.specs.Steps.{Print, CarriageReturn, LineFeed, ReverseIndex, MoveUp, MoveDown, MoveRight}
-use Rattle.vt_screen.specs.Steps.{MoveLeft, NextLine, PreviousLine, Tab, MoveTo, MoveToColumn, MoveToRow, SetRegion}
-use Rattle.vt_screen.specs.Steps.{UseOrigin, SaveCursor, RestoreCursor, EnterAlternate, EnterFresh, LeaveAlternate}
-use Rattle.vt_screen.specs.Steps.{LeaveRestoring, Reset, EraseBelow, EraseAbove, ErasePage, EraseScrollback}
-use Rattle.vt_screen.specs.Steps.{EraseRest, EraseStart, EraseRow, EraseChars, InsertChars, DeleteChars, InsertLines}
-use Rattle.vt_screen.specs.Steps.{DeleteLines, ScrollUp, ScrollDown, Render, HideCursor, UseApplicationKeypad}
-use Rattle.vt_screen.specs.Steps.{UseApplicationCursor, UseBracketedPaste, SetMouseMode, ClearMouseMode}
-use Rattle.vt_screen.specs.Steps.{SetMouseEncoding, ClearMouseEncoding, SetCursorStyle, CallBack, Step}
+use Rattle.vt_screen.specs.Steps.{Step, Print, LineFeed, ScrollUp, OnPage, SaveCursor, RestoreCursor, EnterAlternate}
+use Rattle.vt_screen.specs.Steps.{EnterFresh, LeaveAlternate, LeaveRestoring, Reset, EraseScrollback, Render}
+use Rattle.vt_screen.specs.Steps.{HideCursor, SetMode, CallBack}
 
 -- what an event sees of a screen: its size, and the last character that was printed in columns of its own
 pub record Seen : Type 0 where
@@ -61,10 +62,10 @@ character_steps c =
 unfoldable pub control_steps : ℕ → List Step
 control_steps b =
     if b == 0x07 then CallBack AudibleBell ∷ []
-    else if b == 0x08 then MoveLeft 1 ∷ []
-    else if b == 0x09 then Tab ∷ []
+    else if b == 0x08 then OnPage (MoveLeft 1) ∷ []
+    else if b == 0x09 then OnPage Tab ∷ []
     else if nat_le 0x0A b && nat_le b 0x0C then LineFeed ∷ []
-    else if b == 0x0D then CarriageReturn ∷ []
+    else if b == 0x0D then OnPage CarriageReturn ∷ []
     else if (b == 0x0E) || (b == 0x0F) then []
     else CallBack (UnhandledControl b) ∷ []
 
@@ -73,9 +74,9 @@ unfoldable pub escape_steps : List ℕ → ℕ → List Step
 escape_steps [] b =
     if b == 0x37 then SaveCursor ∷ []
     else if b == 0x38 then RestoreCursor ∷ []
-    else if b == 0x3D then UseApplicationKeypad true ∷ []
-    else if b == 0x3E then UseApplicationKeypad false ∷ []
-    else if b == 0x4D then ReverseIndex ∷ []
+    else if b == 0x3D then SetMode (UseApplicationKeypad true) ∷ []
+    else if b == 0x3E then SetMode (UseApplicationKeypad false) ∷ []
+    else if b == 0x4D then OnPage ReverseIndex ∷ []
     else if b == 0x63 then Reset ∷ []
     else if b == 0x67 then CallBack VisualBell ∷ []
     else CallBack (UnhandledEscape None None b) ∷ []
@@ -98,17 +99,17 @@ sgr_steps groups = sgr_from groups Any groups
 -- ED and EL; a number that they don't have is reported
 unfoldable pub page_erasing : CallValue → ℕ → List Step
 page_erasing report n =
-    if n == 0 then EraseBelow ∷ []
-    else if n == 1 then EraseAbove ∷ []
-    else if n == 2 then ErasePage ∷ []
+    if n == 0 then OnPage EraseBelow ∷ []
+    else if n == 1 then OnPage EraseAbove ∷ []
+    else if n == 2 then OnPage ErasePage ∷ []
     else if n == 3 then EraseScrollback ∷ []
     else CallBack report ∷ []
 
 unfoldable pub row_erasing : CallValue → ℕ → List Step
 row_erasing report n =
-    if n == 0 then EraseRest ∷ []
-    else if n == 1 then EraseStart ∷ []
-    else if n == 2 then EraseRow ∷ []
+    if n == 0 then OnPage EraseRest ∷ []
+    else if n == 1 then OnPage EraseStart ∷ []
+    else if n == 2 then OnPage EraseRow ∷ []
     else CallBack report ∷ []
 
 -- a size that a program asks for; the screen's own where a group is missing
@@ -125,8 +126,8 @@ abbrev pub repeated : ℕ → Option ℕ → List Step
 repeated n (Some c) = replicate n (Print c)
 repeated n None = []
 
--- the step of a control sequence with one count, at least 1
-unfoldable pub counted_step : ℕ → ℕ → Option Step
+-- the step of a control sequence with one count, at least 1; each is one of the page
+unfoldable pub counted_step : ℕ → ℕ → Option PageStep
 counted_step b n =
     if b == 0x40 then Some (InsertChars n)
     else if b == 0x41 then Some (MoveUp n)
@@ -147,11 +148,11 @@ counted_step b n =
 -- other control sequences without a marker or an intermediate; rows and columns are counted from 1
 unfoldable pub other_steps : List (List ℕ) → ℕ → Seen → List Step
 other_steps groups b seen =
-    if (b == 0x48) || (b == 0x66) then MoveTo (number_or 1 0 groups - 1) (number_or 1 1 groups - 1) ∷ []
+    if (b == 0x48) || (b == 0x66) then OnPage (MoveTo (number_or 1 0 groups - 1) (number_or 1 1 groups - 1)) ∷ []
     else if b == 0x4A then page_erasing (UnhandledCsi None None groups b) (number_at 0 groups)
     else if b == 0x4B then row_erasing (UnhandledCsi None None groups b) (number_at 0 groups)
     else if b == 0x6D then sgr_steps groups
-    else if b == 0x72 then SetRegion (number_or 1 0 groups - 1) (number_or seen.rows 1 groups - 1) ∷ []
+    else if b == 0x72 then OnPage (SetRegion (number_or 1 0 groups - 1) (number_or seen.rows 1 groups - 1)) ∷ []
     else if b == 0x74 then window_steps groups seen
     else CallBack (UnhandledCsi None None groups b) ∷ []
 
@@ -162,8 +163,8 @@ scrolling_steps groups b seen =
     else if b == 0x62 then repeated (number_or 1 0 groups) seen.last
     else other_steps groups b seen
 
-abbrev pub one_or : Option Step → List Step → List Step
-one_or (Some step) others = step ∷ []
+abbrev pub one_or : Option PageStep → List Step → List Step
+one_or (Some step) others = OnPage step ∷ []
 one_or None others = others
 
 -- control sequences without a marker or an intermediate
@@ -183,14 +184,14 @@ style_of n =
     else None
 
 abbrev pub style_steps : CallValue → Option CursorStyle → List Step
-style_steps report (Some look) = SetCursorStyle look ∷ []
+style_steps report (Some look) = SetMode (SetCursorStyle look) ∷ []
 style_steps report None = CallBack report ∷ []
 
 abbrev pub mouse_step : Bool → MouseProtocolMode → Step
-mouse_step on mode = if on then SetMouseMode mode else ClearMouseMode mode
+mouse_step on mode = SetMode (if on then SetMouseMode mode else ClearMouseMode mode)
 
 abbrev pub encoding_step : Bool → MouseProtocolEncoding → Step
-encoding_step on form = if on then SetMouseEncoding form else ClearMouseEncoding form
+encoding_step on form = SetMode (if on then SetMouseEncoding form else ClearMouseEncoding form)
 
 abbrev pub alternate_step : Bool → Step
 alternate_step on = if on then EnterAlternate else LeaveAlternate
@@ -201,8 +202,8 @@ fresh_alternate_step on = if on then EnterFresh else LeaveRestoring
 -- a private mode of one number, or an unknown one
 unfoldable pub mode_step : Bool → CallValue → ℕ → List Step
 mode_step on report n =
-    if n == 1 then UseApplicationCursor on ∷ []
-    else if n == 6 then UseOrigin on ∷ []
+    if n == 1 then SetMode (UseApplicationCursor on) ∷ []
+    else if n == 6 then OnPage (UseOrigin on) ∷ []
     else if n == 9 then mouse_step on mouse.Press ∷ []
     else if n == 25 then HideCursor (not on) ∷ []
     else if n == 47 then alternate_step on ∷ []
@@ -212,7 +213,7 @@ mode_step on report n =
     else if n == 1005 then encoding_step on encoding.Utf8 ∷ []
     else if n == 1006 then encoding_step on encoding.Sgr ∷ []
     else if n == 1049 then fresh_alternate_step on ∷ []
-    else if n == 2004 then UseBracketedPaste on ∷ []
+    else if n == 2004 then SetMode (UseBracketedPaste on) ∷ []
     else CallBack report ∷ []
 
 abbrev pub mode_steps : Bool → CallValue → List (List ℕ) → List Step

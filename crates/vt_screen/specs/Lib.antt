@@ -3,6 +3,7 @@ pub mod Meanings
 pub mod Sgr
 pub mod Screen
 pub mod Pages
+pub mod ModeStep
 pub mod Steps
 pub mod Controls
 pub mod Texts

@@ -4,16 +4,16 @@ use Rattle.vt_cells.specs.Glyph.{columns_of}
 use Rattle.vt_cells.specs.Attrs.{Attrs}
 use Rattle.vt_grid.specs.Moves.{at_bottom}
 use Rattle.vt_grid.specs.Page.{Page}
+use Rattle.vt_grid.specs.PageStep.{PageStep, ReverseIndex, EraseBelow, EraseAbove, ErasePage, EraseRest, EraseStart}
+use Rattle.vt_grid.specs.PageStep.{EraseRow, EraseChars, InsertChars, DeleteChars, InsertLines, DeleteLines, ScrollDown}
 use Rattle.vt_grid.specs.Printing.{wraps}
 use Rattle.vt_redraw.specs.Touching.{Changes, CharTouches}
 use Rattle.vt_scan.specs.Automaton.{Event, start, step_in}
 use Rattle.vt_screen.specs.Reading.{Terminal, terminal, quiet_step, quiet_steps, read_byte}
 use Rattle.vt_screen.specs.Screen.{ScreenValue}
 use Rattle.vt_screen.specs.Controls.{seen_of, steps_of}
-use Rattle.vt_screen.specs.Steps.{Step, Print, LineFeed, ReverseIndex, EnterAlternate, EnterFresh}
-use Rattle.vt_screen.specs.Steps.{LeaveAlternate, LeaveRestoring, Reset, EraseBelow, EraseAbove}
-use Rattle.vt_screen.specs.Steps.{ErasePage, EraseRest, EraseStart, EraseRow, EraseChars, InsertChars}
-use Rattle.vt_screen.specs.Steps.{DeleteChars, InsertLines, DeleteLines, ScrollUp, ScrollDown}
+use Rattle.vt_screen.specs.Steps.{Step, Print, LineFeed, ScrollUp, OnPage, EnterAlternate, EnterFresh}
+use Rattle.vt_screen.specs.Steps.{LeaveAlternate, LeaveRestoring, Reset}
 
 -- every position of the page is among these
 abbrev pub TouchesAll : (ℕ → ℕ → Type 0) → Page → Type 0
@@ -40,28 +40,32 @@ RestTouches May page = (page.column == page.width) ≡ false → Changes May pag
 abbrev pub StartTouches : (ℕ → ℕ → Type 0) → Page → Type 0
 StartTouches May page = Changes May 0 (min (page.column + 1) page.width) page
 
--- what moves cells or whole rows, or exchanges pages, touches every position;
--- moves of the cursor and settings touch none
+-- what moves cells or whole rows touches every position; moves of the cursor and settings touch none
+abbrev pub PageStepTouches : (ℕ → ℕ → Type 0) → PageStep → Page → Type 0
+PageStepTouches May EraseBelow page =
+    RestTouches May page × TouchesRows May (page.row + 1) (length page.rows) page
+PageStepTouches May EraseAbove page = StartTouches May page × TouchesRows May 0 page.row page
+PageStepTouches May ErasePage page = TouchesAll May page
+PageStepTouches May EraseRest page = RestTouches May page
+PageStepTouches May EraseStart page = StartTouches May page
+PageStepTouches May EraseRow page = Changes May 0 page.width page
+PageStepTouches May (EraseChars n) page =
+    ((n == 0) || (page.column == page.width)) ≡ false
+    → Changes May page.column (min n (page.width - page.column)) page
+PageStepTouches May (InsertChars n) page = TouchesAll May page
+PageStepTouches May (DeleteChars n) page = TouchesAll May page
+PageStepTouches May (InsertLines n) page = TouchesAll May page
+PageStepTouches May (DeleteLines n) page = TouchesAll May page
+PageStepTouches May (ScrollDown n) page = TouchesAll May page
+PageStepTouches May ReverseIndex page = TouchesAll May page
+PageStepTouches May step page = Unit {0}
+
+-- what exchanges pages touches every position too
 abbrev pub StepTouches : (ℕ → ℕ → Type 0) → Step → ScreenValue → Type 0
 StepTouches May (Print c) screen = PrintTouches May c screen.attrs screen.page
 StepTouches May LineFeed screen = FeedTouches May screen.page
-StepTouches May EraseBelow screen =
-    RestTouches May screen.page × TouchesRows May (screen.page.row + 1) (length screen.page.rows) screen.page
-StepTouches May EraseAbove screen = StartTouches May screen.page × TouchesRows May 0 screen.page.row screen.page
-StepTouches May ErasePage screen = TouchesAll May screen.page
-StepTouches May EraseRest screen = RestTouches May screen.page
-StepTouches May EraseStart screen = StartTouches May screen.page
-StepTouches May EraseRow screen = Changes May 0 screen.page.width screen.page
-StepTouches May (EraseChars n) screen =
-    ((n == 0) || (screen.page.column == screen.page.width)) ≡ false
-    → Changes May screen.page.column (min n (screen.page.width - screen.page.column)) screen.page
-StepTouches May (InsertChars n) screen = TouchesAll May screen.page
-StepTouches May (DeleteChars n) screen = TouchesAll May screen.page
-StepTouches May (InsertLines n) screen = TouchesAll May screen.page
-StepTouches May (DeleteLines n) screen = TouchesAll May screen.page
 StepTouches May (ScrollUp n) screen = TouchesAll May screen.page
-StepTouches May (ScrollDown n) screen = TouchesAll May screen.page
-StepTouches May ReverseIndex screen = TouchesAll May screen.page
+StepTouches May (OnPage step) screen = PageStepTouches May step screen.page
 StepTouches May EnterAlternate screen = TouchesAll May screen.page
 StepTouches May EnterFresh screen = TouchesAll May screen.page
 StepTouches May LeaveAlternate screen = TouchesAll May screen.page

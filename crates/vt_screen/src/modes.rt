@@ -2,7 +2,7 @@
 
 ghost use Rattle.std.specs.Prelude.{◌≡◌};
 ghost use Rattle.vt_screen.specs.Screen.{no_modes};
-ghost use Rattle.vt_screen.specs.Steps.{mouse_mode_without, mouse_encoding_without};
+ghost use Rattle.vt_screen.specs.ModeStep.{mouse_mode_without, mouse_encoding_without};
 
 use vt_cells::modes::{CursorStyle, MouseProtocolEncoding, MouseProtocolMode};
 

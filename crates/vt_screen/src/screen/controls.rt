@@ -1,6 +1,8 @@
 //! What a program's controls do, but for those that scroll rows off the page.
 
 ghost use Rattle.std.specs.Prelude.{◌≡◌};
+ghost use Rattle.vt_grid.specs.PageStep as page;
+ghost use Rattle.vt_screen.specs.ModeStep as modes;
 ghost use Rattle.vt_screen.specs.Steps as step;
 ghost use Rattle.vt_screen.specs.Steps.{display_after};
 
@@ -12,14 +14,14 @@ use vt_cells::{CursorStyle, MouseProtocolEncoding, MouseProtocolMode};
 /// Moves the cursor to the first column (CR).
 #[inline]
 pub fn cr(screen: &mut Screen)
-    ensures { screen.new ≡ display_after step.CarriageReturn screen.old }
+    ensures { screen.new ≡ display_after (step.OnPage page.CarriageReturn) screen.old }
 {
     screen.grid.cr();
 }
 
 /// Moves the cursor to the right, at most to the last column (CUF).
 pub fn cuf(screen: &mut Screen, count: u16)
-    ensures { screen.new ≡ display_after (step.MoveRight count) screen.old }
+    ensures { screen.new ≡ display_after (step.OnPage (page.MoveRight count)) screen.old }
 {
     screen.grid.col_inc_clamp(count);
 }
@@ -28,7 +30,7 @@ pub fn cuf(screen: &mut Screen, count: u16)
 /// the last one (CUP). In origin mode the row counts from the scroll
 /// region's top and stays in the region.
 pub fn cup(screen: &mut Screen, row: u16, col: u16)
-    ensures { screen.new ≡ display_after (step.MoveTo row col) screen.old }
+    ensures { screen.new ≡ display_after (step.OnPage (page.MoveTo row col)) screen.old }
 {
     screen.grid.move_to(row, col);
 }
@@ -36,7 +38,7 @@ pub fn cup(screen: &mut Screen, row: u16, col: u16)
 /// Makes the screen blank, in the current attributes, from the cursor on
 /// (ED 0); at a pending wrap the cursor's row stays.
 pub fn erase_below(screen: &mut Screen)
-    ensures { screen.new ≡ display_after step.EraseBelow screen.old }
+    ensures { screen.new ≡ display_after (step.OnPage page.EraseBelow) screen.old }
 {
     screen.grid.erase_all_forward(screen.attrs);
 }
@@ -44,7 +46,7 @@ pub fn erase_below(screen: &mut Screen)
 /// Makes the cursor's row blank, in the current attributes, from the cursor
 /// on (EL 0); at a pending wrap nothing happens.
 pub fn erase_rest(screen: &mut Screen)
-    ensures { screen.new ≡ display_after step.EraseRest screen.old }
+    ensures { screen.new ≡ display_after (step.OnPage page.EraseRest) screen.old }
 {
     screen.grid.erase_row_forward(screen.attrs);
 }
@@ -52,7 +54,7 @@ pub fn erase_rest(screen: &mut Screen)
 /// Makes this many columns from the cursor on blank, in the current
 /// attributes, at most to the end of the row (ECH); at a pending wrap none.
 pub fn ech(screen: &mut Screen, count: u16)
-    ensures { screen.new ≡ display_after (step.EraseChars count) screen.old }
+    ensures { screen.new ≡ display_after (step.OnPage (page.EraseChars count)) screen.old }
 {
     screen.grid.erase_cells(count, screen.attrs);
 }
@@ -60,7 +62,7 @@ pub fn ech(screen: &mut Screen, count: u16)
 /// Moves the cursor to the left by one column (BS); in the first column it
 /// stays.
 pub fn bs(screen: &mut Screen)
-    ensures { screen.new ≡ display_after (step.MoveLeft 1) screen.old }
+    ensures { screen.new ≡ display_after (step.OnPage (page.MoveLeft 1)) screen.old }
 {
     screen.grid.col_dec(1);
 }
@@ -68,7 +70,7 @@ pub fn bs(screen: &mut Screen)
 /// Moves the cursor to the next column that is a multiple of 8, at most to
 /// the last one (HT).
 pub fn tab(screen: &mut Screen)
-    ensures { screen.new ≡ display_after step.Tab screen.old }
+    ensures { screen.new ≡ display_after (step.OnPage page.Tab) screen.old }
 {
     screen.grid.col_tab();
 }
@@ -76,7 +78,7 @@ pub fn tab(screen: &mut Screen)
 /// Moves the cursor up by one row, its column as it is: at the scroll
 /// region's top, and in the first row, the region scrolls down instead (RI).
 pub fn ri(screen: &mut Screen)
-    ensures { screen.new ≡ display_after step.ReverseIndex screen.old }
+    ensures { screen.new ≡ display_after (step.OnPage page.ReverseIndex) screen.old }
 {
     screen.grid.reverse_index();
 }
@@ -84,7 +86,7 @@ pub fn ri(screen: &mut Screen)
 /// Moves the cursor up, its column as it is: from within the scroll region
 /// at most to its top, else to the first row (CUU).
 pub fn cuu(screen: &mut Screen, count: u16)
-    ensures { screen.new ≡ display_after (step.MoveUp count) screen.old }
+    ensures { screen.new ≡ display_after (step.OnPage (page.MoveUp count)) screen.old }
 {
     screen.grid.row_dec_clamp(count);
 }
@@ -92,28 +94,28 @@ pub fn cuu(screen: &mut Screen, count: u16)
 /// Moves the cursor down, its column as it is: from within the scroll
 /// region at most to its bottom, else to the last row (CUD).
 pub fn cud(screen: &mut Screen, count: u16)
-    ensures { screen.new ≡ display_after (step.MoveDown count) screen.old }
+    ensures { screen.new ≡ display_after (step.OnPage (page.MoveDown count)) screen.old }
 {
     screen.grid.row_inc_clamp(count);
 }
 
 /// Moves the cursor to the left, at most to the first column (CUB).
 pub fn cub(screen: &mut Screen, count: u16)
-    ensures { screen.new ≡ display_after (step.MoveLeft count) screen.old }
+    ensures { screen.new ≡ display_after (step.OnPage (page.MoveLeft count)) screen.old }
 {
     screen.grid.col_dec(count);
 }
 
 /// Moves the cursor down as CUD does, and to the first column (CNL).
 pub fn cnl(screen: &mut Screen, count: u16)
-    ensures { screen.new ≡ display_after (step.NextLine count) screen.old }
+    ensures { screen.new ≡ display_after (step.OnPage (page.NextLine count)) screen.old }
 {
     screen.grid.next_line(count);
 }
 
 /// Moves the cursor up as CUU does, and to the first column (CPL).
 pub fn cpl(screen: &mut Screen, count: u16)
-    ensures { screen.new ≡ display_after (step.PreviousLine count) screen.old }
+    ensures { screen.new ≡ display_after (step.OnPage (page.PreviousLine count)) screen.old }
 {
     screen.grid.previous_line(count);
 }
@@ -121,14 +123,14 @@ pub fn cpl(screen: &mut Screen, count: u16)
 /// Moves the cursor to a column, counted from 0, at most the last one (CHA,
 /// HPA).
 pub fn cha(screen: &mut Screen, col: u16)
-    ensures { screen.new ≡ display_after (step.MoveToColumn col) screen.old }
+    ensures { screen.new ≡ display_after (step.OnPage (page.MoveToColumn col)) screen.old }
 {
     screen.grid.col_set(col);
 }
 
 /// Moves the cursor to a row, counted from 0, at most the last one (VPA).
 pub fn vpa(screen: &mut Screen, row: u16)
-    ensures { screen.new ≡ display_after (step.MoveToRow row) screen.old }
+    ensures { screen.new ≡ display_after (step.OnPage (page.MoveToRow row)) screen.old }
 {
     screen.grid.row_set(row);
 }
@@ -137,7 +139,7 @@ pub fn vpa(screen: &mut Screen, row: u16)
 /// or the whole page where these are not two rows or more, and moves the
 /// cursor to the region's first place (DECSTBM).
 pub fn decstbm(screen: &mut Screen, top: u16, bottom: u16)
-    ensures { screen.new ≡ display_after (step.SetRegion top bottom) screen.old }
+    ensures { screen.new ≡ display_after (step.OnPage (page.SetRegion top bottom)) screen.old }
 {
     screen.grid.set_scroll_region(top, bottom);
 }
@@ -145,7 +147,7 @@ pub fn decstbm(screen: &mut Screen, top: u16, bottom: u16)
 /// Turns origin mode on or off, and moves the cursor to the first place that
 /// it then has (DECOM).
 pub fn set_origin_mode(screen: &mut Screen, on: bool)
-    ensures { screen.new ≡ display_after (step.UseOrigin on) screen.old }
+    ensures { screen.new ≡ display_after (step.OnPage (page.UseOrigin on)) screen.old }
 {
     screen.grid.set_origin_mode(on);
 }
@@ -153,7 +155,7 @@ pub fn set_origin_mode(screen: &mut Screen, on: bool)
 /// Inserts default blanks at the cursor; what passes the last column is lost
 /// (ICH).
 pub fn ich(screen: &mut Screen, count: u16)
-    ensures { screen.new ≡ display_after (step.InsertChars count) screen.old }
+    ensures { screen.new ≡ display_after (step.OnPage (page.InsertChars count)) screen.old }
 {
     screen.grid.insert_cells(count);
 }
@@ -161,7 +163,7 @@ pub fn ich(screen: &mut Screen, count: u16)
 /// Deletes columns at the cursor; default blanks come in at the end of the
 /// row (DCH).
 pub fn dch(screen: &mut Screen, count: u16)
-    ensures { screen.new ≡ display_after (step.DeleteChars count) screen.old }
+    ensures { screen.new ≡ display_after (step.OnPage (page.DeleteChars count)) screen.old }
 {
     screen.grid.delete_cells(count);
 }
@@ -169,7 +171,7 @@ pub fn dch(screen: &mut Screen, count: u16)
 /// Inserts default blank rows at the cursor's row; what passes the scroll
 /// region's bottom is lost. Outside the region nothing happens (IL).
 pub fn il(screen: &mut Screen, count: u16)
-    ensures { screen.new ≡ display_after (step.InsertLines count) screen.old }
+    ensures { screen.new ≡ display_after (step.OnPage (page.InsertLines count)) screen.old }
 {
     screen.grid.insert_lines(count);
 }
@@ -177,14 +179,14 @@ pub fn il(screen: &mut Screen, count: u16)
 /// Deletes rows at the cursor's row; default blank rows come in at the scroll
 /// region's bottom. Outside the region nothing happens (DL).
 pub fn dl(screen: &mut Screen, count: u16)
-    ensures { screen.new ≡ display_after (step.DeleteLines count) screen.old }
+    ensures { screen.new ≡ display_after (step.OnPage (page.DeleteLines count)) screen.old }
 {
     screen.grid.delete_lines(count);
 }
 
 /// Scrolls the scroll region down; default blank rows come in at its top (SD).
 pub fn sd(screen: &mut Screen, count: u16)
-    ensures { screen.new ≡ display_after (step.ScrollDown count) screen.old }
+    ensures { screen.new ≡ display_after (step.OnPage (page.ScrollDown count)) screen.old }
 {
     screen.grid.scroll_down(count);
 }
@@ -192,14 +194,14 @@ pub fn sd(screen: &mut Screen, count: u16)
 /// Makes the screen blank, in the current attributes, from its first place
 /// through the cursor (ED 1).
 pub fn erase_above(screen: &mut Screen)
-    ensures { screen.new ≡ display_after step.EraseAbove screen.old }
+    ensures { screen.new ≡ display_after (step.OnPage page.EraseAbove) screen.old }
 {
     screen.grid.erase_all_backward(screen.attrs);
 }
 
 /// Makes the whole screen blank, in the current attributes (ED 2).
 pub fn erase_page(screen: &mut Screen)
-    ensures { screen.new ≡ display_after step.ErasePage screen.old }
+    ensures { screen.new ≡ display_after (step.OnPage page.ErasePage) screen.old }
 {
     screen.grid.erase_all(screen.attrs);
 }
@@ -207,14 +209,14 @@ pub fn erase_page(screen: &mut Screen)
 /// Makes the cursor's row blank, in the current attributes, from its first
 /// column through the cursor (EL 1).
 pub fn erase_start(screen: &mut Screen)
-    ensures { screen.new ≡ display_after step.EraseStart screen.old }
+    ensures { screen.new ≡ display_after (step.OnPage page.EraseStart) screen.old }
 {
     screen.grid.erase_row_backward(screen.attrs);
 }
 
 /// Makes the cursor's row blank, in the current attributes (EL 2).
 pub fn erase_row(screen: &mut Screen)
-    ensures { screen.new ≡ display_after step.EraseRow screen.old }
+    ensures { screen.new ≡ display_after (step.OnPage page.EraseRow) screen.old }
 {
     screen.grid.erase_row(screen.attrs);
 }
@@ -237,21 +239,21 @@ pub fn set_hidden(screen: &mut Screen, hidden: bool)
 /// Turns the application sequences of the keypad on or off (DECKPAM,
 /// DECKPNM).
 pub fn set_application_keypad(screen: &mut Screen, on: bool)
-    ensures { screen.new ≡ display_after (step.UseApplicationKeypad on) screen.old }
+    ensures { screen.new ≡ display_after (step.SetMode (modes.UseApplicationKeypad on)) screen.old }
 {
     screen.modes.application_keypad = on;
 }
 
 /// Turns the application sequences of the cursor keys on or off (DECCKM).
 pub fn set_application_cursor(screen: &mut Screen, on: bool)
-    ensures { screen.new ≡ display_after (step.UseApplicationCursor on) screen.old }
+    ensures { screen.new ≡ display_after (step.SetMode (modes.UseApplicationCursor on)) screen.old }
 {
     screen.modes.application_cursor = on;
 }
 
 /// Turns brackets around pasted text on or off (xterm's private mode 2004).
 pub fn set_bracketed_paste(screen: &mut Screen, on: bool)
-    ensures { screen.new ≡ display_after (step.UseBracketedPaste on) screen.old }
+    ensures { screen.new ≡ display_after (step.SetMode (modes.UseBracketedPaste on)) screen.old }
 {
     screen.modes.bracketed_paste = on;
 }
@@ -259,35 +261,35 @@ pub fn set_bracketed_paste(screen: &mut Screen, on: bool)
 /// Chooses which mouse events are reported (xterm's private modes 9, 1000,
 /// 1002 and 1003).
 pub fn set_mouse_mode(screen: &mut Screen, mode: MouseProtocolMode)
-    ensures { screen.new ≡ display_after (step.SetMouseMode mode) screen.old }
+    ensures { screen.new ≡ display_after (step.SetMode (modes.SetMouseMode mode)) screen.old }
 {
     screen.modes.mouse_mode = mode;
 }
 
 /// Ends the reports of mouse events, if they are in this mode.
 pub fn clear_mouse_mode(screen: &mut Screen, mode: MouseProtocolMode)
-    ensures { screen.new ≡ display_after (step.ClearMouseMode mode) screen.old }
+    ensures { screen.new ≡ display_after (step.SetMode (modes.ClearMouseMode mode)) screen.old }
 {
     screen.modes.mouse_mode = modes::clear_mode(screen.modes.mouse_mode, mode);
 }
 
 /// Chooses how mouse events are encoded (xterm's private modes 1005 and 1006).
 pub fn set_mouse_encoding(screen: &mut Screen, encoding: MouseProtocolEncoding)
-    ensures { screen.new ≡ display_after (step.SetMouseEncoding encoding) screen.old }
+    ensures { screen.new ≡ display_after (step.SetMode (modes.SetMouseEncoding encoding)) screen.old }
 {
     screen.modes.mouse_encoding = encoding;
 }
 
 /// Goes back to the default encoding, if this one is set.
 pub fn clear_mouse_encoding(screen: &mut Screen, encoding: MouseProtocolEncoding)
-    ensures { screen.new ≡ display_after (step.ClearMouseEncoding encoding) screen.old }
+    ensures { screen.new ≡ display_after (step.SetMode (modes.ClearMouseEncoding encoding)) screen.old }
 {
     screen.modes.mouse_encoding = modes::clear_encoding(screen.modes.mouse_encoding, encoding);
 }
 
 /// Sets the look of the cursor (DECSCUSR).
 pub fn set_cursor_style(screen: &mut Screen, style: CursorStyle)
-    ensures { screen.new ≡ display_after (step.SetCursorStyle style) screen.old }
+    ensures { screen.new ≡ display_after (step.SetMode (modes.SetCursorStyle style)) screen.old }
 {
     screen.modes.cursor_style = style;
 }

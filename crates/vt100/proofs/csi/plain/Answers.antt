@@ -1,7 +1,8 @@
 -- SGR and CUP, by their bytes.
 use Rattle.std.proofs.Common.{◌-◌, List, refl, subst, sym}
+use Rattle.vt_grid.specs.PageStep.{MoveTo}
 use Rattle.vt_screen.specs.Controls.{number_or, seen_of}
-use Rattle.vt_screen.specs.Steps.{MoveTo, Step}
+use Rattle.vt_screen.specs.Steps.{Step, OnPage}
 use Rattle.vt100.specs.Internals.{Does}
 use Rattle.vt100.proofs.Dispatching.{plain_place, plain_sgr}
 use Rattle.vt100.proofs.Stepping.{stepping}
@@ -20,4 +21,5 @@ returns-then-byte-eq72-clause-done g c =
     c.args.callbacks.now c.move_to.new.screen)
     (sym (plain_place c.args.parameters.now.groups c.args.byte (seen_of c.args.screen.now) c.if-byte-eq72.true))
     (stepping g.CB.Callbacks.does
-    (MoveTo (number_or 1 0 c.args.parameters.now.groups - 1) (number_or 1 1 c.args.parameters.now.groups - 1)) c.args.callbacks.now c.args.screen.now c.move_to.new.screen refl c.move_to.ensures)
+    (OnPage (MoveTo (number_or 1 0 c.args.parameters.now.groups - 1) (number_or 1 1 c.args.parameters.now.groups - 1)))
+    c.args.callbacks.now c.args.screen.now c.move_to.new.screen refl c.move_to.ensures)
