@@ -1,7 +1,7 @@
 -- Rows in one list of cells: what an edit of a row's cells, a flag and a rotation of the table make of them.
 use Rattle.std.proofs.Common.{◌≡◌, ◌≢◌, ℕ, ◌+◌, ◌*◌, ◌-◌, ◌<◌, ◌≤◌, ◌&&◌, not, Bool, false, List}
 use Rattle.std.proofs.Common.{[], ◌∷◌, ◌++◌, length, take, drop, replicate, map, Vec, Global}
-use Rattle.std.proofs.Common.{get_or, set, refl, inl, inr, sym, ap, subst, ◌∙◌, arith}
+use Rattle.std.proofs.Common.{get_or, set, inl, inr, sym, ap, subst, ◌∙◌, arith}
 use Rattle.std.proofs.lemmas.Bool.{cases_lt, cases_eq}
 use Rattle.std.proofs.lemmas.Bool.Decides.{nat_tests}
 use Rattle.vt_rows.specs.Internals.{turn_source}
@@ -165,30 +165,6 @@ IsTable-moved w source cells lines now e i once f t = record {
       once r s r_in s_in (t.distinct (source r) (source s) (i r r_in) (i s s_in) (sym (f r r_in) ∙ (same ∙ f s s_in)));
 }
 
-pub IsTable-flagged : (w r : ℕ) (cells : List CellValue) (flag : Bool) (lines : List Line) → r < length lines →
-    IsTable w cells lines → IsTable w cells (set lines r (record (line_at lines r) { wrapped = flag }))
-IsTable-flagged w r cells flag lines h t =
-    let line = record (line_at lines r) { wrapped = flag } in
-    IsTable-moved w (λ k. k) cells lines (set lines r line)
-    (length-set lines r line) (λ k i. i) (λ j k i l e. e) (λ k i.
-    elim (cases_eq k r) [
-      | inl same ↦ rw (same, get_or-set_same lines r line no_line h) refl
-      | inr other ↦ ap (λ (x : Line). x.place) (get_or-set_other lines r k line no_line other)
-    ]) t
-
-pub IsTable-edited : (w r : ℕ) (cells new : List CellValue) (flag : Bool) (lines : List Line) →
-    IsTable w cells lines → r < length lines → length new ≡ w →
-    IsTable w (put_mid ((line_at lines r).place * w) w cells new)
-    (set lines r (record (line_at lines r) { wrapped = flag }))
-IsTable-edited w r cells new flag lines t h l =
-    let p = (line_at lines r).place in
-    let now = put_mid (p * w) w cells new in
-    let inside = place_inside p (length lines) w (t.inside r h) in
-    let size : length now ≡ length cells =
-    same_len_mid (p * w) w cells new
-    (omega (arith, l, length-take w (drop (p * w) cells), length-drop (p * w) cells, inside, t.filled)) in
-    IsTable-flagged w r now flag lines h (IsTable-cells w cells now lines size t)
-
 -- ---- the table turned
 
 turn_inside : (from to n k len : ℕ) → from + n ≤ to → to ≤ len → k < len → turn_source from to n k < len
@@ -296,7 +272,7 @@ pub row_changed : (r a b : ℕ) (cell_store edited : CellStore) (xs new : List C
     a ≡ (line_at cell_store.lines.items r).place * cell_store.width → b ≡ a + cell_store.width → b ≤ length cell_store.cells.items →
     length new ≡ length (take (b - a) (drop a xs)) → edited.width ≡ cell_store.width →
     edited.lines.items ≡ set cell_store.lines.items r (record (line_at cell_store.lines.items r) { wrapped = flag }) →
-    (page_rows_of edited ≡ with_page_row r (record { cells = new; wrapped = flag }) (page_rows_of cell_store)) × IsCellStore edited
+    page_rows_of edited ≡ with_page_row r (record { cells = new; wrapped = flag }) (page_rows_of cell_store)
 row_changed r a b cell_store edited xs new flag t inside e was i j m size w f =
     let lines = cell_store.lines.items in
     let l : length new ≡ cell_store.width =
@@ -304,11 +280,8 @@ row_changed r a b cell_store edited xs new flag t inside e was i j m size w f =
     let cells = written cell_store.width (length lines) (line_at lines r).place a (b - a) cell_store.cells
     edited.cells xs new e was t.filled (t.inside r inside) i (omega (arith, j)) l in
     let rows : rows_of edited ≡ set (rows_of cell_store) r (record { cells = new; wrapped = flag }) =
-    (λ z. rows_in (w z) (cells z) (f z)) ∙ rows_in-edited cell_store.width r cell_store.cells.items new flag lines t inside l in (
-      (λ z. record { rows = rows z; width = w z }),
-      subst (λ (x : ℕ × (List CellValue × List Line)). IsTable x.0 x.1.0 x.1.1) (λ z. (sym w z, (sym cells z, sym f z)))
-          (IsTable-edited cell_store.width r cell_store.cells.items new flag lines t inside l),
-    )
+    (λ z. rows_in (w z) (cells z) (f z)) ∙ rows_in-edited cell_store.width r cell_store.cells.items new flag lines t inside l in
+    λ z. record { rows = rows z; width = w z }
 
 -- by a print or an erase
 pub row_printed : (r a b : ℕ) (cell_store edited : CellStore) (xs new : List CellValue) (was_flag flag : Bool) →
@@ -318,14 +291,11 @@ pub row_printed : (r a b : ℕ) (cell_store edited : CellStore) (xs new : List C
     length new ≡ length (take (b - a) (drop a xs)) → edited.width ≡ cell_store.width →
     edited.lines.items ≡ set cell_store.lines.items r (record (line_at cell_store.lines.items r) { wrapped = flag }) →
     was_flag ≡ (row_or cell_store.width (rows_of cell_store) r).wrapped → flag ≡ (was_flag && not (ends_blank new)) →
-    (page_rows_of edited ≡ with_row_cells r new (page_rows_of cell_store)) × IsCellStore edited
+    page_rows_of edited ≡ with_row_cells r new (page_rows_of cell_store)
 row_printed r a b cell_store edited xs new was_flag flag t inside e was i j m size w f g k =
-    let all = row_changed r a b cell_store edited xs new flag t inside e was i j m size w f in (
-      all.0
-          ∙ ap (λ (x : Bool). with_page_row r (record { cells = new; wrapped = x }) (page_rows_of cell_store))
-          (k ∙ ap (λ (x : Bool). x && not (ends_blank new)) g),
-      all.1,
-    )
+    row_changed r a b cell_store edited xs new flag t inside e was i j m size w f
+    ∙ ap (λ (x : Bool). with_page_row r (record { cells = new; wrapped = x }) (page_rows_of cell_store))
+    (k ∙ ap (λ (x : Bool). x && not (ends_blank new)) g)
 
 -- row r was made blank
 pub row_blanked : (r : ℕ) (attrs : Attrs) (cell_store edited : CellStore) → IsCellStore cell_store → r < length (rows_of cell_store) →

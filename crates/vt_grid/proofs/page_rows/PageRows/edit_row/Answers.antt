@@ -22,5 +22,5 @@ returns g c =
     let lent = cells ∙ (λ z. (page_row (c.self.view_is z) (c.from-row.ensures z)).cells) in (
       new,
       record { shown = _; shows = lent; left = _; met = c.edit-edited.ensures; leaves = refl },
-      edited.0 ∙ (λ z. with_row_cells (c.from-row.ensures z) new (c.self.view_is z)),
+      edited ∙ (λ z. with_row_cells (c.from-row.ensures z) new (c.self.view_is z)),
     )

@@ -19,5 +19,5 @@ returns g c =
     let lent = cells ∙ (λ z. (page_row (c.self.view_is z) r).cells) in (
       new,
       record { shown = _; shows = lent; left = _; met = c.edit.ensures; leaves = refl },
-      edited.0 ∙ (λ z. with_page_row r (record { cells = new; wrapped = c.args.goes_on }) (c.self.view_is z)),
+      edited ∙ (λ z. with_page_row r (record { cells = new; wrapped = c.args.goes_on }) (c.self.view_is z)),
     )
