@@ -12,13 +12,13 @@ use Rattle.vt_scan.specs.Scanner.{StandsFor}
 use Rattle.vt_screen.specs.Pages.{has_size, resized}
 use Rattle.vt_screen.specs.Reading.{Terminal, read, terminal}
 use Rattle.vt_screen.specs.Screen.{IsScreen, ScreenValue}
-use Rattle.vt_screen.specs.Shown.{IsPlain, IsReader, IsReaderOf, shown}
+use Rattle.vt_screen.specs.Shown.{IsPlain, IsReader, IsReaderOf, KeepsRest, Redraws, shown}
 use Rattle.vt_screen.proofs.Viewing.{same_shown}
 use Rattle.vt100.specs.Parser.{Parsing}
 use Rattle.vt100.specs.Pieces.{HasRead, IsPlainParser}
 use Rattle.vt100.proofs.Pieces.{read_pieces}
 use Rattle.vt_mirror.specs.Calls.{Answers, Asks, Drawn, IsDiff, IsFull, IsOfKind, IsUpdate, JoinsMirror, Kind}
-use Rattle.vt_mirror.specs.Calls.{Scrolling, Leaves, MirrorProcesses, Redraws, Resizes, Tells}
+use Rattle.vt_mirror.specs.Calls.{Scrolling, Leaves, MirrorProcesses, Resizes, Tells}
 use Rattle.vt_mirror.specs.Mirror.{MirrorValue}
 use Rattle.vt_mirror.specs.Viewers.{Puts, ViewersValue, next_number, note_of}
 use Rattle.vt_mirror.specs.Watching.{Ask, CountUp, Goes, IsFresh, IsLeft, IsNew, IsTakenBy, MirrorDoes, Watches}
@@ -78,7 +78,7 @@ record Plainly {S : Type 0} (self : ScreenValue) (viewer : Parsing S) : Type 0 w
   pub shows : shown viewer.screen ≡ shown self
 
 reads_redraw : {S : Type 0} (self : ScreenValue) (Reader : ScreenValue → Type 0) (text : List ℕ) (p q : Parsing S) →
-    IsSteady (shown self) → Redraws self Reader text → IsPlainParser p →
+    IsSteady (shown self) → Redraws (shown self) Reader KeepsRest text → IsPlainParser p →
     Reader p.screen → ReadsText text p q → Plainly self q
 reads_redraw self Reader text p q steady r plain reader t =
     let reads = r.quiet steady p.screen reader in

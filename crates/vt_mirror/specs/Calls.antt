@@ -12,8 +12,7 @@ use Rattle.vt_redraw.specs.Redraw.{difference, redraw}
 use Rattle.vt_redraw.specs.Steady.{IsSteady}
 use Rattle.vt_screen.specs.Pages.{has_size, resized}
 use Rattle.vt_screen.specs.Screen.{IsColored, IsScreen, ScreenValue}
-use Rattle.vt_screen.specs.Shown.{HasCursor, HasRows, IsReadBy, IsReader, IsReaderOf, KeepsRest, Makes}
-use Rattle.vt_screen.specs.Shown.{ShowsPlainly, shown}
+use Rattle.vt_screen.specs.Shown.{IsReader, IsReaderOf, KeepsRest, Redraws, shown}
 use Rattle.vt_screen.specs.Touched.{TouchesOnly}
 use Rattle.vt100.specs.Parser.{IsHarmless, Ran, Stopped, quietly}
 use Rattle.vt_mirror.specs.Mirror.{MirrorValue}
@@ -65,14 +64,6 @@ pub record Leaves (old : ViewersValue) (viewer : ℕ) (answer : Bool) (new : Vie
   pub last : new.last ≡ old.last
   pub puts : Puts old viewer false None new
 
--- what a text makes of the terminals that read it, where what they are to show is steady
-pub record Redraws (self : ScreenValue) (Reader : ScreenValue → Type 0) (text : List ℕ) : Type 0 where
-  pub quiet : IsSteady (shown self) → IsReadBy Reader text
-  pub shows : IsSteady (shown self) → Makes Reader text (ShowsPlainly (shown self))
-  pub rows : IsSteady (shown self) → Makes Reader text (HasRows (shown self))
-  pub cursor : IsSteady (shown self) → Makes Reader text (HasCursor (shown self))
-  pub rest : IsSteady (shown self) → Makes Reader text KeepsRest
-
 -- the redraw of a screen, with its size: at least one row and one column
 pub record IsFull (self : ScreenValue) (rows cols : ℕ) (text : List ℕ) : Type 0 where
   pub tall : rows ≡ length self.page.rows
@@ -82,12 +73,12 @@ pub record IsFull (self : ScreenValue) (rows cols : ℕ) (text : List ℕ) : Typ
   pub has_columns : 0 < cols
   pub few_columns : cols < 2 ^ 16
   pub is : text ≡ bytes_of_all (redraw (shown self))
-  pub redraws : Redraws self (IsReader (shown self)) text
+  pub redraws : Redraws (shown self) (IsReader (shown self)) KeepsRest text
 
 -- a difference from a screen of the same size: it is empty where both show the same, and only there
 pub record IsDiff (self prev : ScreenValue) (text : List ℕ) : Type 0 where
   pub size : SameSize self.page prev.page
-  pub redraws : Redraws self (IsReaderOf (shown self) (shown prev)) text
+  pub redraws : Redraws (shown self) (IsReaderOf (shown self) (shown prev)) KeepsRest text
   pub none : shown self ≡ shown prev → text ≡ []
   pub empty : IsSteady (shown self) → text ≡ [] → shown self ≡ shown prev
 

@@ -19,10 +19,10 @@ use Rattle.vt_scan.proofs.Written.{empty_groups}
 use Rattle.vt_screen.specs.AnyRegion.{IsReaderInAnyRegion, KeepsRestButRegion, reset_text, whole_region_text}
 use Rattle.vt_screen.specs.Reading.{Terminal, read, read_byte, terminal}
 use Rattle.vt_screen.specs.Screen.{IsColored, IsScreen, ScreenValue, with_page}
-use Rattle.vt_screen.specs.Shown.{HasCursor, HasRows, IsReadBy, IsReader, Makes, ReadsTo, ShowsPlainly, shown}
+use Rattle.vt_screen.specs.Shown.{IsReader, KeepsRest, ReadsTo, Redraws, shown}
 use Rattle.vt_screen.specs.Controls.{counted_step, intermediate_steps, mode_step, other_steps, private_steps, scrolling_steps}
 use Rattle.vt_screen.specs.Steps.{OnPage, display_after}
-use Rattle.vt_screen.proofs.Became.{Redraws, redraw_redraws}
+use Rattle.vt_screen.proofs.Became.{redraw_redraws}
 use Rattle.vt_screen.proofs.ReadbackTexts.{csi_read, reads_append, reads_then}
 use Rattle.vt_screen.proofs.Telling.{redraws_tell}
 
@@ -110,32 +110,27 @@ behind : (first rest : List ℕ) (reader middle after : ScreenValue) →
 behind first rest reader middle after p q =
     sym (reads_append (terminal start reader) first rest ∙ ap (and_then (λ (u : Terminal). read u rest)) p) ∙ q
 
--- all that such a text makes of its readers
-pub record Resets (picture : Picture) (text : List ℕ) : Type 0 where
-  pub quiet : IsReadBy (IsReaderInAnyRegion picture) text
-  pub shows : Makes (IsReaderInAnyRegion picture) text (ShowsPlainly picture)
-  pub rows : Makes (IsReaderInAnyRegion picture) text (HasRows picture)
-  pub cursor : Makes (IsReaderInAnyRegion picture) text (HasCursor picture)
-  pub rest : Makes (IsReaderInAnyRegion picture) text KeepsRestButRegion
-
-resets : (picture : Picture) (text : List ℕ) →
-    Redraws (IsReader picture) picture text → Resets picture (whole_region_text ++ text)
+-- a text that redraws a picture on plain terminals does so on the others behind the two sequences
+resets : (picture : Picture) (text : List ℕ) → Redraws picture (IsReader picture) KeepsRest text →
+    Redraws picture (IsReaderInAnyRegion picture) KeepsRestButRegion (whole_region_text ++ text)
 resets picture text d = record {
-  quiet = λ reader r.
-      let (after, reads) = d.quiet (in_whole reader) (plain_reader picture reader r) in (
+  quiet = λ steady reader r.
+      let (after, reads) = d.quiet steady (in_whole reader) (plain_reader picture reader r) in (
         after,
         reads_then (terminal start reader) (terminal start (in_whole reader))
             (terminal start after) whole_region_text text (whole_read reader) reads,
       );
   shows =
-      λ reader after r e. d.shows (in_whole reader) after (plain_reader picture reader r) (read_behind reader after e);
+      λ steady reader after r e. d.shows steady (in_whole reader) after
+      (plain_reader picture reader r) (read_behind reader after e);
   rows =
-      λ reader after r e. d.rows (in_whole reader) after (plain_reader picture reader r) (read_behind reader after e);
-  cursor = λ reader after r e.
-      let has = d.cursor (in_whole reader) after (plain_reader picture reader r) (read_behind reader after e) in
+      λ steady reader after r e. d.rows steady (in_whole reader) after
+      (plain_reader picture reader r) (read_behind reader after e);
+  cursor = λ steady reader after r e.
+      let has = d.cursor steady (in_whole reader) after (plain_reader picture reader r) (read_behind reader after e) in
       record { row = has.row; column = has.column; attrs = has.attrs; hidden = has.hidden };
-  rest = λ reader after r e.
-      let kept = d.rest (in_whole reader) after (plain_reader picture reader r) (read_behind reader after e) in
+  rest = λ steady reader after r e.
+      let kept = d.rest steady (in_whole reader) after (plain_reader picture reader r) (read_behind reader after e) in
       let most = kept.but_modes in
       record {
         other = most.other;
@@ -149,13 +144,13 @@ resets picture text d = record {
       ReadsTo (whole_region_text ++ text) reader after → ReadsTo text (in_whole reader) after
   read_behind reader after e = behind whole_region_text text reader (in_whole reader) after (whole_read reader) e
 
-pub reset_resets : (self : ScreenValue) (text : List ℕ) → text ≡ reset_text (shown self) →
-    IsScreen self → IsColored self → IsSteady (shown self) → Resets (shown self) text
-reset_resets self text told is colored steady =
+pub reset_redraws : (self : ScreenValue) (text : List ℕ) → text ≡ reset_text (shown self) → IsScreen self →
+    IsColored self → Redraws (shown self) (IsReaderInAnyRegion (shown self)) KeepsRestButRegion text
+reset_redraws self text told is colored =
     let picture = shown self in
-    subst (Resets picture) (sym told)
+    subst (Redraws picture (IsReaderInAnyRegion picture) KeepsRestButRegion) (sym told)
     (resets picture (bytes_of_all (redraw picture))
-    (redraw_redraws self (bytes_of_all (redraw picture)) refl is colored steady))
+    (redraw_redraws self (bytes_of_all (redraw picture)) refl is colored))
 
 -- equal texts come from screens that show the same
 pub resets_tell : (a b : ScreenValue) → IsScreen a → IsColored a → IsSteady (shown a) →

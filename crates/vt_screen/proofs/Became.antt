@@ -9,8 +9,8 @@ use Rattle.vt_redraw.specs.Steady.{IsSteady}
 use Rattle.vt_redraw.proofs.Cuts.{cut_same}
 use Rattle.vt_redraw.proofs.Difference.{flags_end_of}
 use Rattle.vt_screen.specs.Screen.{ScreenValue, IsScreen, IsColored, above_page}
-use Rattle.vt_screen.specs.Shown.{IsPlain, IsReader, IsReaderOf, IsReadBy, Makes, ShowsPlainly}
-use Rattle.vt_screen.specs.Shown.{HasRows, HasCursor, KeepsRest, shown, showing}
+use Rattle.vt_screen.specs.Shown.{IsPlain, IsReader, IsReaderOf, ShowsPlainly, HasRows}
+use Rattle.vt_screen.specs.Shown.{HasCursor, KeepsRest, Redraws, shown, showing}
 use Rattle.vt_screen.proofs.Redrawing.{Became, Becomes, became, redraw_read, difference_read}
 use Rattle.vt_screen.proofs.Shown.{none_above, shown_height, shown_is}
 
@@ -69,42 +69,41 @@ keeps_rest picture reader after b =
       modes = refl;
     })
 
--- all that a text makes of its readers
-pub record Redraws (Reader : ScreenValue → Type 0) (picture : Picture) (text : List ℕ) : Type 0 where
-  pub quiet : IsReadBy Reader text
-  pub shows : Makes Reader text (ShowsPlainly picture)
-  pub rows : Makes Reader text (HasRows picture)
-  pub cursor : Makes Reader text (HasCursor picture)
-  pub rest : Makes Reader text KeepsRest
-
+-- all of them
 pub redraws : (Reader : ScreenValue → Type 0) (picture : Picture) (text : List ℕ)
     → IsPicture picture → ((reader : ScreenValue) → Reader reader → IsReader picture reader)
-    → ((reader : ScreenValue) → Reader reader → Becomes picture text reader)
-    → Redraws Reader picture text
+    → (IsSteady picture → (reader : ScreenValue) → Reader reader → Becomes picture text reader)
+    → Redraws picture Reader KeepsRest text
 redraws Reader picture text is readers reads = record {
-  quiet = λ reader r. let b = reads reader r in (showing picture b.saved b.last reader, b.reads);
+  quiet = λ steady reader r. let b = reads steady reader r in (showing picture b.saved b.last reader, b.reads);
   shows =
-      λ reader after r e. shows_plainly picture reader after is
-      (readers reader r) (became picture text reader after (reads reader r) e);
-  rows = λ reader after r e. has_rows picture reader after (became picture text reader after (reads reader r) e);
-  cursor = λ reader after r e. has_cursor picture reader after (became picture text reader after (reads reader r) e);
-  rest = λ reader after r e. keeps_rest picture reader after (became picture text reader after (reads reader r) e);
+      λ steady reader after r e. shows_plainly picture reader after is
+      (readers reader r) (became picture text reader after (reads steady reader r) e);
+  rows =
+      λ steady reader after r e. has_rows picture reader after
+      (became picture text reader after (reads steady reader r) e);
+  cursor =
+      λ steady reader after r e. has_cursor picture reader after
+      (became picture text reader after (reads steady reader r) e);
+  rest =
+      λ steady reader after r e. keeps_rest picture reader after
+      (became picture text reader after (reads steady reader r) e);
 }
 
 pub redraw_redraws : (self : ScreenValue) (text : List ℕ) → text ≡ bytes_of_all (redraw (shown self)) →
-    IsScreen self → IsColored self → IsSteady (shown self) → Redraws (IsReader (shown self)) (shown self) text
-redraw_redraws self text told is colored steady =
+    IsScreen self → IsColored self → Redraws (shown self) (IsReader (shown self)) KeepsRest text
+redraw_redraws self text told is colored =
     let picture = shown self in
     redraws (IsReader picture) picture text (shown_is self is) (λ reader r. r)
-    (λ reader r. subst (λ (t : List ℕ). Becomes picture t reader)
+    (λ steady reader r. subst (λ (t : List ℕ). Becomes picture t reader)
     (sym told) (redraw_read self reader is colored steady r))
 
 pub difference_redraws : (self prev : ScreenValue) (text : List ℕ)
     → text ≡ bytes_of_all (difference (shown self) (shown prev)) → IsScreen self → IsColored self
-    → IsSteady (shown self) → IsScreen prev → IsColored prev → SamePictureSize (shown self) (shown prev)
-    → Redraws (IsReaderOf (shown self) (shown prev)) (shown self) text
-difference_redraws self prev text told is colored steady other colored_other size =
+    → IsScreen prev → IsColored prev → SamePictureSize (shown self) (shown prev)
+    → Redraws (shown self) (IsReaderOf (shown self) (shown prev)) KeepsRest text
+difference_redraws self prev text told is colored other colored_other size =
     let picture = shown self in
     redraws (IsReaderOf picture (shown prev)) picture text (shown_is self is) (λ reader r. r.is)
-    (λ reader r. subst (λ (t : List ℕ). Becomes picture t reader) (sym told)
+    (λ steady reader r. subst (λ (t : List ℕ). Becomes picture t reader) (sym told)
     (difference_read self prev reader is colored steady other colored_other size r))

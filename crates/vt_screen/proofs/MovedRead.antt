@@ -29,9 +29,9 @@ use Rattle.vt_scan.specs.Automaton.{start}
 use Rattle.vt_screen.specs.Controls.{counted_step}
 use Rattle.vt_screen.specs.Reading.{read, terminal}
 use Rattle.vt_screen.specs.Screen.{ScreenValue, IsScreen, IsColored, canvas_of, with_canvas, with_page}
-use Rattle.vt_screen.specs.Shown.{IsPlain, IsReader, IsReaderOf, ReadsTo, shown}
+use Rattle.vt_screen.specs.Shown.{IsPlain, IsReader, IsReaderOf, KeepsRest, ReadsTo, Redraws, shown}
 use Rattle.vt_screen.specs.Steps.{OnPage, display_after}
-use Rattle.vt_screen.proofs.Became.{Redraws, redraws}
+use Rattle.vt_screen.proofs.Became.{redraws}
 use Rattle.vt_screen.proofs.Readback.{changed_read, counted_read, moved_to_read}
 use Rattle.vt_screen.proofs.ReadbackTexts.{reads_then}
 use Rattle.vt_screen.proofs.Redrawing.{Becomes, difference_read, drawing_read}
@@ -309,21 +309,21 @@ scrolling_read self prev reader band is colored steady r inside =
 pub record AreDiffed (self prev : ScreenValue) : Type 0 where
   pub sound : IsScreen self
   pub colored : IsColored self
-  pub steady : IsSteady (shown self)
   pub other : IsScreen prev
   pub other_colored : IsColored prev
   pub size : SamePictureSize (shown self) (shown prev)
 
 pub scrolling_redraws : (self prev : ScreenValue) (text : List ℕ) → AreDiffed self prev →
-    IsScrolling (shown self) (shown prev) text → Redraws (IsReaderOf (shown self) (shown prev)) (shown self) text
+    IsScrolling (shown self) (shown prev) text →
+    Redraws (shown self) (IsReaderOf (shown self) (shown prev)) KeepsRest text
 scrolling_redraws self prev text d (inl told) =
     redraws (IsReaderOf (shown self) (shown prev)) (shown self) text (shown_is self d.sound) (λ reader r. r.is)
-    (λ reader r. subst (λ (t : List ℕ). Becomes (shown self) t reader) (sym told)
-    (difference_read self prev reader d.sound d.colored d.steady d.other d.other_colored d.size r))
+    (λ steady reader r. subst (λ (t : List ℕ). Becomes (shown self) t reader) (sym told)
+    (difference_read self prev reader d.sound d.colored steady d.other d.other_colored d.size r))
 scrolling_redraws self prev text d (inr (band, inside, told)) =
     redraws (IsReaderOf (shown self) (shown prev)) (shown self) text (shown_is self d.sound) (λ reader r. r.is)
-    (λ reader r. subst (λ (t : List ℕ). Becomes (shown self) t reader) (sym told)
-    (scrolling_read self prev reader band d.sound d.colored d.steady r inside))
+    (λ steady reader r. subst (λ (t : List ℕ). Becomes (shown self) t reader) (sym told)
+    (scrolling_read self prev reader band d.sound d.colored steady r inside))
 
 -- ---- when it is empty
 
@@ -344,11 +344,11 @@ some_band false true height band u e = rw (u, e) (λ empty. cc)
 some_band false false height band u e = rw (u, e) (λ empty. cc)
 
 -- only between screens that show the same
-pub scrolling_tells : (self prev : ScreenValue) (text : List ℕ) → AreDiffed self prev →
+pub scrolling_tells : (self prev : ScreenValue) (text : List ℕ) → AreDiffed self prev → IsSteady (shown self) →
     IsScrolling (shown self) (shown prev) text → text ≡ [] → shown self ≡ shown prev
-scrolling_tells self prev text d (inl told) empty =
-    difference_tells self prev d.sound d.colored d.steady d.other d.other_colored d.size (sym told ∙ empty)
-scrolling_tells self prev text d (inr (band, inside, told)) empty =
+scrolling_tells self prev text d steady (inl told) empty =
+    difference_tells self prev d.sound d.colored steady d.other d.other_colored d.size (sym told ∙ empty)
+scrolling_tells self prev text d steady (inr (band, inside, told)) empty =
     let height = length (shown prev).rows in
     let before = bytes_of_all (attr_ops (shown prev).attrs default_attrs) in
     let rest = bytes_of_all (difference (shown self) (moved band (shown prev))) in

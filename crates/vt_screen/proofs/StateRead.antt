@@ -8,7 +8,7 @@ use Rattle.vt_scan.specs.Automaton.{start}
 use Rattle.vt_screen.specs.InputTexts.{input_change, input_text}
 use Rattle.vt_screen.specs.Reading.{Terminal, terminal}
 use Rattle.vt_screen.specs.Screen.{Modes, ScreenValue, IsScreen, IsColored}
-use Rattle.vt_screen.specs.Shown.{IsReader, IsReadBy, Makes, ReadsTo, ShowsPlainly, HasRows}
+use Rattle.vt_screen.specs.Shown.{IsReader, Makes, ReadsTo, Redraws, ShowsPlainly, HasRows}
 use Rattle.vt_screen.specs.Shown.{HasCursor, KeepsRestButModes, shown, showing}
 use Rattle.vt_screen.specs.States.{HasDefaultMouseAndStyle, HasModes, IsStateReader}
 use Rattle.vt_screen.specs.States.{IsStateReaderOf, SetsModes, state_change, state_text}
@@ -77,33 +77,29 @@ plain_again screen saved last reader is r =
 
 -- all that such a text makes of its readers
 pub record GivesState (Reader : ScreenValue → Type 0) (screen : ScreenValue) (text : List ℕ) : Type 0 where
-  pub quiet : IsReadBy Reader text
-  pub shows : Makes Reader text (ShowsPlainly (shown screen))
-  pub rows : Makes Reader text (HasRows (shown screen))
-  pub cursor : Makes Reader text (HasCursor (shown screen))
-  pub modes : Makes Reader text (HasModes screen.modes)
-  pub rest : Makes Reader text KeepsRestButModes
+  pub redraws : Redraws (shown screen) Reader KeepsRestButModes text
+  pub modes : IsSteady (shown screen) → Makes Reader text (HasModes screen.modes)
 
-gives : (Reader : ScreenValue → Type 0) (screen : ScreenValue) (text : List ℕ) → IsScreen screen
+redraws : (Reader : ScreenValue → Type 0) (screen : ScreenValue) (text : List ℕ) → IsScreen screen
     → ((reader : ScreenValue) → Reader reader → IsReader (shown screen) reader)
-    → ((reader : ScreenValue) → Reader reader → Restores screen text reader)
-    → GivesState Reader screen text
-gives Reader screen text is readers reads = record {
-  quiet = λ reader r. let b = reads reader r in (restored screen b.saved b.last reader, b.reads);
-  shows = λ reader after r e.
-      let b = reads reader r in
+    → (IsSteady (shown screen) → (reader : ScreenValue) → Reader reader → Restores screen text reader)
+    → Redraws (shown screen) Reader KeepsRestButModes text
+redraws Reader screen text is readers reads = record {
+  quiet = λ steady reader r. let b = reads steady reader r in (restored screen b.saved b.last reader, b.reads);
+  shows = λ steady reader after r e.
+      let b = reads steady reader r in
       subst (ShowsPlainly (shown screen) reader) (after_is screen text reader after b e)
       (plain_again screen b.saved b.last reader is (readers reader r));
   rows =
-      λ reader after r e. subst (HasRows (shown screen) reader)
-      (after_is screen text reader after (reads reader r) e) refl;
+      λ steady reader after r e. subst (HasRows (shown screen) reader)
+      (after_is screen text reader after (reads steady reader r) e) refl;
   cursor =
-      λ reader after r e. subst (HasCursor (shown screen) reader) (after_is screen text reader after (reads reader r) e)
+      λ steady reader after r e. subst (HasCursor (shown screen) reader)
+      (after_is screen text reader after (reads steady reader r) e)
       (record { row = refl; column = refl; attrs = refl; hidden = refl });
-  modes =
-      λ reader after r e. subst (HasModes screen.modes reader)
-      (after_is screen text reader after (reads reader r) e) refl;
-  rest = λ reader after r e. subst (KeepsRestButModes reader) (after_is screen text reader after (reads reader r) e)
+  rest =
+      λ steady reader after r e. subst (KeepsRestButModes reader)
+      (after_is screen text reader after (reads steady reader r) e)
       (record {
         other = refl;
         is_alternate = refl;
@@ -115,20 +111,31 @@ gives Reader screen text is readers reads = record {
       });
 }
 
-pub state_gives : (screen : ScreenValue) (text : List ℕ) → text ≡ state_text screen → IsScreen screen →
-    IsColored screen → IsSteady (shown screen) → GivesState (IsStateReader screen) screen text
-state_gives screen text told is colored steady =
+gives : (Reader : ScreenValue → Type 0) (screen : ScreenValue) (text : List ℕ) → IsScreen screen
+    → ((reader : ScreenValue) → Reader reader → IsReader (shown screen) reader)
+    → (IsSteady (shown screen) → (reader : ScreenValue) → Reader reader → Restores screen text reader)
+    → GivesState Reader screen text
+gives Reader screen text is readers reads = record {
+  redraws = redraws Reader screen text is readers reads;
+  modes =
+      λ steady reader after r e. subst (HasModes screen.modes reader)
+      (after_is screen text reader after (reads steady reader r) e) refl;
+}
+
+pub state_gives : (screen : ScreenValue) (text : List ℕ) → text ≡ state_text screen →
+    IsScreen screen → IsColored screen → GivesState (IsStateReader screen) screen text
+state_gives screen text told is colored =
     gives (IsStateReader screen) screen text is (λ reader r. r.is)
-    (λ reader r. subst (λ (t : List ℕ). Restores screen t reader)
+    (λ steady reader r. subst (λ (t : List ℕ). Restores screen t reader)
     (sym told) (state_read screen reader is colored steady r))
 
 pub change_gives : (screen prev : ScreenValue) (text : List ℕ) → text ≡ state_change prev screen
-    → IsScreen screen → IsColored screen → IsSteady (shown screen)
+    → IsScreen screen → IsColored screen
     → IsScreen prev → IsColored prev → SamePictureSize (shown screen) (shown prev)
     → GivesState (IsStateReaderOf screen prev) screen text
-change_gives screen prev text told is colored steady other colored_other size =
+change_gives screen prev text told is colored other colored_other size =
     gives (IsStateReaderOf screen prev) screen text is (λ reader r. r.is.is)
-    (λ reader r. subst (λ (t : List ℕ). Restores screen t reader) (sym told)
+    (λ steady reader r. subst (λ (t : List ℕ). Restores screen t reader) (sym told)
     (change_read screen prev reader is colored steady other colored_other size r))
 
 -- ---- where nothing is written

@@ -8,6 +8,7 @@ use Rattle.vt_cells.specs.Op.{ClearAttrs, ChangeAttrs, bytes_of_all}
 use Rattle.vt_rows.specs.Cells.{at}
 use Rattle.vt_grid.specs.Page.{IsPlainPage}
 use Rattle.vt_redraw.specs.Picture.{Picture, SamePictureSize, Saved, picture_over, with_picture, with_saved}
+use Rattle.vt_redraw.specs.Steady.{IsSteady}
 use Rattle.vt_scan.specs.Automaton.{start}
 use Rattle.vt_screen.specs.Reading.{read, terminal}
 use Rattle.vt_screen.specs.Screen.{ScreenValue, IsScreen, above_page, canvas_of, visible_row, visible_rows, with_canvas}
@@ -107,6 +108,15 @@ pub record KeepsRestButModes (reader after : ScreenValue) : Type 0 where
 pub record KeepsRest (reader after : ScreenValue) : Type 0 where
   pub but_modes : KeepsRestButModes reader after
   pub modes : after.modes ≡ reader.modes
+
+-- a text that redraws a picture, if that is steady, on every such terminal; this is kept of the rest
+pub record Redraws (picture : Picture) (Reader : ScreenValue → Type 0)
+    (Kept : (reader after : ScreenValue) → Type 0) (text : List ℕ) : Type 0 where
+  pub quiet : IsSteady picture → IsReadBy Reader text
+  pub shows : IsSteady picture → Makes Reader text (ShowsPlainly picture)
+  pub rows : IsSteady picture → Makes Reader text (HasRows picture)
+  pub cursor : IsSteady picture → Makes Reader text (HasCursor picture)
+  pub rest : IsSteady picture → Makes Reader text Kept
 
 -- its cursor goes to the picture's and is hidden where that is; its cells, flags and attributes stay
 pub record TakesCursor (picture : Picture) (reader after : ScreenValue) : Type 0 where

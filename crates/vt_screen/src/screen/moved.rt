@@ -12,8 +12,7 @@ ghost use Rattle.vt_redraw.specs.Redraw.{difference};
 ghost use Rattle.vt_redraw.specs.Refusals.{RefusedOnlyIfSome};
 ghost use Rattle.vt_redraw.specs.Steady.{IsSteady};
 ghost use Rattle.vt_screen.specs.Screen.{IsColored, IsScreen};
-ghost use Rattle.vt_screen.specs.Shown.{HasCursor, HasRows, IsReadBy, IsReaderOf, KeepsRest, Makes};
-ghost use Rattle.vt_screen.specs.Shown.{ShowsPlainly, shown};
+ghost use Rattle.vt_screen.specs.Shown.{IsReaderOf, KeepsRest, Redraws, shown};
 
 use crate::screen::Screen;
 use vt_cells::{Error, Sink};
@@ -28,10 +27,10 @@ impl Screen {
     /// move them first (DL and IL), and so be much shorter. Which rows these are
     /// is guessed, from the first 256.
     ///
-    /// By the clauses `quiet` to `rest`, for a screen whose picture is steady,
-    /// such a terminal reads the text as that of
-    /// [`Screen::contents_formatted`], to the same end. The text is empty where
-    /// both show the same, and by `empty` only there. It may touch any row.
+    /// By `redraws`, for a screen whose picture is steady, such a terminal
+    /// reads the text as that of [`Screen::contents_formatted`], to the same
+    /// end. The text is empty where both show the same, and by `empty` only
+    /// there. It may touch any row.
     ///
     /// Fails where memory for the text, or for the plain difference that it is
     /// compared with, is refused, and by `never` not where both screens show the
@@ -46,16 +45,8 @@ impl Screen {
         ensures text { IfOk result (λ text. IsScrolling (shown self.now) (shown prev.now) (string_bytes text)) }
         ensures shorter { IfOk result (λ text.
             length (string_bytes text) ≤ length (bytes_of_all (difference (shown self.now) (shown prev.now)))) }
-        ensures quiet { IfOk result (λ text. IsSteady (shown self.now) →
-            IsReadBy (IsReaderOf (shown self.now) (shown prev.now)) (string_bytes text)) }
-        ensures shows { IfOk result (λ text. IsSteady (shown self.now) →
-            Makes (IsReaderOf (shown self.now) (shown prev.now)) (string_bytes text) (ShowsPlainly (shown self.now))) }
-        ensures rows { IfOk result (λ text. IsSteady (shown self.now) →
-            Makes (IsReaderOf (shown self.now) (shown prev.now)) (string_bytes text) (HasRows (shown self.now))) }
-        ensures cursor { IfOk result (λ text. IsSteady (shown self.now) →
-            Makes (IsReaderOf (shown self.now) (shown prev.now)) (string_bytes text) (HasCursor (shown self.now))) }
-        ensures rest { IfOk result (λ text. IsSteady (shown self.now) →
-            Makes (IsReaderOf (shown self.now) (shown prev.now)) (string_bytes text) KeepsRest) }
+        ensures redraws { IfOk result (λ text.
+            Redraws (shown self.now) (IsReaderOf (shown self.now) (shown prev.now)) KeepsRest (string_bytes text)) }
         ensures empty { IfOk result
             (λ text. IsSteady (shown self.now) → string_bytes text ≡ [] → shown self.now ≡ shown prev.now) }
         ensures none { IfOk result (λ text. shown self.now ≡ shown prev.now → string_bytes text ≡ []) }

@@ -23,9 +23,8 @@ ghost use Rattle.vt_redraw.specs.Steady.{IsSteady};
 ghost use Rattle.vt_screen.specs.AnyRegion.{IsReaderInAnyRegion, KeepsRestButRegion, reset_text};
 ghost use Rattle.vt_screen.specs.Screen.{IsColored, IsScreen, ScreenValue};
 ghost use Rattle.vt_screen.specs.Touched.{TouchesOnly};
-ghost use Rattle.vt_screen.specs.Shown.{HasCursor, HasRows, IsReadBy, IsReader, IsReaderOf};
-ghost use Rattle.vt_screen.specs.Shown.{IsReaderOfRows, KeepsRest, Makes, SetsAttrs, ShowsPlainly};
-ghost use Rattle.vt_screen.specs.Shown.{StaysPlain, TakesCursor, attributes_text, shown};
+ghost use Rattle.vt_screen.specs.Shown.{IsReadBy, IsReader, IsReaderOf, IsReaderOfRows, KeepsRest};
+ghost use Rattle.vt_screen.specs.Shown.{Makes, Redraws, SetsAttrs, StaysPlain, TakesCursor, attributes_text, shown};
 
 use crate::screen::Screen;
 use vt_cells::term::{BufWrite, ChangeAttrs, ClearAttrs};
@@ -43,13 +42,13 @@ impl Screen {
     /// a blank row, gives just itself. So are all without U+FE0F, which may make
     /// a glyph wide.
     ///
-    /// By the clauses `quiet` to `rest`, for a screen whose picture is steady,
-    /// a plain terminal of this size reads the text without calling anybody
-    /// and without taking memory. Then it is plain and shows what this screen
-    /// shows; its scrollback, its other page and its modes are as before. Only
-    /// its saved cursor, saved origin mode, saved attributes and last character
-    /// may be others. Screens that show the same give the same text, and by
-    /// `same` only those.
+    /// By `redraws`, for a screen whose picture is steady, a plain terminal of
+    /// this size reads the text without calling anybody and without taking
+    /// memory. Then it is plain and shows what this screen shows; its
+    /// scrollback, its other page and its modes are as before. Only its saved
+    /// cursor, saved origin mode, saved attributes and last character may be
+    /// others. Screens that show the same give the same text, and by `same`
+    /// only those.
     ///
     /// Fails where memory for the text is refused.
     ///
@@ -60,16 +59,8 @@ impl Screen {
     pub fn contents_formatted(&self) -> Result<String, Error>
         ensures colored { IsColored self.now }
         ensures text { IfOk result (λ text. string_bytes text ≡ bytes_of_all (redraw (shown self.now))) }
-        ensures quiet { IfOk result
-            (λ text. IsSteady (shown self.now) → IsReadBy (IsReader (shown self.now)) (string_bytes text)) }
-        ensures shows { IfOk result (λ text. IsSteady (shown self.now) →
-            Makes (IsReader (shown self.now)) (string_bytes text) (ShowsPlainly (shown self.now))) }
-        ensures rows { IfOk result (λ text. IsSteady (shown self.now) →
-            Makes (IsReader (shown self.now)) (string_bytes text) (HasRows (shown self.now))) }
-        ensures cursor { IfOk result (λ text. IsSteady (shown self.now) →
-            Makes (IsReader (shown self.now)) (string_bytes text) (HasCursor (shown self.now))) }
-        ensures rest { IfOk result
-            (λ text. IsSteady (shown self.now) → Makes (IsReader (shown self.now)) (string_bytes text) KeepsRest) }
+        ensures redraws { IfOk result
+            (λ text. Redraws (shown self.now) (IsReader (shown self.now)) KeepsRest (string_bytes text)) }
         ensures same { IfOk result (λ text. (other : ScreenValue) → IsScreen other → IsColored other →
             SamePictureSize (shown self.now) (shown other) → IsSteady (shown self.now) → IsSteady (shown other) →
             string_bytes text ≡ bytes_of_all (redraw (shown other)) → shown self.now ≡ shown other) }
@@ -88,14 +79,14 @@ impl Screen {
     /// scroll region (DECSTBM), and behind that the text of
     /// [`Screen::contents_formatted`].
     ///
-    /// By the clauses `quiet` to `rest`, for a screen whose picture is steady,
-    /// such a terminal of this size, if it is in ground state, reads
-    /// the text without calling anybody and without taking memory, be it on its
-    /// main page or on the alternate one. Then it is plain and shows what this
-    /// screen shows; its scrollback, its other page and its modes are as before.
-    /// Beside the region and origin mode, only its saved cursor, saved origin
-    /// mode, saved attributes and last character may be others. Screens that
-    /// show the same give the same text, and by `same` only those.
+    /// By `redraws`, for a screen whose picture is steady, such a terminal of
+    /// this size, if it is in ground state, reads the text without calling
+    /// anybody and without taking memory, be it on its main page or on the
+    /// alternate one. Then it is plain and shows what this screen shows; its
+    /// scrollback, its other page and its modes are as before. Beside the
+    /// region and origin mode, only its saved cursor, saved origin mode, saved
+    /// attributes and last character may be others. Screens that show the same
+    /// give the same text, and by `same` only those.
     ///
     /// Fails where memory for the text is refused.
     ///
@@ -109,16 +100,8 @@ impl Screen {
     pub fn contents_formatted_reset(&self) -> Result<String, Error>
         ensures colored { IsColored self.now }
         ensures text { IfOk result (λ text. string_bytes text ≡ reset_text (shown self.now)) }
-        ensures quiet { IfOk result
-            (λ text. IsSteady (shown self.now) → IsReadBy (IsReaderInAnyRegion (shown self.now)) (string_bytes text)) }
-        ensures shows { IfOk result (λ text. IsSteady (shown self.now) →
-            Makes (IsReaderInAnyRegion (shown self.now)) (string_bytes text) (ShowsPlainly (shown self.now))) }
-        ensures rows { IfOk result (λ text. IsSteady (shown self.now) →
-            Makes (IsReaderInAnyRegion (shown self.now)) (string_bytes text) (HasRows (shown self.now))) }
-        ensures cursor { IfOk result (λ text. IsSteady (shown self.now) →
-            Makes (IsReaderInAnyRegion (shown self.now)) (string_bytes text) (HasCursor (shown self.now))) }
-        ensures rest { IfOk result (λ text. IsSteady (shown self.now) →
-            Makes (IsReaderInAnyRegion (shown self.now)) (string_bytes text) KeepsRestButRegion) }
+        ensures redraws { IfOk result (λ text.
+            Redraws (shown self.now) (IsReaderInAnyRegion (shown self.now)) KeepsRestButRegion (string_bytes text)) }
         ensures same { IfOk result (λ text. (other : ScreenValue) → IsScreen other → IsColored other →
             SamePictureSize (shown self.now) (shown other) → IsSteady (shown self.now) → IsSteady (shown other) →
             string_bytes text ≡ reset_text (shown other) → shown self.now ≡ shown other) }
@@ -134,13 +117,13 @@ impl Screen {
     /// A text that makes a plain terminal that shows what `prev` shows show
     /// what this screen shows. Both screens are to be of one size.
     ///
-    /// By the clauses `quiet` to `rest`, for a screen whose picture is steady,
-    /// such a terminal reads the text as that of
-    /// [`Screen::contents_formatted`], to the same end. The text is empty where
-    /// both show the same, and by `empty` only there. By `touches` it touches
-    /// only rows that differ and those directly under one, and of the glyphs
-    /// there that stand alike in both screens only one in the first column and
-    /// one in the last; and, to make a pending wrap, the end of one row.
+    /// By `redraws`, for a screen whose picture is steady, such a terminal
+    /// reads the text as that of [`Screen::contents_formatted`], to the same
+    /// end. The text is empty where both show the same, and by `empty` only
+    /// there. By `touches` it touches only rows that differ and those directly
+    /// under one, and of the glyphs there that stand alike in both screens only
+    /// one in the first column and one in the last; and, to make a pending
+    /// wrap, the end of one row.
     ///
     /// Fails where memory for the text is refused. An empty text needs none: by
     /// `never` this does not fail where both screens show the same.
@@ -153,16 +136,8 @@ impl Screen {
         requires { SameSize self.now.page prev.now.page }
         ensures text { IfOk result
             (λ text. string_bytes text ≡ bytes_of_all (difference (shown self.now) (shown prev.now))) }
-        ensures quiet { IfOk result (λ text. IsSteady (shown self.now) →
-            IsReadBy (IsReaderOf (shown self.now) (shown prev.now)) (string_bytes text)) }
-        ensures shows { IfOk result (λ text. IsSteady (shown self.now) →
-            Makes (IsReaderOf (shown self.now) (shown prev.now)) (string_bytes text) (ShowsPlainly (shown self.now))) }
-        ensures rows { IfOk result (λ text. IsSteady (shown self.now) →
-            Makes (IsReaderOf (shown self.now) (shown prev.now)) (string_bytes text) (HasRows (shown self.now))) }
-        ensures cursor { IfOk result (λ text. IsSteady (shown self.now) →
-            Makes (IsReaderOf (shown self.now) (shown prev.now)) (string_bytes text) (HasCursor (shown self.now))) }
-        ensures rest { IfOk result (λ text. IsSteady (shown self.now) →
-            Makes (IsReaderOf (shown self.now) (shown prev.now)) (string_bytes text) KeepsRest) }
+        ensures redraws { IfOk result (λ text.
+            Redraws (shown self.now) (IsReaderOf (shown self.now) (shown prev.now)) KeepsRest (string_bytes text)) }
         ensures empty { IfOk result
             (λ text. IsSteady (shown self.now) → string_bytes text ≡ [] → shown self.now ≡ shown prev.now) }
         ensures none { IfOk result (λ text. shown self.now ≡ shown prev.now → string_bytes text ≡ []) }

@@ -9,7 +9,7 @@ ghost use Rattle.vt_grid.specs.Page.{SameSize};
 ghost use Rattle.vt_redraw.specs.Refusals.{RefusedOnlyIfSome};
 ghost use Rattle.vt_redraw.specs.Steady.{IsSteady};
 ghost use Rattle.vt_screen.specs.Screen.{IsColored, IsScreen};
-ghost use Rattle.vt_screen.specs.Shown.{HasCursor, HasRows, IsReadBy, KeepsRestButModes, Makes, ShowsPlainly, shown};
+ghost use Rattle.vt_screen.specs.Shown.{KeepsRestButModes, Makes, Redraws, shown};
 ghost use Rattle.vt_screen.specs.States.{HasModes, IsStateReader, IsStateReaderOf, state_change, state_text};
 
 use crate::screen::Screen;
@@ -22,12 +22,12 @@ impl Screen {
     /// [`Screen::contents_formatted`], and behind it that of
     /// [`Screen::input_mode_formatted`].
     ///
-    /// By the clauses `quiet` to `rest`, for a screen whose picture is steady,
-    /// such a terminal reads the text without calling anybody and without
-    /// taking memory. Then it is plain, shows what this screen shows and has
-    /// its modes; its scrollback and its other page are as before. Only its
-    /// saved cursor, saved origin mode, saved attributes and last character may
-    /// be others.
+    /// By `redraws` and `modes`, for a screen whose picture is steady, such a
+    /// terminal reads the text without calling anybody and without taking
+    /// memory. Then it is plain, shows what this screen shows and has its
+    /// modes; its scrollback and its other page are as before. Only its saved
+    /// cursor, saved origin mode, saved attributes and last character may be
+    /// others.
     ///
     /// Fails where memory for the text is refused.
     ///
@@ -40,18 +40,10 @@ impl Screen {
     /// ```
     pub fn state_formatted(&self) -> Result<String, Error>
         ensures text { IfOk result (λ text. string_bytes text ≡ state_text self.now) }
-        ensures quiet { IfOk result
-            (λ text. IsSteady (shown self.now) → IsReadBy (IsStateReader self.now) (string_bytes text)) }
-        ensures shows { IfOk result (λ text. IsSteady (shown self.now) →
-            Makes (IsStateReader self.now) (string_bytes text) (ShowsPlainly (shown self.now))) }
-        ensures rows { IfOk result (λ text. IsSteady (shown self.now) →
-            Makes (IsStateReader self.now) (string_bytes text) (HasRows (shown self.now))) }
-        ensures cursor { IfOk result (λ text. IsSteady (shown self.now) →
-            Makes (IsStateReader self.now) (string_bytes text) (HasCursor (shown self.now))) }
+        ensures redraws { IfOk result
+            (λ text. Redraws (shown self.now) (IsStateReader self.now) KeepsRestButModes (string_bytes text)) }
         ensures modes { IfOk result (λ text. IsSteady (shown self.now) →
             Makes (IsStateReader self.now) (string_bytes text) (HasModes self.now.modes)) }
-        ensures rest { IfOk result
-            (λ text. IsSteady (shown self.now) → Makes (IsStateReader self.now) (string_bytes text) KeepsRestButModes) }
         ensures memory { OnlyOutOfMemory result }
     {
         let mut text = String::new(self.alloc);
@@ -66,10 +58,10 @@ impl Screen {
     /// that of [`Screen::contents_diff`], and behind it that of
     /// [`Screen::input_mode_diff`]. Both screens are to be of one size.
     ///
-    /// By the clauses `quiet` to `rest`, for a screen whose picture is steady,
-    /// such a terminal reads the text as that of [`Screen::state_formatted`],
-    /// to the same end. The text is empty where both show the same and have the
-    /// same modes, and by `empty` only there.
+    /// By `redraws` and `modes`, for a screen whose picture is steady, such a
+    /// terminal reads the text as that of [`Screen::state_formatted`], to the
+    /// same end. The text is empty where both show the same and have the same
+    /// modes, and by `empty` only there.
     ///
     /// Fails where memory for the text is refused. An empty text needs none: by
     /// `never` this does not fail where the text is empty so.
@@ -81,18 +73,10 @@ impl Screen {
     pub fn state_diff(&self, prev: &Screen) -> Result<String, Error>
         requires { SameSize self.now.page prev.now.page }
         ensures text { IfOk result (λ text. string_bytes text ≡ state_change prev.now self.now) }
-        ensures quiet { IfOk result
-            (λ text. IsSteady (shown self.now) → IsReadBy (IsStateReaderOf self.now prev.now) (string_bytes text)) }
-        ensures shows { IfOk result (λ text. IsSteady (shown self.now) →
-            Makes (IsStateReaderOf self.now prev.now) (string_bytes text) (ShowsPlainly (shown self.now))) }
-        ensures rows { IfOk result (λ text. IsSteady (shown self.now) →
-            Makes (IsStateReaderOf self.now prev.now) (string_bytes text) (HasRows (shown self.now))) }
-        ensures cursor { IfOk result (λ text. IsSteady (shown self.now) →
-            Makes (IsStateReaderOf self.now prev.now) (string_bytes text) (HasCursor (shown self.now))) }
+        ensures redraws { IfOk result (λ text.
+            Redraws (shown self.now) (IsStateReaderOf self.now prev.now) KeepsRestButModes (string_bytes text)) }
         ensures modes { IfOk result (λ text. IsSteady (shown self.now) →
             Makes (IsStateReaderOf self.now prev.now) (string_bytes text) (HasModes self.now.modes)) }
-        ensures rest { IfOk result (λ text. IsSteady (shown self.now) →
-            Makes (IsStateReaderOf self.now prev.now) (string_bytes text) KeepsRestButModes) }
         ensures empty { IfOk result (λ text. IsSteady (shown self.now) → string_bytes text ≡ [] →
             (shown self.now ≡ shown prev.now) × (self.now.modes ≡ prev.now.modes)) }
         ensures none { IfOk result

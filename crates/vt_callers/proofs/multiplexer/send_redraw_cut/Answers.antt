@@ -1,17 +1,14 @@
 use Rattle.std.proofs.Common.{sym, subst, Ok}
-use Rattle.std.specs.Prelude.{ℕ, List}
 use Rattle.vt_screen.specs.Screen.{IsScreen, ScreenValue}
-use Rattle.vt_screen.specs.Shown.{IsReadBy, IsReader, Makes, ShowsPlainly, shown}
+use Rattle.vt_screen.specs.Shown.{IsReader, KeepsRest, Redraws, shown}
 use Rattle.vt_callers.proofs.Remote.{redrawn}
 use Rattle.vt_callers.proofs.multiplexer.send_redraw_cut.Goals as goal
 
 pub returns-clause-shows : goal.returns-clause-shows
 returns-clause-shows g c = λ steady plain size.
     let self = c.args.screen.now in
-    let same = c.as_bytes.ensures.value in
     redrawn self c.as_bytes.result.now (Ok tt) c.args.remote.now c.send_cut.new.remote
-    (subst (λ (text : List ℕ). IsReadBy (IsReader (shown self)) text) (sym same) (c.in_ok-text.ensures.quiet steady))
-    (subst (λ (text : List ℕ). Makes (IsReader (shown self)) text (ShowsPlainly (shown self)))
-    (sym same) (c.in_ok-text.ensures.shows steady))
+    (subst (Redraws (shown self) (IsReader (shown self)) KeepsRest)
+    (sym c.as_bytes.ensures.value) c.in_ok-text.ensures.redraws) steady
     (subst (λ (s : ScreenValue). IsScreen s) c.screen.ensures.value c.size.ensures.whole)
     plain size c.in_ok-send_cut.ensures.reads

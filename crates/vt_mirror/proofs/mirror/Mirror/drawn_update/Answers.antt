@@ -24,7 +24,7 @@ returns-clause-ok c =
         size =
             subst (λ (s : ScreenValue). SameSize s.page c.in-Some.prev.now.page) (sym c.screen-screen.ensures.value)
             (c.self.invariant c.args.viewer c.in-Some.prev.now (sym c.in-Some.ensures));
-        redraws = record { quiet = e.quiet; shows = e.shows; rows = e.rows; cursor = e.cursor; rest = e.rest };
+        redraws = e.redraws;
         none = e.none;
         empty = e.empty;
       };

@@ -9,51 +9,14 @@ use Rattle.vt_screen.proofs.Viewing.{same_shown}
 use Rattle.vt_screen.proofs.ContentTexts.{none_refused}
 use Rattle.vt_screen.proofs.screen.Screen.contents_diff.Goals as goal
 
-pub returns-in-Ok-clause-quiet : goal.returns-in-Ok-clause-quiet
-returns-in-Ok-clause-quiet c steady =
+pub returns-in-Ok-clause-redraws : goal.returns-in-Ok-clause-redraws
+returns-in-Ok-clause-redraws c =
     let bytes = bytes_of_all (difference (shown c.args.self.now) (shown c.args.prev.now)) in
     let told : string_bytes c.write_contents_diff.new.sink ≡ bytes =
     c.in-Ok.ensures.text ∙ ap (λ (before : List ℕ). before ++ bytes) c.new-text.ensures.bytes in
     let size = same_shown c.args.self.now c.args.prev.now c.requires in
-    (difference_redraws c.args.self.now c.args.prev.now (string_bytes c.write_contents_diff.new.sink) told
-    c.in-Ok.ensures.whole c.in-Ok.ensures.colored steady c.in-Ok.ensures.other c.in-Ok.ensures.other_colored size).quiet
-
-pub returns-in-Ok-clause-shows : goal.returns-in-Ok-clause-shows
-returns-in-Ok-clause-shows c steady =
-    let bytes = bytes_of_all (difference (shown c.args.self.now) (shown c.args.prev.now)) in
-    let told : string_bytes c.write_contents_diff.new.sink ≡ bytes =
-    c.in-Ok.ensures.text ∙ ap (λ (before : List ℕ). before ++ bytes) c.new-text.ensures.bytes in
-    let size = same_shown c.args.self.now c.args.prev.now c.requires in
-    (difference_redraws c.args.self.now c.args.prev.now (string_bytes c.write_contents_diff.new.sink) told
-    c.in-Ok.ensures.whole c.in-Ok.ensures.colored steady c.in-Ok.ensures.other c.in-Ok.ensures.other_colored size).shows
-
-pub returns-in-Ok-clause-rows : goal.returns-in-Ok-clause-rows
-returns-in-Ok-clause-rows c steady =
-    let bytes = bytes_of_all (difference (shown c.args.self.now) (shown c.args.prev.now)) in
-    let told : string_bytes c.write_contents_diff.new.sink ≡ bytes =
-    c.in-Ok.ensures.text ∙ ap (λ (before : List ℕ). before ++ bytes) c.new-text.ensures.bytes in
-    let size = same_shown c.args.self.now c.args.prev.now c.requires in
-    (difference_redraws c.args.self.now c.args.prev.now (string_bytes c.write_contents_diff.new.sink) told
-    c.in-Ok.ensures.whole c.in-Ok.ensures.colored steady c.in-Ok.ensures.other c.in-Ok.ensures.other_colored size).rows
-
-pub returns-in-Ok-clause-cursor : goal.returns-in-Ok-clause-cursor
-returns-in-Ok-clause-cursor c steady =
-    let bytes = bytes_of_all (difference (shown c.args.self.now) (shown c.args.prev.now)) in
-    let told : string_bytes c.write_contents_diff.new.sink ≡ bytes =
-    c.in-Ok.ensures.text ∙ ap (λ (before : List ℕ). before ++ bytes) c.new-text.ensures.bytes in
-    let size = same_shown c.args.self.now c.args.prev.now c.requires in
-    (difference_redraws c.args.self.now c.args.prev.now (string_bytes c.write_contents_diff.new.sink)
-    told c.in-Ok.ensures.whole c.in-Ok.ensures.colored steady
-    c.in-Ok.ensures.other c.in-Ok.ensures.other_colored size).cursor
-
-pub returns-in-Ok-clause-rest : goal.returns-in-Ok-clause-rest
-returns-in-Ok-clause-rest c steady =
-    let bytes = bytes_of_all (difference (shown c.args.self.now) (shown c.args.prev.now)) in
-    let told : string_bytes c.write_contents_diff.new.sink ≡ bytes =
-    c.in-Ok.ensures.text ∙ ap (λ (before : List ℕ). before ++ bytes) c.new-text.ensures.bytes in
-    let size = same_shown c.args.self.now c.args.prev.now c.requires in
-    (difference_redraws c.args.self.now c.args.prev.now (string_bytes c.write_contents_diff.new.sink) told
-    c.in-Ok.ensures.whole c.in-Ok.ensures.colored steady c.in-Ok.ensures.other c.in-Ok.ensures.other_colored size).rest
+    difference_redraws c.args.self.now c.args.prev.now (string_bytes c.write_contents_diff.new.sink) told
+    c.in-Ok.ensures.whole c.in-Ok.ensures.colored c.in-Ok.ensures.other c.in-Ok.ensures.other_colored size
 
 pub returns-in-Ok-clause-empty : goal.returns-in-Ok-clause-empty
 returns-in-Ok-clause-empty c steady empty =

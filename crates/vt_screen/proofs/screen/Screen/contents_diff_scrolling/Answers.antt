@@ -6,70 +6,17 @@ use Rattle.vt_screen.proofs.ContentTexts.{none_refused}
 use Rattle.vt_screen.proofs.Telling.{difference_none}
 use Rattle.vt_screen.proofs.screen.Screen.contents_diff_scrolling.Goals as goal
 
-pub returns-clause-quiet : goal.returns-clause-quiet
-returns-clause-quiet c steady =
+pub returns-clause-redraws : goal.returns-clause-redraws
+returns-clause-redraws c =
     let is = c.in_ok-shorter.ensures in
-    (scrolling_redraws c.args.self.now c.args.prev.now (string_bytes c.in_ok-shorter.shorter)
+    scrolling_redraws c.args.self.now c.args.prev.now (string_bytes c.in_ok-shorter.shorter)
     (record {
       sound = is.whole;
       colored = is.colored;
-      steady = steady;
       other = is.other;
       other_colored = is.other_colored;
       size = same_shown c.args.self.now c.args.prev.now c.requires;
-    }) is.text).quiet
-
-pub returns-clause-shows : goal.returns-clause-shows
-returns-clause-shows c steady =
-    let is = c.in_ok-shorter.ensures in
-    (scrolling_redraws c.args.self.now c.args.prev.now (string_bytes c.in_ok-shorter.shorter)
-    (record {
-      sound = is.whole;
-      colored = is.colored;
-      steady = steady;
-      other = is.other;
-      other_colored = is.other_colored;
-      size = same_shown c.args.self.now c.args.prev.now c.requires;
-    }) is.text).shows
-
-pub returns-clause-rows : goal.returns-clause-rows
-returns-clause-rows c steady =
-    let is = c.in_ok-shorter.ensures in
-    (scrolling_redraws c.args.self.now c.args.prev.now (string_bytes c.in_ok-shorter.shorter)
-    (record {
-      sound = is.whole;
-      colored = is.colored;
-      steady = steady;
-      other = is.other;
-      other_colored = is.other_colored;
-      size = same_shown c.args.self.now c.args.prev.now c.requires;
-    }) is.text).rows
-
-pub returns-clause-cursor : goal.returns-clause-cursor
-returns-clause-cursor c steady =
-    let is = c.in_ok-shorter.ensures in
-    (scrolling_redraws c.args.self.now c.args.prev.now (string_bytes c.in_ok-shorter.shorter)
-    (record {
-      sound = is.whole;
-      colored = is.colored;
-      steady = steady;
-      other = is.other;
-      other_colored = is.other_colored;
-      size = same_shown c.args.self.now c.args.prev.now c.requires;
-    }) is.text).cursor
-
-pub returns-clause-rest : goal.returns-clause-rest
-returns-clause-rest c steady =
-    let is = c.in_ok-shorter.ensures in
-    (scrolling_redraws c.args.self.now c.args.prev.now (string_bytes c.in_ok-shorter.shorter)
-    (record {
-      sound = is.whole;
-      colored = is.colored;
-      steady = steady;
-      other = is.other;
-      other_colored = is.other_colored;
-      size = same_shown c.args.self.now c.args.prev.now c.requires;
-    }) is.text).rest
+    }) is.text
 
 pub returns-clause-empty : goal.returns-clause-empty
 returns-clause-empty c steady empty =
@@ -78,11 +25,10 @@ returns-clause-empty c steady empty =
     (record {
       sound = is.whole;
       colored = is.colored;
-      steady = steady;
       other = is.other;
       other_colored = is.other_colored;
       size = same_shown c.args.self.now c.args.prev.now c.requires;
-    }) is.text empty
+    }) steady is.text empty
 
 pub returns-in_err-text-clause-never : goal.returns-in_err-text-clause-never
 returns-in_err-text-clause-never c same =

@@ -1,48 +1,16 @@
 use Rattle.std.proofs.Common.{◌≡◌, ℕ, List, ◌++◌, string_bytes, ap, sym, ◌∙◌}
 use Rattle.vt_screen.specs.AnyRegion.{reset_text}
 use Rattle.vt_screen.specs.Shown.{shown}
-use Rattle.vt_screen.proofs.AnyRegion.{reset_resets, resets_tell}
+use Rattle.vt_screen.proofs.AnyRegion.{reset_redraws, resets_tell}
 use Rattle.vt_screen.proofs.screen.Screen.contents_formatted_reset.Goals as goal
 
-pub returns-in-Ok-clause-quiet : goal.returns-in-Ok-clause-quiet
-returns-in-Ok-clause-quiet c steady =
+pub returns-in-Ok-clause-redraws : goal.returns-in-Ok-clause-redraws
+returns-in-Ok-clause-redraws c =
     let bytes = reset_text (shown c.args.self.now) in
     let told : string_bytes c.write_contents_formatted_reset.new.sink ≡ bytes =
     c.in-Ok.ensures.text ∙ ap (λ (before : List ℕ). before ++ bytes) c.new-text.ensures.bytes in
-    (reset_resets c.args.self.now (string_bytes c.write_contents_formatted_reset.new.sink)
-    told c.in-Ok.ensures.whole c.in-Ok.ensures.colored steady).quiet
-
-pub returns-in-Ok-clause-shows : goal.returns-in-Ok-clause-shows
-returns-in-Ok-clause-shows c steady =
-    let bytes = reset_text (shown c.args.self.now) in
-    let told : string_bytes c.write_contents_formatted_reset.new.sink ≡ bytes =
-    c.in-Ok.ensures.text ∙ ap (λ (before : List ℕ). before ++ bytes) c.new-text.ensures.bytes in
-    (reset_resets c.args.self.now (string_bytes c.write_contents_formatted_reset.new.sink)
-    told c.in-Ok.ensures.whole c.in-Ok.ensures.colored steady).shows
-
-pub returns-in-Ok-clause-rows : goal.returns-in-Ok-clause-rows
-returns-in-Ok-clause-rows c steady =
-    let bytes = reset_text (shown c.args.self.now) in
-    let told : string_bytes c.write_contents_formatted_reset.new.sink ≡ bytes =
-    c.in-Ok.ensures.text ∙ ap (λ (before : List ℕ). before ++ bytes) c.new-text.ensures.bytes in
-    (reset_resets c.args.self.now (string_bytes c.write_contents_formatted_reset.new.sink)
-    told c.in-Ok.ensures.whole c.in-Ok.ensures.colored steady).rows
-
-pub returns-in-Ok-clause-cursor : goal.returns-in-Ok-clause-cursor
-returns-in-Ok-clause-cursor c steady =
-    let bytes = reset_text (shown c.args.self.now) in
-    let told : string_bytes c.write_contents_formatted_reset.new.sink ≡ bytes =
-    c.in-Ok.ensures.text ∙ ap (λ (before : List ℕ). before ++ bytes) c.new-text.ensures.bytes in
-    (reset_resets c.args.self.now (string_bytes c.write_contents_formatted_reset.new.sink)
-    told c.in-Ok.ensures.whole c.in-Ok.ensures.colored steady).cursor
-
-pub returns-in-Ok-clause-rest : goal.returns-in-Ok-clause-rest
-returns-in-Ok-clause-rest c steady =
-    let bytes = reset_text (shown c.args.self.now) in
-    let told : string_bytes c.write_contents_formatted_reset.new.sink ≡ bytes =
-    c.in-Ok.ensures.text ∙ ap (λ (before : List ℕ). before ++ bytes) c.new-text.ensures.bytes in
-    (reset_resets c.args.self.now (string_bytes c.write_contents_formatted_reset.new.sink)
-    told c.in-Ok.ensures.whole c.in-Ok.ensures.colored steady).rest
+    reset_redraws c.args.self.now (string_bytes c.write_contents_formatted_reset.new.sink)
+    told c.in-Ok.ensures.whole c.in-Ok.ensures.colored
 
 pub returns-in-Ok-clause-same : goal.returns-in-Ok-clause-same
 returns-in-Ok-clause-same c other is colored size steady steady_other equal =
