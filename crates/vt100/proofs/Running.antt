@@ -1,13 +1,13 @@
 -- Runs, one after the other.
 use Rattle.std.proofs.Common.{◌≡◌, ℕ, List, [], ◌∷◌, ◌++◌, ◌+◌, ◌<◌, ◌≤◌, length, take, drop}
-use Rattle.std.specs.Prelude.{Err, Ok, Result, IsErr}
 use Rattle.std.proofs.Common.{slice_index_or, Some, None, refl, sym, subst, ap, ◌∙◌, inl, inr, arith}
 use Rattle.std.proofs.Math.Seq.{get_or-append-add, take-append-add}
 use Rattle.std.proofs.lemmas.Bool.{false≢true}
 use Rattle.std.proofs.lemmas.List.{append-nil, drop_more, length-append, length-take-le, take-append-drop}
 use Rattle.std.specs.List.{FoldsTo}
-use Rattle.vt_cells.specs.declared.error.Error.{Error}
+use Rattle.std.specs.Prelude.{Err, IsErr, Ok, Result}
 use Rattle.vt_cells.specs.Refusals.{OnlyOutOfMemory}
+use Rattle.vt_cells.specs.declared.error.Error.{Error}
 use Rattle.vt_rows.proofs.Folds.{folds_then}
 use Rattle.vt_scan.specs.Automaton.{Event, State, Step, step_in}
 use Rattle.vt_scan.specs.Run.{run}

@@ -15,4 +15,4 @@ returns-clause-shows g c = λ steady was.
     (subst (λ (text : List ℕ). Makes (IsReaderOf (shown self) (shown c.args.prev.now)) text (ShowsPlainly (shown self)))
     (sym same) (c.in_ok-text.ensures.shows steady))
     c.requires (subst (λ (s : ScreenValue). IsScreen s) c.screen.ensures.value c.size.ensures.whole)
-    was c.process.ensures.quiet
+    was c.process.ensures.call.quiet

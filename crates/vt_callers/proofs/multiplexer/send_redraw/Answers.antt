@@ -14,4 +14,4 @@ returns-clause-shows g c = λ steady plain size.
     (subst (λ (text : List ℕ). Makes (IsReader (shown self)) text (ShowsPlainly (shown self)))
     (sym same) (c.in_ok-text.ensures.shows steady))
     (subst (λ (s : ScreenValue). IsScreen s) c.screen.ensures.value c.size.ensures.whole)
-    plain size c.process.ensures.quiet
+    plain size c.process.ensures.call.quiet
