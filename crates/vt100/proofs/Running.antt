@@ -2,8 +2,12 @@
 use Rattle.std.proofs.Common.{◌≡◌, ℕ, List, [], ◌∷◌, ◌++◌, ◌+◌, ◌<◌, ◌≤◌, length, take, drop}
 use Rattle.std.proofs.Common.{slice_index_or, Some, None, refl, sym, subst, ap, ◌∙◌, inl, inr, arith}
 use Rattle.std.proofs.Math.Seq.{get_or-append-add, take-append-add}
+use Rattle.std.proofs.lemmas.Bool.{false≢true}
 use Rattle.std.proofs.lemmas.List.{append-nil, drop_more, length-append, length-take-le, take-append-drop}
 use Rattle.std.specs.List.{FoldsTo}
+use Rattle.std.specs.Prelude.{Err, IsErr, Ok, Result}
+use Rattle.vt_cells.specs.Refusals.{OnlyOutOfMemory}
+use Rattle.vt_cells.specs.declared.error.Error.{Error}
 use Rattle.vt_rows.proofs.Folds.{folds_then}
 use Rattle.vt_scan.specs.Automaton.{Event, State, Step, step_in}
 use Rattle.vt_scan.specs.Run.{run}
@@ -18,6 +22,7 @@ use Rattle.vt_scan.proofs.Running.{run-append}
 use Rattle.vt_screen.specs.Calls.{CallValue}
 use Rattle.vt_screen.specs.Screen.{ScreenValue}
 use Rattle.vt_screen.specs.Run.{Performs, Breaks, StopsIn}
+use Rattle.vt100.specs.Internals.{ReadsOrStops}
 use Rattle.vt100.specs.Parser.{Parsing, Ran, Stopped, StoppedBefore, StoppedWithin, Collects, pieces_joined, stage}
 
 pub stops_first : {P A : Type 0} (R T : P → A → P → Type 0) (xs ys : List A) (p q : P) →
@@ -184,5 +189,30 @@ known_stopped does p q after bytes n events fed stops = λ s stands.
     subst (λ (bs : List ℕ). StopsIn (Performs does) (Breaks does) (stage p) (run s bs).events (stage q))
     (take-append-drop n bytes)
     (rw (run-append s front rest) all)
+
+-- ---- what a call answers
+
+pub some_read : {S : Type 0} (does : CallValue → S → ScreenValue → S → ScreenValue → Type 0)
+    (p q : Parsing S) (bytes : List ℕ) (count : ℕ) →
+    count ≤ length bytes → Ran does p (take count bytes) q → ReadsOrStops does p bytes q (Ok count)
+some_read does p q bytes count inside ran =
+    record { inside = inside; ran = ran; stopped = λ r. absurd (false≢true r); memory = tt }
+
+pub stopped_in : {S : Type 0} (does : CallValue → S → ScreenValue → S → ScreenValue → Type 0)
+    (p q : Parsing S) (bytes : List ℕ) (result : Result ℕ Error) →
+    Stopped does p bytes q → IsErr result → OnlyOutOfMemory result → ReadsOrStops does p bytes q result
+stopped_in does p q bytes (Ok count) h is memory = absurd (false≢true is)
+stopped_in does p q bytes (Err error) h is memory =
+    record { inside = tt; ran = tt; stopped = λ r. h; memory = memory }
+
+-- nothing was read before
+pub read_behind : {S : Type 0} (does : CallValue → S → ScreenValue → S → ScreenValue → Type 0)
+    (p q r : Parsing S) (bytes : List ℕ) (result : Result ℕ Error) →
+    Ran does p (take 0 bytes) q → ReadsOrStops does q bytes r result → ReadsOrStops does p bytes r result
+read_behind does p q r bytes (Ok count) nothing reads =
+    some_read does p r bytes count reads.inside (ran_then does p q r [] (take count bytes) nothing reads.ran)
+read_behind does p q r bytes (Err error) nothing reads =
+    stopped_in does p r bytes (Err error)
+    (stopped_then does p q r bytes 0 nothing (reads.stopped refl)) refl reads.memory
 
 pub ruleset stops_later = (stops_then, stops_first)

@@ -3,6 +3,7 @@ use Rattle.std.proofs.Common.{◌≡◌, ℕ, suc, ◌+◌, ◌-◌, ◌<◌, Bo
 use Rattle.std.proofs.Common.{◌∷◌, ◌++◌, replicate, refl, subst, ap, inl, inr, arith}
 use Rattle.std.proofs.lemmas.Bool.Decides.{nat_tests}
 use Rattle.std.specs.List.{FoldsTo}
+use Rattle.std.specs.Prelude.{Ok}
 use Rattle.std.proofs.lemmas.Bool.{false≢true}
 use Rattle.vt_screen.specs.Calls.{CallValue}
 use Rattle.vt_screen.specs.Screen.{ScreenValue}
@@ -11,7 +12,7 @@ use Rattle.vt_screen.specs.Controls.{alternate_step, fresh_alternate_step}
 use Rattle.vt_screen.specs.Steps.{Step, Print, LineFeed, ScrollUp, OnPage, SaveCursor, RestoreCursor, EnterAlternate}
 use Rattle.vt_screen.specs.Steps.{EnterFresh, LeaveAlternate, LeaveRestoring, Reset, EraseScrollback, Render}
 use Rattle.vt_screen.specs.Steps.{HideCursor, SetMode, CallBack, Grows, display_after}
-use Rattle.vt100.specs.Internals.{Does, Stops, is_own}
+use Rattle.vt100.specs.Internals.{Does, DoesOrStops, Stops, is_own}
 use Rattle.vt_rows.proofs.Folds.{folds_then}
 use Rattle.vt100.proofs.Running.{stops_first, stops_then}
 
@@ -59,6 +60,12 @@ pub stepping : {S : Type 0} (does : CallValue → S → ScreenValue → S → Sc
     (x : Step) (s : S) (d e : ScreenValue) →
     is_own x ≡ true → e ≡ display_after x d → Does does s d (x ∷ []) s e
 stepping does x s d e own h = (state s e, takes_own does x s d e own h, refl)
+
+-- a call that took all steps
+pub all_done : {S : Type 0} (does : CallValue → S → ScreenValue → S → ScreenValue → Type 0)
+    (s t : S) (d e : ScreenValue) (steps : List Step) →
+    Does does s d steps t e → DoesOrStops does s d steps t e (Ok tt)
+all_done does s t d e steps h = record { done = h; stopped = λ r. absurd (false≢true r); memory = tt }
 
 -- ---- another page is shown, or that is refused
 

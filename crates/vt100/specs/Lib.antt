@@ -1,4 +1,5 @@
 pub mod Parser
 pub mod Internals
 pub mod Pieces
+pub mod Calls
 pub mod Streams

@@ -1,8 +1,7 @@
 //! Control sequences.
 
-ghost use Rattle.std.specs.Prelude.{◌≡◌, ◌-◌, ◌<◌, IfOk, IsErr, None, Some, length};
-ghost use Rattle.vt_cells.specs.Refusals.{OnlyOutOfMemory};
-ghost use Rattle.vt100.specs.Internals.{Does, MadeIf, Stops, report_of};
+ghost use Rattle.std.specs.Prelude.{◌≡◌, ◌-◌, ◌<◌, None, Some, length};
+ghost use Rattle.vt100.specs.Internals.{Does, DoesOrStops, MadeIf, report_of};
 ghost use Rattle.vt_screen.specs.Calls.{UnhandledCsi};
 ghost use Rattle.vt_screen.specs.Controls.{counted_step, csi_steps, intermediate_steps, number_at, number_or, other_steps};
 ghost use Rattle.vt_screen.specs.Controls.{scrolling_steps, page_erasing, plain_steps, private_steps};
@@ -29,13 +28,9 @@ pub fn perform<CB: Callbacks>(
     intermediates: &[u8],
     byte: u8,
 ) -> Result<(), Error>
-    ensures done { IfOk result (λ _. Does CB.does callbacks.old screen.old
+    ensures { DoesOrStops CB.does callbacks.old screen.old
         (csi_steps parameters.now.groups intermediates.now byte (seen_of screen.old))
-        callbacks.new screen.new) }
-    ensures stopped { IsErr result →
-        Stops CB.does callbacks.old screen.old
-        (csi_steps parameters.now.groups intermediates.now byte (seen_of screen.old)) callbacks.new screen.new }
-    ensures memory { OnlyOutOfMemory result }
+        callbacks.new screen.new result }
 {
     let Some(intermediate) = numbers::intermediate_at(intermediates, 0) else {
         return plain(screen, callbacks, parameters, byte);
@@ -58,12 +53,8 @@ fn plain<CB: Callbacks>(
     parameters: &Parameters,
     byte: u8,
 ) -> Result<(), Error>
-    ensures done { IfOk result (λ _. Does CB.does callbacks.old screen.old
-        (plain_steps parameters.now.groups byte (seen_of screen.old)) callbacks.new screen.new) }
-    ensures stopped { IsErr result →
-        Stops CB.does callbacks.old screen.old
-        (plain_steps parameters.now.groups byte (seen_of screen.old)) callbacks.new screen.new }
-    ensures memory { OnlyOutOfMemory result }
+    ensures { DoesOrStops CB.does callbacks.old screen.old
+        (plain_steps parameters.now.groups byte (seen_of screen.old)) callbacks.new screen.new result }
 {
     if byte == b'm' {
         sgr::perform(screen, callbacks, parameters);
@@ -85,12 +76,8 @@ fn plain_by_table<CB: Callbacks>(
     parameters: &Parameters,
     byte: u8,
 ) -> Result<(), Error>
-    ensures done { IfOk result (λ _. Does CB.does callbacks.old screen.old
-        (plain_steps parameters.now.groups byte (seen_of screen.old)) callbacks.new screen.new) }
-    ensures stopped { IsErr result →
-        Stops CB.does callbacks.old screen.old
-        (plain_steps parameters.now.groups byte (seen_of screen.old)) callbacks.new screen.new }
-    ensures memory { OnlyOutOfMemory result }
+    ensures { DoesOrStops CB.does callbacks.old screen.old
+        (plain_steps parameters.now.groups byte (seen_of screen.old)) callbacks.new screen.new result }
 {
     if counted(screen, byte, numbers::number_or(1, parameters, 0)) {
         return Ok(());
@@ -114,14 +101,9 @@ fn scrolling<CB: Callbacks>(
 ) -> Result<(), Error>
     requires { report_of sequence
         ≡ UnhandledCsi None None sequence.parameters.now.groups sequence.byte }
-    ensures done { IfOk result (λ _. Does CB.does callbacks.old screen.old
+    ensures { DoesOrStops CB.does callbacks.old screen.old
         (scrolling_steps sequence.entry.parameters.now.groups sequence.entry.byte (seen_of screen.old))
-        callbacks.new screen.new) }
-    ensures stopped { IsErr result →
-        Stops CB.does callbacks.old screen.old
-        (scrolling_steps sequence.entry.parameters.now.groups sequence.entry.byte (seen_of screen.old))
-        callbacks.new screen.new }
-    ensures memory { OnlyOutOfMemory result }
+        callbacks.new screen.new result }
 {
     let count = numbers::number_or(1, sequence.parameters, 0);
     match sequence.byte {
@@ -280,16 +262,9 @@ fn with_intermediate<CB: Callbacks>(
     sequence: Sequence<'_>,
 ) -> Result<(), Error>
     requires { sequence.first ≡ Some intermediate }
-    ensures done { IfOk result (λ _. Does CB.does callbacks.old screen.old
-        (intermediate_steps intermediate sequence.entry.second
-        sequence.entry.parameters.now.groups sequence.entry.byte)
-        callbacks.new screen.new) }
-    ensures stopped { IsErr result →
-        Stops CB.does callbacks.old screen.old
-        (intermediate_steps intermediate sequence.entry.second
-        sequence.entry.parameters.now.groups sequence.entry.byte)
-        callbacks.new screen.new }
-    ensures memory { OnlyOutOfMemory result }
+    ensures { DoesOrStops CB.does callbacks.old screen.old
+        (intermediate_steps intermediate sequence.entry.second sequence.entry.parameters.now.groups sequence.entry.byte)
+        callbacks.new screen.new result }
 {
     match intermediate {
         b'?' => private(screen, callbacks, sequence)?,
@@ -307,14 +282,9 @@ fn private<CB: Callbacks>(
     sequence: Sequence<'_>,
 ) -> Result<(), Error>
     requires { sequence.first ≡ Some 0x3F }
-    ensures done { IfOk result (λ _. Does CB.does callbacks.old screen.old
+    ensures { DoesOrStops CB.does callbacks.old screen.old
         (private_steps sequence.entry.second sequence.entry.parameters.now.groups sequence.entry.byte)
-        callbacks.new screen.new) }
-    ensures stopped { IsErr result →
-        Stops CB.does callbacks.old screen.old
-        (private_steps sequence.entry.second sequence.entry.parameters.now.groups sequence.entry.byte)
-        callbacks.new screen.new }
-    ensures memory { OnlyOutOfMemory result }
+        callbacks.new screen.new result }
 {
     match sequence.byte {
         b'J' => erase_page(screen, callbacks, sequence),

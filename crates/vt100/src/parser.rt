@@ -2,10 +2,10 @@
 
 ghost use Rattle.std.specs.Borrow.{sem, Lends, LendsBoth};
 ghost use Rattle.std.specs.List.{FoldsTo};
-ghost use Rattle.std.specs.Prelude.{◌≡◌, ◌≢◌, ◌↔◌, Err, IfErr, IfOk, IsErr, Ok, OnErr, OnOk, false, true};
+ghost use Rattle.std.specs.Prelude.{◌≡◌, IfOk, IsErr, OnErr, OnOk, false};
 ghost use Rattle.vt_cells.specs.Refusals.{OnlyOutOfMemory};
-ghost use Rattle.vt100.specs.Parser.{IsHarmless, Ran, Stopped, parsing};
-ghost use Rattle.vt100.specs.Pieces.{Processes, processing};
+ghost use Rattle.vt100.specs.Calls.{ParserProcesses};
+ghost use Rattle.vt100.specs.Parser.{parsing};
 ghost use Rattle.vt100.specs.contracts.parser.Parser.{the_row as parser_row};
 ghost use Rattle.vt_scan.specs.Automaton.{State, start};
 ghost use Rattle.vt_scan.specs.Scanner.{StandsFor};
@@ -144,14 +144,7 @@ impl<CB: Callbacks> Parser<CB> {
     /// );
     /// ```
     pub fn process(&mut self, bytes: &[u8]) -> Result<(), Error>
-        ensures ran { IfOk result (λ _. Ran CB.does self.old bytes.now self.new) }
-        ensures memory { result ≡ Err Error.OutOfMemory → Stopped CB.does self.old bytes.now self.new }
-        ensures failed { self.old.is_failed ≡ true → (result ≡ Err Error.Failed) × (self.new ≡ self.old) }
-        ensures only { result ≡ Err Error.Failed → self.old.is_failed ≡ true }
-        ensures no_number { IfErr result (λ error. error ≢ Error.NoNumber) }
-        ensures for_good { self.new.is_failed ≡ true ↔ IsErr result }
-        ensures harmless { self.old.is_failed ≡ false → IsHarmless CB.does self.old bytes.now → result ≡ Ok tt }
-        ensures quiet { Processes self.old (processing bytes.now result) self.new }
+        ensures call { ParserProcesses CB.does self.old bytes.now result self.new }
     {
         if self.is_failed {
             return Err(Error::Failed);

@@ -1,13 +1,12 @@
 //! What the events of the scanner do to the screen, and which callbacks they
 //! call.
 
-ghost use Rattle.std.specs.Prelude.{◌≡◌, ◌==◌, ◌&&◌, ◌||◌, [], IfOk, IsErr, false, nat_le};
-ghost use Rattle.vt_cells.specs.Refusals.{OnlyOutOfMemory};
-ghost use Rattle.vt100.specs.Internals.{Does, Stops};
+ghost use Rattle.std.specs.Prelude.{◌≡◌, ◌==◌, ◌&&◌, ◌||◌, [], false, nat_le};
+ghost use Rattle.vt100.specs.Internals.{Does, DoesOrStops};
 ghost use Rattle.vt_scan.specs.Scanner.{event_of};
 ghost use Rattle.vt_scan.specs.declared.event.Event.{Event};
-ghost use Rattle.vt_screen.specs.Run.{Breaks, Performs, state};
-ghost use Rattle.vt_screen.specs.Controls.{character_steps, control_steps, escape_steps};
+ghost use Rattle.vt_screen.specs.Run.{Performs, state};
+ghost use Rattle.vt_screen.specs.Controls.{character_steps, control_steps, escape_steps, seen_of, steps_of};
 
 use crate::{csi, numbers, osc};
 use vt_cells::Error;
@@ -24,11 +23,8 @@ pub fn perform<CB: Callbacks>(
     scanner: &Scanner,
     event: Event,
 ) -> Result<(), Error>
-    ensures done { IfOk result (λ _. Performs CB.does (state callbacks.old screen.old)
-        (event_of scanner.now event) (state callbacks.new screen.new)) }
-    ensures stopped { IsErr result →
-        Breaks CB.does (state callbacks.old screen.old) (event_of scanner.now event) (state callbacks.new screen.new) }
-    ensures memory { OnlyOutOfMemory result }
+    ensures { DoesOrStops CB.does callbacks.old screen.old
+        (steps_of (event_of scanner.now event) (seen_of screen.old)) callbacks.new screen.new result }
 {
     match event {
         Event::Character(character) => print_apart(screen, callbacks, character),
@@ -53,12 +49,8 @@ pub fn control_sequence<CB: Callbacks>(
     scanner: &Scanner,
     byte: u8,
 ) -> Result<(), Error>
-    ensures done { IfOk result (λ _. Performs CB.does (state callbacks.old screen.old)
-        (event_of scanner.now (Event.Csi byte)) (state callbacks.new screen.new)) }
-    ensures stopped { IsErr result →
-        Breaks CB.does (state callbacks.old screen.old)
-        (event_of scanner.now (Event.Csi byte)) (state callbacks.new screen.new) }
-    ensures memory { OnlyOutOfMemory result }
+    ensures { DoesOrStops CB.does callbacks.old screen.old
+        (steps_of (event_of scanner.now (Event.Csi byte)) (seen_of screen.old)) callbacks.new screen.new result }
 {
     csi::perform(
         screen,
@@ -100,11 +92,8 @@ pub fn print<CB: Callbacks>(
     callbacks: &mut CB,
     character: char,
 ) -> Result<(), Error>
-    ensures done { IfOk result
-        (λ _. Does CB.does callbacks.old screen.old (character_steps character) callbacks.new screen.new) }
-    ensures stopped { IsErr result →
-        Stops CB.does callbacks.old screen.old (character_steps character) callbacks.new screen.new }
-    ensures memory { OnlyOutOfMemory result }
+    ensures { DoesOrStops CB.does callbacks.old screen.old
+        (character_steps character) callbacks.new screen.new result }
 {
     if is_reported(character) {
         callbacks.unhandled_char(screen, character);
@@ -122,11 +111,8 @@ pub fn print_apart<CB: Callbacks>(
     callbacks: &mut CB,
     character: char,
 ) -> Result<(), Error>
-    ensures done { IfOk result
-        (λ _. Does CB.does callbacks.old screen.old (character_steps character) callbacks.new screen.new) }
-    ensures stopped { IsErr result →
-        Stops CB.does callbacks.old screen.old (character_steps character) callbacks.new screen.new }
-    ensures memory { OnlyOutOfMemory result }
+    ensures { DoesOrStops CB.does callbacks.old screen.old
+        (character_steps character) callbacks.new screen.new result }
 {
     print(screen, callbacks, character)
 }
@@ -148,11 +134,8 @@ pub fn execute<CB: Callbacks>(
     callbacks: &mut CB,
     byte: u8,
 ) -> Result<(), Error>
-    ensures done { IfOk result
-        (λ _. Does CB.does callbacks.old screen.old (control_steps byte) callbacks.new screen.new) }
-    ensures stopped { IsErr result →
-        Stops CB.does callbacks.old screen.old (control_steps byte) callbacks.new screen.new }
-    ensures memory { OnlyOutOfMemory result }
+    ensures { DoesOrStops CB.does callbacks.old screen.old
+        (control_steps byte) callbacks.new screen.new result }
 {
     if (0x0A..=0x0C).contains(&byte) {
         scrolling::lf(screen, callbacks)?;

@@ -1,8 +1,8 @@
 //! Private modes: DECSET and DECRST.
 
-ghost use Rattle.std.specs.Prelude.{◌≡◌, ◌==◌, [], ◌∷◌, IfOk, IsErr, OnErr, OnOk, false};
+ghost use Rattle.std.specs.Prelude.{◌≡◌, ◌==◌, [], ◌∷◌, IsErr, OnErr, OnOk, false};
 ghost use Rattle.vt_cells.specs.Refusals.{OnlyOutOfMemory};
-ghost use Rattle.vt100.specs.Internals.{Does, Stops, report_of};
+ghost use Rattle.vt100.specs.Internals.{Does, DoesOrStops, report_of};
 ghost use Rattle.vt_screen.specs.Controls.{alternate_step, encoding_step, fresh_alternate_step};
 ghost use Rattle.vt_screen.specs.Controls.{mode_step, mode_steps, mouse_step};
 ghost use Rattle.vt_screen.specs.Steps.{Grows, display_after};
@@ -20,14 +20,9 @@ pub fn perform<CB: Callbacks>(
     on: bool,
     sequence: Sequence<'_>,
 ) -> Result<(), Error>
-    ensures done { IfOk result (λ _. Does CB.does callbacks.old screen.old
+    ensures { DoesOrStops CB.does callbacks.old screen.old
         (mode_steps on (report_of sequence.entry) sequence.entry.parameters.now.groups)
-        callbacks.new screen.new) }
-    ensures stopped { IsErr result →
-        Stops CB.does callbacks.old screen.old
-        (mode_steps on (report_of sequence.entry) sequence.entry.parameters.now.groups)
-        callbacks.new screen.new }
-    ensures memory { OnlyOutOfMemory result }
+        callbacks.new screen.new result }
 {
     for i in 0..sequence.parameters.group_count() {
         perform_group(
@@ -50,12 +45,8 @@ fn perform_group<CB: Callbacks>(
     sequence: Sequence<'_>,
     group: &[u16],
 ) -> Result<(), Error>
-    ensures done { IfOk result (λ _. Does CB.does callbacks.old screen.old
-        (mode_steps on (report_of sequence.entry) (group.now ∷ [])) callbacks.new screen.new) }
-    ensures stopped { IsErr result →
-        Stops CB.does callbacks.old screen.old
-        (mode_steps on (report_of sequence.entry) (group.now ∷ [])) callbacks.new screen.new }
-    ensures memory { OnlyOutOfMemory result }
+    ensures { DoesOrStops CB.does callbacks.old screen.old
+        (mode_steps on (report_of sequence.entry) (group.now ∷ [])) callbacks.new screen.new result }
 {
     if group.len() != 1 {
         sequence.report(screen, callbacks);
@@ -74,12 +65,8 @@ fn set_mode<CB: Callbacks>(
     sequence: Sequence<'_>,
     number: u16,
 ) -> Result<(), Error>
-    ensures done { IfOk result (λ _. Does CB.does callbacks.old screen.old
-        (mode_step on (report_of sequence.entry) number) callbacks.new screen.new) }
-    ensures stopped { IsErr result →
-        Stops CB.does callbacks.old screen.old
-        (mode_step on (report_of sequence.entry) number) callbacks.new screen.new }
-    ensures memory { OnlyOutOfMemory result }
+    ensures { DoesOrStops CB.does callbacks.old screen.old
+        (mode_step on (report_of sequence.entry) number) callbacks.new screen.new result }
 {
     match number {
         47 => show_alternate(screen, on)?,

@@ -1,11 +1,11 @@
 //! The loop over bytes.
 
-ghost use Rattle.std.specs.List.{FoldsTo};
-ghost use Rattle.std.specs.Prelude.{◌<◌, ◌≤◌, IfOk, IsErr, length, map, option_to_list, slice_index_or, take};
+ghost use Rattle.std.specs.Prelude.{◌<◌, IfOk, IsErr, length, map, option_to_list, slice_index_or};
 ghost use Rattle.vt_cells.specs.Refusals.{OnlyOutOfMemory};
+ghost use Rattle.vt100.specs.Internals.{PerformsOrBreaks, ReadsOrStops};
 ghost use Rattle.vt100.specs.Parser.{Ran, Stopped, parsing};
 ghost use Rattle.vt_scan.specs.Scanner.{ReadsItself, event_of, events_in};
-ghost use Rattle.vt_screen.specs.Run.{Breaks, Performs, StopsIn, state};
+ghost use Rattle.vt_screen.specs.Run.{state};
 
 use crate::perform::{control_sequence, escape_sequence, execute, perform, print, print_apart};
 use vt_cells::Error;
@@ -23,8 +23,7 @@ pub fn process<CB: Callbacks>(
 ) -> Result<(), Error>
     ensures ran { IfOk result (λ _. Ran CB.does (parsing scanner.old screen.old callbacks.old)
         bytes.now (parsing scanner.new screen.new callbacks.new)) }
-    ensures stopped { IsErr result →
-        Stopped CB.does (parsing scanner.old screen.old callbacks.old)
+    ensures stopped { IsErr result → Stopped CB.does (parsing scanner.old screen.old callbacks.old)
         bytes.now (parsing scanner.new screen.new callbacks.new) }
     ensures memory { OnlyOutOfMemory result }
 {
@@ -49,13 +48,8 @@ fn process_some<CB: Callbacks>(
 ) -> Result<usize, Error>
     requires { 0 < length bytes.now }
     ensures some { IfOk result (λ count. 0 < count) }
-    ensures inside { IfOk result (λ count. count ≤ length bytes.now) }
-    ensures ran { IfOk result (λ count. Ran CB.does (parsing scanner.old screen.old callbacks.old)
-        (take count bytes.now) (parsing scanner.new screen.new callbacks.new)) }
-    ensures stopped { IsErr result →
-        Stopped CB.does (parsing scanner.old screen.old callbacks.old)
-        bytes.now (parsing scanner.new screen.new callbacks.new) }
-    ensures memory { OnlyOutOfMemory result }
+    ensures read { ReadsOrStops CB.does (parsing scanner.old screen.old callbacks.old) bytes.now
+        (parsing scanner.new screen.new callbacks.new) result }
 {
     if scanner.is_plain(bytes[0]) {
         return print_some(scanner, screen, callbacks, bytes);
@@ -85,13 +79,8 @@ fn process_sequence<CB: Callbacks>(
     callbacks: &mut CB,
     bytes: &[u8],
 ) -> Result<usize, Error>
-    ensures inside { IfOk result (λ count. count ≤ length bytes.now) }
-    ensures ran { IfOk result (λ count. Ran CB.does (parsing scanner.old screen.old callbacks.old)
-        (take count bytes.now) (parsing scanner.new screen.new callbacks.new)) }
-    ensures stopped { IsErr result →
-        Stopped CB.does (parsing scanner.old screen.old callbacks.old)
-        bytes.now (parsing scanner.new screen.new callbacks.new) }
-    ensures memory { OnlyOutOfMemory result }
+    ensures { ReadsOrStops CB.does (parsing scanner.old screen.old callbacks.old) bytes.now
+        (parsing scanner.new screen.new callbacks.new) result }
 {
     let leading = scanner.lead_in(bytes);
     if leading == bytes.len() {
@@ -112,13 +101,8 @@ fn end_sequence<CB: Callbacks>(
     bytes: &[u8],
 ) -> Result<usize, Error>
     requires { 0 < length bytes.now }
-    ensures inside { IfOk result (λ count. count ≤ length bytes.now) }
-    ensures ran { IfOk result (λ count. Ran CB.does (parsing scanner.old screen.old callbacks.old)
-        (take count bytes.now) (parsing scanner.new screen.new callbacks.new)) }
-    ensures stopped { IsErr result →
-        Stopped CB.does (parsing scanner.old screen.old callbacks.old)
-        bytes.now (parsing scanner.new screen.new callbacks.new) }
-    ensures memory { OnlyOutOfMemory result }
+    ensures { ReadsOrStops CB.does (parsing scanner.old screen.old callbacks.old) bytes.now
+        (parsing scanner.new screen.new callbacks.new) result }
 {
     if scanner.final_byte(bytes[0]) {
         control_sequence(screen, callbacks, scanner, bytes[0])?;
@@ -143,13 +127,8 @@ fn process_one<CB: Callbacks>(
 ) -> Result<usize, Error>
     requires { 0 < length bytes.now }
     ensures some { IfOk result (λ count. 0 < count) }
-    ensures inside { IfOk result (λ count. count ≤ length bytes.now) }
-    ensures ran { IfOk result (λ count. Ran CB.does (parsing scanner.old screen.old callbacks.old)
-        (take count bytes.now) (parsing scanner.new screen.new callbacks.new)) }
-    ensures stopped { IsErr result →
-        Stopped CB.does (parsing scanner.old screen.old callbacks.old)
-        bytes.now (parsing scanner.new screen.new callbacks.new) }
-    ensures memory { OnlyOutOfMemory result }
+    ensures read { ReadsOrStops CB.does (parsing scanner.old screen.old callbacks.old) bytes.now
+        (parsing scanner.new screen.new callbacks.new) result }
 {
     if let Some((character, count)) = scanner.whole_character(bytes) {
         print(screen, callbacks, character)?;
@@ -181,13 +160,8 @@ fn print_some<CB: Callbacks>(
     requires some { 0 < length bytes.now }
     requires plain { ReadsItself scanner.now (slice_index_or bytes.now 0 0) }
     ensures some { IfOk result (λ count. 0 < count) }
-    ensures inside { IfOk result (λ count. count ≤ length bytes.now) }
-    ensures ran { IfOk result (λ count. Ran CB.does (parsing scanner.now screen.old callbacks.old)
-        (take count bytes.now) (parsing scanner.now screen.new callbacks.new)) }
-    ensures stopped { IsErr result →
-        Stopped CB.does (parsing scanner.now screen.old callbacks.old)
-        bytes.now (parsing scanner.now screen.new callbacks.new) }
-    ensures memory { OnlyOutOfMemory result }
+    ensures read { ReadsOrStops CB.does (parsing scanner.now screen.old callbacks.old) bytes.now
+        (parsing scanner.now screen.new callbacks.new) result }
 {
     let fitting = bytes.len().min(usize::from(printing::room(screen)));
     let count = scanner.plain_len(&bytes[..fitting]);
@@ -208,12 +182,8 @@ fn perform_each<CB: Callbacks>(
     scanner: &Scanner,
     events: Events,
 ) -> Result<(), Error>
-    ensures done { IfOk result (λ _. FoldsTo (Performs CB.does) (state callbacks.old screen.old)
-        (events_in scanner.now events) (state callbacks.new screen.new)) }
-    ensures stopped { IsErr result →
-        StopsIn (Performs CB.does) (Breaks CB.does) (state callbacks.old screen.old)
-        (events_in scanner.now events) (state callbacks.new screen.new) }
-    ensures memory { OnlyOutOfMemory result }
+    ensures { PerformsOrBreaks CB.does (state callbacks.old screen.old)
+        (events_in scanner.now events) (state callbacks.new screen.new) result }
 {
     perform_some(screen, callbacks, scanner, events.first)?;
     perform_some(screen, callbacks, scanner, events.second)?;
@@ -228,12 +198,8 @@ fn perform_some<CB: Callbacks>(
     scanner: &Scanner,
     event: Option<Event>,
 ) -> Result<(), Error>
-    ensures done { IfOk result (λ _. FoldsTo (Performs CB.does) (state callbacks.old screen.old)
-        (map (event_of scanner.now) (option_to_list event)) (state callbacks.new screen.new)) }
-    ensures stopped { IsErr result →
-        StopsIn (Performs CB.does) (Breaks CB.does) (state callbacks.old screen.old)
-        (map (event_of scanner.now) (option_to_list event)) (state callbacks.new screen.new) }
-    ensures memory { OnlyOutOfMemory result }
+    ensures { PerformsOrBreaks CB.does (state callbacks.old screen.old)
+        (map (event_of scanner.now) (option_to_list event)) (state callbacks.new screen.new) result }
 {
     let Some(event) = event else {
         return Ok(());

@@ -1,8 +1,7 @@
 //! The last character once more, and again.
 
-ghost use Rattle.std.specs.Prelude.{◌≡◌, ◌≢◌, ◌+◌, ◌<◌, ◌≤◌, IfOk, IsErr, replicate};
-ghost use Rattle.vt_cells.specs.Refusals.{OnlyOutOfMemory};
-ghost use Rattle.vt100.specs.Internals.{Does, Stops};
+ghost use Rattle.std.specs.Prelude.{◌≡◌, ◌≢◌, ◌+◌, ◌<◌, ◌≤◌, replicate};
+ghost use Rattle.vt100.specs.Internals.{DoesOrStops, RepeatsOrStops};
 ghost use Rattle.vt_screen.specs.Controls.{repeated};
 ghost use Rattle.vt_screen.specs.Steps as step;
 ghost use Rattle.vt_screen.specs.Texts.{screen_after_text};
@@ -20,11 +19,8 @@ pub fn repeat<CB: Callbacks>(
     callbacks: &mut CB,
     count: u16,
 ) -> Result<(), Error>
-    ensures done { IfOk result
-        (λ _. Does CB.does callbacks.old screen.old (repeated count screen.old.last) callbacks.new screen.new) }
-    ensures stopped { IsErr result →
-        Stops CB.does callbacks.old screen.old (repeated count screen.old.last) callbacks.new screen.new }
-    ensures memory { OnlyOutOfMemory result }
+    ensures { DoesOrStops CB.does callbacks.old screen.old
+        (repeated count screen.old.last) callbacks.new screen.new result }
 {
     let Some(character) = printing::last_char(screen) else {
         return Ok(());
@@ -48,11 +44,8 @@ fn repeat_ascii<CB: Callbacks>(
 ) -> Result<(), Error>
     requires low { 0x20 ≤ byte }
     requires high { byte < 0x7F }
-    ensures done { IfOk result
-        (λ _. Does CB.does callbacks.old screen.old (replicate count (step.Print byte)) callbacks.new screen.new) }
-    ensures stopped { IsErr result →
-        Stops CB.does callbacks.old screen.old (replicate count (step.Print byte)) callbacks.new screen.new }
-    ensures memory { OnlyOutOfMemory result }
+    ensures { DoesOrStops CB.does callbacks.old screen.old
+        (replicate count (step.Print byte)) callbacks.new screen.new result }
 {
     let mut left = count;
     while left > 0 {
@@ -74,13 +67,8 @@ fn repeat_some<CB: Callbacks>(
     requires low { 0x20 ≤ byte }
     requires high { byte < 0x7F }
     requires left { 0 < left }
-    ensures some { IfOk result (λ count. 0 < count) }
-    ensures most { IfOk result (λ count. count ≤ left) }
-    ensures done { IfOk result
-        (λ count. Does CB.does callbacks.old screen.old (replicate count (step.Print byte)) callbacks.new screen.new) }
-    ensures stopped { IsErr result →
-        Stops CB.does callbacks.old screen.old (replicate left (step.Print byte)) callbacks.new screen.new }
-    ensures memory { OnlyOutOfMemory result }
+    ensures { RepeatsOrStops CB.does callbacks.old screen.old
+        left (step.Print byte) callbacks.new screen.new result }
 {
     let count = left.min(printing::room(screen)).min(TEXT_ROOM as u16);
     if count == 0 {
@@ -113,12 +101,8 @@ fn repeat_other<CB: Callbacks>(
     count: u16,
 ) -> Result<(), Error>
     requires { character ≢ 0xFFFD }
-    ensures done { IfOk result
-        (λ _. Does CB.does callbacks.old screen.old (replicate count (step.Print character))
-        callbacks.new screen.new) }
-    ensures stopped { IsErr result →
-        Stops CB.does callbacks.old screen.old (replicate count (step.Print character)) callbacks.new screen.new }
-    ensures memory { OnlyOutOfMemory result }
+    ensures { DoesOrStops CB.does callbacks.old screen.old
+        (replicate count (step.Print character)) callbacks.new screen.new result }
 {
     for _ in 0..count {
         printing::text(screen, character, callbacks)?;

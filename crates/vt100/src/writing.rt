@@ -2,11 +2,8 @@
 
 ghost use Rattle.std.specs.Io.{WritesAtMost};
 ghost use Rattle.std.specs.Io.KnownBytes.{WriteAppends};
-ghost use Rattle.std.specs.IoError.{error_kind};
-ghost use Rattle.std.specs.Prelude.{◌≡◌, ◌↔◌, IfErr, IfOk, IsErr, None, Ok, false, length, true};
-ghost use Rattle.std.specs.declared.io.ErrorKind.TheVariants.{Other, OutOfMemory};
-ghost use Rattle.vt100.specs.Parser.{IsHarmless, Ran, Stopped, quietly};
-ghost use Rattle.vt100.specs.Pieces.{Processes, processing};
+ghost use Rattle.std.specs.Prelude.{◌≡◌, None, Ok};
+ghost use Rattle.vt100.specs.Calls.{ParserWrites};
 
 use crate::parser::Parser;
 use std::io;
@@ -25,16 +22,7 @@ impl Write for Parser<()> {
     fn write(&mut self, buf: &[u8]) -> io::Result<usize>
         ensures bound { WritesAtMost result buf.now }
         ensures bytes { WriteAppends None None result buf.now }
-        ensures whole { IfOk result (λ count. count ≡ length buf.now) }
-        ensures ran { IfOk result (λ _. Ran quietly self.old buf.now self.new) }
-        ensures for_good { self.new.is_failed ≡ true ↔ IsErr result }
-        ensures stopped { self.old.is_failed ≡ false → IsErr result → Stopped quietly self.old buf.now self.new }
-        ensures refused { self.old.is_failed ≡ false → IfErr result (λ error. error_kind error ≡ OutOfMemory) }
-        ensures failed { self.old.is_failed ≡ true → self.new ≡ self.old }
-        ensures harmless { self.old.is_failed ≡ false →
-            IsHarmless quietly self.old buf.now → result ≡ Ok (length buf.now) }
-        ensures quiet { Processes self.old (processing buf.now (Ok tt)) self.new }
-        ensures after { self.old.is_failed ≡ true → IfErr result (λ error. error_kind error ≡ Other) }
+        ensures call { ParserWrites self.old buf.now result self.new }
     {
         match self.process(buf) {
             Ok(()) => Ok(buf.len()),

@@ -72,7 +72,7 @@ processed count buffer behind old new (Ok u) left rest fine inside p reads = rec
   reads = reads;
   ran =
       subst (λ (bytes : List ℕ). Ran quietly old.parser bytes new.parser)
-      (take-append-le count buffer behind inside) p.ran;
+      (take-append-le count buffer behind inside) p.parser.ran;
   viewers = p.viewers;
   size = p.size;
 }

@@ -1,10 +1,10 @@
 -- What each call of a mirror answers, and what it leaves.
-use Rattle.std.specs.Prelude.{◌≡◌, ◌⊎◌, ◌↔◌, ℕ, ◌-◌, ◌^◌, ◌<◌, ◌≤◌, Bool, true, false, List, [], Option, Some, None, Err, Ok}
-use Rattle.std.specs.Prelude.{length, string_bytes, IfErr, IfOk, IsErr}
+use Rattle.std.specs.Prelude.{◌≡◌, ◌⊎◌, ℕ, ◌-◌, ◌^◌, ◌<◌, ◌≤◌, Bool, true, false, List, [], Option, Some, None, Err, Ok}
+use Rattle.std.specs.Prelude.{length, string_bytes, IfErr, IfOk}
 use Rattle.std.specs.declared.result.Result.{Result}
 use Rattle.vt_cells.specs.Op.{bytes_of_all}
 use Rattle.vt_cells.specs.declared.error.Error.{Error}
-use Rattle.vt_cells.specs.declared.error.Error.TheVariants.{Failed, NoNumber, OutOfMemory}
+use Rattle.vt_cells.specs.declared.error.Error.TheVariants.{NoNumber, OutOfMemory}
 use Rattle.vt_grid.specs.Page.{SameSize}
 use Rattle.vt_redraw.specs.Locality.{IsLocal}
 use Rattle.vt_redraw.specs.Moved.{IsScrolling}
@@ -14,7 +14,8 @@ use Rattle.vt_screen.specs.Pages.{has_size, resized}
 use Rattle.vt_screen.specs.Screen.{IsColored, IsScreen, ScreenValue}
 use Rattle.vt_screen.specs.Shown.{IsReader, IsReaderOf, KeepsRest, Redraws, shown}
 use Rattle.vt_screen.specs.Touched.{TouchesOnly}
-use Rattle.vt100.specs.Parser.{IsHarmless, Ran, Stopped, quietly}
+use Rattle.vt100.specs.Calls.{ParserProcesses}
+use Rattle.vt100.specs.Parser.{quietly}
 use Rattle.vt_mirror.specs.Mirror.{MirrorValue}
 use Rattle.vt_mirror.specs.Viewers.{Puts, ViewersValue, is_viewer, next_number, note_of}
 use Rattle.vt_mirror.specs.declared.update.Update.{Update}
@@ -25,12 +26,7 @@ pub record MirrorProcesses (old : MirrorValue) (bytes : List ℕ)
     (answer : Result (Unit {0}) Error) (new : MirrorValue) : Type 0 where
   pub viewers : new.viewers ≡ old.viewers
   pub size : SameSize new.parser.screen.page old.parser.screen.page
-  pub ran : IfOk answer (λ _. Ran quietly old.parser bytes new.parser)
-  pub stopped : answer ≡ Err OutOfMemory → Stopped quietly old.parser bytes new.parser
-  pub failed : old.parser.is_failed ≡ true → (answer ≡ Err Failed) × (new.parser ≡ old.parser)
-  pub only : IfErr answer (λ error. (error ≡ OutOfMemory) ⊎ ((error ≡ Failed) × (old.parser.is_failed ≡ true)))
-  pub for_good : new.parser.is_failed ≡ true ↔ IsErr answer
-  pub harmless : old.parser.is_failed ≡ false → IsHarmless quietly old.parser bytes → answer ≡ Ok tt
+  pub parser : ParserProcesses quietly old.parser bytes answer new.parser
 
 -- another size, and nothing is noted any more; the size that it has changes nothing and is never refused
 pub record Resizes (old : MirrorValue) (rows cols : ℕ)

@@ -19,9 +19,9 @@ loop-at-preserved g c =
     let rest = all_left bytes at in
     let size = length-drop at bytes in
     let more =
-    subst (λ (left : List ℕ). Ran g.CB.Callbacks.does so_far (take count left) now) rest c.in_ok-count.ensures.ran in
+    subst (λ (left : List ℕ). Ran g.CB.Callbacks.does so_far (take count left) now) rest c.in_ok-count.ensures.read.ran in
     record {
-      inside = omega (arith, size, ap length rest, c.in_ok-count.ensures.inside, c.loop-at.invariant.inside);
+      inside = omega (arith, size, ap length rest, c.in_ok-count.ensures.read.inside, c.loop-at.invariant.inside);
       ran =
           ran_on g.CB.Callbacks.does before so_far now bytes at count
           c.loop-at.invariant.inside c.loop-at.invariant.ran more;
@@ -35,4 +35,4 @@ returns-in_err-count-clause-stopped g c e =
     let now = parsing c.process_some.new.scanner c.process_some.new.screen c.process_some.new.callbacks in
     stopped_then g.CB.Callbacks.does before so_far now bytes c.loop-at.at c.loop-at.invariant.ran
     (subst (λ (left : List ℕ). Stopped g.CB.Callbacks.does so_far left now)
-    (all_left bytes c.loop-at.at) (c.in_err-count.ensures.stopped refl))
+    (all_left bytes c.loop-at.at) (c.in_err-count.ensures.read.stopped refl))

@@ -4,23 +4,24 @@ use Rattle.std.proofs.lemmas.List.{take_more}
 use Rattle.vt_scan.specs.declared.event.Event.TheVariants.{Executed}
 use Rattle.vt_scan.proofs.Feeding.{one_event}
 use Rattle.vt100.specs.Parser.{Ran, parsing, stage}
-use Rattle.vt100.proofs.Running.{byte_ran, stopped_then}
+use Rattle.vt100.proofs.Running.{byte_ran, read_behind, some_read}
 use Rattle.vt100.proofs.processing.process_some.Goals as goal
 
-pub returns-then-is_control-clause-ran : goal.returns-then-is_control-clause-ran
-returns-then-is_control-clause-ran g c =
+pub returns-then-is_control-clause-read : goal.returns-then-is_control-clause-read
+returns-then-is_control-clause-read g c =
     let does = g.CB.Callbacks.does in
     let held = c.args.scanner.now in
     let bytes = c.args.bytes.now in
     let byte = get_or bytes 0 0 in
     let before = parsing held c.args.screen.now c.args.callbacks.now in
     let now = parsing held c.execute.new.screen c.execute.new.callbacks in
-    subst (λ (text : List ℕ). Ran does before text now) (sym (take_more bytes 0 0 c.requires))
+    some_read does before now bytes 1 c.requires
+    (subst (λ (text : List ℕ). Ran does before text now) (sym (take_more bytes 0 0 c.requires))
     (byte_ran does before now byte (one_event (Executed byte)) (c.is_control.ensures.feeds c.if-is_control.true)
-    (stage now, c.in_ok-execute.ensures.done, refl))
+    (stage now, c.in_ok-execute.ensures.done, refl)))
 
-pub returns-clause-stopped : goal.returns-clause-stopped
-returns-clause-stopped g c e =
+pub returns-clause-read : goal.returns-clause-read
+returns-clause-read g c =
     let does = g.CB.Callbacks.does in
     let bytes = c.args.bytes.now in
     let before = parsing c.args.scanner.now c.args.screen.now c.args.callbacks.now in
@@ -29,4 +30,4 @@ returns-clause-stopped g c e =
     let zero : c.in_ok-count-2.count ≡ 0 = omega (arith, c.if-count-gt0.false) in
     let ran : Ran does before (take 0 bytes) led =
     subst (λ (n : ℕ). Ran does before (take n bytes) led) zero c.in_ok-count-2.ensures.ran in
-    stopped_then does before led now bytes 0 ran (c.process_one-2.ensures.stopped e)
+    read_behind does before led now bytes _ ran c.process_one-2.ensures.read

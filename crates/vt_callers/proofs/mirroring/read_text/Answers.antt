@@ -9,4 +9,4 @@ pub returns-clause-reads : goal.returns-clause-reads
 returns-clause-reads g c =
     subst (λ (text : List ℕ). ReadsText text c.args.terminal.now c.process.new.self) c.as_bytes.ensures.value
     (read_at_once c.as_bytes.result.now c.process.result c.args.terminal.now c.process.new.self
-    (subst (λ (s : ScreenValue). IsScreen s) c.screen.ensures.value c.size.ensures.whole) c.process.ensures.quiet)
+    (subst (λ (s : ScreenValue). IsScreen s) c.screen.ensures.value c.size.ensures.whole) c.process.ensures.call.quiet)

@@ -13,7 +13,7 @@ returns-clause-read g c =
     let asks = subst (λ (o : Option Update). Asks Drawn c.join.new.self c.in_ok-viewer.viewer (Ok o) c.update.new.self)
     c.in-Some.is c.in_ok-answer.ensures.call in
     subst (Ran quietly c.args.mirror.now.parser c.args.output.now)
-    (sym (asks.answers.parser ∙ c.join.ensures.parser)) c.in_ok-process.ensures.call.ran
+    (sym (asks.answers.parser ∙ c.join.ensures.parser)) c.in_ok-process.ensures.call.parser.ran
 
 pub returns-clause-shows : goal.returns-clause-shows
 returns-clause-shows g c = λ fresh plain steady.

@@ -9,7 +9,7 @@ pub loop-next-init : goal.loop-next-init
 loop-next-init g c =
     followed_first c.args.first.now c.as_bytes.result.now c.process.result c.args.remote.now c.process.new.self
     (record { sound = c.size-2.ensures.whole; colored = c.size-2.ensures.colored })
-    (c.as_bytes.ensures.value ∙ c.in_ok-text.ensures.text) c.process.ensures.quiet (search rules)
+    (c.as_bytes.ensures.value ∙ c.in_ok-text.ensures.text) c.process.ensures.call.quiet (search rules)
 
 pub send_next-requires : goal.send_next-requires
 send_next-requires g c =

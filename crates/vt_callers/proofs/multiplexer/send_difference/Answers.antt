@@ -11,4 +11,4 @@ returns-clause-shows g c = λ steady was.
     (subst (Redraws (shown self) (IsReaderOf (shown self) (shown c.args.prev.now)) KeepsRest)
     (sym c.as_bytes.ensures.value) c.in_ok-text.ensures.redraws) steady
     c.requires (subst (λ (s : ScreenValue). IsScreen s) c.screen.ensures.value c.size.ensures.whole)
-    was c.process.ensures.quiet
+    was c.process.ensures.call.quiet

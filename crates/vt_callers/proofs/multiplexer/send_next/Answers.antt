@@ -10,5 +10,5 @@ returns-clause-sends g c = record {
       subst (λ (text : List ℕ). HasTaken text c.args.remote.now c.process.new.self)
       (c.as_bytes.ensures.value ∙ c.in_ok-text.ensures.text)
       (taken_one c.as_bytes.result.now c.process.result c.args.remote.now c.process.new.self
-      c.process.ensures.quiet (search rules));
+      c.process.ensures.call.quiet (search rules));
 }

@@ -11,4 +11,4 @@ returns-clause-shows g c = λ steady plain size.
     (subst (Redraws (shown self) (IsReader (shown self)) KeepsRest)
     (sym c.as_bytes.ensures.value) c.in_ok-text.ensures.redraws) steady
     (subst (λ (s : ScreenValue). IsScreen s) c.screen.ensures.value c.size.ensures.whole)
-    plain size c.process.ensures.quiet
+    plain size c.process.ensures.call.quiet

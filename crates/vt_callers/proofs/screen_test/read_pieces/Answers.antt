@@ -17,7 +17,7 @@ loop-piece-preserved c = record {
       c.loop-piece.piece-index nothing c.loop-piece-test.true))
       (ran_more (map (λ (piece : Bor (List ℕ)). piece.now) (take c.loop-piece.piece-index c.args.pieces.now))
       (get_or c.args.pieces.now c.loop-piece.piece-index nothing).now c.args.parser.now c.loop-piece.parser
-      c.process.new.self c.loop-piece.invariant.folds c.in_ok-process.ensures.ran);
+      c.process.new.self c.loop-piece.invariant.folds c.in_ok-process.ensures.call.ran);
   fine = search rules;
 }
 

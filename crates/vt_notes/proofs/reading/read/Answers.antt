@@ -19,7 +19,7 @@ loop-piece-preserved c =
     c.loop-piece.piece-index nothing c.loop-piece-test.true))
     (read_more c.in_ok-parser.parser c.loop-piece.parser c.process.new.self
     (map (λ (piece : Bor (List ℕ)). piece.now) (take c.loop-piece.piece-index c.args.pieces.now))
-    (get_or c.args.pieces.now c.loop-piece.piece-index nothing).now c.loop-piece.invariant c.in_ok-process.ensures.ran)
+    (get_or c.args.pieces.now c.loop-piece.piece-index nothing).now c.loop-piece.invariant c.in_ok-process.ensures.call.ran)
 
 at_end : (c : goal.Else-not-is_complete) →
     HasRead (fresh_screen c.args.rows.value c.args.cols.value 0)

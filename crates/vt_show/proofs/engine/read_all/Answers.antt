@@ -9,4 +9,4 @@ loop-preserved g c =
     (g.R.Read.remaining c.read.new.self) (take c.in-Ok.count c.read.new.buf)
     c.args.parser.now c.loop.parser c.process.new.self c.loop.invariant c.in-Ok.ensures.bytes.0
     (ok_ran c.process.result (Ran quietly c.loop.parser (take c.in-Ok.count c.read.new.buf) c.process.new.self)
-    (sym c.is_err.ensures.value ∙ c.if-is_err.false) c.process.ensures.ran)
+    (sym c.is_err.ensures.value ∙ c.if-is_err.false) c.process.ensures.call.ran)

@@ -1,0 +1,37 @@
+-- What the calls that read bytes answer, and what they leave.
+use Rattle.std.specs.Prelude.{◌≡◌, ◌≢◌, ◌↔◌, ℕ, true, false, List, Err, Ok, length, IfErr, IfOk, IsErr}
+use Rattle.std.specs.IoError.{error_kind}
+use Rattle.std.specs.declared.io.Error as io
+use Rattle.std.specs.declared.io.ErrorKind.TheVariants as kind
+use Rattle.std.specs.declared.result.Result.{Result}
+use Rattle.vt_cells.specs.declared.error.Error.{Error}
+use Rattle.vt_cells.specs.declared.error.Error.TheVariants.{Failed, NoNumber, OutOfMemory}
+use Rattle.vt_screen.specs.Calls.{CallValue}
+use Rattle.vt_screen.specs.Screen.{ScreenValue}
+use Rattle.vt100.specs.Parser.{IsHarmless, Parsing, Ran, Stopped, quietly}
+use Rattle.vt100.specs.Pieces.{Processes, processing}
+
+-- bytes are read in full, or up to a byte or step that takes memory, and nothing is read from then on
+pub record ParserProcesses {S : Type 0} (does : CallValue → S → ScreenValue → S → ScreenValue → Type 0)
+    (old : Parsing S) (bytes : List ℕ) (answer : Result (Unit {0}) Error) (new : Parsing S) : Type 0 where
+  pub ran : IfOk answer (λ _. Ran does old bytes new)
+  pub memory : answer ≡ Err OutOfMemory → Stopped does old bytes new
+  pub failed : old.is_failed ≡ true → (answer ≡ Err Failed) × (new ≡ old)
+  pub only : answer ≡ Err Failed → old.is_failed ≡ true
+  pub no_number : IfErr answer (λ error. error ≢ NoNumber)
+  pub for_good : new.is_failed ≡ true ↔ IsErr answer
+  pub harmless : old.is_failed ≡ false → IsHarmless does old bytes → answer ≡ Ok tt
+  pub quiet : Processes old (processing bytes answer) new
+
+-- the same as a writer, whose errors are of two kinds
+pub record ParserWrites (old : Parsing (Unit {0})) (bytes : List ℕ) (answer : Result ℕ io.Error)
+    (new : Parsing (Unit {0})) : Type 0 where
+  pub whole : IfOk answer (λ count. count ≡ length bytes)
+  pub ran : IfOk answer (λ _. Ran quietly old bytes new)
+  pub for_good : new.is_failed ≡ true ↔ IsErr answer
+  pub stopped : old.is_failed ≡ false → IsErr answer → Stopped quietly old bytes new
+  pub refused : old.is_failed ≡ false → IfErr answer (λ error. error_kind error ≡ kind.OutOfMemory)
+  pub failed : old.is_failed ≡ true → new ≡ old
+  pub harmless : old.is_failed ≡ false → IsHarmless quietly old bytes → answer ≡ Ok (length bytes)
+  pub quiet : Processes old (processing bytes (Ok tt)) new
+  pub after : old.is_failed ≡ true → IfErr answer (λ error. error_kind error ≡ kind.Other)
