@@ -14,7 +14,8 @@ use crate::object::{Source, screen_of};
 use crate::parts::Parts;
 use crate::status::{BAD_ARGUMENT, NO_OBJECT, OK, WRONG_KIND};
 use std::alloc::Global;
-use vt100::{Cell, Screen};
+use vt_cells::cell;
+use vt100::Screen;
 
 /// Writes the cell that is shown at a row and a column, counted from 0.
 #[unsafe(no_mangle)]
@@ -167,7 +168,7 @@ fn shown_cell(screen: &Screen, row: u16, col: u16) -> VtCell
 {
     match screen.cell(row, col) {
         Some(cell) => cell_for_c(cell),
-        None => cell_for_c(&Cell::new()),
+        None => cell_for_c(&cell::default_blank()),
     }
 }
 

@@ -6,5 +6,5 @@ use Rattle.vt100_c.proofs.shown.shown_cell.Goals as goal
 
 pub returns-in-None : goal.returns-in-None
 returns-in-None c =
-    c.cell_for_c-in-None.ensures ∙ ap cell_for_c (c.new.ensures
+    c.cell_for_c-in-None.ensures ∙ ap cell_for_c (c.default_blank.ensures
     ∙ sym (past c.args.row c.args.col c.args.screen.now c.requires (λ both. false≢true (c.in-None.ensures.inside.1 both))))
