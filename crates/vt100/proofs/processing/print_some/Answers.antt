@@ -68,7 +68,7 @@ returns-clause-read g c =
     omega (arith, cut, size, c.plain_len-count.ensures.inside, c.min-fitting.ensures, c.from.ensures, c.room.ensures) in
     let inside : c.plain_len-count.result ≤ length c.args.bytes.now =
     omega (arith, cut, c.plain_len-count.ensures.inside) in
-    some_read g.CB.Callbacks.does before (parsing held c.print_text.new.self c.args.callbacks.now) c.args.bytes.now
+    some_read g.CB.Callbacks.does before (parsing held c.print_text.new.screen c.args.callbacks.now) c.args.bytes.now
     c.plain_len-count.result inside
     (subst (λ (after : ScreenValue). Ran g.CB.Callbacks.does before text (parsing held after c.args.callbacks.now))
     (sym c.print_text.ensures)
