@@ -5,6 +5,7 @@ pub mod Shifts
 pub mod Scrollback
 pub mod Spare
 pub mod Outgoing
+pub mod Sending
 pub mod Resize
 pub mod Erasing
 pub mod PageStep

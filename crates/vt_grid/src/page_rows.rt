@@ -1,8 +1,8 @@
 //! The rows of a page, without its cursor.
 
 ghost use Rattle.std.specs.Fn.{FnOnceReturnsAtMut, FnOnceTakesAtMut};
-ghost use Rattle.std.specs.Prelude.{◌≡◌, ◌≢◌, ◌+◌, ◌-◌, ◌^◌, ◌&&◌, ◌++◌, ◌<◌, ◌≤◌, ◌↔◌, ℕ, IfOk, IfSome, IsErr};
-ghost use Rattle.std.specs.Prelude.{List, IsSome, OnErr, OnOk, Some, All, true, false, encode_utf8, if◌then◌else◌, length};
+ghost use Rattle.std.specs.Prelude.{◌≡◌, ◌≢◌, ◌+◌, ◌-◌, ◌^◌, ◌&&◌, ◌++◌, ◌<◌, ◌≤◌, ◌↔◌, ℕ, IfOk, IfSome};
+ghost use Rattle.std.specs.Prelude.{List, IsSome, Some, All, true, false, encode_utf8, if◌then◌else◌, length};
 ghost use Rattle.std.specs.Prelude.{min, nat_le, nat_lt, replicate, slice_index_or, slice_set, take, drop};
 ghost use Rattle.vt_cells.specs.Cell.{CellValue, IsCell, attrs_of, is_blank, is_right_half, is_wide, text_of, widened};
 ghost use Rattle.vt_cells.specs.Glyph.{columns_of};
@@ -13,7 +13,7 @@ ghost use Rattle.vt_rows.specs.Row.{RowValue, IsRow, blank_row, deleted_row, ins
 ghost use Rattle.vt_rows.specs.Texts.{IsPrintableAscii, put_text};
 ghost use Rattle.vt_grid.specs.Page.{rows_up};
 ghost use Rattle.vt_grid.specs.Shifts.{rows_down};
-ghost use Rattle.vt_grid.specs.Scrollback.{Sends, TakesMemory};
+ghost use Rattle.vt_grid.specs.Sending.{LetsRowsGo};
 ghost use Rattle.vt_grid.specs.PageRows.{blank_page_rows, with_page_row_flag, page_row, with_page_row, with_row_cells};
 
 mod resizing;
@@ -445,13 +445,10 @@ impl PageRows {
         requires inside { bottom < length self.old.rows }
         requires width { size.cols ≡ self.old.width }
         requires sound { All (IsRow self.old.width) self.old.rows }
-        ensures rows { OnOk result
-            (self.new ≡ record self.old { rows = rows_up self.old.width 0 bottom count self.old.rows }) }
-        ensures sent { OnOk result (Sends L.leaves size.rows size.cols
-            (take (min count (bottom + 1)) self.old.rows) above.old leaving.old above.new leaving.new) }
-        ensures err { OnErr result ((self.new ≡ self.old) × ((above.new ≡ above.old) × (leaving.new ≡ leaving.old))) }
-        ensures grows { IsErr result → TakesMemory (take (min count (bottom + 1)) self.old.rows) above.old }
-        ensures memory { OnlyOutOfMemory result }
+        ensures { LetsRowsGo L.leaves size.rows size.cols (take (min count (bottom + 1)) self.old.rows)
+            self.old above.old leaving.old
+            (record self.old { rows = rows_up self.old.width 0 bottom count self.old.rows })
+            self.new above.new leaving.new result }
     {
         let gone = usize::from(count).min(usize::from(bottom) + 1);
         above.push(self, gone, size, leaving)?;

@@ -1,10 +1,9 @@
 //! Printing: glyphs, marks, and glyphs whose width follows U+FE0F.
 
-ghost use Rattle.std.specs.Prelude.{◌≡◌, ◌≢◌, ◌+◌, ◌-◌, ◌&&◌, ◌==◌, ◌<◌, ◌≤◌, [], IsErr, OnErr, OnOk, Some};
+ghost use Rattle.std.specs.Prelude.{◌≡◌, ◌≢◌, ◌+◌, ◌-◌, ◌&&◌, ◌==◌, ◌<◌, ◌≤◌, [], Some};
 ghost use Rattle.std.specs.Prelude.{encode_utf8, false, if◌then◌else◌, length, nat_lt, not, slice_set, true};
 ghost use Rattle.vt_cells.specs.Cell.{IsCell, attrs_of, glyph, is_right_half, is_wide, marked, text_of};
 ghost use Rattle.vt_cells.specs.Glyph.{IsGlyphText, columns_of, is_selector, is_wide_text};
-ghost use Rattle.vt_cells.specs.Refusals.{OnlyOutOfMemory};
 ghost use Rattle.vt_rows.specs.Cells.{at, widened_at};
 ghost use Rattle.vt_rows.specs.Texts.{IsPrintableAscii};
 ghost use Rattle.vt_grid.specs.Internals.{IsSelected, mark_out, room_out};
@@ -12,7 +11,7 @@ ghost use Rattle.vt_grid.specs.Outgoing.{printed_out};
 ghost use Rattle.vt_grid.specs.Page.{IsPage, cursor_row, with_row};
 ghost use Rattle.vt_grid.specs.Printing.{carries, glyph_put, lifted_page, made_narrow, mark_column, mark_printed};
 ghost use Rattle.vt_grid.specs.Printing.{mark_put, printed, room_made, takes_mark, width_followed, with_cursor_cells};
-ghost use Rattle.vt_grid.specs.Scrollback.{Sends, TakesMemory};
+ghost use Rattle.vt_grid.specs.Sending.{LetsRowsGo};
 ghost use Rattle.vt_grid.specs.Texts.{printed_text, text_put};
 
 use super::Grid;
@@ -46,12 +45,8 @@ impl Grid {
     ) -> Result<(), Error>
         requires reported { c ≢ 0xFFFD }
         requires columns { width ≡ columns_of c }
-        ensures page { OnOk result (self.new ≡ printed c attrs self.old) }
-        ensures sent { OnOk result (Sends L.leaves (length self.old.rows) self.old.width
-            (printed_out c attrs self.old) above.old leaving.old above.new leaving.new) }
-        ensures err { OnErr result ((self.new ≡ self.old) × ((above.new ≡ above.old) × (leaving.new ≡ leaving.old))) }
-        ensures grows { IsErr result → TakesMemory (printed_out c attrs self.old) above.old }
-        ensures memory { OnlyOutOfMemory result }
+        ensures { LetsRowsGo L.leaves (length self.old.rows) self.old.width (printed_out c attrs self.old)
+            self.old above.old leaving.old (printed c attrs self.old) self.new above.new leaving.new result }
     {
         let Some(width) = width else {
             return Ok(());
@@ -113,12 +108,9 @@ impl Grid {
     ) -> Result<(), Error>
         requires reported { c ≢ 0xFFFD }
         requires columns { columns_of c ≡ Some 1 }
-        ensures page { OnOk result (self.new ≡ glyph_put (encode_utf8 c) false attrs (room_made 1 self.old)) }
-        ensures sent { OnOk result (Sends L.leaves (length self.old.rows) self.old.width
-            (room_out 1 self.old) above.old leaving.old above.new leaving.new) }
-        ensures err { OnErr result ((self.new ≡ self.old) × ((above.new ≡ above.old) × (leaving.new ≡ leaving.old))) }
-        ensures grows { IsErr result → TakesMemory (room_out 1 self.old) above.old }
-        ensures memory { OnlyOutOfMemory result }
+        ensures { LetsRowsGo L.leaves (length self.old.rows) self.old.width (room_out 1 self.old)
+            self.old above.old leaving.old (glyph_put (encode_utf8 c) false attrs (room_made 1 self.old))
+            self.new above.new leaving.new result }
     {
         self.make_room(1, above, leaving)?;
         self.put_narrow(c, attrs);
@@ -134,12 +126,8 @@ impl Grid {
         above: &mut Scrollback,
         leaving: &mut L,
     ) -> Result<(), Error>
-        ensures page { OnOk result (self.new ≡ room_made columns self.old) }
-        ensures sent { OnOk result (Sends L.leaves (length self.old.rows) self.old.width
-            (room_out columns self.old) above.old leaving.old above.new leaving.new) }
-        ensures err { OnErr result ((self.new ≡ self.old) × ((above.new ≡ above.old) × (leaving.new ≡ leaving.old))) }
-        ensures grows { IsErr result → TakesMemory (room_out columns self.old) above.old }
-        ensures memory { OnlyOutOfMemory result }
+        ensures room { LetsRowsGo L.leaves (length self.old.rows) self.old.width (room_out columns self.old)
+            self.old above.old leaving.old (room_made columns self.old) self.new above.new leaving.new result }
         ensures some { 0 < self.old.width }
     {
         if self.pos.col > self.size.cols.saturating_sub(columns) {
@@ -160,15 +148,10 @@ impl Grid {
         leaving: &mut L,
     ) -> Result<(), Error>
         requires { columns_of mark ≡ Some 0 }
-        ensures page { OnOk result
-            (self.new ≡ (if self.old.column == 0 then self.old else mark_printed mark attrs self.old)) }
-        ensures sent { OnOk result (Sends L.leaves (length self.old.rows) self.old.width
-            (if self.old.column == 0 then [] else mark_out mark attrs self.old)
-            above.old leaving.old above.new leaving.new) }
-        ensures err { OnErr result ((self.new ≡ self.old) × ((above.new ≡ above.old) × (leaving.new ≡ leaving.old))) }
-        ensures grows { IsErr result →
-            TakesMemory (if self.old.column == 0 then [] else mark_out mark attrs self.old) above.old }
-        ensures memory { OnlyOutOfMemory result }
+        ensures { LetsRowsGo L.leaves (length self.old.rows) self.old.width
+            (if self.old.column == 0 then [] else mark_out mark attrs self.old) self.old above.old leaving.old
+            (if self.old.column == 0 then self.old else mark_printed mark attrs self.old)
+            self.new above.new leaving.new result }
     {
         if self.pos.col == 0 {
             return Ok(());
@@ -328,12 +311,8 @@ impl Grid {
     ) -> Result<(), Error>
         requires mark { columns_of mark ≡ Some 0 }
         requires carried { carries mark self.old ≡ true }
-        ensures page { OnOk result (self.new ≡ mark_printed mark attrs self.old) }
-        ensures sent { OnOk result (Sends L.leaves (length self.old.rows) self.old.width
-            (mark_out mark attrs self.old) above.old leaving.old above.new leaving.new) }
-        ensures err { OnErr result ((self.new ≡ self.old) × ((above.new ≡ above.old) × (leaving.new ≡ leaving.old))) }
-        ensures grows { IsErr result → TakesMemory (mark_out mark attrs self.old) above.old }
-        ensures memory { OnlyOutOfMemory result }
+        ensures { LetsRowsGo L.leaves (length self.old.rows) self.old.width (mark_out mark attrs self.old)
+            self.old above.old leaving.old (mark_printed mark attrs self.old) self.new above.new leaving.new result }
     {
         let col = self.mark_col();
         let goes_on = self.row_wrapped(self.pos.row);
@@ -425,15 +404,10 @@ impl Grid {
     ) -> Result<(), Error>
         requires reported { c ≢ 0xFFFD }
         requires columns { columns_of c ≡ Some 2 }
-        ensures page { OnOk result (self.new
-            ≡ (if nat_lt 1 self.old.width
-            then glyph_put (encode_utf8 c) true attrs (room_made 2 self.old) else self.old)) }
-        ensures sent { OnOk result (Sends L.leaves (length self.old.rows) self.old.width
-            (if nat_lt 1 self.old.width then room_out 2 self.old else []) above.old leaving.old above.new leaving.new) }
-        ensures err { OnErr result ((self.new ≡ self.old) × ((above.new ≡ above.old) × (leaving.new ≡ leaving.old))) }
-        ensures grows { IsErr result →
-            TakesMemory (if nat_lt 1 self.old.width then room_out 2 self.old else []) above.old }
-        ensures memory { OnlyOutOfMemory result }
+        ensures { LetsRowsGo L.leaves (length self.old.rows) self.old.width
+            (if nat_lt 1 self.old.width then room_out 2 self.old else []) self.old above.old leaving.old
+            (if nat_lt 1 self.old.width then glyph_put (encode_utf8 c) true attrs (room_made 2 self.old) else self.old)
+            self.new above.new leaving.new result }
     {
         if self.size.cols == 1 {
             return Ok(());

@@ -1,15 +1,14 @@
 //! Scrolling up, line feeds and wraps: the rows that leave the page at its top
 //! go to scrollback.
 
-ghost use Rattle.std.specs.Prelude.{◌≡◌, ◌+◌, ◌-◌, ◌&&◌, ◌==◌, ◌<◌, ◌≤◌, IfSome, IsErr, None};
-ghost use Rattle.std.specs.Prelude.{OnErr, OnOk, Some, if◌then◌else◌, length, nat_lt, not};
-ghost use Rattle.vt_cells.specs.Refusals.{OnlyOutOfMemory};
+ghost use Rattle.std.specs.Prelude.{◌≡◌, ◌+◌, ◌-◌, ◌&&◌, ◌==◌, ◌<◌, ◌≤◌, IfSome, None};
+ghost use Rattle.std.specs.Prelude.{Some, if◌then◌else◌, length, nat_lt, not};
 ghost use Rattle.vt_rows.specs.Cells.{ends_blank};
 ghost use Rattle.vt_grid.specs.Moves.{line_feed};
 ghost use Rattle.vt_grid.specs.Outgoing.{fed_out, scrolled_out};
 ghost use Rattle.vt_grid.specs.Page.{IsPage, cursor_row, scrolled_up};
 ghost use Rattle.vt_grid.specs.Printing.{flagged_left, goes_down, wrapped_page};
-ghost use Rattle.vt_grid.specs.Scrollback.{Sends, TakesMemory};
+ghost use Rattle.vt_grid.specs.Sending.{LetsRowsGo};
 
 use super::Grid;
 use crate::scrollback::Scrollback;
@@ -32,12 +31,8 @@ impl Grid {
         above: &mut Scrollback,
         leaving: &mut L,
     ) -> Result<(), Error>
-        ensures page { OnOk result (self.new ≡ scrolled_up count self.old) }
-        ensures sent { OnOk result (Sends L.leaves (length self.old.rows) self.old.width
-            (scrolled_out count self.old) above.old leaving.old above.new leaving.new) }
-        ensures err { OnErr result ((self.new ≡ self.old) × ((above.new ≡ above.old) × (leaving.new ≡ leaving.old))) }
-        ensures grows { IsErr result → TakesMemory (scrolled_out count self.old) above.old }
-        ensures memory { OnlyOutOfMemory result }
+        ensures { LetsRowsGo L.leaves (length self.old.rows) self.old.width (scrolled_out count self.old)
+            self.old above.old leaving.old (scrolled_up count self.old) self.new above.new leaving.new result }
     {
         if self.scroll_top == 0 {
             self.page_rows
@@ -63,12 +58,8 @@ impl Grid {
         above: &mut Scrollback,
         leaving: &mut L,
     ) -> Result<(), Error>
-        ensures page { OnOk result (self.new ≡ line_feed self.old) }
-        ensures sent { OnOk result (Sends L.leaves (length self.old.rows) self.old.width
-            (fed_out self.old) above.old leaving.old above.new leaving.new) }
-        ensures err { OnErr result ((self.new ≡ self.old) × ((above.new ≡ above.old) × (leaving.new ≡ leaving.old))) }
-        ensures grows { IsErr result → TakesMemory (fed_out self.old) above.old }
-        ensures memory { OnlyOutOfMemory result }
+        ensures { LetsRowsGo L.leaves (length self.old.rows) self.old.width (fed_out self.old)
+            self.old above.old leaving.old (line_feed self.old) self.new above.new leaving.new result }
     {
         if self.pos.row == self.scroll_bottom {
             self.scroll_up(1, above, leaving)?;
@@ -99,12 +90,8 @@ impl Grid {
         above: &mut Scrollback,
         leaving: &mut L,
     ) -> Result<(), Error>
-        ensures page { OnOk result (self.new ≡ wrapped_page self.old) }
-        ensures sent { OnOk result (Sends L.leaves (length self.old.rows) self.old.width
-            (fed_out self.old) above.old leaving.old above.new leaving.new) }
-        ensures err { OnErr result ((self.new ≡ self.old) × ((above.new ≡ above.old) × (leaving.new ≡ leaving.old))) }
-        ensures grows { IsErr result → TakesMemory (fed_out self.old) above.old }
-        ensures memory { OnlyOutOfMemory result }
+        ensures { LetsRowsGo L.leaves (length self.old.rows) self.old.width (fed_out self.old)
+            self.old above.old leaving.old (wrapped_page self.old) self.new above.new leaving.new result }
     {
         let left = left_row(self.pos.row, self.scroll_top, self.scroll_bottom);
         let goes_on = self.goes_on();

@@ -1,4 +1,4 @@
-use Rattle.std.proofs.Common.{◌∙◌, ap, sym, subst, arith}
+use Rattle.std.proofs.Common.{◌∙◌, ap, sym, subst, arith, rules}
 use Rattle.vt_grid.specs.Page.{Page, IsPage, row_at}
 use Rattle.vt_grid.proofs.Prints.{column_wrapped_page, width_wrapped_page}
 use Rattle.vt_grid.proofs.Marks.{mark_place}
@@ -30,15 +30,21 @@ put_back-requires-clause-page g c =
     c.lift-cell.ensures.lifted (c.row_wrapped-goes_on.ensures ∙ row) in
     subst IsPage (sym parts.1) c.mark_col-col.ensures.page
 
-pub returns-in-Err-clause-err : goal.returns-in-Err-clause-err
-returns-in-Err-clause-err g c =
+pub returns-in-Err : goal.returns-in-Err
+returns-in-Err g c =
     let carried = carried_of c.args.mark c.args.self.now c.requires.carried in
     let row = ap (λ (q : Page). (row_at c.args.self.now q.row).wrapped) c.self.view_is in
     let parts = put_back_parts c.mark_col-col.result c.args.mark c.args.attrs c.args.self.now
     c.wrap.new.self c.lift-cell.result c.row_wrapped-goes_on.result c.mark_col-col.ensures.page carried
     c.mark_col-col.ensures.value (c.in-Err.ensures.err.0 ∙ c.lift-cell.ensures.value)
     c.lift-cell.ensures.lifted (c.row_wrapped-goes_on.ensures ∙ row) in
-    (c.put_back.ensures ∙ parts.1, c.in-Err.ensures.err.1)
+    record {
+      page = search rules;
+      sent = search rules;
+      err = (c.put_back.ensures ∙ parts.1, c.in-Err.ensures.err.1);
+      grows = search rules;
+      memory = search rules;
+    }
 
 pub widened-requires-clause-selector : goal.widened-requires-clause-selector
 widened-requires-clause-selector g c =
@@ -65,15 +71,22 @@ put_wide_cell-requires-clause-room g c =
     let width = width_wrapped_page q ∙ ap (λ (p : Page). p.width) c.lift-cell.ensures.value in
     rw c.in_default.ensures.page (omega (arith, carried.columns))
 
-pub returns-clause-page : goal.returns-clause-page
-returns-clause-page g c =
+pub returns : goal.returns
+returns g c =
     let page = c.args.self.now in
     let here = carried_is c.args.mark c.args.attrs page c.requires.carried in
-    c.put_wide_cell.ensures
-    ∙ (rw (
-      c.widened.ensures,
-      c.in_default.ensures.page,
-      c.lift-cell.ensures.value,
-      c.lift-cell.ensures.lifted,
-      c.mark_col-col.ensures.value,
-    ) (sym here))
+    record {
+      page =
+          c.put_wide_cell.ensures
+          ∙ (rw (
+            c.widened.ensures,
+            c.in_default.ensures.page,
+            c.lift-cell.ensures.value,
+            c.lift-cell.ensures.lifted,
+            c.mark_col-col.ensures.value,
+          ) (sym here));
+      sent = search rules;
+      err = search rules;
+      grows = search rules;
+      memory = search rules;
+    }

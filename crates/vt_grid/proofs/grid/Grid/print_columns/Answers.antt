@@ -12,26 +12,23 @@ print_mark-requires g c =
     no_columns c.args.c c.in-Some.width (sym c.requires.columns ∙ c.in-Some.is)
     c.if-width-eq1.false c.if-width-eq2.false
 
-pub returns-else-width-eq2-clause-page : goal.returns-else-width-eq2-clause-page
-returns-else-width-eq2-clause-page g c =
-    let e = no_columns c.args.c c.in-Some.width (sym c.requires.columns ∙ c.in-Some.is)
-    c.if-width-eq1.false c.if-width-eq2.false in
-    subst (λ (page : Page). OnOk c.print_mark.result (c.print_mark.new.self ≡ page))
-    (sym (printed_mark c.args.c c.args.attrs c.args.self.now e)) c.print_mark.ensures.page
-
-pub returns-else-width-eq2-clause-sent : goal.returns-else-width-eq2-clause-sent
-returns-else-width-eq2-clause-sent g c =
+pub returns-else-width-eq2 : goal.returns-else-width-eq2
+returns-else-width-eq2 g c =
     let page = c.args.self.now in
     let e = no_columns c.args.c c.in-Some.width (sym c.requires.columns ∙ c.in-Some.is)
     c.if-width-eq1.false c.if-width-eq2.false in
-    subst (λ (out : List RowValue). OnOk c.print_mark.result
-    (Sends g.L.Leaving.leaves (length page.rows) page.width out c.args.above.now
-    c.args.leaving.now c.print_mark.new.above c.print_mark.new.leaving))
-    (sym (out_mark c.args.c c.args.attrs page e)) c.print_mark.ensures.sent
-
-pub returns-else-width-eq2-clause-grows : goal.returns-else-width-eq2-clause-grows
-returns-else-width-eq2-clause-grows g c =
-    let e = no_columns c.args.c c.in-Some.width (sym c.requires.columns ∙ c.in-Some.is)
-    c.if-width-eq1.false c.if-width-eq2.false in
-    subst (λ (out : List RowValue). IsErr c.print_mark.result → TakesMemory out c.args.above.now)
-    (sym (out_mark c.args.c c.args.attrs c.args.self.now e)) c.print_mark.ensures.grows
+    record {
+      page =
+          subst (λ (after : Page). OnOk c.print_mark.result (c.print_mark.new.self ≡ after))
+          (sym (printed_mark c.args.c c.args.attrs page e)) c.print_mark.ensures.page;
+      sent =
+          subst (λ (out : List RowValue). OnOk c.print_mark.result
+          (Sends g.L.Leaving.leaves (length page.rows) page.width out c.args.above.now
+          c.args.leaving.now c.print_mark.new.above c.print_mark.new.leaving))
+          (sym (out_mark c.args.c c.args.attrs page e)) c.print_mark.ensures.sent;
+      err = c.print_mark.ensures.err;
+      grows =
+          subst (λ (out : List RowValue). IsErr c.print_mark.result → TakesMemory out c.args.above.now)
+          (sym (out_mark c.args.c c.args.attrs page e)) c.print_mark.ensures.grows;
+      memory = c.print_mark.ensures.memory;
+    }

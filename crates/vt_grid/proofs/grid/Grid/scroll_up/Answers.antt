@@ -14,7 +14,7 @@ invariant_of-self-then-self-eq0 g c =
     (sym c.if-self-eq0.true) in
     subst (λ (page_rows : PageRowsValue). IsSized s.size.rows s.size.cols
     (page_of page_rows s.pos s.saved_pos s.scroll_top s.scroll_bottom s.origin_mode s.saved_origin_mode))
-    (sym (c.in_ok-send_up.ensures.rows ∙ first))
+    (sym (c.in_ok-send_up.ensures.page ∙ first))
     (sized_scrolled_up s.size.rows s.size.cols c.args.count page c.self.invariant)
 
 pub invariant_of-self-2 : goal.invariant_of-self-2
