@@ -1,16 +1,16 @@
 -- Basic texts of rows have no controls but line ends and SGR changes.
-use Rattle.std.proofs.Common.{◌≡◌, ◌⊎◌, inl, inr, ℕ, zero, suc, Bool, true, false, List, [], ◌∷◌, ◌++◌, length}
+use Rattle.std.proofs.Common.{◌≡◌, inl, ℕ, zero, suc, Bool, true, false, List, [], ◌∷◌, ◌++◌}
 use Rattle.std.proofs.Common.{replicate, refl, sym, ap, ap₂, subst, ◌∙◌, append_assoc, append-nil, arith, if◌then◌else◌}
-use Rattle.std.specs.List.{All, AllByRecursion, flat_map}
+use Rattle.std.specs.List.{AllByRecursion, flat_map}
 use Rattle.std.proofs.lemmas.List.Elements.{recursion_from_All}
 use Rattle.vt_cells.specs.Attrs.{default_attrs, same_attrs, same_color, Attrs}
 use Rattle.vt_cells.specs.Cell.{CellValue, IsCell, blank, glyph, right_half, is_default_blank}
-use Rattle.vt_cells.specs.Op.{csi, joined, change_text, change_numbers}
+use Rattle.vt_cells.specs.Op.{csi, change_text, change_numbers}
 use Rattle.std.specs.Char.{encode_utf8}
 use Rattle.std.specs.List.{list_all}
 use Rattle.vt_rows.specs.Basic.{Written, unwritten, shown_text, attrs_after, cells_text, basic_text, written_after}
 use Rattle.vt_rows.specs.Cells.{blanks}
-use Rattle.vt_rows.specs.Row.{RowValue, IsRow, blank_row, trimmed}
+use Rattle.vt_rows.specs.Row.{RowValue, blank_row, trimmed}
 use Rattle.vt_grid.specs.Scrollback.{no_scrollback}
 use Rattle.vt_redraw.specs.Fits.{IsDrawn, IsDrawnText}
 use Rattle.vt_redraw.proofs.Cuts.{IsAnyRow}

@@ -1,8 +1,7 @@
 -- A row's text, read by a terminal that awaits it, gives that terminal the cells of the row's range.
-use Rattle.std.proofs.Common.{◌≡◌, ◌≢◌, ℕ, suc, ◌+◌, ◌-◌, ◌<◌, ◌≤◌, Bool, true, false, List}
-use Rattle.std.proofs.Common.{[], length, Option, Some, refl, sym, ap, subst, ◌∙◌, arith}
+use Rattle.std.proofs.Common.{◌≡◌, ◌≢◌, ℕ, suc, ◌+◌, ◌<◌, ◌≤◌, Bool, true, false, List}
+use Rattle.std.proofs.Common.{length, Option, Some, refl, sym, ap, subst, ◌∙◌, arith}
 use Rattle.std.specs.Prelude.{slice_index_or, slice_set}
-use Rattle.std.specs.List.{AllByRecursion}
 use Rattle.std.proofs.lemmas.Grind.{get_or-set_at}
 use Rattle.std.proofs.lemmas.List.{get_or-set_other, length-replicate, length-set}
 use Rattle.vt_cells.specs.Attrs.{default_attrs}
@@ -15,7 +14,7 @@ use Rattle.vt_grid.specs.Page.{Page, row_at}
 use Rattle.vt_redraw.specs.Items.{AwaitsItem, CutsNone, changed_row, formatted_row, going_on, is_linked}
 use Rattle.vt_redraw.specs.Items.{item_of_difference, item_of_redraw, row_drawn, with_range}
 use Rattle.vt_redraw.specs.Locality.{row_of_picture}
-use Rattle.vt_redraw.specs.Picture.{Picture, IsPicture, IsColoredPicture, SamePictureSize, picture_of}
+use Rattle.vt_redraw.specs.Picture.{Picture, IsPicture, IsColoredPicture, SamePictureSize}
 use Rattle.vt_redraw.specs.Steady.{IsSteady}
 use Rattle.vt_redraw.specs.declared.pen.Pen.{Pen}
 use Rattle.vt_redraw.proofs.ItemDraws.{difference_item_draws, redraw_item_draws, redraw_item_wraps}
@@ -28,7 +27,7 @@ use Rattle.vt_screen.specs.Reading.{Terminal, terminal}
 use Rattle.vt_screen.specs.RowsShown.{changed_text, formatted_text, HasLinked, HasRange}
 use Rattle.vt_screen.specs.RowsShown.{IsBlankReader, IsOff, IsRowReader, IsWrapReader, Turns}
 use Rattle.vt_screen.specs.Screen.{ScreenValue, canvas_of, with_canvas}
-use Rattle.vt_screen.specs.Shown.{IsPlain, IsReader, IsReadBy, KeepsRest, Makes, ReadsTo, StaysPlain}
+use Rattle.vt_screen.specs.Shown.{IsPlain, IsReader, KeepsRest, Makes, ReadsTo}
 use Rattle.vt_screen.proofs.Readback.{Reads, reads_all}
 use Rattle.vt_screen.proofs.Shown.{plain_shown, shown_height}
 

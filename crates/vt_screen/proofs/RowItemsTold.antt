@@ -1,10 +1,9 @@
 -- What the texts of rows that a screen gives make of the terminals that read them.
-use Rattle.std.proofs.Common.{◌≡◌, ℕ, ◌+◌, ◌<◌, ◌≤◌, ◌↔◌, true, false, List}
-use Rattle.std.proofs.Common.{[], length, min, sym, ap, subst, ◌∙◌, arith}
+use Rattle.std.proofs.Common.{◌≡◌, ℕ, ◌+◌, ◌<◌, ◌↔◌, false, List}
+use Rattle.std.proofs.Common.{[], length, sym, ap, subst, ◌∙◌, arith}
 use Rattle.vt_grid.specs.Page.{SameSize}
 use Rattle.vt_redraw.specs.Items.{CutsNone}
 use Rattle.vt_redraw.specs.Locality.{row_of_picture}
-use Rattle.vt_redraw.specs.Picture.{Picture, IsPicture, SamePictureSize}
 use Rattle.vt_redraw.specs.Steady.{IsSteady}
 use Rattle.vt_redraw.proofs.ItemEmpty.{difference_item_empty}
 use Rattle.vt_screen.specs.RowsShown.{EachLinked, EachUncut, HasLinked, HasRange, IsBlankReader}

@@ -1,5 +1,5 @@
 -- Screens without U+FE0F.
-use Rattle.std.specs.Prelude.{◌≡◌, ◌≢◌, ℕ, false, List, Some, IfSome, All, chars}
+use Rattle.std.specs.Prelude.{◌≡◌, ◌≢◌, false, List, Some, IfSome, All, chars}
 use Rattle.std.specs.List.{list_any}
 use Rattle.vt_cells.specs.Cell.{CellValue, text_of}
 use Rattle.vt_cells.specs.Glyph.{is_selector}

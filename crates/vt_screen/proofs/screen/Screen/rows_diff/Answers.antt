@@ -1,4 +1,4 @@
-use Rattle.std.proofs.Common.{◌≡◌, ℕ, List, length, ap, ◌∙◌}
+use Rattle.std.proofs.Common.{ℕ, List, length, ap, ◌∙◌}
 use Rattle.vt_screen.specs.RowsShown.{changed_text, texts_from}
 use Rattle.vt_screen.specs.Shown.{shown}
 use Rattle.vt_screen.proofs.RowItemsTold.{changed_empty, changed_leaves, changed_turns}

@@ -1,5 +1,4 @@
 use Rattle.std.proofs.Common.{subst, sym}
-use Rattle.vt_redraw.specs.Moved.{moved}
 use Rattle.vt_redraw.specs.Picture.{Picture, SamePictureSize}
 use Rattle.vt_redraw.proofs.Moving.{moved_size}
 use Rattle.vt_screen.specs.Shown.{shown}

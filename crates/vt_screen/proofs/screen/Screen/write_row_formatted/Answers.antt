@@ -1,6 +1,5 @@
-use Rattle.std.proofs.Common.{◌<◌, length, subst, sym, ap, ◌∙◌, arith}
+use Rattle.std.proofs.Common.{◌<◌, length, subst, sym, arith}
 use Rattle.vt_redraw.specs.Picture.{Picture}
-use Rattle.vt_screen.specs.Shown.{shown}
 use Rattle.vt_screen.proofs.Shown.{shown_height}
 use Rattle.vt_screen.proofs.screen.Screen.write_row_formatted.Goals as goal
 
