@@ -5,10 +5,9 @@ use Rattle.vt_cells.specs.Cell.{CellValue}
 use Rattle.vt_grid.specs.Page.{Page, IsPage, SameSize}
 use Rattle.vt_grid.specs.Regions.{moved_up, moved_down}
 use Rattle.vt_grid.specs.PageStep.{PageStep, page_after, CarriageReturn, ReverseIndex, MoveUp, MoveDown, MoveRight}
-use Rattle.vt_grid.specs.PageStep.{MoveLeft, NextLine, PreviousLine, Tab, MoveTo, MoveToColumn, MoveToRow}
-use Rattle.vt_grid.specs.PageStep.{SetRegion, UseOrigin, EraseBelow, EraseAbove, ErasePage, EraseRest, EraseStart}
-use Rattle.vt_grid.specs.PageStep.{EraseRow, EraseChars, InsertChars, DeleteChars, InsertLines, DeleteLines}
-use Rattle.vt_grid.specs.PageStep.{ScrollDown}
+use Rattle.vt_grid.specs.PageStep.{MoveLeft, NextLine, PreviousLine, Tab, MoveTo, MoveToColumn, MoveToRow, SetRegion}
+use Rattle.vt_grid.specs.PageStep.{UseOrigin, EraseBelow, EraseAbove, ErasePage, EraseRest, EraseStart, EraseRow}
+use Rattle.vt_grid.specs.PageStep.{EraseChars, InsertChars, DeleteChars, InsertLines, DeleteLines, ScrollDown}
 use Rattle.vt_grid.proofs.Pages.{page_carriage_return, page_moved_left, page_moved_right, page_moved_to}
 use Rattle.vt_grid.proofs.Pages.{page_erased_chars, page_erased_rest, page_erased_below}
 use Rattle.vt_grid.proofs.Regions.{page_moved_up, page_moved_down, page_next_line, page_previous_line}
@@ -20,18 +19,17 @@ use Rattle.vt_grid.proofs.Blanking.{page_erased_start, page_erased_row, page_era
 use Rattle.vt_screen.proofs.Inside.{IsInside, same_erased_above, inside_carriage_return, inside_reverse_index}
 use Rattle.vt_screen.proofs.Inside.{inside_moved_up, inside_moved_down, inside_moved_right, inside_moved_left}
 use Rattle.vt_screen.proofs.Inside.{inside_next_line, inside_previous_line, inside_tabbed, inside_moved_to}
-use Rattle.vt_screen.proofs.Inside.{inside_moved_to_column, inside_moved_to_row, inside_region_set}
-use Rattle.vt_screen.proofs.Inside.{inside_origin_set, inside_erased_below, inside_erased_above, inside_erased_page}
-use Rattle.vt_screen.proofs.Inside.{inside_erased_rest, inside_erased_start, inside_erased_row, inside_erased_chars}
-use Rattle.vt_screen.proofs.Inside.{inside_chars_inserted, inside_chars_deleted, inside_lines_inserted}
-use Rattle.vt_screen.proofs.Inside.{inside_lines_deleted, inside_scrolled_down}
+use Rattle.vt_screen.proofs.Inside.{inside_moved_to_column, inside_moved_to_row, inside_region_set, inside_origin_set}
+use Rattle.vt_screen.proofs.Inside.{inside_erased_below, inside_erased_above, inside_erased_page, inside_erased_rest}
+use Rattle.vt_screen.proofs.Inside.{inside_erased_start, inside_erased_row, inside_erased_chars, inside_chars_inserted}
+use Rattle.vt_screen.proofs.Inside.{inside_chars_deleted, inside_lines_inserted, inside_lines_deleted}
+use Rattle.vt_screen.proofs.Inside.{inside_scrolled_down}
 use Rattle.vt_screen.proofs.Sizes.{same_carriage_return, same_reverse_index, same_moved_up, same_moved_down}
-use Rattle.vt_screen.proofs.Sizes.{same_moved_right, same_moved_left, same_next_line, same_previous_line}
-use Rattle.vt_screen.proofs.Sizes.{same_tabbed, same_moved_to, same_moved_to_column, same_moved_to_row}
-use Rattle.vt_screen.proofs.Sizes.{same_region_set, same_origin_set, same_erased_below, same_erased_page}
-use Rattle.vt_screen.proofs.Sizes.{same_erased_rest, same_erased_start, same_erased_row, same_erased_chars}
-use Rattle.vt_screen.proofs.Sizes.{same_chars_inserted, same_chars_deleted, same_lines_inserted, same_lines_deleted}
-use Rattle.vt_screen.proofs.Sizes.{same_scrolled_down}
+use Rattle.vt_screen.proofs.Sizes.{same_moved_right, same_moved_left, same_next_line, same_previous_line, same_tabbed}
+use Rattle.vt_screen.proofs.Sizes.{same_moved_to, same_moved_to_column, same_moved_to_row, same_region_set}
+use Rattle.vt_screen.proofs.Sizes.{same_origin_set, same_erased_below, same_erased_page, same_erased_rest}
+use Rattle.vt_screen.proofs.Sizes.{same_erased_start, same_erased_row, same_erased_chars, same_chars_inserted}
+use Rattle.vt_screen.proofs.Sizes.{same_chars_deleted, same_lines_inserted, same_lines_deleted, same_scrolled_down}
 use Rattle.vt_screen.proofs.Stable.{EachRow, IsStable, stable_erased_below, stable_erased_chars, stable_erased_rest}
 use Rattle.vt_screen.proofs.StableMoves.{stable_chars_deleted, stable_chars_inserted, stable_erased_above}
 use Rattle.vt_screen.proofs.StableMoves.{stable_erased_page, stable_erased_row, stable_erased_start}

@@ -1,6 +1,6 @@
 -- Where no character that is read is U+FE0F, no step puts it into a cell.
-use Rattle.std.proofs.Common.{◌≡◌, ◌≢◌, ℕ, Bool, true, false, List, [], ◌∷◌, ◌++◌, length, Option, Some}
-use Rattle.std.proofs.Common.{None, append-nil, IsUtf8, refl, sym, ap, subst, ◌∙◌, lit<, arith}
+use Rattle.std.proofs.Common.{◌≡◌, ◌≢◌, ℕ, Bool, true, false, List, [], ◌∷◌, ◌++◌, length, Option, Some, None}
+use Rattle.std.proofs.Common.{append-nil, IsUtf8, refl, sym, ap, subst, ◌∙◌, lit<, arith}
 use Rattle.std.specs.Prelude.{if◌then◌else◌, IfSome, chars, option_map}
 use Rattle.std.specs.Char.{IsScalar, encode_utf8}
 use Rattle.std.specs.List.{list_any, AllByRecursion}
@@ -23,8 +23,8 @@ use Rattle.vt_screen.specs.Steps.{Step, Print, LineFeed, ScrollUp, OnPage, SaveC
 use Rattle.vt_screen.specs.Steps.{EnterFresh, LeaveAlternate, LeaveRestoring, Reset, EraseScrollback, Render}
 use Rattle.vt_screen.specs.Steps.{HideCursor, SetMode, CallBack, becomes_last, screen_after, display_after}
 use Rattle.vt_screen.specs.Telling.{screen_after_all}
-use Rattle.vt_screen.proofs.Stable.{EachCell, EachRow, IsStable, stable_blank}
-use Rattle.vt_screen.proofs.Stable.{stable_line_feed, stable_printed, stable_scrolled_up}
+use Rattle.vt_screen.proofs.Stable.{EachCell, EachRow, IsStable, stable_blank, stable_line_feed, stable_printed}
+use Rattle.vt_screen.proofs.Stable.{stable_scrolled_up}
 use Rattle.vt_screen.proofs.PageSteps.{stable_page_after}
 use Rattle.vt_screen.proofs.StableScrollback.{stable_fed_out, stable_printed_out, stable_pushed, stable_scrolled_out}
 use Rattle.vt_screen.proofs.Streaming.{IsAmong}

@@ -7,19 +7,15 @@ use Rattle.vt_rows.specs.Row.{blank_row}
 use Rattle.vt_grid.specs.Page.{Page, SameSize, IsPage, blank_page}
 use Rattle.vt_grid.specs.Resize.{out_of_view}
 use Rattle.vt_grid.specs.Scrollback.{pushed}
-use Rattle.vt_screen.specs.Pages.{fresh_page, page_aside, entered, entered_fresh}
-use Rattle.vt_screen.specs.Pages.{left, saved, restored, reset}
+use Rattle.vt_screen.specs.Pages.{fresh_page, page_aside, entered, entered_fresh, left, saved, restored, reset}
 use Rattle.vt_screen.specs.Screen.{ScreenValue, IsScreen}
 use Rattle.vt_screen.specs.Steps.{Step, Print, LineFeed, ScrollUp, OnPage, SaveCursor, RestoreCursor, EnterAlternate}
 use Rattle.vt_screen.specs.Steps.{EnterFresh, LeaveAlternate, LeaveRestoring, Reset, EraseScrollback, Render}
 use Rattle.vt_screen.specs.Steps.{HideCursor, SetMode, CallBack, outgoing, sent, display_after}
 use Rattle.vt_screen.proofs.PageSteps.{inside_page_after, same_page_after}
-use Rattle.vt_screen.proofs.Inside.{IsInside, inside_page}
-use Rattle.vt_screen.proofs.Inside.{inside_cursor_saved, inside_cursor_restored}
-use Rattle.vt_screen.proofs.Inside.{inside_line_feed, inside_scrolled_up}
-use Rattle.vt_screen.proofs.Inside.{inside_printed}
-use Rattle.vt_screen.proofs.Sizes.{same_cursor_saved, same_cursor_restored}
-use Rattle.vt_screen.proofs.Sizes.{same_line_feed, same_scrolled_up}
+use Rattle.vt_screen.proofs.Inside.{IsInside, inside_page, inside_cursor_saved, inside_cursor_restored}
+use Rattle.vt_screen.proofs.Inside.{inside_line_feed, inside_scrolled_up, inside_printed}
+use Rattle.vt_screen.proofs.Sizes.{same_cursor_saved, same_cursor_restored, same_line_feed, same_scrolled_up}
 use Rattle.vt_screen.proofs.Sizes.{same_printed}
 
 -- a page of this size, with its cursors on it

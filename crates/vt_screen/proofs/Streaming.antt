@@ -1,7 +1,7 @@
 -- Each step of a run but RIS: what it tells and keeps of the main page's rows is alike to what was kept before and what
 -- it sends off.
-use Rattle.std.proofs.Common.{◌≡◌, ℕ, Bool, true, false, List, [], ◌∷◌, ◌++◌, length, map, Option}
-use Rattle.std.proofs.Common.{Some, None, refl, sym, ap, subst, ◌∙◌, append_assoc, arith}
+use Rattle.std.proofs.Common.{◌≡◌, ℕ, Bool, true, false, List, [], ◌∷◌, ◌++◌, length, map, Option, Some, None, refl}
+use Rattle.std.proofs.Common.{sym, ap, subst, ◌∙◌, append_assoc, arith}
 use Rattle.std.specs.Prelude.{All, IfSome, if◌then◌else◌}
 use Rattle.std.specs.List.{AllByRecursion}
 use Rattle.std.proofs.lemmas.List.{append-nil, length-replicate}
@@ -16,9 +16,7 @@ use Rattle.vt_grid.specs.Outgoing.{printed_out, fed_out, scrolled_out}
 use Rattle.vt_grid.specs.Resize.{out_of_view}
 use Rattle.vt_grid.specs.Scrollback.{Scrollback, cleared, no_scrollback, pushed, reported, with_view}
 use Rattle.vt_grid.proofs.Printed.{page_printed}
-use Rattle.vt_grid.proofs.Pages.{page_blank, page_cursor_saved, page_cursor_restored}
-use Rattle.vt_grid.proofs.Pages.{page_line_feed}
-use Rattle.vt_grid.proofs.Pages.{page_scrolled_up}
+use Rattle.vt_grid.proofs.Pages.{page_blank, page_cursor_saved, page_cursor_restored, page_line_feed, page_scrolled_up}
 use Rattle.vt_screen.specs.Calls.{CallValue, OnScroll}
 use Rattle.vt_screen.specs.Pages.{fresh_page, page_aside, entered, entered_fresh, left, left_restored, saved, restored}
 use Rattle.vt_screen.specs.Screen.{IsPrintable, IsScreen, ScreenValue, fresh_screen, scrolled_back, with_page}
@@ -28,15 +26,13 @@ use Rattle.vt_screen.specs.Steps.{HideCursor, SetMode, CallBack, becomes_last, s
 use Rattle.vt_screen.specs.Streamed.{AreSameTrimmed, HasWideFlags, row_told, rows_told, sent_off, sent_off_all}
 use Rattle.vt_screen.specs.Telling.{calls_of, calls_of_all, screen_after_all}
 use Rattle.vt_screen.proofs.TrailingBlanks.{IsWide}
-use Rattle.vt_screen.proofs.TrailingBlanksScrollback.{AreSound, alike_pushed, alike_then, alike_viewed}
-use Rattle.vt_screen.proofs.TrailingBlanksScrollback.{sound_pushed, sound_viewed, wide_pushed, wide_viewed}
+use Rattle.vt_screen.proofs.TrailingBlanksScrollback.{AreSound, alike_pushed, alike_then, alike_viewed, sound_pushed}
+use Rattle.vt_screen.proofs.TrailingBlanksScrollback.{sound_viewed, wide_pushed, wide_viewed}
 use Rattle.vt_screen.proofs.Inside.{inside_page}
 use Rattle.vt_screen.proofs.PageSteps.{page_page_after, same_page_after}
 use Rattle.vt_screen.proofs.Asides.{rows_fed_out, rows_printed_out, rows_scrolled_out}
-use Rattle.vt_screen.proofs.Sizes.{same_back, same_itself, same_through, same_cursor_saved}
-use Rattle.vt_screen.proofs.Sizes.{same_cursor_restored, same_line_feed}
-use Rattle.vt_screen.proofs.Sizes.{same_printed}
-use Rattle.vt_screen.proofs.Sizes.{same_scrolled_up}
+use Rattle.vt_screen.proofs.Sizes.{same_back, same_itself, same_through, same_cursor_saved, same_cursor_restored}
+use Rattle.vt_screen.proofs.Sizes.{same_line_feed, same_printed, same_scrolled_up}
 
 -- what the steps of events are, by what they print and whether they may start the screen anew
 abbrev pub IsAmong : (ℕ → Type 0) → Type 0 → Step → Type 0
