@@ -3,10 +3,8 @@ use Rattle.std.proofs.Common.{◌≡◌, ℕ, sym, ap, subst}
 use Rattle.std.specs.Prelude.{if◌then◌else◌}
 use Rattle.std.proofs.lemmas.Bool.{cond_both}
 use Rattle.vt_grid.specs.Scrollback.{cleared}
-use Rattle.vt_screen.specs.Calls.{CallValue}
 use Rattle.vt_screen.specs.Run as act
-use Rattle.vt_screen.specs.Run.{Scrolls, Takes, state}
-use Rattle.vt_screen.specs.Screen.{ScreenValue}
+use Rattle.vt_screen.specs.Run.{CallRelation, Scrolls, Takes, state}
 use Rattle.vt_screen.specs.Steps.{Step, Print, CarriageReturn, LineFeed, ReverseIndex, MoveUp, MoveDown, MoveRight}
 use Rattle.vt_screen.specs.Steps.{MoveLeft, NextLine, PreviousLine, Tab, MoveTo, MoveToColumn, MoveToRow, SetRegion}
 use Rattle.vt_screen.specs.Steps.{UseOrigin, EraseBelow, EraseAbove, ErasePage, EraseScrollback, EraseRest, EraseStart}
@@ -18,8 +16,7 @@ use Rattle.vt_screen.specs.Steps.{UseApplicationKeypad, CallBack, screen_after, 
 use Rattle.vt_screen.specs.Telling.{LeavesScreen}
 use Rattle.vt_screen.proofs.Sized.{IsSized, sized_sent, sized_stepped}
 
-module _ {S : Type 0} (does : CallValue → S → ScreenValue → S → ScreenValue → Type 0)
-    (leaves : LeavesScreen does) (height width : ℕ) where
+module _ {S : Type 0} (does : CallRelation S) (leaves : LeavesScreen does) (height width : ℕ) where
   scrolls : (step : Step) (a b : act.State S) → Scrolls does a step b →
       IsSized height width (screen_after step a.screen) → IsSized height width b.screen
   scrolls step a b t z = subst (IsSized height width) (sym t.screen) z
