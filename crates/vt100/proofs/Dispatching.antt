@@ -1,27 +1,27 @@
 -- What a control sequence does, from the tests that the code makes.
 use Rattle.std.proofs.Common.{◌≡◌, ℕ, ◌-◌, true, false, List, [], ◌∷◌, Option, None, Some, refl, subst, rules}
 use Rattle.vt_grid.specs.PageStep.{PageStep, MoveTo}
-use Rattle.vt_screen.specs.Calls.{CallValue}
 use Rattle.vt_screen.specs.Screen.{ScreenValue}
 use Rattle.vt_screen.specs.Controls.{counted_step, csi_steps, intermediate_at, intermediate_steps, number_or}
 use Rattle.vt_screen.specs.Controls.{Seen, one_or, other_steps, plain_steps, scrolling_steps, seen_of, sgr_steps}
+use Rattle.vt_screen.specs.Run.{CallRelation}
 use Rattle.vt_screen.specs.Steps.{Step, OnPage}
 use Rattle.vt100.specs.Internals.{Does, MadeIf, Stops}
 use Rattle.vt100.proofs.Stepping.{stepping}
 
-made_one : {S : Type 0} (does : CallValue → S → ScreenValue → S → ScreenValue → Type 0)
+made_one : {S : Type 0} (does : CallRelation S)
     (made : Option PageStep) (others : List Step) (s : S) (d e : ScreenValue) →
     MadeIf made true d e → Does does s d (one_or made others) s e
 made_one does (Some step) others s d e (h, same) = stepping does (OnPage step) s d e refl same
 made_one does None others s d e h = absurd cc
 
-made_none : {S : Type 0} (does : CallValue → S → ScreenValue → S → ScreenValue → Type 0)
+made_none : {S : Type 0} (does : CallRelation S)
     (made : Option PageStep) (others : ScreenValue → List Step) (s t : S) (d e f : ScreenValue) →
     MadeIf made false d e → Does does s e (others e) t f → Does does s d (one_or made (others d)) t f
 made_none does (Some step) others s t d e f h k = absurd cc
 made_none does None others s t d e f (h, same) k = subst (λ (x : ScreenValue). Does does s x (others x) t f) same k
 
-made_none_stops : {S : Type 0} (does : CallValue → S → ScreenValue → S → ScreenValue → Type 0)
+made_none_stops : {S : Type 0} (does : CallRelation S)
     (made : Option PageStep) (others : ScreenValue → List Step) (s t : S) (d e f : ScreenValue) →
     MadeIf made false d e → Stops does s e (others e) t f → Stops does s d (one_or made (others d)) t f
 made_none_stops does (Some step) others s t d e f h k = absurd cc
@@ -29,20 +29,19 @@ made_none_stops does None others s t d e f (h, same) k =
     subst (λ (x : ScreenValue). Stops does s x (others x) t f) same k
 
 -- the sequences with one count, and the others
-pub plain_counted : {S : Type 0} (does : CallValue → S → ScreenValue → S → ScreenValue → Type 0)
-    (groups : List (List ℕ)) (b : ℕ) (s : S) (d e : ScreenValue) →
+pub plain_counted : {S : Type 0} (does : CallRelation S) (groups : List (List ℕ)) (b : ℕ) (s : S) (d e : ScreenValue) →
     MadeIf (counted_step b (number_or 1 0 groups)) true d e → Does does s d (plain_steps groups b (seen_of d)) s e
 plain_counted does groups b s d e h =
     made_one does (counted_step b (number_or 1 0 groups)) (scrolling_steps groups b (seen_of d)) s d e h
 
-pub plain_other : {S : Type 0} (does : CallValue → S → ScreenValue → S → ScreenValue → Type 0)
+pub plain_other : {S : Type 0} (does : CallRelation S)
     (groups : List (List ℕ)) (b : ℕ) (s t : S) (d e f : ScreenValue) →
     MadeIf (counted_step b (number_or 1 0 groups)) false d e →
     Does does s e (scrolling_steps groups b (seen_of e)) t f → Does does s d (plain_steps groups b (seen_of d)) t f
 plain_other does groups b s t d e f h k =
     made_none does (counted_step b (number_or 1 0 groups)) (λ x. scrolling_steps groups b (seen_of x)) s t d e f h k
 
-pub plain_other_stops : {S : Type 0} (does : CallValue → S → ScreenValue → S → ScreenValue → Type 0)
+pub plain_other_stops : {S : Type 0} (does : CallRelation S)
     (groups : List (List ℕ)) (b : ℕ) (s t : S) (d e f : ScreenValue) →
     MadeIf (counted_step b (number_or 1 0 groups)) false d e →
     Stops does s e (scrolling_steps groups b (seen_of e)) t f → Stops does s d (plain_steps groups b (seen_of d)) t f
@@ -50,28 +49,28 @@ plain_other_stops does groups b s t d e f h k =
     made_none_stops does (counted_step b (number_or 1 0 groups))
     (λ x. scrolling_steps groups b (seen_of x)) s t d e f h k
 
-pub plain_stops : {S : Type 0} (does : CallValue → S → ScreenValue → S → ScreenValue → Type 0)
+pub plain_stops : {S : Type 0} (does : CallRelation S)
     (groups : List (List ℕ)) (intermediates : List ℕ) (b : ℕ) (s t : S) (d e : ScreenValue) →
     intermediate_at 0 intermediates ≡ None → Stops does s d (plain_steps groups b (seen_of d)) t e →
     Stops does s d (csi_steps groups intermediates b (seen_of d)) t e
 plain_stops does groups [] b s t d e h k = k
 plain_stops does groups (m ∷ intermediates) b s t d e h k = search rules
 
-pub plain_does : {S : Type 0} (does : CallValue → S → ScreenValue → S → ScreenValue → Type 0)
+pub plain_does : {S : Type 0} (does : CallRelation S)
     (groups : List (List ℕ)) (intermediates : List ℕ) (b : ℕ) (s t : S) (d e : ScreenValue) →
     intermediate_at 0 intermediates ≡ None → Does does s d (plain_steps groups b (seen_of d)) t e →
     Does does s d (csi_steps groups intermediates b (seen_of d)) t e
 plain_does does groups [] b s t d e h k = k
 plain_does does groups (m ∷ intermediates) b s t d e h k = search rules
 
-pub intermediate_does : {S : Type 0} (does : CallValue → S → ScreenValue → S → ScreenValue → Type 0)
+pub intermediate_does : {S : Type 0} (does : CallRelation S)
     (groups : List (List ℕ)) (intermediates : List ℕ) (intermediate b : ℕ) (s t : S) (d e : ScreenValue) →
     intermediate_at 0 intermediates ≡ Some intermediate → Does does s d (intermediate_steps intermediate (intermediate_at 1 intermediates) groups b) t e →
     Does does s d (csi_steps groups intermediates b (seen_of d)) t e
 intermediate_does does groups [] intermediate b s t d e h k = search rules
 intermediate_does does groups (m ∷ intermediates) intermediate b s t d e h k = search rules
 
-pub intermediate_stops : {S : Type 0} (does : CallValue → S → ScreenValue → S → ScreenValue → Type 0)
+pub intermediate_stops : {S : Type 0} (does : CallRelation S)
     (groups : List (List ℕ)) (intermediates : List ℕ) (intermediate b : ℕ) (s t : S) (d e : ScreenValue) →
     intermediate_at 0 intermediates ≡ Some intermediate → Stops does s d (intermediate_steps intermediate (intermediate_at 1 intermediates) groups b) t e →
     Stops does s d (csi_steps groups intermediates b (seen_of d)) t e

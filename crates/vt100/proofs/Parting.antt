@@ -8,14 +8,12 @@ use Rattle.vt_scan.specs.Run.{run}
 use Rattle.vt_scan.specs.Scanner.{StandsFor}
 use Rattle.vt_scan.proofs.Alike.{held_of, itself, both_stand, other_stands, runs_alike}
 use Rattle.vt_scan.proofs.Running.{run-append}
-use Rattle.vt_screen.specs.Calls.{CallValue}
-use Rattle.vt_screen.specs.Screen.{ScreenValue}
-use Rattle.vt_screen.specs.Run.{Performs}
+use Rattle.vt_screen.specs.Run.{CallRelation, Performs}
 use Rattle.vt100.specs.Parser.{Parsing, Ran, pieces_joined, parsing, stage}
 use Rattle.vt100.proofs.Running.{folds_parted}
 
 -- a parser between two pieces, that has not failed
-pub record Between {S : Type 0} (does : CallValue → S → ScreenValue → S → ScreenValue → Type 0)
+pub record Between {S : Type 0} (does : CallRelation S)
     (p : Parsing S) (a b : List ℕ) (r : Parsing S) (there : State) : Type 0 where
   pub middle : Parsing S
   pub stands : StandsFor middle.scanner there
@@ -24,8 +22,7 @@ pub record Between {S : Type 0} (does : CallValue → S → ScreenValue → S �
   pub then : Ran does middle b r
 
 -- its scanner holds what the state after the first piece reads; what holds of a run from one state holds from each
-pub ran_parted : {S : Type 0} (does : CallValue → S → ScreenValue → S → ScreenValue → Type 0)
-    (p r : Parsing S) (a b : List ℕ) (s : State) →
+pub ran_parted : {S : Type 0} (does : CallRelation S) (p r : Parsing S) (a b : List ℕ) (s : State) →
     StandsFor p.scanner s → Ran does p (a ++ b) r → Between does p a b r (run s a).state
 ran_parted {S} does p r a b s stands ran =
     let there = (run s a).state in
@@ -49,7 +46,7 @@ ran_parted {S} does p r a b s stands ran =
           );
     }
 
-pub ran_parted_list : {S : Type 0} (does : CallValue → S → ScreenValue → S → ScreenValue → Type 0)
+pub ran_parted_list : {S : Type 0} (does : CallRelation S)
     (p r : Parsing S) (piece : List ℕ) (pieces : List (List ℕ)) (s : State) →
     StandsFor p.scanner s → Ran does p (pieces_joined (piece ∷ pieces)) r → FoldsTo (Ran does) p (piece ∷ pieces) r
 ran_parted_list does p r piece [] s stands ran =
@@ -63,8 +60,7 @@ ran_parted_list does p r piece (next ∷ pieces) s stands ran =
 
 -- from any state that the scanner stands for
 
-pub some_parted : {S : Type 0} (does : CallValue → S → ScreenValue → S → ScreenValue → Type 0)
-    (p r : Parsing S) (a b : List ℕ)
+pub some_parted : {S : Type 0} (does : CallRelation S) (p r : Parsing S) (a b : List ℕ)
     → ∥ ((state : State) × StandsFor p.scanner state) ∥₁ → Ran does p (a ++ b) r
     → ∥ ((q : Parsing S) × (q.is_failed ≡ false) × Ran does p a q × Ran does q b r) ∥₁
 some_parted {S} does p r a b some ran =
@@ -73,8 +69,7 @@ some_parted {S} does p r a b some ran =
     let parted = ran_parted does p r a b s.0 s.1 ran in
     (parted.middle, parted.whole, parted.first, parted.then))
 
-pub some_parted_list : {S : Type 0} (does : CallValue → S → ScreenValue → S → ScreenValue → Type 0)
-    (p r : Parsing S) (piece : List ℕ) (pieces : List (List ℕ))
+pub some_parted_list : {S : Type 0} (does : CallRelation S) (p r : Parsing S) (piece : List ℕ) (pieces : List (List ℕ))
     → ∥ ((state : State) × StandsFor p.scanner state) ∥₁ → Ran does p (pieces_joined (piece ∷ pieces)) r
     → ∥ FoldsTo (Ran does) p (piece ∷ pieces) r ∥₁
 some_parted_list does p r piece pieces some ran =

@@ -3,11 +3,11 @@ use Rattle.std.proofs.Common.{◌≡◌, ℕ, false, List, [], ◌∷◌, map, S
 use Rattle.std.specs.List.{AllByRecursion, FoldsTo}
 use Rattle.vt_scan.specs.Automaton.{State, start}
 use Rattle.vt_scan.specs.Scanner.{StandsFor}
-use Rattle.vt_screen.specs.Calls.{CallValue}
 use Rattle.vt_screen.specs.Chain.{CanShowOn, chain_text, last_screen}
 use Rattle.vt_screen.specs.Reading.{Terminal, read, terminal}
 use Rattle.vt_screen.specs.Screen.{ScreenValue, IsScreen}
 use Rattle.vt_screen.specs.Shown.{IsPlain, KeepsRest, shown}
+use Rattle.vt_screen.specs.Run.{CallRelation}
 use Rattle.vt_screen.proofs.Chains.{chain_read}
 use Rattle.vt_screen.proofs.Readback.{and_then-some}
 use Rattle.vt_screen.proofs.ReadbackTexts.{reads_append}
@@ -77,7 +77,7 @@ chain_pieces {S} self nexts p q calls is plain c cs bytes folds =
 
 -- ---- runs
 
-pub ran_read : {S : Type 0} (does : CallValue → S → ScreenValue → S → ScreenValue → Type 0)
+pub ran_read : {S : Type 0} (does : CallRelation S)
     (p q : Parsing S) (bytes : List ℕ) (state : State) (after : Terminal)
     → StandsFor p.scanner state → read (terminal state p.screen) bytes ≡ Some after
     → Ran does p bytes q → q.is_failed ≡ false → HasRead p after q
@@ -85,13 +85,12 @@ ran_read does p q bytes state after stands told ran fine =
     let quiet = ran_quietly does p q bytes state after ran stands told in
     record { is_failed = fine; scanner = quiet.0; screen = quiet.1; callbacks = quiet.2 }
 
-made_ran : {S : Type 0} (does : CallValue → S → ScreenValue → S → ScreenValue → Type 0)
-    (p q : Parsing S) (pieces : List (List ℕ)) →
+made_ran : {S : Type 0} (does : CallRelation S) (p q : Parsing S) (pieces : List (List ℕ)) →
     FoldsTo (MakesCall does) p (map Process pieces) q → FoldsTo (Ran does) p pieces q
 made_ran does p q [] t = t
 made_ran does p q (piece ∷ pieces) t = (t.0, t.1, made_ran does t.0 q pieces t.2)
 
-pub made_read : {S : Type 0} (does : CallValue → S → ScreenValue → S → ScreenValue → Type 0)
+pub made_read : {S : Type 0} (does : CallRelation S)
     (p q : Parsing S) (pieces : List (List ℕ)) (state : State) (after : Terminal)
     → StandsFor p.scanner state → read (terminal state p.screen) (pieces_joined pieces) ≡ Some after
     → FoldsTo (MakesCall does) p (map Process pieces) q → q.is_failed ≡ false → HasRead p after q

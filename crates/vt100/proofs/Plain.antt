@@ -10,8 +10,7 @@ use Rattle.vt_grid.specs.Page.{Page}
 use Rattle.vt_grid.proofs.Texts.{printed_put}
 use Rattle.vt_scan.specs.Scanner.{Held, ReadsItself}
 use Rattle.vt_scan.proofs.Feeding.{plain_feeds}
-use Rattle.vt_screen.specs.Calls.{CallValue}
-use Rattle.vt_screen.specs.Run.{Takes, state}
+use Rattle.vt_screen.specs.Run.{CallRelation, Takes, state}
 use Rattle.vt_screen.specs.Screen.{ScreenValue}
 use Rattle.vt_screen.specs.Controls.{character_steps}
 use Rattle.vt_screen.specs.Steps.{Step, Print, display_after}
@@ -22,8 +21,7 @@ use Rattle.vt100.specs.Parser.{Ran, parsing, stage}
 use Rattle.vt100.proofs.Deciding.{printed_steps}
 use Rattle.vt100.proofs.Running.{byte_ran, one_character, ran_then}
 
-print_done : {S : Type 0} (does : CallValue → S → ScreenValue → S → ScreenValue → Type 0)
-    (c : ℕ) (s : S) (screen : ScreenValue) →
+print_done : {S : Type 0} (does : CallRelation S) (c : ℕ) (s : S) (screen : ScreenValue) →
     0x20 ≤ c → c < 0x7F → screen.page.column < screen.page.width →
     FoldsTo (Takes does) (state s screen) (character_steps c) (state s (display_after (Print c) screen))
 print_done does c s screen low high room =
@@ -32,8 +30,7 @@ print_done does c s screen low high room =
     (sym (printed_steps c shown))
     (state s (display_after (Print c) screen), print_scrolls does c s screen low high room, refl)
 
-character_ran : {S : Type 0} (does : CallValue → S → ScreenValue → S → ScreenValue → Type 0)
-    (c : ℕ) (held : Held) (s : S) (screen : ScreenValue) →
+character_ran : {S : Type 0} (does : CallRelation S) (c : ℕ) (held : Held) (s : S) (screen : ScreenValue) →
     ReadsItself held c → screen.page.column < screen.page.width →
     Ran does (parsing held screen s) (c ∷ []) (parsing held (display_after (Print c) screen) s)
 character_ran does c held s screen itself room =
@@ -48,8 +45,7 @@ pub column_printed : (c : ℕ) (screen : ScreenValue) → 0x20 ≤ c → c < 0x7
 column_printed c screen low high room =
     ap (λ (page : Page). page.column) (printed_put c screen.attrs screen.page low high room)
 
-pub text_ran : {S : Type 0} (does : CallValue → S → ScreenValue → S → ScreenValue → Type 0)
-    (text : List ℕ) (held : Held) (s : S) (screen : ScreenValue) →
+pub text_ran : {S : Type 0} (does : CallRelation S) (text : List ℕ) (held : Held) (s : S) (screen : ScreenValue) →
     All (ReadsItself held) text → screen.page.column + length text ≤ screen.page.width →
     Ran does (parsing held screen s) text (parsing held (screen_after_text text screen) s)
 text_ran does [] held s screen plain room = λ st stands. (stands, refl)

@@ -15,10 +15,9 @@ use Rattle.vt_scan.specs.Automaton.{State, Event, step_in}
 use Rattle.vt_scan.specs.Run.{run}
 use Rattle.vt_scan.specs.Scanner.{Held, StandsFor}
 use Rattle.vt_scan.specs.Table.{class_of, turn_of}
-use Rattle.vt_screen.specs.Calls.{CallValue}
 use Rattle.vt_screen.specs.Screen.{ScreenValue, above_page}
 use Rattle.vt_screen.specs.Run as act
-use Rattle.vt_screen.specs.Run.{Performs, Breaks, CalledOnScroll, Refuses, StopsIn, Takes, state}
+use Rattle.vt_screen.specs.Run.{CallRelation, Performs, Breaks, CalledOnScroll, Refuses, StopsIn, Takes, state}
 use Rattle.vt_screen.specs.Controls.{seen_of, steps_of}
 use Rattle.vt_screen.specs.Steps.{Step, Print, LineFeed, ScrollUp, OnPage, SaveCursor, RestoreCursor, EnterAlternate}
 use Rattle.vt_screen.specs.Steps.{EnterFresh, LeaveAlternate, LeaveRestoring, Reset, EraseScrollback, Render}
@@ -55,7 +54,7 @@ same_screen true x y z p q = p
 same_screen false x y z p q = q
 
 -- no row left: the screen is as the step alone makes it, and nobody was told
-unsent : {S : Type 0} (does : CallValue → S → ScreenValue → S → ScreenValue → Type 0)
+unsent : {S : Type 0} (does : CallRelation S)
     (held : S) (screen after : ScreenValue) (gone : List RowValue) (b : act.State S)
     → gone ≡ [] → after.scrollback ≡ screen.scrollback
     → b.screen
@@ -75,7 +74,7 @@ unsent {S} does held screen after gone b none kept is heard =
     none heard in
     ap (λ (s : S). act.state s b.screen) (sym told) ∙ ap (act.state held) shown
 
-quiet_takes : {S : Type 0} (does : CallValue → S → ScreenValue → S → ScreenValue → Type 0)
+quiet_takes : {S : Type 0} (does : CallRelation S)
     (x : Step) (held : S) (screen after : ScreenValue) (b : act.State S) →
     quiet_step x screen ≡ Some after → Takes does (state held screen) x b → b ≡ state held after
 quiet_takes does (Print c) held screen after b e t =
@@ -126,7 +125,7 @@ quiet_takes does EnterFresh held screen after b e t =
     ∙ ap (state held)
     (same_some (display_after EnterFresh screen) after (there_of screen.other (Some (display_after EnterFresh screen)) after e).1)
 
-quiet_folds : {S : Type 0} (does : CallValue → S → ScreenValue → S → ScreenValue → Type 0)
+quiet_folds : {S : Type 0} (does : CallRelation S)
     (steps : List Step) (held : S) (screen after : ScreenValue) (b : act.State S) →
     quiet_steps steps screen ≡ Some after → FoldsTo (Takes does) (state held screen) steps b → b ≡ state held after
 quiet_folds does [] held screen after b e t = sym t ∙ ap (state held) (same_some screen after e)
@@ -135,7 +134,7 @@ quiet_folds does (x ∷ steps) held screen after b e t =
     let there = quiet_takes does x held screen mid.0 t.0 mid.1 t.1 in
     quiet_folds does steps held mid.0 after b mid.2 (subst (λ j. FoldsTo (Takes does) j steps b) there t.2)
 
-quiet_performs : {S : Type 0} (does : CallValue → S → ScreenValue → S → ScreenValue → Type 0)
+quiet_performs : {S : Type 0} (does : CallRelation S)
     (events : List Event) (held : S) (screen after : ScreenValue) (b : act.State S) →
     quiet_events events screen ≡ Some after → FoldsTo (Performs does) (state held screen) events b →
     b ≡ state held after
@@ -181,7 +180,7 @@ quiet_holds EnterAlternate screen after e g =
 quiet_holds EnterFresh screen after e g =
     false≢true (ap is_some (sym g) ∙ (there_of screen.other (Some (display_after EnterFresh screen)) after e).0)
 
-quiet_stays : {S : Type 0} (does : CallValue → S → ScreenValue → S → ScreenValue → Type 0)
+quiet_stays : {S : Type 0} (does : CallRelation S)
     (steps : List Step) (held : S) (screen after : ScreenValue) (b : act.State S) →
     quiet_steps steps screen ≡ Some after → StopsIn (Takes does) Refuses (state held screen) steps b → ⊥
 quiet_stays does [] held screen after b e t = t
@@ -195,7 +194,7 @@ quiet_stays does (x ∷ steps) held screen after b e t =
           (subst (λ i. StopsIn (Takes does) Refuses i steps b) there more)
     ]
 
-quiet_unbroken : {S : Type 0} (does : CallValue → S → ScreenValue → S → ScreenValue → Type 0)
+quiet_unbroken : {S : Type 0} (does : CallRelation S)
     (events : List Event) (held : S) (screen after : ScreenValue) (b : act.State S) →
     quiet_events events screen ≡ Some after → StopsIn (Performs does) (Breaks does) (state held screen) events b → ⊥
 quiet_unbroken does [] held screen after b e t = t
@@ -243,8 +242,7 @@ read_quietly t b u e =
       events = mid.1 ∙ ap (λ (v : Terminal). Some v.screen) there;
     }
 
-pub read_runs : {S : Type 0} (does : CallValue → S → ScreenValue → S → ScreenValue → Type 0)
-    (bytes : List ℕ) (t u : Terminal) (held : S) (b : act.State S) →
+pub read_runs : {S : Type 0} (does : CallRelation S) (bytes : List ℕ) (t u : Terminal) (held : S) (b : act.State S) →
     read t bytes ≡ Some u → FoldsTo (Performs does) (state held t.screen) (run t.scan bytes).events b →
     (b ≡ state held u.screen) × ((run t.scan bytes).state ≡ u.scan)
 read_runs does [] t u held b e f =
@@ -262,7 +260,7 @@ read_runs does (x ∷ bytes) t u held b e f =
     (sym quiet.scan) rest) in
     (again.0, ap (λ (s : State). (run s bytes).state) (sym quiet.scan) ∙ again.1)
 
-pub read_unbroken : {S : Type 0} (does : CallValue → S → ScreenValue → S → ScreenValue → Type 0)
+pub read_unbroken : {S : Type 0} (does : CallRelation S)
     (bytes : List ℕ) (t u : Terminal) (held : S) (b : act.State S) →
     read t bytes ≡ Some u → StopsIn (Performs does) (Breaks does) (state held t.screen) (run t.scan bytes).events b → ⊥
 read_unbroken does [] t u held b e f = f
@@ -295,8 +293,7 @@ read_calmly (x ∷ bytes) t u (suc k) e h c =
 
 -- ---- parsers
 
-pub ran_quietly : {S : Type 0} (does : CallValue → S → ScreenValue → S → ScreenValue → Type 0)
-    (p q : Parsing S) (bytes : List ℕ) (s : State) (t : Terminal) →
+pub ran_quietly : {S : Type 0} (does : CallRelation S) (p q : Parsing S) (bytes : List ℕ) (s : State) (t : Terminal) →
     Ran does p bytes q → StandsFor p.scanner s → read (terminal s p.screen) bytes ≡ Some t →
     StandsFor q.scanner t.scan × (q.screen ≡ t.screen) × (q.callbacks ≡ p.callbacks)
 ran_quietly {S} does p q bytes s t ran stands e =
@@ -308,14 +305,14 @@ ran_quietly {S} does p q bytes s t ran stands e =
     )
 
 -- the same of a parser that is seen through its fields
-pub quietly_here : {S : Type 0} (does : CallValue → S → ScreenValue → S → ScreenValue → Type 0)
+pub quietly_here : {S : Type 0} (does : CallRelation S)
     (p old q : Parsing S) (bytes : List ℕ) (s : State) (t : Terminal) →
     p ≡ old → Ran does p bytes q → StandsFor old.scanner s → read (terminal s old.screen) bytes ≡ Some t →
     StandsFor q.scanner t.scan × (q.screen ≡ t.screen) × (q.callbacks ≡ old.callbacks)
 quietly_here {S} does p old q bytes s t same ran stands told =
     ran_quietly does old q bytes s t (subst (λ (z : Parsing S). Ran does z bytes q) same ran) stands told
 
-pub never_refused : {S : Type 0} (does : CallValue → S → ScreenValue → S → ScreenValue → Type 0)
+pub never_refused : {S : Type 0} (does : CallRelation S)
     (p old q : Parsing S) (bytes : List ℕ) (s : State) (t : Terminal) →
     p.scanner ≡ old.scanner → stage p ≡ stage old → Stopped does p bytes q → StandsFor old.scanner s →
     read (terminal s old.screen) bytes ≡ Some t → ⊥
@@ -330,7 +327,7 @@ never_refused {S} does p old q bytes s t scanner same stopped stands told =
           same (within s ready))
     ]
 
-pub quietly_harmless : {S : Type 0} (does : CallValue → S → ScreenValue → S → ScreenValue → Type 0)
+pub quietly_harmless : {S : Type 0} (does : CallRelation S)
     (p : Parsing S) (bytes : List ℕ) (s : State) (t : Terminal) →
     StandsFor p.scanner s → read (terminal s p.screen) bytes ≡ Some t → IsHarmless does p bytes
 quietly_harmless does p bytes s t stands told q stopped =

@@ -9,6 +9,7 @@ use Rattle.vt_screen.specs.declared.sgr.Wanted.{Wanted}
 use Rattle.vt_screen.specs.declared.sgr.GroupRead.{GroupRead}
 use Rattle.vt_screen.specs.Controls.{mode_step, mode_steps, osc_steps, reading_steps, sgr_from}
 use Rattle.vt_screen.specs.Steps.{Step, CallBack}
+use Rattle.vt_screen.specs.Run.{CallRelation}
 use Rattle.vt100.specs.Internals.{Does, Stops}
 use Rattle.vt100.proofs.Deciding.{other_group, other_parts}
 use Rattle.vt100.proofs.Stepping.{Left, Rest, left_through, left_within, rest_on}
@@ -40,8 +41,7 @@ modes_next on report groups i group h is =
     ∙ modes_parted on report group (drop (i + 1) groups)
 
 -- one more group of modes is done, or stopped in
-pub modes_left : {S : Type 0} (does : CallValue → S → ScreenValue → S → ScreenValue → Type 0)
-    (s t u : S) (d e f : ScreenValue) (all : List Step) (on : Bool)
+pub modes_left : {S : Type 0} (does : CallRelation S) (s t u : S) (d e f : ScreenValue) (all : List Step) (on : Bool)
     (report : CallValue) (groups : List (List ℕ)) (i : ℕ) (group : List ℕ) →
     i < length groups → group ≡ get_or groups i [] →
     Left does s d all t e (mode_steps on report (drop i groups)) →
@@ -52,8 +52,7 @@ modes_left {S} does s t u d e f all on report groups i group h is left done =
     (mode_steps on report (drop (i + 1) groups))
     (subst (λ (steps : List Step). Left does s d all t e steps) (modes_next on report groups i group h is) left) done
 
-pub modes_stop : {S : Type 0} (does : CallValue → S → ScreenValue → S → ScreenValue → Type 0)
-    (s t u : S) (d e f : ScreenValue) (all : List Step) (on : Bool)
+pub modes_stop : {S : Type 0} (does : CallRelation S) (s t u : S) (d e f : ScreenValue) (all : List Step) (on : Bool)
     (report : CallValue) (groups : List (List ℕ)) (i : ℕ) (group : List ℕ) →
     i < length groups → group ≡ get_or groups i [] →
     Left does s d all t e (mode_steps on report (drop i groups)) →
@@ -64,7 +63,7 @@ modes_stop {S} does s t u d e f all on report groups i group h is left stop =
     (subst (λ (steps : List Step). Left does s d all t e steps) (modes_next on report groups i group h is) left) stop
 
 -- one more group of settings is done
-pub settings_left : {S : Type 0} (does : CallValue → S → ScreenValue → S → ScreenValue → Type 0)
+pub settings_left : {S : Type 0} (does : CallRelation S)
     (s t u : S) (d e f : ScreenValue) (all : List Step) (whole : List (List ℕ)) (wanted : Wanted)
     (groups : List (List ℕ)) (i : ℕ) (read : GroupRead) →
     i < length groups → read ≡ group_read wanted (get_or groups i []) →

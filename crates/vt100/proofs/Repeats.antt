@@ -2,8 +2,7 @@
 use Rattle.std.proofs.Common.{◌≡◌, ℕ, zero, suc, ◌+◌, ◌-◌, ◌<◌, ◌≤◌, List, replicate}
 use Rattle.std.proofs.Common.{refl, sym, ap, subst, ◌∙◌, arith, inl}
 use Rattle.std.proofs.lemmas.List.{replicate-append-replicate}
-use Rattle.vt_screen.specs.Calls.{CallValue}
-use Rattle.vt_screen.specs.Run.{Refuses, state}
+use Rattle.vt_screen.specs.Run.{CallRelation, Refuses, state}
 use Rattle.vt_screen.specs.Screen.{ScreenValue}
 use Rattle.vt_screen.specs.Steps.{Step, Print, display_after}
 use Rattle.vt_screen.specs.Texts.{screen_after_text}
@@ -14,7 +13,7 @@ use Rattle.vt100.proofs.Plain.{column_printed}
 use Rattle.vt100.proofs.Stepping.{Left, left_through}
 
 -- a text of one character is its prints
-pub prints_done : {S : Type 0} (does : CallValue → S → ScreenValue → S → ScreenValue → Type 0)
+pub prints_done : {S : Type 0} (does : CallRelation S)
     (n c : ℕ) (s : S) (screen : ScreenValue) → 0x20 ≤ c → c < 0x7F → screen.page.column + n ≤ screen.page.width →
     Does does s screen (replicate n (Print c)) s (screen_after_text (replicate n c) screen)
 prints_done does zero c s screen low high room = refl
@@ -27,14 +26,14 @@ prints_done does (suc n) c s screen low high room =
     (state s next, print_scrolls does c s screen low high here, prints_done does n c s next low high left)
 
 -- the first print is refused
-pub first_refused : {S : Type 0} (does : CallValue → S → ScreenValue → S → ScreenValue → Type 0)
+pub first_refused : {S : Type 0} (does : CallRelation S)
     (n c : ℕ) (s t : S) (d e : ScreenValue) → 0 < n → Refuses (state s d) (Print c) (state t e) →
     Stops does s d (replicate n (Print c)) t e
 first_refused does zero c s t d e some refusal = absurd (omega (arith, some))
 first_refused does (suc n) c s t d e some refusal = inl refusal
 
 -- some more prints are done
-pub more_left : {S : Type 0} (does : CallValue → S → ScreenValue → S → ScreenValue → Type 0)
+pub more_left : {S : Type 0} (does : CallRelation S)
     (s t u : S) (d e f : ScreenValue) (all : List Step) (c n k : ℕ) → k ≤ n →
     Left does s d all t e (replicate n (Print c)) → Does does t e (replicate k (Print c)) u f →
     Left does s d all u f (replicate (n - k) (Print c))

@@ -19,9 +19,7 @@ use Rattle.vt_scan.specs.declared.table.Kind.{Kind}
 use Rattle.vt_scan.specs.declared.table.Kind.TheVariants.{OscString}
 use Rattle.vt_scan.specs.declared.table.Turn.TheVariants.{Collect}
 use Rattle.vt_scan.proofs.Running.{run-append}
-use Rattle.vt_screen.specs.Calls.{CallValue}
-use Rattle.vt_screen.specs.Screen.{ScreenValue}
-use Rattle.vt_screen.specs.Run.{Performs, Breaks, StopsIn}
+use Rattle.vt_screen.specs.Run.{CallRelation, Performs, Breaks, StopsIn}
 use Rattle.vt100.specs.Internals.{ReadsOrStops}
 use Rattle.vt100.specs.Parser.{Parsing, Ran, Stopped, StoppedBefore, StoppedWithin, Collects, pieces_joined, stage}
 
@@ -43,8 +41,7 @@ pub folds_parted : {P A : Type 0} (R : P → A → P → Type 0) (xs ys : List A
 folds_parted R [] ys p r t = (p, refl, t)
 folds_parted R (x ∷ xs) ys p r t = let rest = folds_parted R xs ys t.0 r t.2 in (rest.0, (t.0, t.1, rest.1), rest.2)
 
-pub ran_then : {S : Type 0} (does : CallValue → S → ScreenValue → S → ScreenValue → Type 0)
-    (p q r : Parsing S) (a b : List ℕ) →
+pub ran_then : {S : Type 0} (does : CallRelation S) (p q r : Parsing S) (a b : List ℕ) →
     Ran does p a q → Ran does q b r → Ran does p (a ++ b) r
 ran_then does p q r a b first second = λ s stands.
     let one = first s stands in
@@ -55,8 +52,7 @@ ran_then does p q r a b first second = λ s stands.
           (stage p) (stage q) (stage r) one.1 two.1,
     )
 
-pub byte_ran : {S : Type 0} (does : CallValue → S → ScreenValue → S → ScreenValue → Type 0)
-    (p q : Parsing S) (b : ℕ) (answer : Events) →
+pub byte_ran : {S : Type 0} (does : CallRelation S) (p q : Parsing S) (b : ℕ) (answer : Events) →
     Feeds p.scanner b q.scanner answer → FoldsTo (Performs does) (stage p) (events_in q.scanner answer) (stage q) →
     Ran does p (b ∷ []) q
 byte_ran does p q b answer feeds folds = λ s stands.
@@ -67,27 +63,24 @@ byte_ran does p q b answer feeds folds = λ s stands.
     )
 
 -- the byte that was refused is one of a command's text
-pub refused_at : {S : Type 0} (does : CallValue → S → ScreenValue → S → ScreenValue → Type 0)
-    (p q : Parsing S) (bytes : List ℕ) (k : ℕ) →
+pub refused_at : {S : Type 0} (does : CallRelation S) (p q : Parsing S) (bytes : List ℕ) (k : ℕ) →
     Ran does p (take k bytes) q → turn_of q.scanner.kind (class_of (slice_index_or bytes k 0)) ≡ Collect OscString →
     (state : State) → StandsFor p.scanner state → Collects state bytes k
 refused_at does p q bytes k ran turn = λ s stands.
     subst (λ (kind : Kind). turn_of kind (class_of (slice_index_or bytes k 0)) ≡ Collect OscString)
     (ran s stands).0.kind turn
 
-ran_nothing : {S : Type 0} (does : CallValue → S → ScreenValue → S → ScreenValue → Type 0) (p q : Parsing S) →
-    p ≡ q → Ran does p [] q
+ran_nothing : {S : Type 0} (does : CallRelation S) (p q : Parsing S) → p ≡ q → Ran does p [] q
 ran_nothing does p q same = subst (λ z. Ran does p [] z) same (λ s stands. (stands, refl))
 
-pub ran_joined : {S : Type 0} (does : CallValue → S → ScreenValue → S → ScreenValue → Type 0)
-    (p q : Parsing S) (pieces : List (List ℕ)) →
+pub ran_joined : {S : Type 0} (does : CallRelation S) (p q : Parsing S) (pieces : List (List ℕ)) →
     FoldsTo (Ran does) p pieces q → Ran does p (pieces_joined pieces) q
 ran_joined does p q [] same = ran_nothing does p q same
 ran_joined does p q (piece ∷ pieces) runs =
     ran_then does p runs.0 q piece (pieces_joined pieces) runs.1 (ran_joined does runs.0 q pieces runs.2)
 
 -- an event that broke, among those of one byte of many
-pub stopped_within : {S : Type 0} (does : CallValue → S → ScreenValue → S → ScreenValue → Type 0)
+pub stopped_within : {S : Type 0} (does : CallRelation S)
     (p m q : Parsing S) (after : Held) (bytes : List ℕ) (k : ℕ) (answer : Events)
     → k < length bytes → Ran does p (take k bytes) m → Feeds m.scanner (slice_index_or bytes k 0) after answer
     → StopsIn (Performs does) (Breaks does) (stage m) (events_in after answer) (stage q) → StoppedWithin does p bytes q
@@ -118,16 +111,14 @@ plain_answer held b code feeds same = subst (λ (k : ℕ). Feeds held b held (on
 
 -- ---- a run, and then one that ends for want of memory
 
-stopped_within_then : {S : Type 0} (does : CallValue → S → ScreenValue → S → ScreenValue → Type 0)
-    (p q r : Parsing S) (a b : List ℕ) →
+stopped_within_then : {S : Type 0} (does : CallRelation S) (p q r : Parsing S) (a b : List ℕ) →
     Ran does p a q → StoppedWithin does q b r → StoppedWithin does p (a ++ b) r
 stopped_within_then does p q r a b first second = λ s stands.
     let one = first s stands in
     rw (run-append s a b) (stops_then (Performs does) (Breaks does) (run s a).events
     (run (run s a).state b).events (stage p) (stage q) (stage r) one.1 (second (run s a).state one.0))
 
-stopped_before_then : {S : Type 0} (does : CallValue → S → ScreenValue → S → ScreenValue → Type 0)
-    (p q r : Parsing S) (a b : List ℕ) →
+stopped_before_then : {S : Type 0} (does : CallRelation S) (p q r : Parsing S) (a b : List ℕ) →
     Ran does p a q → StoppedBefore does q b r → StoppedBefore does p (a ++ b) r
 stopped_before_then does p q r a b first second =
     let k = second.count in
@@ -144,8 +135,7 @@ stopped_before_then does p q r a b first second =
           rw (reached, get_or-append-add a b k 0) turn;
     }
 
-pub stopped_then : {S : Type 0} (does : CallValue → S → ScreenValue → S → ScreenValue → Type 0)
-    (p q r : Parsing S) (bytes : List ℕ) (k : ℕ) →
+pub stopped_then : {S : Type 0} (does : CallRelation S) (p q r : Parsing S) (bytes : List ℕ) (k : ℕ) →
     Ran does p (take k bytes) q → Stopped does q (drop k bytes) r → Stopped does p bytes r
 stopped_then does p q r bytes k ran stopped =
     subst (λ (all : List ℕ). Stopped does p all r) (take-append-drop k bytes) (elim stopped [
@@ -153,8 +143,7 @@ stopped_then does p q r bytes k ran stopped =
       | inr within ↦ inr (stopped_within_then does p q r (take k bytes) (drop k bytes) ran within)
     ])
 
-pub ran_on : {S : Type 0} (does : CallValue → S → ScreenValue → S → ScreenValue → Type 0)
-    (p q r : Parsing S) (bytes : List ℕ) (k n : ℕ) →
+pub ran_on : {S : Type 0} (does : CallRelation S) (p q r : Parsing S) (bytes : List ℕ) (k n : ℕ) →
     k ≤ length bytes → Ran does p (take k bytes) q → Ran does q (take n (drop k bytes)) r →
     Ran does p (take (k + n) bytes) r
 ran_on does p q r bytes k n inside first second =
@@ -167,15 +156,14 @@ ran_on does p q r bytes k n inside first second =
 
 -- ---- bytes whose events are known
 
-pub known_ran : {S : Type 0} (does : CallValue → S → ScreenValue → S → ScreenValue → Type 0)
-    (p q : Parsing S) (bytes : List ℕ) (events : List Event)
+pub known_ran : {S : Type 0} (does : CallRelation S) (p q : Parsing S) (bytes : List ℕ) (events : List Event)
     → FeedsAll p.scanner bytes q.scanner events
     → FoldsTo (Performs does) (stage p) events (stage q) → Ran does p bytes q
 known_ran does p q bytes events fed folds = λ s stands.
     let follows = fed s stands in
     (follows.0, subst (λ (all : List Event). FoldsTo (Performs does) (stage p) all (stage q)) (sym follows.1) folds)
 
-pub known_stopped : {S : Type 0} (does : CallValue → S → ScreenValue → S → ScreenValue → Type 0)
+pub known_stopped : {S : Type 0} (does : CallRelation S)
     (p q : Parsing S) (after : Held) (bytes : List ℕ) (n : ℕ) (events : List Event)
     → FeedsAll p.scanner (take n bytes) after events
     → StopsIn (Performs does) (Breaks does) (stage p) events (stage q) → StoppedWithin does p bytes q
@@ -192,22 +180,19 @@ known_stopped does p q after bytes n events fed stops = λ s stands.
 
 -- ---- what a call answers
 
-pub some_read : {S : Type 0} (does : CallValue → S → ScreenValue → S → ScreenValue → Type 0)
-    (p q : Parsing S) (bytes : List ℕ) (count : ℕ) →
+pub some_read : {S : Type 0} (does : CallRelation S) (p q : Parsing S) (bytes : List ℕ) (count : ℕ) →
     count ≤ length bytes → Ran does p (take count bytes) q → ReadsOrStops does p bytes q (Ok count)
 some_read does p q bytes count inside ran =
     record { inside = inside; ran = ran; stopped = λ r. absurd (false≢true r); memory = tt }
 
-pub stopped_in : {S : Type 0} (does : CallValue → S → ScreenValue → S → ScreenValue → Type 0)
-    (p q : Parsing S) (bytes : List ℕ) (result : Result ℕ Error) →
+pub stopped_in : {S : Type 0} (does : CallRelation S) (p q : Parsing S) (bytes : List ℕ) (result : Result ℕ Error) →
     Stopped does p bytes q → IsErr result → OnlyOutOfMemory result → ReadsOrStops does p bytes q result
 stopped_in does p q bytes (Ok count) h is memory = absurd (false≢true is)
 stopped_in does p q bytes (Err error) h is memory =
     record { inside = tt; ran = tt; stopped = λ r. h; memory = memory }
 
 -- nothing was read before
-pub read_behind : {S : Type 0} (does : CallValue → S → ScreenValue → S → ScreenValue → Type 0)
-    (p q r : Parsing S) (bytes : List ℕ) (result : Result ℕ Error) →
+pub read_behind : {S : Type 0} (does : CallRelation S) (p q r : Parsing S) (bytes : List ℕ) (result : Result ℕ Error) →
     Ran does p (take 0 bytes) q → ReadsOrStops does q bytes r result → ReadsOrStops does p bytes r result
 read_behind does p q r bytes (Ok count) nothing reads =
     some_read does p r bytes count reads.inside (ran_then does p q r [] (take count bytes) nothing reads.ran)

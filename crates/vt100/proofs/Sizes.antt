@@ -9,9 +9,8 @@ use Rattle.vt_grid.specs.Page.{Page, SameSize}
 use Rattle.vt_scan.specs.Automaton.{Event, State}
 use Rattle.vt_scan.specs.Run.{run}
 use Rattle.vt_scan.specs.Scanner.{StandsFor}
-use Rattle.vt_screen.specs.Calls.{CallValue}
 use Rattle.vt_screen.specs.Run as act
-use Rattle.vt_screen.specs.Run.{Breaks, Performs, Refuses, StopsIn, Takes, state}
+use Rattle.vt_screen.specs.Run.{CallRelation, Breaks, Performs, Refuses, StopsIn, Takes, state}
 use Rattle.vt_screen.specs.Screen.{ScreenValue, IsScreen}
 use Rattle.vt_screen.specs.Controls.{seen_of, steps_of}
 use Rattle.vt_screen.specs.Steps.{Step}
@@ -20,8 +19,7 @@ use Rattle.vt_screen.proofs.Sized.{IsSized, sized_screen}
 use Rattle.vt_screen.proofs.SizedRuns.{sized_taken}
 use Rattle.vt100.specs.Parser.{Parsing, Ran, Stopped, quietly, stage}
 
-module _ {S : Type 0} (does : CallValue → S → ScreenValue → S → ScreenValue → Type 0)
-    (leaves : LeavesScreen does) (height width : ℕ) where
+module _ {S : Type 0} (does : CallRelation S) (leaves : LeavesScreen does) (height width : ℕ) where
   sized_steps : (steps : List Step) (a b : act.State S) → IsSized height width a.screen →
       FoldsTo (Takes does) a steps b → IsSized height width b.screen
   sized_steps [] a b z e = subst (λ (s : act.State S). IsSized height width s.screen) e z
@@ -53,14 +51,14 @@ module _ {S : Type 0} (does : CallValue → S → ScreenValue → S → ScreenVa
 size_is : (a b : ScreenValue) → IsSized (length a.page.rows) a.page.width b → SameSize b.page a.page
 size_is a b z = record { width = z.page.width_is; height = z.page.height_is }
 
-pub ran_size : {S : Type 0} (does : CallValue → S → ScreenValue → S → ScreenValue → Type 0) →
+pub ran_size : {S : Type 0} (does : CallRelation S) →
     LeavesScreen does → (p q : Parsing S) (bytes : List ℕ) (scan : State) → IsScreen p.screen →
     StandsFor p.scanner scan → Ran does p bytes q → SameSize q.screen.page p.screen.page
 ran_size does leaves p q bytes scan is stands ran =
     size_is p.screen q.screen (sized_events does leaves (length p.screen.page.rows) p.screen.page.width
     (run scan bytes).events (stage p) (stage q) (sized_screen p.screen is) (ran scan stands).1)
 
-pub stopped_size : {S : Type 0} (does : CallValue → S → ScreenValue → S → ScreenValue → Type 0) →
+pub stopped_size : {S : Type 0} (does : CallRelation S) →
     LeavesScreen does → (p q : Parsing S) (bytes : List ℕ) (scan : State) → IsScreen p.screen →
     StandsFor p.scanner scan → Stopped does p bytes q → SameSize q.screen.page p.screen.page
 stopped_size does leaves p q bytes scan is stands stopped = elim stopped [
@@ -94,16 +92,14 @@ same_size_for_some {A} new old some h = record {
   height = same_for_some (length new.rows) (length old.rows) some (λ (a : A). (h a).height);
 }
 
-pub some_ran_size : {S : Type 0} (does : CallValue → S → ScreenValue → S → ScreenValue → Type 0)
-    (p q : Parsing S) (bytes : List ℕ) →
+pub some_ran_size : {S : Type 0} (does : CallRelation S) (p q : Parsing S) (bytes : List ℕ) →
     LeavesScreen does → IsScreen p.screen → ∥ ((scan : State) × StandsFor p.scanner scan) ∥₁ → Ran does p bytes q →
     SameSize q.screen.page p.screen.page
 some_ran_size does p q bytes leaves is stands ran =
     same_size_for_some q.screen.page p.screen.page stands
     (λ (s : (scan : State) × StandsFor p.scanner scan). ran_size does leaves p q bytes s.0 is s.1 ran)
 
-pub some_stopped_size : {S : Type 0} (does : CallValue → S → ScreenValue → S → ScreenValue → Type 0)
-    (p q : Parsing S) (bytes : List ℕ) →
+pub some_stopped_size : {S : Type 0} (does : CallRelation S) (p q : Parsing S) (bytes : List ℕ) →
     LeavesScreen does → IsScreen p.screen → ∥ ((scan : State) × StandsFor p.scanner scan) ∥₁ → Stopped does p bytes q →
     SameSize q.screen.page p.screen.page
 some_stopped_size does p q bytes leaves is stands stopped =

@@ -7,7 +7,7 @@ use Rattle.std.specs.Prelude.{Ok}
 use Rattle.std.proofs.lemmas.Bool.{false≢true}
 use Rattle.vt_screen.specs.Calls.{CallValue}
 use Rattle.vt_screen.specs.Screen.{ScreenValue}
-use Rattle.vt_screen.specs.Run.{State, Takes, Refuses, StopsIn, state}
+use Rattle.vt_screen.specs.Run.{CallRelation, State, Takes, Refuses, StopsIn, state}
 use Rattle.vt_screen.specs.Controls.{alternate_step, fresh_alternate_step}
 use Rattle.vt_screen.specs.Steps.{Step, Print, LineFeed, ScrollUp, OnPage, SaveCursor, RestoreCursor, EnterAlternate}
 use Rattle.vt_screen.specs.Steps.{EnterFresh, LeaveAlternate, LeaveRestoring, Reset, EraseScrollback, Render}
@@ -16,28 +16,23 @@ use Rattle.vt100.specs.Internals.{Does, DoesOrStops, Stops, is_own}
 use Rattle.vt_rows.proofs.Folds.{folds_then}
 use Rattle.vt100.proofs.Running.{stops_first, stops_then}
 
-pub taken : {S : Type 0} (does : CallValue → S → ScreenValue → S → ScreenValue → Type 0)
-    (x : Step) (s t : S) (d e : ScreenValue) →
+pub taken : {S : Type 0} (does : CallRelation S) (x : Step) (s t : S) (d e : ScreenValue) →
     Takes does (state s d) x (state t e) → Does does s d (x ∷ []) t e
 taken does x s t d e h = (state t e, h, refl)
 
-pub refused : {S : Type 0} (does : CallValue → S → ScreenValue → S → ScreenValue → Type 0)
-    (x : Step) (s t : S) (d e : ScreenValue) →
+pub refused : {S : Type 0} (does : CallRelation S) (x : Step) (s t : S) (d e : ScreenValue) →
     Refuses (state s d) x (state t e) → Stops does s d (x ∷ []) t e
 refused does x s t d e h = inl h
 
-pub told : {S : Type 0} (does : CallValue → S → ScreenValue → S → ScreenValue → Type 0)
-    (call : CallValue) (s t : S) (d e : ScreenValue) →
+pub told : {S : Type 0} (does : CallRelation S) (call : CallValue) (s t : S) (d e : ScreenValue) →
     does call s d t e → Does does s d (CallBack call ∷ []) t e
 told does call s t d e h = (state t e, h, refl)
 
-pub told_two : {S : Type 0} (does : CallValue → S → ScreenValue → S → ScreenValue → Type 0)
-    (one two : CallValue) (s t u : S) (d e f : ScreenValue) →
+pub told_two : {S : Type 0} (does : CallRelation S) (one two : CallValue) (s t u : S) (d e f : ScreenValue) →
     does one s d t e → does two t e u f → Does does s d (CallBack one ∷ CallBack two ∷ []) u f
 told_two does one two s t u d e f h k = (state t e, h, (state u f, k, refl))
 
-takes_own : {S : Type 0} (does : CallValue → S → ScreenValue → S → ScreenValue → Type 0)
-    (x : Step) (s : S) (d e : ScreenValue) →
+takes_own : {S : Type 0} (does : CallRelation S) (x : Step) (s : S) (d e : ScreenValue) →
     is_own x ≡ true → e ≡ display_after x d → Takes does (state s d) x (state s e)
 takes_own does (Print c) s d e own h = absurd (false≢true own)
 takes_own does (OnPage x) s d e own h = ap (state s) h
@@ -56,126 +51,107 @@ takes_own does Reset s d e own h = ap (state s) h
 takes_own does EraseScrollback s d e own h = absurd (false≢true own)
 takes_own does (CallBack call) s d e own h = absurd (false≢true own)
 
-pub stepping : {S : Type 0} (does : CallValue → S → ScreenValue → S → ScreenValue → Type 0)
-    (x : Step) (s : S) (d e : ScreenValue) →
+pub stepping : {S : Type 0} (does : CallRelation S) (x : Step) (s : S) (d e : ScreenValue) →
     is_own x ≡ true → e ≡ display_after x d → Does does s d (x ∷ []) s e
 stepping does x s d e own h = (state s e, takes_own does x s d e own h, refl)
 
 -- a call that took all steps
-pub all_done : {S : Type 0} (does : CallValue → S → ScreenValue → S → ScreenValue → Type 0)
-    (s t : S) (d e : ScreenValue) (steps : List Step) →
+pub all_done : {S : Type 0} (does : CallRelation S) (s t : S) (d e : ScreenValue) (steps : List Step) →
     Does does s d steps t e → DoesOrStops does s d steps t e (Ok tt)
 all_done does s t d e steps h = record { done = h; stopped = λ r. absurd (false≢true r); memory = tt }
 
 -- ---- another page is shown, or that is refused
 
-alone_refused : {S : Type 0} (does : CallValue → S → ScreenValue → S → ScreenValue → Type 0)
-    (x : Step) (s : S) (d e : ScreenValue) →
+alone_refused : {S : Type 0} (does : CallRelation S) (x : Step) (s : S) (d e : ScreenValue) →
     Grows x d → e ≡ d → Stops does s d (x ∷ []) s e
 alone_refused does x s d e grows same = inl (grows, ap (state s) same)
 
-takes_alternate : {S : Type 0} (does : CallValue → S → ScreenValue → S → ScreenValue → Type 0)
-    (on : Bool) (s : S) (d e : ScreenValue) →
+takes_alternate : {S : Type 0} (does : CallRelation S) (on : Bool) (s : S) (d e : ScreenValue) →
     e ≡ display_after (alternate_step on) d → Takes does (state s d) (alternate_step on) (state s e)
 takes_alternate does true s d e h = ap (state s) h
 takes_alternate does false s d e h = ap (state s) h
 
-takes_fresh : {S : Type 0} (does : CallValue → S → ScreenValue → S → ScreenValue → Type 0)
-    (on : Bool) (s : S) (d e : ScreenValue) →
+takes_fresh : {S : Type 0} (does : CallRelation S) (on : Bool) (s : S) (d e : ScreenValue) →
     e ≡ display_after (fresh_alternate_step on) d → Takes does (state s d) (fresh_alternate_step on) (state s e)
 takes_fresh does true s d e h = ap (state s) h
 takes_fresh does false s d e h = ap (state s) h
 
-pub alternating : {S : Type 0} (does : CallValue → S → ScreenValue → S → ScreenValue → Type 0)
-    (on : Bool) (s : S) (d e : ScreenValue) →
+pub alternating : {S : Type 0} (does : CallRelation S) (on : Bool) (s : S) (d e : ScreenValue) →
     e ≡ display_after (alternate_step on) d → Does does s d (alternate_step on ∷ []) s e
 alternating does on s d e h = (state s e, takes_alternate does on s d e h, refl)
 
-pub alternating_stops : {S : Type 0} (does : CallValue → S → ScreenValue → S → ScreenValue → Type 0)
-    (on : Bool) (s : S) (d e : ScreenValue) →
+pub alternating_stops : {S : Type 0} (does : CallRelation S) (on : Bool) (s : S) (d e : ScreenValue) →
     Grows (alternate_step on) d → e ≡ d → Stops does s d (alternate_step on ∷ []) s e
 alternating_stops does on s d e grows same = alone_refused does (alternate_step on) s d e grows same
 
-pub freshening : {S : Type 0} (does : CallValue → S → ScreenValue → S → ScreenValue → Type 0)
-    (on : Bool) (s : S) (d e : ScreenValue) →
+pub freshening : {S : Type 0} (does : CallRelation S) (on : Bool) (s : S) (d e : ScreenValue) →
     e ≡ display_after (fresh_alternate_step on) d → Does does s d (fresh_alternate_step on ∷ []) s e
 freshening does on s d e h = (state s e, takes_fresh does on s d e h, refl)
 
-pub freshening_stops : {S : Type 0} (does : CallValue → S → ScreenValue → S → ScreenValue → Type 0)
-    (on : Bool) (s : S) (d e : ScreenValue) →
+pub freshening_stops : {S : Type 0} (does : CallRelation S) (on : Bool) (s : S) (d e : ScreenValue) →
     Grows (fresh_alternate_step on) d → e ≡ d → Stops does s d (fresh_alternate_step on ∷ []) s e
 freshening_stops does on s d e grows same = alone_refused does (fresh_alternate_step on) s d e grows same
 
 -- ---- loops: what of all steps is left
 
 -- whoever takes the steps that are left has taken all
-abbrev pub Rest : {S : Type 0} → (CallValue → S → ScreenValue → S → ScreenValue → Type 0) →
-    S → ScreenValue → List Step → S → ScreenValue → List Step → Type 0
+abbrev pub Rest : {S : Type 0} → CallRelation S → S → ScreenValue → List Step → S → ScreenValue → List Step → Type 0
 Rest {S} does s d all t e rest =
     (u : State S) → FoldsTo (Takes does) (state t e) rest u → FoldsTo (Takes does) (state s d) all u
 
-pub rest_all : {S : Type 0} (does : CallValue → S → ScreenValue → S → ScreenValue → Type 0)
-    (s : S) (d : ScreenValue) (all : List Step) →
+pub rest_all : {S : Type 0} (does : CallRelation S) (s : S) (d : ScreenValue) (all : List Step) →
     Rest does s d all s d all
 rest_all does s d all = λ u h. h
 
-pub rest_on : {S : Type 0} (does : CallValue → S → ScreenValue → S → ScreenValue → Type 0)
-    (s t u : S) (d e f : ScreenValue) (all one rest : List Step) →
+pub rest_on : {S : Type 0} (does : CallRelation S) (s t u : S) (d e f : ScreenValue) (all one rest : List Step) →
     Rest does s d all t e (one ++ rest) → Does does t e one u f → Rest does s d all u f rest
 rest_on does s t u d e f all one rest r h = λ v k. r v (folds_then (Takes does) one rest (state t e) (state u f) v h k)
 
-pub rest_none : {S : Type 0} (does : CallValue → S → ScreenValue → S → ScreenValue → Type 0)
-    (s t : S) (d e : ScreenValue) (all : List Step) →
+pub rest_none : {S : Type 0} (does : CallRelation S) (s t : S) (d e : ScreenValue) (all : List Step) →
     Rest does s d all t e [] → Does does s d all t e
 rest_none does s t d e all r = r (state t e) refl
 
 -- ---- loops that may stop
 
 -- whoever takes the steps that are left has taken all, and whoever stops in them has stopped in all
-abbrev pub Left : {S : Type 0} → (CallValue → S → ScreenValue → S → ScreenValue → Type 0) →
-    S → ScreenValue → List Step → S → ScreenValue → List Step → Type 0
+abbrev pub Left : {S : Type 0} → CallRelation S → S → ScreenValue → List Step → S → ScreenValue → List Step → Type 0
 Left {S} does s d all t e rest =
     Rest does s d all t e rest
     × ((u : State S) → StopsIn (Takes does) Refuses (state t e) rest u → StopsIn (Takes does) Refuses (state s d) all u)
 
-pub left_all : {S : Type 0} (does : CallValue → S → ScreenValue → S → ScreenValue → Type 0)
-    (s : S) (d : ScreenValue) (all : List Step) →
+pub left_all : {S : Type 0} (does : CallRelation S) (s : S) (d : ScreenValue) (all : List Step) →
     Left does s d all s d all
 left_all does s d all = ((λ u h. h), (λ u h. h))
 
-pub left_none : {S : Type 0} (does : CallValue → S → ScreenValue → S → ScreenValue → Type 0)
-    (s t : S) (d e : ScreenValue) (all : List Step) →
+pub left_none : {S : Type 0} (does : CallRelation S) (s t : S) (d e : ScreenValue) (all : List Step) →
     Left does s d all t e [] → Does does s d all t e
 left_none does s t d e all (r, _) = r (state t e) refl
 
-left_on : {S : Type 0} (does : CallValue → S → ScreenValue → S → ScreenValue → Type 0)
+left_on : {S : Type 0} (does : CallRelation S)
     (s t u : S) (d e f : ScreenValue) (all : List Step) (x : Step) (rest : List Step) →
     Left does s d all t e (x ∷ rest) → Takes does (state t e) x (state u f) → Left does s d all u f rest
 left_on does s t u d e f all x rest (r, q) h = ((λ v k. r v (state u f, h, k)), (λ v k. q v (inr (state u f, h, k))))
 
-left_stop : {S : Type 0} (does : CallValue → S → ScreenValue → S → ScreenValue → Type 0)
+left_stop : {S : Type 0} (does : CallRelation S)
     (s t u : S) (d e f : ScreenValue) (all : List Step) (x : Step) (rest : List Step) →
     Left does s d all t e (x ∷ rest) → Refuses (state t e) x (state u f) → Stops does s d all u f
 left_stop does s t u d e f all x rest (r, q) h = q (state u f) (inl h)
 
 -- a list of them is done, or stopped in
-pub left_through : {S : Type 0} (does : CallValue → S → ScreenValue → S → ScreenValue → Type 0)
-    (s t u : S) (d e f : ScreenValue) (all one rest : List Step) →
+pub left_through : {S : Type 0} (does : CallRelation S) (s t u : S) (d e f : ScreenValue) (all one rest : List Step) →
     Left does s d all t e (one ++ rest) → Does does t e one u f → Left does s d all u f rest
 left_through does s t u d e f all one rest (r, q) h = (
   (λ v k. r v (folds_then (Takes does) one rest (state t e) (state u f) v h k)),
   (λ v k. q v (stops_then (Takes does) Refuses one rest (state t e) (state u f) v h k)),
 )
 
-pub left_within : {S : Type 0} (does : CallValue → S → ScreenValue → S → ScreenValue → Type 0)
-    (s t u : S) (d e f : ScreenValue) (all one rest : List Step) →
+pub left_within : {S : Type 0} (does : CallRelation S) (s t u : S) (d e f : ScreenValue) (all one rest : List Step) →
     Left does s d all t e (one ++ rest) → Stops does t e one u f → Stops does s d all u f
 left_within does s t u d e f all one rest (r, q) h =
     q (state u f) (stops_first (Takes does) Refuses one rest (state t e) (state u f) h)
 
 -- one more print is done, or refused
-pub prints_left : {S : Type 0} (does : CallValue → S → ScreenValue → S → ScreenValue → Type 0)
-    (s t u : S) (d e f : ScreenValue) (all : List Step) (c n k : ℕ) →
+pub prints_left : {S : Type 0} (does : CallRelation S) (s t u : S) (d e f : ScreenValue) (all : List Step) (c n k : ℕ) →
     k < n → Left does s d all t e (replicate (n - k) (Print c)) → Takes does (state t e) (Print c) (state u f) →
     Left does s d all u f (replicate (n - (k + 1)) (Print c))
 prints_left {S} does s t u d e f all c n k h left done =
@@ -183,8 +159,7 @@ prints_left {S} does s t u d e f all c n k h left done =
     left_on does s t u d e f all (Print c) (replicate (n - (k + 1)) (Print c))
     (subst (λ (steps : List Step). Left does s d all t e steps) (ap (λ (m : ℕ). replicate m (Print c)) gap) left) done
 
-pub prints_stop : {S : Type 0} (does : CallValue → S → ScreenValue → S → ScreenValue → Type 0)
-    (s t u : S) (d e f : ScreenValue) (all : List Step) (c n k : ℕ) →
+pub prints_stop : {S : Type 0} (does : CallRelation S) (s t u : S) (d e f : ScreenValue) (all : List Step) (c n k : ℕ) →
     k < n → Left does s d all t e (replicate (n - k) (Print c)) → Refuses (state t e) (Print c) (state u f) →
     Stops does s d all u f
 prints_stop {S} does s t u d e f all c n k h left refusal =

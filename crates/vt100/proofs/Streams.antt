@@ -17,6 +17,7 @@ use Rattle.vt_screen.specs.Screen.{ScreenValue, IsScreen, fresh_screen, scrolled
 use Rattle.vt_screen.specs.Streamed.{AreSameTrimmed, HasNoRis, HasWideFlags, without_scrollback, ris}
 use Rattle.vt_screen.specs.Streamed.{row_told, rows_told, sent_off_in, streamed_text}
 use Rattle.vt_screen.specs.Telling.{CalledOnSomeScreen, LeavesScreen, calls_in, screen_in}
+use Rattle.vt_screen.specs.Run.{CallRelation}
 use Rattle.vt_screen.proofs.WhateverScrollback.{SameBare, bare_scrolled_back, both_screen_in, both_sent_in}
 use Rattle.vt_screen.proofs.EventSteps.{run_streams}
 use Rattle.vt_screen.proofs.CallsOfRun.{Hearing, heard_events}
@@ -29,19 +30,19 @@ use Rattle.vt100.specs.Streams.{MakesCall, bytes_of_calls, screen_by, told_by, w
 
 -- ---- what callbacks hear
 
-pub ran_heard : {S : Type 0} (does : CallValue → S → ScreenValue → S → ScreenValue → Type 0) → LeavesScreen does
+pub ran_heard : {S : Type 0} (does : CallRelation S) → LeavesScreen does
     → (p q : Parsing S) (bytes : List ℕ) (scan : State) → StandsFor p.scanner scan → Ran does p bytes q
     → Hearing does (stage p) (calls_in scan p.screen bytes) (screen_in scan p.screen bytes) (stage q)
 ran_heard does leaves p q bytes scan stands ran =
     heard_events does leaves (run scan bytes).events (stage p) (stage q) (ran scan stands).1
 
 -- a list of calls was made
-pub record HasHeard {S : Type 0} (does : CallValue → S → ScreenValue → S → ScreenValue → Type 0)
+pub record HasHeard {S : Type 0} (does : CallRelation S)
     (scan : State) (screen : ScreenValue) (calls : List ParserCall) (p q : Parsing S) : Type 0 where
   pub shown : q.screen ≡ screen_by scan screen calls
   pub heard : FoldsTo (CalledOnSomeScreen does) p.callbacks (told_by scan screen calls) q.callbacks
 
-pub calls_heard : {S : Type 0} (does : CallValue → S → ScreenValue → S → ScreenValue → Type 0)
+pub calls_heard : {S : Type 0} (does : CallRelation S)
     → LeavesScreen does → (calls : List ParserCall) (p q : Parsing S) (scan : State)
     → StandsFor p.scanner scan → FoldsTo (MakesCall does) p calls q
     → HasHeard does scan p.screen calls p q
@@ -120,7 +121,7 @@ calls_stream (Process bytes ∷ calls) scan s r e none k =
     }
 
 -- two parsers whose screens are the same but for scrollback
-pub ran_apart : {S : Type 0} (does : CallValue → S → ScreenValue → S → ScreenValue → Type 0) → LeavesScreen does
+pub ran_apart : {S : Type 0} (does : CallRelation S) → LeavesScreen does
     → (p q r s : Parsing S) (bytes : List ℕ) (scan : State) → StandsFor p.scanner scan → StandsFor r.scanner scan
     → without_scrollback p.screen ≡ without_scrollback r.screen → Ran does p bytes q → Ran does r bytes s
     → (sent_off_in scan p.screen bytes ≡ sent_off_in scan r.screen bytes) × (without_scrollback q.screen ≡ without_scrollback s.screen)
@@ -131,7 +132,7 @@ ran_apart does leaves p q r s bytes scan stands others same ran runs = (
       ∙ ap without_scrollback (sym (ran_heard does leaves r s bytes scan others runs).shown)),
 )
 
-pub ran_keeps : {S : Type 0} (does : CallValue → S → ScreenValue → S → ScreenValue → Type 0) → LeavesScreen does
+pub ran_keeps : {S : Type 0} (does : CallRelation S) → LeavesScreen does
     → (p q : Parsing S) (bytes : List ℕ) (scan : State) → StandsFor p.scanner scan → Ran does p bytes q
     → IsScreen p.screen → HasWideFlags p.screen → HasNoRis scan bytes
     → FoldsTo (CalledOnSomeScreen does) p.callbacks (calls_in scan p.screen bytes) q.callbacks
@@ -163,7 +164,7 @@ text_by rows cols capacity calls held none main =
     streamed_is (told_by start s calls) (sent_off_in start r bytes) s (screen_by start s calls) k.streams refl main
     ∙ ap (λ (t : ScreenValue). basic_texts unwritten (sent_off_in start r bytes ++ t.page.rows)) k.same
 
-pub one_text : {S : Type 0} (does : CallValue → S → ScreenValue → S → ScreenValue → Type 0) → LeavesScreen does
+pub one_text : {S : Type 0} (does : CallRelation S) → LeavesScreen does
     → (rows cols capacity : ℕ) (p q : Parsing S) (calls : List ParserCall) → IsFreshParser rows cols capacity p
     → HasNoRis start (bytes_of_calls calls) → FoldsTo (MakesCall does) p calls q → q.screen.is_alternate ≡ false
     → streamed_text (told_by start p.screen calls) q.screen ≡ whole_text rows cols (bytes_of_calls calls)
@@ -187,7 +188,7 @@ record HasRecorded {S : Type 0} (text_of : S → List ℕ) (state_of : S → Wri
   text : text_of new ≡ text_of old ++ basic_texts (state_of old) (rows_told calls)
   state : state_of new ≡ written_after_all (state_of old) (rows_told calls)
 
-has_recorded : {S : Type 0} (does : CallValue → S → ScreenValue → S → ScreenValue → Type 0)
+has_recorded : {S : Type 0} (does : CallRelation S)
     (text_of : S → List ℕ) (state_of : S → Written) (is_whole : S → Bool)
     → IsRecorder does text_of state_of is_whole → (calls : List CallValue) (old new : S)
     → FoldsTo (CalledOnSomeScreen does) old calls new → is_whole new ≡ true
@@ -218,7 +219,7 @@ has_recorded does text_of state_of is_whole r (call ∷ calls) old new t w =
           ∙ (ap (λ (v : Written). written_after_all v told) state ∙ sym (after_then (state_of old) here told));
     }
 
-pub recorded_text : {S : Type 0} (does : CallValue → S → ScreenValue → S → ScreenValue → Type 0)
+pub recorded_text : {S : Type 0} (does : CallRelation S)
     (text_of : S → List ℕ) (state_of : S → Written) (is_whole : S → Bool)
     → IsRecorder does text_of state_of is_whole → (rows cols capacity : ℕ) (p q : Parsing S) (calls : List ParserCall)
     → IsFreshParser rows cols capacity p → text_of p.callbacks ≡ []

@@ -6,13 +6,12 @@ use Rattle.std.specs.declared.io.ErrorKind.TheVariants as kind
 use Rattle.std.specs.declared.result.Result.{Result}
 use Rattle.vt_cells.specs.declared.error.Error.{Error}
 use Rattle.vt_cells.specs.declared.error.Error.TheVariants.{Failed, NoNumber, OutOfMemory}
-use Rattle.vt_screen.specs.Calls.{CallValue}
-use Rattle.vt_screen.specs.Screen.{ScreenValue}
 use Rattle.vt100.specs.Parser.{IsHarmless, Parsing, Ran, Stopped, quietly}
 use Rattle.vt100.specs.Pieces.{Processes, processing}
+use Rattle.vt_screen.specs.Run.{CallRelation}
 
 -- bytes are read in full, or up to a byte or step that takes memory, and nothing is read from then on
-pub record ParserProcesses {S : Type 0} (does : CallValue → S → ScreenValue → S → ScreenValue → Type 0)
+pub record ParserProcesses {S : Type 0} (does : CallRelation S)
     (old : Parsing S) (bytes : List ℕ) (answer : Result (Unit {0}) Error) (new : Parsing S) : Type 0 where
   pub ran : IfOk answer (λ _. Ran does old bytes new)
   pub memory : answer ≡ Err OutOfMemory → Stopped does old bytes new

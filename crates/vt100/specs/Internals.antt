@@ -11,22 +11,20 @@ use Rattle.vt_screen.specs.Calls.{CallValue, UnhandledCsi}
 use Rattle.vt_screen.specs.Screen.{ScreenValue}
 use Rattle.vt_screen.specs.Steps.{Step, Print, LineFeed, ScrollUp, OnPage, EnterAlternate}
 use Rattle.vt_screen.specs.Steps.{EnterFresh, EraseScrollback, CallBack, display_after}
-use Rattle.vt_screen.specs.Run.{Breaks, Performs, Refuses, State, StopsIn, Takes, state}
+use Rattle.vt_screen.specs.Run.{CallRelation, Breaks, Performs, Refuses, State, StopsIn, Takes, state}
 use Rattle.vt100.specs.Parser.{Parsing, Ran, Stopped}
 use Rattle.vt100.specs.declared.sequence.Sequence.{Sequence}
 
 -- these steps, one after the other
-abbrev pub Does : {S : Type 0} → (CallValue → S → ScreenValue → S → ScreenValue → Type 0) →
-    S → ScreenValue → List Step → S → ScreenValue → Type 0
+abbrev pub Does : {S : Type 0} → CallRelation S → S → ScreenValue → List Step → S → ScreenValue → Type 0
 Does does old before steps new after = FoldsTo (Takes does) (state old before) steps (state new after)
 
 -- some of these steps, and then one that is refused for want of memory
-abbrev pub Stops : {S : Type 0} → (CallValue → S → ScreenValue → S → ScreenValue → Type 0) →
-    S → ScreenValue → List Step → S → ScreenValue → Type 0
+abbrev pub Stops : {S : Type 0} → CallRelation S → S → ScreenValue → List Step → S → ScreenValue → Type 0
 Stops does old before steps new after = StopsIn (Takes does) Refuses (state old before) steps (state new after)
 
 -- a call that takes these steps, or stops in them for want of memory
-pub record DoesOrStops {S : Type 0} (does : CallValue → S → ScreenValue → S → ScreenValue → Type 0)
+pub record DoesOrStops {S : Type 0} (does : CallRelation S)
     (old : S) (before : ScreenValue) (steps : List Step) (new : S) (after : ScreenValue)
     (result : Result (Unit {0}) Error) : Type 0 where
   pub done : IfOk result (λ _. Does does old before steps new after)
@@ -34,7 +32,7 @@ pub record DoesOrStops {S : Type 0} (does : CallValue → S → ScreenValue → 
   pub memory : OnlyOutOfMemory result
 
 -- a call that takes a step so often as it answers, at most so often, or stops in these for want of memory
-pub record RepeatsOrStops {S : Type 0} (does : CallValue → S → ScreenValue → S → ScreenValue → Type 0)
+pub record RepeatsOrStops {S : Type 0} (does : CallRelation S)
     (old : S) (before : ScreenValue) (left : ℕ) (step : Step) (new : S) (after : ScreenValue)
     (result : Result ℕ Error) : Type 0 where
   pub some : IfOk result (λ count. 0 < count)
@@ -44,14 +42,14 @@ pub record RepeatsOrStops {S : Type 0} (does : CallValue → S → ScreenValue �
   pub memory : OnlyOutOfMemory result
 
 -- a call that does what these events say, or stops in them for want of memory
-pub record PerformsOrBreaks {S : Type 0} (does : CallValue → S → ScreenValue → S → ScreenValue → Type 0)
+pub record PerformsOrBreaks {S : Type 0} (does : CallRelation S)
     (old : State S) (events : List Event) (new : State S) (result : Result (Unit {0}) Error) : Type 0 where
   pub done : IfOk result (λ _. FoldsTo (Performs does) old events new)
   pub stopped : IsErr result → StopsIn (Performs does) (Breaks does) old events new
   pub memory : OnlyOutOfMemory result
 
 -- a call that reads as many of these bytes as it answers, or stops in them for want of memory
-pub record ReadsOrStops {S : Type 0} (does : CallValue → S → ScreenValue → S → ScreenValue → Type 0)
+pub record ReadsOrStops {S : Type 0} (does : CallRelation S)
     (old : Parsing S) (bytes : List ℕ) (new : Parsing S) (result : Result ℕ Error) : Type 0 where
   pub inside : IfOk result (λ count. count ≤ length bytes)
   pub ran : IfOk result (λ count. Ran does old (take count bytes) new)

@@ -10,7 +10,7 @@ use Rattle.vt_scan.specs.declared.table.Turn.TheVariants.{Collect}
 use Rattle.vt_screen.specs.Calls.{CallValue}
 use Rattle.vt_screen.specs.Screen.{ScreenValue}
 use Rattle.vt_screen.specs.Run as screen
-use Rattle.vt_screen.specs.Run.{Performs, Breaks, StopsIn}
+use Rattle.vt_screen.specs.Run.{CallRelation, Performs, Breaks, StopsIn}
 
 -- what a parser is: what its scanner holds, its screen, its callbacks, and whether it ran out of memory
 pub record Parsing (S : Type 0) : Type 0 where
@@ -30,8 +30,7 @@ stage parser = screen.state parser.callbacks parser.screen
 
 -- a run over bytes: from each state that the scanner stood for, it then stands for the one after these bytes, and
 -- callbacks and screen have taken the steps of all events on the way, one after the other
-abbrev pub Ran : {S : Type 0} → (CallValue → S → ScreenValue → S → ScreenValue → Type 0) →
-    Parsing S → List ℕ → Parsing S → Type 0
+abbrev pub Ran : {S : Type 0} → CallRelation S → Parsing S → List ℕ → Parsing S → Type 0
 Ran does old bytes new =
     (state : State) → StandsFor old.scanner state
     → StandsFor new.scanner (scan.run state bytes).state
@@ -43,7 +42,7 @@ Collects state bytes k =
     turn_of (scan.run state (take k bytes)).state.kind (class_of (slice_index_or bytes k 0)) ≡ Collect OscString
 
 -- a run that ended before a byte that may take memory: all bytes before it were read, and nothing else was done
-pub record StoppedBefore {S : Type 0} (does : CallValue → S → ScreenValue → S → ScreenValue → Type 0)
+pub record StoppedBefore {S : Type 0} (does : CallRelation S)
     (old : Parsing S) (bytes : List ℕ) (new : Parsing S) : Type 0 where
   pub count : ℕ
   pub inside : count < length bytes
@@ -52,8 +51,7 @@ pub record StoppedBefore {S : Type 0} (does : CallValue → S → ScreenValue �
 
 -- a run that ended within the events of its bytes, before a step that takes memory: the steps before it were taken, and
 -- nothing else was done; where the scanner stands then is open, since the parser reads no more
-abbrev pub StoppedWithin : {S : Type 0} → (CallValue → S → ScreenValue → S → ScreenValue → Type 0) →
-    Parsing S → List ℕ → Parsing S → Type 0
+abbrev pub StoppedWithin : {S : Type 0} → CallRelation S → Parsing S → List ℕ → Parsing S → Type 0
 StoppedWithin does old bytes new =
     (state : State) → StandsFor old.scanner state →
     StopsIn (Performs does) (Breaks does) (stage old) (scan.run state bytes).events (stage new)
@@ -63,13 +61,12 @@ abbrev pub quietly : CallValue → Unit {0} → ScreenValue → Unit {0} → Scr
 quietly call old before new after = (new ≡ old) × (after ≡ before)
 
 -- a run that ended for want of memory
-abbrev pub Stopped : {S : Type 0} → (CallValue → S → ScreenValue → S → ScreenValue → Type 0) →
-    Parsing S → List ℕ → Parsing S → Type 0
+abbrev pub Stopped : {S : Type 0} → CallRelation S → Parsing S → List ℕ → Parsing S → Type 0
 Stopped does old bytes new = StoppedBefore does old bytes new ⊎ StoppedWithin does old bytes new
 
 -- no run over these bytes comes to a step that takes memory
 abbrev pub IsHarmless : {S : Type 0} →
-    (CallValue → S → ScreenValue → S → ScreenValue → Type 0) → Parsing S → List ℕ → Type 0
+    CallRelation S → Parsing S → List ℕ → Type 0
 IsHarmless {S} does old bytes = (new : Parsing S) → Stopped does old bytes new → ⊥
 
 -- pieces put together

@@ -10,6 +10,7 @@ use Rattle.vt_screen.specs.Capture.{basic_texts, written_after_all}
 use Rattle.vt_screen.specs.Screen.{ScreenValue, fresh_screen, scrolled_back}
 use Rattle.vt_screen.specs.Streamed.{row_told, sent_off_in}
 use Rattle.vt_screen.specs.Telling.{LeavesScreen, calls_in, screen_in}
+use Rattle.vt_screen.specs.Run.{CallRelation}
 use Rattle.vt100.specs.Parser.{Parsing, Ran}
 
 -- a call of a parser, or of its screen
@@ -18,8 +19,7 @@ pub data ParserCall : Type 0 where
   SetScrollback : (rows : ℕ) → ParserCall
 
 -- what such a call does that answers Ok
-abbrev pub MakesCall : {S : Type 0} → (CallValue → S → ScreenValue → S → ScreenValue → Type 0) →
-    Parsing S → ParserCall → Parsing S → Type 0
+abbrev pub MakesCall : {S : Type 0} → CallRelation S → Parsing S → ParserCall → Parsing S → Type 0
 MakesCall does old (Process bytes) new = Ran does old bytes new
 MakesCall does old (SetScrollback rows) new = new ≡ record old { screen = scrolled_back rows old.screen }
 
@@ -58,7 +58,7 @@ whole_text rows cols bytes =
 
 -- callbacks that write each row that is reported of the main page behind their text, with one state of captures; they
 -- may not be whole any more where their sink refused some of it
-pub record IsRecorder {S : Type 0} (does : CallValue → S → ScreenValue → S → ScreenValue → Type 0)
+pub record IsRecorder {S : Type 0} (does : CallRelation S)
     (text_of : S → List ℕ) (state_of : S → Written) (is_whole : S → Bool) : Type 0 where
   pub leaves : LeavesScreen does
   pub whole : (call : CallValue) (old new : S) (before after : ScreenValue) →

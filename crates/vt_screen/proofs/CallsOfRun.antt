@@ -8,7 +8,7 @@ use Rattle.vt_scan.specs.Automaton.{Event}
 use Rattle.vt_screen.specs.Calls.{CallValue, OnScroll}
 use Rattle.vt_screen.specs.Screen.{ScreenValue}
 use Rattle.vt_screen.specs.Run as act
-use Rattle.vt_screen.specs.Run.{Performs, Scrolls, Takes, CalledOnAnyScreen, state}
+use Rattle.vt_screen.specs.Run.{CallRelation, Performs, Scrolls, Takes, CalledOnAnyScreen, state}
 use Rattle.vt_screen.specs.Controls.{seen_of, steps_of}
 use Rattle.vt_screen.specs.Steps.{Step, Print, LineFeed, ScrollUp, OnPage, SaveCursor, RestoreCursor, EnterAlternate}
 use Rattle.vt_screen.specs.Steps.{EnterFresh, LeaveAlternate, LeaveRestoring, Reset, EraseScrollback, Render}
@@ -17,27 +17,24 @@ use Rattle.vt_screen.specs.Telling.{CalledOnSomeScreen, LeavesScreen, calls_of, 
 use Rattle.vt_screen.proofs.Reporting.{told_rows}
 
 -- a screen was reached, and these calls were heard on the way
-pub record Hearing {S : Type 0} (does : CallValue → S → ScreenValue → S → ScreenValue → Type 0)
+pub record Hearing {S : Type 0} (does : CallRelation S)
     (a : act.State S) (calls : List CallValue) (screen : ScreenValue) (b : act.State S) : Type 0 where
   pub shown : b.screen ≡ screen
   pub heard : FoldsTo (CalledOnSomeScreen does) a.callbacks calls b.callbacks
 
 -- ---- one step
 
-heard_nothing : {S : Type 0} (does : CallValue → S → ScreenValue → S → ScreenValue → Type 0)
-    (a b : act.State S) (screen : ScreenValue) →
+heard_nothing : {S : Type 0} (does : CallRelation S) (a b : act.State S) (screen : ScreenValue) →
     b ≡ state a.callbacks screen → Hearing does a [] screen b
 heard_nothing {S} does a b screen e =
     record { shown = ap (λ (s : act.State S). s.screen) e; heard = sym (ap (λ (s : act.State S). s.callbacks) e) }
 
-heard_told : {S : Type 0} (does : CallValue → S → ScreenValue → S → ScreenValue → Type 0)
-    (screen : ScreenValue) (calls : List CallValue) (old new : S) →
+heard_told : {S : Type 0} (does : CallRelation S) (screen : ScreenValue) (calls : List CallValue) (old new : S) →
     FoldsTo (CalledOnAnyScreen does) old calls new → FoldsTo (CalledOnSomeScreen does) old calls new
 heard_told does screen [] old new e = e
 heard_told does screen (call ∷ calls) old new t = (t.0, (screen, t.1 screen), heard_told does screen calls t.0 new t.2)
 
-heard_scroll : {S : Type 0} (does : CallValue → S → ScreenValue → S → ScreenValue → Type 0)
-    (x : Step) (a b : act.State S) →
+heard_scroll : {S : Type 0} (does : CallRelation S) (x : Step) (a b : act.State S) →
     Scrolls does a x b →
     Hearing does a (map (λ (row : RowValue). OnScroll row a.screen.is_alternate) (reports x a.screen))
     (screen_after x a.screen) b
@@ -49,8 +46,7 @@ heard_scroll does x a b t = record {
       (told_rows does a.screen.is_alternate (reports x a.screen) a.callbacks b.callbacks t.heard);
 }
 
-heard_call : {S : Type 0} (does : CallValue → S → ScreenValue → S → ScreenValue → Type 0) →
-    LeavesScreen does → (call : CallValue) (a b : act.State S) →
+heard_call : {S : Type 0} (does : CallRelation S) → LeavesScreen does → (call : CallValue) (a b : act.State S) →
     does call a.callbacks a.screen b.callbacks b.screen → Hearing does a (call ∷ []) a.screen b
 heard_call does leaves call a b t =
     let same = leaves call a.callbacks b.callbacks a.screen b.screen t in
@@ -59,7 +55,7 @@ heard_call does leaves call a b t =
       heard = (b.callbacks, (a.screen, subst (does call a.callbacks a.screen b.callbacks) same t), refl);
     }
 
-heard_step : {S : Type 0} (does : CallValue → S → ScreenValue → S → ScreenValue → Type 0) → LeavesScreen does →
+heard_step : {S : Type 0} (does : CallRelation S) → LeavesScreen does →
     (x : Step) (a b : act.State S) → Takes does a x b → Hearing does a (calls_of x a.screen) (screen_after x a.screen) b
 heard_step does leaves (CallBack call) a b t = heard_call does leaves call a b t
 heard_step does leaves (Print c) a b t = heard_scroll does (Print c) a b t
@@ -80,7 +76,7 @@ heard_step does leaves (SetMode x) a b t = heard_nothing does a b (display_after
 
 -- ---- steps and events
 
-heard_steps : {S : Type 0} (does : CallValue → S → ScreenValue → S → ScreenValue → Type 0) →
+heard_steps : {S : Type 0} (does : CallRelation S) →
     LeavesScreen does → (steps : List Step) (a b : act.State S) → FoldsTo (Takes does) a steps b →
     Hearing does a (calls_of_all steps a.screen) (screen_after_all steps a.screen) b
 heard_steps {S} does leaves [] a b e =
@@ -98,8 +94,7 @@ heard_steps does leaves (x ∷ steps) a b t =
     }
 
 -- the steps of all events are those that the model lists
-steps_listed : {S : Type 0} (does : CallValue → S → ScreenValue → S → ScreenValue → Type 0) →
-    LeavesScreen does → (events : List Event) (a b : act.State S) →
+steps_listed : {S : Type 0} (does : CallRelation S) → LeavesScreen does → (events : List Event) (a b : act.State S) →
     FoldsTo (Performs does) a events b → FoldsTo (Takes does) a (steps_of_all events a.screen) b
 steps_listed does leaves [] a b e = e
 steps_listed does leaves (event ∷ events) a b t =
@@ -109,7 +104,7 @@ steps_listed does leaves (event ∷ events) a b t =
     there (steps_listed does leaves events t.0 b t.2) in
     folds_then (Takes does) steps (steps_of_all events (screen_after_all steps a.screen)) a t.0 b t.1 rest
 
-pub heard_events : {S : Type 0} (does : CallValue → S → ScreenValue → S → ScreenValue → Type 0)
+pub heard_events : {S : Type 0} (does : CallRelation S)
     → LeavesScreen does → (events : List Event) (a b : act.State S) → FoldsTo (Performs does) a events b
     → Hearing does a (calls_of_all (steps_of_all events a.screen) a.screen)
     (screen_after_all (steps_of_all events a.screen) a.screen) b

@@ -3,7 +3,7 @@ use Rattle.std.specs.Prelude.{if◌then◌else◌}
 use Rattle.std.proofs.Common.{◌≡◌, ℕ, Bool, true, false, List, [], ◌∷◌, map, length, Option, sym, subst, ap, ◌∙◌}
 use Rattle.std.specs.List.{FoldsTo}
 use Rattle.vt_rows.specs.Row.{RowValue}
-use Rattle.vt_screen.specs.Calls.{CallValue, OnScroll}
+use Rattle.vt_screen.specs.Calls.{OnScroll}
 use Rattle.vt_screen.specs.Reports.{Reports}
 use Rattle.vt_grid.specs.Page.{Page, scrolled_up}
 use Rattle.vt_grid.specs.Moves.{line_feed}
@@ -11,20 +11,18 @@ use Rattle.vt_grid.specs.Printing.{printed}
 use Rattle.vt_grid.specs.Outgoing.{fed_out, scrolled_out, printed_out}
 use Rattle.vt_grid.specs.Scrollback.{Scrollback, no_scrollback, pushed, reported, cleared}
 use Rattle.vt_screen.specs.Steps.{LineFeed, ScrollUp, Print, EraseScrollback, last_after, screen_after}
-use Rattle.vt_screen.specs.Run.{CalledOnScroll, Scrolls, CalledOnAnyScreen, state}
+use Rattle.vt_screen.specs.Run.{CallRelation, CalledOnScroll, Scrolls, CalledOnAnyScreen, state}
 use Rattle.vt_screen.specs.Internals.{IsNothing, main_scrollback, alternate_scrollback}
 use Rattle.vt_screen.specs.Screen.{ScreenValue, above_page}
 use Rattle.vt_screen.proofs.Asides.{sent_if, reported_if}
 use Rattle.vt_screen.specs.declared.reporter.Reporter.{Reporter}
 
-pub same_callbacks : {S : Type 0} (does : CallValue → S → ScreenValue → S → ScreenValue → Type 0)
-    (rows : List RowValue) (s t : Reporter S) →
+pub same_callbacks : {S : Type 0} (does : CallRelation S) (rows : List RowValue) (s t : Reporter S) →
     FoldsTo (Reports does) s rows t → t.callbacks.ghost_name ≡ s.callbacks.ghost_name
 same_callbacks {S} does [] s t e = sym (ap (λ (r : Reporter S). r.callbacks.ghost_name) e)
 same_callbacks does (row ∷ rows) s t f = same_callbacks does rows f.0 t f.2 ∙ f.1.0
 
-pub reported_to : {S : Type 0} (does : CallValue → S → ScreenValue → S → ScreenValue → Type 0)
-    (alternate : Bool) (rows : List RowValue) (s t : Reporter S) →
+pub reported_to : {S : Type 0} (does : CallRelation S) (alternate : Bool) (rows : List RowValue) (s t : Reporter S) →
     s.alternate ≡ alternate → FoldsTo (Reports does) s rows t →
     FoldsTo (CalledOnScroll does alternate) s.callbacks.now rows t.callbacks.now
 reported_to {S} does alternate [] s t a e = ap (λ (r : Reporter S). r.callbacks.now) e
@@ -42,7 +40,7 @@ record IsAbove (s : ScreenValue) (active idle : Scrollback) : Type 0 where
   nothing : IsNothing (alternate_scrollback s.is_alternate active idle)
 
 -- what is told of rows that left the active page
-heard_above : {S : Type 0} (does : CallValue → S → ScreenValue → S → ScreenValue → Type 0)
+heard_above : {S : Type 0} (does : CallRelation S)
     (s : ScreenValue) (gone : List RowValue) (active idle : Scrollback) (old new : S)
     → IsAbove s active idle
     → FoldsTo (CalledOnScroll does s.is_alternate) old (reported gone active) new
@@ -51,7 +49,7 @@ heard_above does s gone active idle old new i h =
     subst (λ (rows : List RowValue). FoldsTo (CalledOnScroll does s.is_alternate) old rows new)
     (reported_if s.is_alternate gone active idle s.scrollback i.whole i.nothing) h
 
-pub line_fed : {S : Type 0} (does : CallValue → S → ScreenValue → S → ScreenValue → Type 0)
+pub line_fed : {S : Type 0} (does : CallRelation S)
     (s now : ScreenValue) (page : Page) (active idle above : Scrollback) (old new : S)
     → s ≡ now
     → s.scrollback ≡ main_scrollback s.is_alternate active idle
@@ -72,7 +70,7 @@ line_fed does s now page active idle above old new same w n p a h =
       heard = heard_above does s (fed_out s.page) active idle old new (record { whole = w; nothing = n }) h;
     })
 
-pub scrolled_up_by : {S : Type 0} (does : CallValue → S → ScreenValue → S → ScreenValue → Type 0)
+pub scrolled_up_by : {S : Type 0} (does : CallRelation S)
     (count : ℕ) (s now : ScreenValue) (page : Page) (active idle above : Scrollback) (old new : S)
     → s ≡ now
     → s.scrollback ≡ main_scrollback s.is_alternate active idle
@@ -93,7 +91,7 @@ scrolled_up_by does count s now page active idle above old new same w n p a h =
       heard = heard_above does s (scrolled_out count s.page) active idle old new (record { whole = w; nothing = n }) h;
     })
 
-pub character_printed : {S : Type 0} (does : CallValue → S → ScreenValue → S → ScreenValue → Type 0) (c : ℕ)
+pub character_printed : {S : Type 0} (does : CallRelation S) (c : ℕ)
     (s now : ScreenValue) (page : Page) (active idle above : Scrollback) (last : Option ℕ) (old new : S)
     → s ≡ now
     → s.scrollback ≡ main_scrollback s.is_alternate active idle
@@ -138,7 +136,7 @@ cleared_is s active idle above w a =
     ap (λ (z : Scrollback). record s { scrollback = main_scrollback s.is_alternate z idle }) a
     ∙ erased_if s.is_alternate s active idle w
 
-pub scrollback_erased : {S : Type 0} (does : CallValue → S → ScreenValue → S → ScreenValue → Type 0)
+pub scrollback_erased : {S : Type 0} (does : CallRelation S)
     (s now : ScreenValue) (active idle above : Scrollback) (old new : S)
     → s ≡ now
     → s.scrollback ≡ main_scrollback s.is_alternate active idle
@@ -159,8 +157,7 @@ scrollback_erased does s now active idle above old new same w n a h =
 
 -- ---- rows told as calls
 
-pub told_rows : {S : Type 0} (does : CallValue → S → ScreenValue → S → ScreenValue → Type 0)
-    (alternate : Bool) (rows : List RowValue) (old new : S)
+pub told_rows : {S : Type 0} (does : CallRelation S) (alternate : Bool) (rows : List RowValue) (old new : S)
     → FoldsTo (CalledOnScroll does alternate) old rows new
     → FoldsTo (CalledOnAnyScreen does) old (map (λ row. OnScroll row alternate) rows) new
 told_rows does alternate [] old new e = e

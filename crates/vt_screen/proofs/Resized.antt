@@ -12,10 +12,9 @@ use Rattle.vt_grid.proofs.Resizing.{fresh_height, fresh_width}
 use Rattle.vt_grid.specs.Resize.{leaving, out_of_view, page_resized, resize_reports}
 use Rattle.vt_grid.specs.Resize.{returning, scrollback_resized, taken_back}
 use Rattle.vt_grid.specs.Scrollback.{Scrollback, no_scrollback, pushed}
-use Rattle.vt_screen.specs.Calls.{CallValue}
 use Rattle.vt_screen.specs.Internals.{Aside, IsKept, IsNothing, main_scrollback}
 use Rattle.vt_screen.specs.Pages.{reports_of}
-use Rattle.vt_screen.specs.Run.{CalledOnScroll, CalledOnAnyScreen}
+use Rattle.vt_screen.specs.Run.{CallRelation, CalledOnScroll, CalledOnAnyScreen}
 use Rattle.vt_screen.specs.Screen.{ScreenValue}
 use Rattle.vt_screen.proofs.Asides.{kept_resized, nothing_pushed}
 use Rattle.vt_screen.proofs.Reporting.{told_rows}
@@ -46,13 +45,13 @@ fresh_is o p f s b e h k =
     cc
 
 -- the alternate page
-pub record AlternateDone {S : Type 0} (does : CallValue → S → ScreenValue → S → ScreenValue → Type 0)
+pub record AlternateDone {S : Type 0} (does : CallRelation S)
     (rows cols : ℕ) (o : Option Page) (new : Page) (after : Scrollback) (s t : S) : Type 0 where
   pub page : Some new ≡ option_map (page_resized rows cols (no_scrollback 0)) o
   pub told : FoldsTo (CalledOnAnyScreen does) s (reports_of true rows o (no_scrollback 0)) t
   pub nothing : IsNothing after
 
-pub alternate_done : {S : Type 0} (does : CallValue → S → ScreenValue → S → ScreenValue → Type 0) (rows cols : ℕ)
+pub alternate_done : {S : Type 0} (does : CallRelation S) (rows cols : ℕ)
     (o : Option Page) (p new : Page) (page_rows : Page) (f : Option Page) (above after : Scrollback) (s t : S)
     → f ≡ option_map (λ _. blank_page rows cols) o → o ≡ Some p → f ≡ Some page_rows → above ≡ no_scrollback 0
     → new ≡ page_resized (length page_rows.rows) page_rows.width above p
@@ -80,7 +79,7 @@ alternate_done {S} does rows cols o p new page_rows f above after s t e h k n pa
     }
 
 -- the main page
-pub main_done : {S : Type 0} (does : CallValue → S → ScreenValue → S → ScreenValue → Type 0)
+pub main_done : {S : Type 0} (does : CallRelation S)
     (rows cols : ℕ) (p : Page) (page_rows : Page) (above : Scrollback) (s t : S)
     → page_rows ≡ blank_page rows cols
     → FoldsTo (CalledOnScroll does false) s (resize_reports (length page_rows.rows) p above) t
@@ -115,7 +114,7 @@ above_main : (b : Bool) (active idle whole : Scrollback) →
 above_main true active idle whole w e = absurd (false≢true (sym e))
 above_main false active idle whole w e = sym w
 
-pub told_by_steps : {S : Type 0} (does : CallValue → S → ScreenValue → S → ScreenValue → Type 0)
+pub told_by_steps : {S : Type 0} (does : CallRelation S)
     (rows cols : ℕ) (v now : ScreenValue) (active idle : Scrollback) (page_rows : Page) (s m t : S)
     → v ≡ now → v.scrollback ≡ main_scrollback v.is_alternate active idle
     → now.is_alternate ≡ false → page_rows ≡ blank_page rows cols

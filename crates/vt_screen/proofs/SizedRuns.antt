@@ -2,18 +2,15 @@
 use Rattle.std.proofs.Common.{◌≡◌, ℕ, sym, subst}
 use Rattle.std.proofs.lemmas.Bool.{cond_both}
 use Rattle.vt_grid.specs.Scrollback.{cleared}
-use Rattle.vt_screen.specs.Calls.{CallValue}
 use Rattle.vt_screen.specs.Run as act
-use Rattle.vt_screen.specs.Run.{Scrolls, Takes, state}
-use Rattle.vt_screen.specs.Screen.{ScreenValue}
+use Rattle.vt_screen.specs.Run.{CallRelation, Scrolls, Takes, state}
 use Rattle.vt_screen.specs.Steps.{Step, Print, LineFeed, ScrollUp, OnPage, SaveCursor, RestoreCursor, EnterAlternate}
 use Rattle.vt_screen.specs.Steps.{EnterFresh, LeaveAlternate, LeaveRestoring, Reset, EraseScrollback, Render}
 use Rattle.vt_screen.specs.Steps.{HideCursor, SetMode, CallBack, screen_after, display_after}
 use Rattle.vt_screen.specs.Telling.{LeavesScreen}
 use Rattle.vt_screen.proofs.Sized.{IsSized, sized_sent, sized_stepped}
 
-module _ {S : Type 0} (does : CallValue → S → ScreenValue → S → ScreenValue → Type 0)
-    (leaves : LeavesScreen does) (height width : ℕ) where
+module _ {S : Type 0} (does : CallRelation S) (leaves : LeavesScreen does) (height width : ℕ) where
   scrolls : (step : Step) (a b : act.State S) → Scrolls does a step b →
       IsSized height width (screen_after step a.screen) → IsSized height width b.screen
   scrolls step a b t z = subst (IsSized height width) (sym t.screen) z

@@ -18,9 +18,8 @@ use Rattle.vt_grid.specs.Scrollback.{pushed, reported}
 use Rattle.vt_grid.specs.Texts.{printed_text}
 use Rattle.vt_grid.proofs.Outgoing.{out_narrow}
 use Rattle.vt_grid.proofs.Texts.{has_room}
-use Rattle.vt_screen.specs.Calls.{CallValue}
 use Rattle.vt_screen.specs.Internals.{Aside, IsKept}
-use Rattle.vt_screen.specs.Run.{CalledOnScroll, Scrolls, state}
+use Rattle.vt_screen.specs.Run.{CallRelation, CalledOnScroll, Scrolls, state}
 use Rattle.vt_screen.specs.Screen.{ScreenValue, IsPrintable, above_page}
 use Rattle.vt_screen.specs.Steps.{Print, last_after, display_after}
 use Rattle.vt_screen.specs.Texts.{screen_after_text}
@@ -89,8 +88,7 @@ sent_nothing : (b : Bool) (c : ℕ) (screen : ScreenValue) (gone : List RowValue
 sent_nothing true c screen gone e = refl
 sent_nothing false c screen gone e = rw e refl
 
-pub print_scrolls : {S : Type 0} (does : CallValue → S → ScreenValue → S → ScreenValue → Type 0)
-    (c : ℕ) (s : S) (screen : ScreenValue) →
+pub print_scrolls : {S : Type 0} (does : CallRelation S) (c : ℕ) (s : S) (screen : ScreenValue) →
     0x20 ≤ c → c < 0x7F → screen.page.column < screen.page.width →
     Scrolls does (state s screen) (Print c) (state s (display_after (Print c) screen))
 print_scrolls does c s screen low high room =

@@ -1,14 +1,11 @@
 -- What a report of a row does; for private contracts only.
 use Rattle.std.specs.Prelude.{◌≡◌}
 use Rattle.vt_rows.specs.Row.{RowValue}
-use Rattle.vt_screen.specs.Calls.{CallValue}
-use Rattle.vt_screen.specs.Run.{CalledOnScroll}
-use Rattle.vt_screen.specs.Screen.{ScreenValue}
+use Rattle.vt_screen.specs.Run.{CallRelation, CalledOnScroll}
 use Rattle.vt_screen.specs.declared.reporter.Reporter.{Reporter}
 
 -- the callbacks hear of the row, and are the same ones as before
-abbrev pub Reports : {S : Type 0} → (CallValue → S → ScreenValue → S → ScreenValue → Type 0) →
-    Reporter S → RowValue → Reporter S → Type 0
+abbrev pub Reports : {S : Type 0} → CallRelation S → Reporter S → RowValue → Reporter S → Type 0
 Reports does old row new =
     (new.callbacks.ghost_name ≡ old.callbacks.ghost_name)
     × ((new.alternate ≡ old.alternate) × CalledOnScroll does old.alternate old.callbacks.now row new.callbacks.now)

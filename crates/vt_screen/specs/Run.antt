@@ -17,25 +17,26 @@ pub record State (S : Type 0) : Type 0 where
 abbrev pub state : {S : Type 0} → S → ScreenValue → State S
 state callbacks screen = record { callbacks = callbacks; screen = screen }
 
+-- what each call does: the callbacks and the screen before it, and both after it
+abbrev pub CallRelation : Type 0 → Type 1
+CallRelation S = CallValue → S → ScreenValue → S → ScreenValue → Type 0
+
 -- a call that is lent no screen: whatever screen there is stays
-abbrev pub CalledOnAnyScreen : {S : Type 0} → (CallValue → S → ScreenValue → S → ScreenValue → Type 0) → S → CallValue → S → Type 0
+abbrev pub CalledOnAnyScreen : {S : Type 0} → CallRelation S → S → CallValue → S → Type 0
 CalledOnAnyScreen does old call new = (screen : ScreenValue) → does call old screen new screen
 
 -- a row is reported
-abbrev pub CalledOnScroll : {S : Type 0} → (CallValue → S → ScreenValue → S → ScreenValue → Type 0) →
-    (alternate : Bool) → S → RowValue → S → Type 0
+abbrev pub CalledOnScroll : {S : Type 0} → CallRelation S → (alternate : Bool) → S → RowValue → S → Type 0
 CalledOnScroll does alternate old row new = CalledOnAnyScreen does old (OnScroll row alternate) new
 
 -- a step that may send rows off the page: first its rows are reported, one by one
-pub record Scrolls {S : Type 0} (does : CallValue → S → ScreenValue → S → ScreenValue → Type 0)
-    (a : State S) (step : Step) (b : State S) : Type 0 where
+pub record Scrolls {S : Type 0} (does : CallRelation S) (a : State S) (step : Step) (b : State S) : Type 0 where
   pub screen : b.screen ≡ screen_after step a.screen
   pub heard : FoldsTo (CalledOnScroll does a.screen.is_alternate) a.callbacks (reports step a.screen) b.callbacks
 
 -- a step: a callback does what its relation says, a scroll reports what it doesn't keep,
 -- any other step changes the screen alone
-abbrev pub Takes : {S : Type 0} → (CallValue → S → ScreenValue → S → ScreenValue → Type 0) →
-    State S → Step → State S → Type 0
+abbrev pub Takes : {S : Type 0} → CallRelation S → State S → Step → State S → Type 0
 Takes does a (CallBack call) b = does call a.callbacks a.screen b.callbacks b.screen
 Takes does a (Print c) b = Scrolls does a (Print c) b
 Takes does a LineFeed b = Scrolls does a LineFeed b
@@ -44,8 +45,7 @@ Takes does a EraseScrollback b = Scrolls does a EraseScrollback b
 Takes does a step b = b ≡ state a.callbacks (display_after step a.screen)
 
 -- an event: its steps one after the other, as the event meets the screen
-abbrev pub Performs : {S : Type 0} → (CallValue → S → ScreenValue → S → ScreenValue → Type 0) →
-    State S → Event → State S → Type 0
+abbrev pub Performs : {S : Type 0} → CallRelation S → State S → Event → State S → Type 0
 Performs does a event b = FoldsTo (Takes does) a (steps_of event (seen_of a.screen)) b
 
 -- ---- want of memory
@@ -61,6 +61,5 @@ StopsIn {P} takes refuses p (x ∷ xs) q =
     refuses p x q ⊎ ((middle : P) × takes p x middle × StopsIn takes refuses middle xs q)
 
 -- an event whose steps stop at one that is refused
-abbrev pub Breaks : {S : Type 0} → (CallValue → S → ScreenValue → S → ScreenValue → Type 0) →
-    State S → Event → State S → Type 0
+abbrev pub Breaks : {S : Type 0} → CallRelation S → State S → Event → State S → Type 0
 Breaks does a event b = StopsIn (Takes does) Refuses a (steps_of event (seen_of a.screen)) b

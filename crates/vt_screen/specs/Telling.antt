@@ -7,14 +7,15 @@ use Rattle.vt_screen.specs.Calls.{CallValue, OnScroll}
 use Rattle.vt_screen.specs.Screen.{ScreenValue}
 use Rattle.vt_screen.specs.Controls.{seen_of, steps_of}
 use Rattle.vt_screen.specs.Steps.{Step, CallBack, reports, screen_after}
+use Rattle.vt_screen.specs.Run.{CallRelation}
 
 -- callbacks that leave the screen alone
-abbrev pub LeavesScreen : {S : Type 0} → (CallValue → S → ScreenValue → S → ScreenValue → Type 0) → Type 0
+abbrev pub LeavesScreen : {S : Type 0} → CallRelation S → Type 0
 LeavesScreen {S} does =
     (call : CallValue) → (old new : S) → (before after : ScreenValue) → does call old before new after → after ≡ before
 
 -- such callbacks hear of a call, while there is some screen
-abbrev pub CalledOnSomeScreen : {S : Type 0} → (CallValue → S → ScreenValue → S → ScreenValue → Type 0) → S → CallValue → S → Type 0
+abbrev pub CalledOnSomeScreen : {S : Type 0} → CallRelation S → S → CallValue → S → Type 0
 CalledOnSomeScreen does old call new = (screen : ScreenValue) × does call old screen new screen
 
 -- the calls that a step makes, in order: its own, or a report of each row that leaves and isn't kept
