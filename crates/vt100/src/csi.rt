@@ -16,6 +16,7 @@ use crate::sequence::Sequence;
 use crate::{numbers, private_modes, sgr};
 use vt_cells::{CursorStyle, Error};
 use vt_scan::Parameters;
+use vt_screen::screen::{controls, scrolling};
 use vt_screen::{Callbacks, Screen};
 
 /// Does what a control sequence says, up to a step whose memory is refused.
@@ -125,7 +126,7 @@ fn scrolling<CB: Callbacks>(
     let count = numbers::number_or(1, sequence.parameters, 0);
     match sequence.byte {
         b'S' => {
-            screen.su(count, callbacks)?;
+            scrolling::su(screen, count, callbacks)?;
             Ok(())
         }
         b'b' => repeat(screen, callbacks, count),
@@ -144,20 +145,20 @@ fn counted(screen: &mut Screen, byte: u8, count: u16) -> bool
     ensures { MadeIf (counted_step byte count) result screen.old screen.new }
 {
     match byte {
-        b'@' => screen.ich(count),
-        b'A' => screen.cuu(count),
-        b'B' => screen.cud(count),
-        b'C' => screen.cuf(count),
-        b'D' => screen.cub(count),
-        b'E' => screen.cnl(count),
-        b'F' => screen.cpl(count),
-        b'G' | b'`' => screen.cha(count - 1),
-        b'L' => screen.il(count),
-        b'M' => screen.dl(count),
-        b'P' => screen.dch(count),
-        b'T' => screen.sd(count),
-        b'X' => screen.ech(count),
-        b'd' => screen.vpa(count - 1),
+        b'@' => controls::ich(screen, count),
+        b'A' => controls::cuu(screen, count),
+        b'B' => controls::cud(screen, count),
+        b'C' => controls::cuf(screen, count),
+        b'D' => controls::cub(screen, count),
+        b'E' => controls::cnl(screen, count),
+        b'F' => controls::cpl(screen, count),
+        b'G' | b'`' => controls::cha(screen, count - 1),
+        b'L' => controls::il(screen, count),
+        b'M' => controls::dl(screen, count),
+        b'P' => controls::dch(screen, count),
+        b'T' => controls::sd(screen, count),
+        b'X' => controls::ech(screen, count),
+        b'd' => controls::vpa(screen, count - 1),
         _ => return false,
     }
     true
@@ -194,7 +195,7 @@ fn move_to(screen: &mut Screen, parameters: &Parameters)
 {
     let row = numbers::number_or(1, parameters, 0);
     let col = numbers::number_or(1, parameters, 1);
-    screen.cup(row - 1, col - 1);
+    controls::cup(screen, row - 1, col - 1);
 }
 
 /// DECSTBM, whose numbers count from 1; without the second one, to the last row.
@@ -207,7 +208,7 @@ fn set_region(screen: &mut Screen, parameters: &Parameters)
     let (rows, _) = screen.size();
     let top = numbers::number_or(1, parameters, 0);
     let bottom = numbers::number_or(rows.get(), parameters, 1);
-    screen.decstbm(top - 1, bottom - 1);
+    controls::decstbm(screen, top - 1, bottom - 1);
 }
 
 /// ED.
@@ -218,10 +219,10 @@ fn erase_page<CB: Callbacks>(screen: &mut Screen, callbacks: &mut CB, sequence: 
         callbacks.new screen.new }
 {
     match sequence.parameters.number(0) {
-        0 => screen.erase_below(),
-        1 => screen.erase_above(),
-        2 => screen.erase_page(),
-        3 => screen.erase_scrollback(callbacks),
+        0 => controls::erase_below(screen),
+        1 => controls::erase_above(screen),
+        2 => controls::erase_page(screen),
+        3 => scrolling::erase_scrollback(screen, callbacks),
         _ => sequence.report(screen, callbacks),
     }
 }
@@ -234,9 +235,9 @@ fn erase_row<CB: Callbacks>(screen: &mut Screen, callbacks: &mut CB, sequence: S
         callbacks.new screen.new }
 {
     match sequence.parameters.number(0) {
-        0 => screen.erase_rest(),
-        1 => screen.erase_start(),
-        2 => screen.erase_row(),
+        0 => controls::erase_rest(screen),
+        1 => controls::erase_start(screen),
+        2 => controls::erase_row(screen),
         _ => sequence.report(screen, callbacks),
     }
 }
@@ -343,7 +344,7 @@ fn spaced<CB: Callbacks>(screen: &mut Screen, callbacks: &mut CB, sequence: Sequ
         return;
     }
     match style(sequence.parameters.number(0)) {
-        Some(style) => screen.set_cursor_style(style),
+        Some(style) => controls::set_cursor_style(screen, style),
         None => sequence.report(screen, callbacks),
     }
 }

@@ -20,6 +20,7 @@ use std::marker::Model;
 use std::num::NonZeroU16;
 use vt_cells::Error;
 use vt_scan::Scanner;
+use vt_screen::screen::{new_screen, resizing};
 use vt_screen::{Callbacks, Screen};
 
 /// A terminal in memory: it reads what a program writes, keeps the screen that
@@ -111,7 +112,7 @@ impl<CB: Callbacks> Parser<CB> {
             ≡ parsing parser.scanner (fresh_screen rows.value cols.value scrollback_capacity) callbacks) }
     {
         let scanner = Scanner::new(alloc);
-        let screen = Screen::new(alloc, rows, cols, scrollback_capacity)?;
+        let screen = new_screen(alloc, rows, cols, scrollback_capacity)?;
         Ok(Parser {
             scanner,
             screen,
@@ -186,8 +187,7 @@ impl<CB: Callbacks> Parser<CB> {
         ensures grows { IsErr result → has_size rows.value cols.value self.old.screen ≡ false }
         ensures memory { OnlyOutOfMemory result }
     {
-        self.screen
-            .set_size_with_cb(rows, cols, &mut self.callbacks)?;
+        resizing::set_size_with_cb(&mut self.screen, rows, cols, &mut self.callbacks)?;
         Ok(())
     }
 

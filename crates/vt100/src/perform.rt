@@ -12,6 +12,7 @@ ghost use Rattle.vt_screen.specs.Controls.{character_steps, control_steps, escap
 use crate::{csi, numbers, osc};
 use vt_cells::Error;
 use vt_scan::{Event, Scanner};
+use vt_screen::screen::{controls, pages, printing, scrolling};
 use vt_screen::{Callbacks, Screen};
 
 /// Does what an event of the scanner's last byte says, up to a step whose
@@ -109,7 +110,7 @@ pub fn print<CB: Callbacks>(
         callbacks.unhandled_char(screen, character);
         return Ok(());
     }
-    screen.text(character, callbacks)?;
+    printing::text(screen, character, callbacks)?;
     Ok(())
 }
 
@@ -154,7 +155,7 @@ pub fn execute<CB: Callbacks>(
     ensures memory { OnlyOutOfMemory result }
 {
     if (0x0A..=0x0C).contains(&byte) {
-        screen.lf(callbacks)?;
+        scrolling::lf(screen, callbacks)?;
         return Ok(());
     }
     execute_other(screen, callbacks, byte);
@@ -169,9 +170,9 @@ fn execute_other<CB: Callbacks>(screen: &mut Screen, callbacks: &mut CB, byte: u
 {
     match byte {
         0x07 => callbacks.audible_bell(screen),
-        0x08 => screen.bs(),
-        0x09 => screen.tab(),
-        0x0D => screen.cr(),
+        0x08 => controls::bs(screen),
+        0x09 => controls::tab(screen),
+        0x0D => controls::cr(screen),
         0x0E | 0x0F => {}
         _ => callbacks.unhandled_control(screen, byte),
     }
@@ -197,12 +198,12 @@ fn plain_escape<CB: Callbacks>(screen: &mut Screen, callbacks: &mut CB, byte: u8
     ensures { Does CB.does callbacks.old screen.old (escape_steps [] byte) callbacks.new screen.new }
 {
     match byte {
-        b'7' => screen.decsc(),
-        b'8' => screen.decrc(),
-        b'=' => screen.set_application_keypad(true),
-        b'>' => screen.set_application_keypad(false),
-        b'M' => screen.ri(),
-        b'c' => screen.ris(),
+        b'7' => pages::decsc(screen),
+        b'8' => pages::decrc(screen),
+        b'=' => controls::set_application_keypad(screen, true),
+        b'>' => controls::set_application_keypad(screen, false),
+        b'M' => controls::ri(screen),
+        b'c' => pages::ris(screen),
         b'g' => callbacks.visual_bell(screen),
         _ => callbacks.unhandled_escape(screen, None, None, byte),
     }

@@ -9,6 +9,7 @@ ghost use Rattle.vt_screen.specs.Steps.{Grows, display_after};
 
 use crate::sequence::Sequence;
 use vt_cells::{Error, MouseProtocolEncoding, MouseProtocolMode};
+use vt_screen::screen::{controls, pages};
 use vt_screen::{Callbacks, Screen};
 
 /// Turns the modes that a sequence names on or off, and reports each group
@@ -103,16 +104,16 @@ fn set_other_mode<CB: Callbacks>(
         (mode_step on (report_of sequence.entry) number) callbacks.new screen.new }
 {
     match number {
-        1 => screen.set_application_cursor(on),
-        6 => screen.set_origin_mode(on),
+        1 => controls::set_application_cursor(screen, on),
+        6 => controls::set_origin_mode(screen, on),
         9 => set_mouse_mode(screen, on, MouseProtocolMode::Press),
-        25 => screen.set_hidden(!on),
+        25 => controls::set_hidden(screen, !on),
         1000 => set_mouse_mode(screen, on, MouseProtocolMode::PressRelease),
         1002 => set_mouse_mode(screen, on, MouseProtocolMode::ButtonMotion),
         1003 => set_mouse_mode(screen, on, MouseProtocolMode::AnyMotion),
         1005 => set_mouse_encoding(screen, on, MouseProtocolEncoding::Utf8),
         1006 => set_mouse_encoding(screen, on, MouseProtocolEncoding::Sgr),
-        2004 => screen.set_bracketed_paste(on),
+        2004 => controls::set_bracketed_paste(screen, on),
         _ => sequence.report(screen, callbacks),
     }
 }
@@ -125,9 +126,9 @@ fn show_alternate(screen: &mut Screen, on: bool) -> Result<(), Error>
     ensures memory { OnlyOutOfMemory result }
 {
     if on {
-        return screen.enter_alternate();
+        return pages::enter_alternate(screen);
     }
-    screen.leave_alternate();
+    pages::leave_alternate(screen);
     Ok(())
 }
 
@@ -140,9 +141,9 @@ fn show_fresh_alternate(screen: &mut Screen, on: bool) -> Result<(), Error>
     ensures memory { OnlyOutOfMemory result }
 {
     if on {
-        return screen.enter_fresh_alternate();
+        return pages::enter_fresh_alternate(screen);
     }
-    screen.leave_and_restore();
+    pages::leave_and_restore(screen);
     Ok(())
 }
 
@@ -151,10 +152,10 @@ fn set_mouse_mode(screen: &mut Screen, on: bool, mode: MouseProtocolMode)
     ensures { screen.new ≡ display_after (mouse_step on mode) screen.old }
 {
     if on {
-        screen.set_mouse_mode(mode);
+        controls::set_mouse_mode(screen, mode);
         return;
     }
-    screen.clear_mouse_mode(mode);
+    controls::clear_mouse_mode(screen, mode);
 }
 
 /// This encoding of mouse events, or the default one where it is this one.
@@ -162,8 +163,8 @@ fn set_mouse_encoding(screen: &mut Screen, on: bool, encoding: MouseProtocolEnco
     ensures { screen.new ≡ display_after (encoding_step on encoding) screen.old }
 {
     if on {
-        screen.set_mouse_encoding(encoding);
+        controls::set_mouse_encoding(screen, encoding);
         return;
     }
-    screen.clear_mouse_encoding(encoding);
+    controls::clear_mouse_encoding(screen, encoding);
 }

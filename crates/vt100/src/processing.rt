@@ -10,6 +10,7 @@ ghost use Rattle.vt_screen.specs.Run.{Breaks, Performs, StopsIn, state};
 use crate::perform::{control_sequence, escape_sequence, execute, perform, print, print_apart};
 use vt_cells::Error;
 use vt_scan::{Event, Events, Scanner};
+use vt_screen::screen::printing;
 use vt_screen::{Callbacks, Screen};
 
 /// Reads bytes, and does what their events say, up to a byte whose memory is
@@ -188,13 +189,13 @@ fn print_some<CB: Callbacks>(
         bytes.now (parsing scanner.now screen.new callbacks.new) }
     ensures memory { OnlyOutOfMemory result }
 {
-    let fitting = bytes.len().min(usize::from(screen.room()));
+    let fitting = bytes.len().min(usize::from(printing::room(screen)));
     let count = scanner.plain_len(&bytes[..fitting]);
     if count == 0 {
         print_apart(screen, callbacks, char::from(bytes[0]))?;
         return Ok(1);
     }
-    screen.print_text(&bytes[..count]);
+    printing::print_text(screen, &bytes[..count]);
     Ok(count)
 }
 

@@ -8,6 +8,7 @@ ghost use Rattle.vt_screen.specs.Steps as step;
 ghost use Rattle.vt_screen.specs.Texts.{screen_after_text};
 
 use vt_cells::Error;
+use vt_screen::screen::printing;
 use vt_screen::{Callbacks, Screen};
 
 /// How many characters are printed as one text, at most.
@@ -25,7 +26,7 @@ pub fn repeat<CB: Callbacks>(
         Stops CB.does callbacks.old screen.old (repeated count screen.old.last) callbacks.new screen.new }
     ensures memory { OnlyOutOfMemory result }
 {
-    let Some(character) = screen.last_char() else {
+    let Some(character) = printing::last_char(screen) else {
         return Ok(());
     };
     let code = character as u32;
@@ -81,9 +82,9 @@ fn repeat_some<CB: Callbacks>(
         Stops CB.does callbacks.old screen.old (replicate left (step.Print byte)) callbacks.new screen.new }
     ensures memory { OnlyOutOfMemory result }
 {
-    let count = left.min(screen.room()).min(TEXT_ROOM as u16);
+    let count = left.min(printing::room(screen)).min(TEXT_ROOM as u16);
     if count == 0 {
-        screen.text(char::from(byte), callbacks)?;
+        printing::text(screen, char::from(byte), callbacks)?;
         return Ok(1);
     }
     repeat_in_row(screen, byte, count);
@@ -101,7 +102,7 @@ fn repeat_in_row(screen: &mut Screen, byte: u8, count: u16)
     ensures { screen.new ≡ screen_after_text (replicate count byte) screen.old }
 {
     let text = [byte; TEXT_ROOM];
-    screen.print_text(&text[..usize::from(count)]);
+    printing::print_text(screen, &text[..usize::from(count)]);
 }
 
 /// Any other character, so many times.
@@ -120,7 +121,7 @@ fn repeat_other<CB: Callbacks>(
     ensures memory { OnlyOutOfMemory result }
 {
     for _ in 0..count {
-        screen.text(character, callbacks)?;
+        printing::text(screen, character, callbacks)?;
     }
     Ok(())
 }

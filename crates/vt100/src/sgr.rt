@@ -7,6 +7,7 @@ ghost use Rattle.vt_screen.specs.Controls.{reading_steps, sgr_steps};
 
 use crate::sequence::Sequence;
 use vt_scan::Parameters;
+use vt_screen::screen::controls;
 use vt_screen::sgr::{Reading, Wanted};
 use vt_screen::{Callbacks, Screen};
 
@@ -72,7 +73,7 @@ fn apply<CB: Callbacks>(
 {
     match reading {
         Reading::Silent => {}
-        Reading::Set(setting) => screen.render(setting),
+        Reading::Set(setting) => controls::render(screen, setting),
         Reading::Unhandled => report(screen, callbacks, parameters),
     }
 }

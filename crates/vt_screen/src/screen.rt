@@ -1,6 +1,6 @@
 //! The screen of a terminal.
 
-ghost use Rattle.std.specs.Prelude.{◌≡◌, ◌≢◌, ◌<◌, ◌↔◌, IfOk, IfSome, IsSome, None, OnOk, Some, false, length, true};
+ghost use Rattle.std.specs.Prelude.{◌≡◌, ◌<◌, ◌↔◌, IfOk, IfSome, IsSome, None, false, length, true};
 ghost use Rattle.vt_cells.specs.Attrs.{is_bold, is_dim};
 ghost use Rattle.vt_cells.specs.Refusals.{OnlyOutOfMemory};
 ghost use Rattle.vt_grid.specs.Page.{SameSize};
@@ -9,15 +9,15 @@ ghost use Rattle.vt_screen.specs.Screen.{IsColored, IsScreen, fresh_screen, visi
 
 mod capture;
 mod contents;
-mod controls;
+pub mod controls;
 mod input;
 mod moved;
-mod pages;
-mod printing;
+pub mod pages;
+pub mod printing;
 mod redraw;
-mod resizing;
+pub mod resizing;
 mod row_items;
-mod scrolling;
+pub mod scrolling;
 mod state;
 
 use crate::modes::Modes;
@@ -89,42 +89,42 @@ impl Drop for Screen {
     }
 }
 
-impl Screen {
-    /// A fresh screen: default blanks, the cursor in the corner, default
-    /// attributes, each mode off or its default. Its scrollback may keep
-    /// `scrollback_capacity` rows.
-    ///
-    /// Fails where memory for its rows is refused.
-    #[tactic(auto, using(crate::proofs::Kept::kept_blank))]
-    pub fn new(
-        alloc: Global,
-        rows: NonZeroU16,
-        cols: NonZeroU16,
-        scrollback_capacity: usize,
-    ) -> Result<Screen, Error>
-        ensures fresh { IfOk result (λ screen. screen ≡ fresh_screen rows.value cols.value scrollback_capacity) }
-        ensures memory { OnlyOutOfMemory result }
-    {
-        let size = Size {
-            rows: rows.get(),
-            cols: cols.get(),
-        };
-        let grid = Grid::new(alloc, size)?;
-        Ok(Screen {
-            alloc,
-            grid,
-            attrs: Attrs::new(),
-            saved_attrs: Attrs::new(),
-            hidden: false,
-            modes: Modes::new(),
-            last: None,
-            scrollback: Scrollback::new(alloc, scrollback_capacity),
-            other: None,
-            other_scrollback: Scrollback::new(alloc, 0),
-            is_alternate: false,
-        })
-    }
+/// A fresh screen: default blanks, the cursor in the corner, default
+/// attributes, each mode off or its default. Its scrollback may keep
+/// `scrollback_capacity` rows.
+///
+/// Fails where memory for its rows is refused.
+#[tactic(auto, using(crate::proofs::Kept::kept_blank))]
+pub fn new_screen(
+    alloc: Global,
+    rows: NonZeroU16,
+    cols: NonZeroU16,
+    scrollback_capacity: usize,
+) -> Result<Screen, Error>
+    ensures fresh { IfOk result (λ screen. screen ≡ fresh_screen rows.value cols.value scrollback_capacity) }
+    ensures memory { OnlyOutOfMemory result }
+{
+    let size = Size {
+        rows: rows.get(),
+        cols: cols.get(),
+    };
+    let grid = Grid::new(alloc, size)?;
+    Ok(Screen {
+        alloc,
+        grid,
+        attrs: Attrs::new(),
+        saved_attrs: Attrs::new(),
+        hidden: false,
+        modes: Modes::new(),
+        last: None,
+        scrollback: Scrollback::new(alloc, scrollback_capacity),
+        other: None,
+        other_scrollback: Scrollback::new(alloc, 0),
+        is_alternate: false,
+    })
+}
 
+impl Screen {
     /// A copy of the screen, with both pages and scrollback.
     ///
     /// Fails where its memory is refused.
@@ -235,15 +235,6 @@ impl Screen {
         ensures { result ≡ self.now.is_alternate }
     {
         self.is_alternate
-    }
-
-    /// The last character that was printed in columns of its own, which REP
-    /// (ECMA-48) repeats; None before the first one and after RIS.
-    pub fn last_char(&self) -> Option<char>
-        ensures value { result ≡ self.now.last }
-        ensures reported { result ≢ Some 0xFFFD }
-    {
-        self.last
     }
 
     /// Whether the keypad sends application sequences (DECKPAM).

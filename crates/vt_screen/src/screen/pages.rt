@@ -14,150 +14,148 @@ use std::mem;
 use vt_cells::{Attrs, Error};
 use vt_grid::Grid;
 
-impl Screen {
-    /// Saves the cursor, origin mode and the attributes (DECSC).
-    pub fn decsc(&mut self)
-        ensures { self.new ≡ display_after step.SaveCursor self.old }
-    {
-        self.grid.save_cursor();
-        self.saved_attrs = self.attrs;
-    }
+/// Saves the cursor, origin mode and the attributes (DECSC).
+pub fn decsc(screen: &mut Screen)
+    ensures { screen.new ≡ display_after step.SaveCursor screen.old }
+{
+    screen.grid.save_cursor();
+    screen.saved_attrs = screen.attrs;
+}
 
-    /// Restores the cursor, origin mode and the attributes as they were saved
-    /// (DECRC).
-    pub fn decrc(&mut self)
-        ensures { self.new ≡ display_after step.RestoreCursor self.old }
-    {
-        self.grid.restore_cursor();
-        self.attrs = self.saved_attrs;
-    }
+/// Restores the cursor, origin mode and the attributes as they were saved
+/// (DECRC).
+pub fn decrc(screen: &mut Screen)
+    ensures { screen.new ≡ display_after step.RestoreCursor screen.old }
+{
+    screen.grid.restore_cursor();
+    screen.attrs = screen.saved_attrs;
+}
 
-    /// Makes the alternate page the active one, as it was left (xterm's private
-    /// mode 47). No row of scrollback stays in view.
-    ///
-    /// The first entry takes memory for the page. Fails where that is refused;
-    /// then nothing has changed.
-    pub fn enter_alternate(&mut self) -> Result<(), Error>
-        ensures ok { OnOk result (self.new ≡ display_after step.EnterAlternate self.old) }
-        ensures err { OnErr result (self.new ≡ self.old) }
-        ensures grows { IsErr result → Grows step.EnterAlternate self.old }
-        ensures memory { OnlyOutOfMemory result }
-    {
-        self.make_other()?;
-        self.show_alternate();
-        Ok(())
-    }
+/// Makes the alternate page the active one, as it was left (xterm's private
+/// mode 47). No row of scrollback stays in view.
+///
+/// The first entry takes memory for the page. Fails where that is refused;
+/// then nothing has changed.
+pub fn enter_alternate(screen: &mut Screen) -> Result<(), Error>
+    ensures ok { OnOk result (screen.new ≡ display_after step.EnterAlternate screen.old) }
+    ensures err { OnErr result (screen.new ≡ screen.old) }
+    ensures grows { IsErr result → Grows step.EnterAlternate screen.old }
+    ensures memory { OnlyOutOfMemory result }
+{
+    make_other(screen)?;
+    show_alternate(screen);
+    Ok(())
+}
 
-    /// Saves as [`Screen::decsc`] does, and makes the alternate page the active
-    /// one, blank and fresh (xterm's private mode 1049).
-    ///
-    /// The first entry takes memory for the page. Fails where that is refused;
-    /// then nothing has changed.
-    pub fn enter_fresh_alternate(&mut self) -> Result<(), Error>
-        ensures ok { OnOk result (self.new ≡ display_after step.EnterFresh self.old) }
-        ensures err { OnErr result (self.new ≡ self.old) }
-        ensures grows { IsErr result → Grows step.EnterFresh self.old }
-        ensures memory { OnlyOutOfMemory result }
-    {
-        self.make_other()?;
-        self.decsc();
-        self.show_alternate();
-        self.clear_active();
-        Ok(())
-    }
+/// Saves as [`decsc`] does, and makes the alternate page the active one, blank
+/// and fresh (xterm's private mode 1049).
+///
+/// The first entry takes memory for the page. Fails where that is refused;
+/// then nothing has changed.
+pub fn enter_fresh_alternate(screen: &mut Screen) -> Result<(), Error>
+    ensures ok { OnOk result (screen.new ≡ display_after step.EnterFresh screen.old) }
+    ensures err { OnErr result (screen.new ≡ screen.old) }
+    ensures grows { IsErr result → Grows step.EnterFresh screen.old }
+    ensures memory { OnlyOutOfMemory result }
+{
+    make_other(screen)?;
+    decsc(screen);
+    show_alternate(screen);
+    clear_active(screen);
+    Ok(())
+}
 
-    /// Makes the main page the active one (xterm's private mode 47, turned off).
-    pub fn leave_alternate(&mut self)
-        ensures value { self.new ≡ display_after step.LeaveAlternate self.old }
-        ensures whole { IsScreen self.old }
-    {
-        if !self.is_alternate {
-            return;
-        }
-        self.exchange();
+/// Makes the main page the active one (xterm's private mode 47, turned off).
+pub fn leave_alternate(screen: &mut Screen)
+    ensures value { screen.new ≡ display_after step.LeaveAlternate screen.old }
+    ensures whole { IsScreen screen.old }
+{
+    if !screen.is_alternate {
+        return;
     }
+    exchange(screen);
+}
 
-    /// Makes the main page the active one, and restores as [`Screen::decrc`]
-    /// does (xterm's private mode 1049, turned off).
-    pub fn leave_and_restore(&mut self)
-        ensures { self.new ≡ display_after step.LeaveRestoring self.old }
-    {
-        self.leave_alternate();
-        self.decrc();
-    }
+/// Makes the main page the active one, and restores as [`decrc`] does (xterm's
+/// private mode 1049, turned off).
+pub fn leave_and_restore(screen: &mut Screen)
+    ensures { screen.new ≡ display_after step.LeaveRestoring screen.old }
+{
+    leave_alternate(screen);
+    decrc(screen);
+}
 
-    /// Makes all as it is on a fresh screen of the same size and scrollback
-    /// capacity, and takes no memory (RIS). Nobody is told of the rows that
-    /// scrollback gives up; an alternate page that was entered keeps its rows,
-    /// blank.
-    pub fn ris(&mut self)
-        ensures { self.new ≡ display_after step.Reset self.old }
-    {
-        self.leave_alternate();
-        self.clear_other();
-        self.clear_active();
-        self.scrollback.clear(&mut ());
-        self.attrs = Attrs::new();
-        self.saved_attrs = Attrs::new();
-        self.hidden = false;
-        self.modes = Modes::new();
-        self.last = None;
-    }
+/// Makes all as it is on a fresh screen of the same size and scrollback
+/// capacity, and takes no memory (RIS). Nobody is told of the rows that
+/// scrollback gives up; an alternate page that was entered keeps its rows,
+/// blank.
+pub fn ris(screen: &mut Screen)
+    ensures { screen.new ≡ display_after step.Reset screen.old }
+{
+    leave_alternate(screen);
+    clear_other(screen);
+    clear_active(screen);
+    screen.scrollback.clear(&mut ());
+    screen.attrs = Attrs::new();
+    screen.saved_attrs = Attrs::new();
+    screen.hidden = false;
+    screen.modes = Modes::new();
+    screen.last = None;
+}
 
-    /// Makes the page that isn't active, if there is none yet.
-    fn make_other(&mut self) -> Result<(), Error>
-        ensures ok { OnOk result (self.new ≡ with_other self.old) }
-        ensures err { OnErr result (self.new ≡ self.old) }
-        ensures grows { IsErr result → self.old.other ≡ None }
-        ensures memory { OnlyOutOfMemory result }
-        ensures whole { IsScreen self.old }
-    {
-        if self.other.is_some() {
-            return Ok(());
-        }
-        let page = Grid::new(self.alloc, self.grid.size())?;
-        self.other = Some(page);
-        Ok(())
+/// Makes the page that isn't active, if there is none yet.
+fn make_other(screen: &mut Screen) -> Result<(), Error>
+    ensures ok { OnOk result (screen.new ≡ with_other screen.old) }
+    ensures err { OnErr result (screen.new ≡ screen.old) }
+    ensures grows { IsErr result → screen.old.other ≡ None }
+    ensures memory { OnlyOutOfMemory result }
+    ensures whole { IsScreen screen.old }
+{
+    if screen.other.is_some() {
+        return Ok(());
     }
+    let page = Grid::new(screen.alloc, screen.grid.size())?;
+    screen.other = Some(page);
+    Ok(())
+}
 
-    /// Makes the alternate page, which there is, the active one.
-    fn show_alternate(&mut self)
-        requires { IsSome self.old.other }
-        ensures { self.new ≡ entered self.old }
-    {
-        if self.is_alternate {
-            return;
-        }
-        self.scrollback.leave_view();
-        self.exchange();
+/// Makes the alternate page, which there is, the active one.
+fn show_alternate(screen: &mut Screen)
+    requires { IsSome screen.old.other }
+    ensures { screen.new ≡ entered screen.old }
+{
+    if screen.is_alternate {
+        return;
     }
+    screen.scrollback.leave_view();
+    exchange(screen);
+}
 
-    /// Exchanges the two pages, if there are two.
-    pub(super) fn exchange(&mut self)
-        ensures { self.new ≡ exchanged self.old }
-    {
-        let Some(other) = &mut self.other else {
-            return;
-        };
-        mem::swap(&mut self.grid, other);
-        mem::swap(&mut self.scrollback, &mut self.other_scrollback);
-        self.is_alternate = !self.is_alternate;
-    }
+/// Exchanges the two pages, if there are two.
+pub(super) fn exchange(screen: &mut Screen)
+    ensures { screen.new ≡ exchanged screen.old }
+{
+    let Some(other) = &mut screen.other else {
+        return;
+    };
+    mem::swap(&mut screen.grid, other);
+    mem::swap(&mut screen.scrollback, &mut screen.other_scrollback);
+    screen.is_alternate = !screen.is_alternate;
+}
 
-    /// Makes the active page fresh.
-    fn clear_active(&mut self)
-        ensures { self.new ≡ with_fresh_page self.old }
-    {
-        self.grid.clear();
-    }
+/// Makes the active page fresh.
+fn clear_active(screen: &mut Screen)
+    ensures { screen.new ≡ with_fresh_page screen.old }
+{
+    screen.grid.clear();
+}
 
-    /// Makes the page that isn't active, if there is one, fresh.
-    fn clear_other(&mut self)
-        ensures { self.new ≡ with_fresh_other self.old }
-    {
-        let Some(other) = &mut self.other else {
-            return;
-        };
-        other.clear();
-    }
+/// Makes the page that isn't active, if there is one, fresh.
+fn clear_other(screen: &mut Screen)
+    ensures { screen.new ≡ with_fresh_other screen.old }
+{
+    let Some(other) = &mut screen.other else {
+        return;
+    };
+    other.clear();
 }

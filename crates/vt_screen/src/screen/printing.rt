@@ -1,32 +1,101 @@
-//! A text of plain characters, printed as one edit of its row.
+//! Characters that are printed, one by one or as one edit of their row.
 
-ghost use Rattle.std.specs.Prelude.{◌≡◌, ◌+◌, ◌-◌, ◌<◌, ◌≤◌, length};
+ghost use Rattle.std.specs.Prelude.{◌≡◌, ◌≢◌, ◌+◌, ◌-◌, ◌<◌, ◌≤◌, IfSome, OnErr, OnOk, Some, length};
+ghost use Rattle.vt_cells.specs.Glyph.{columns_of};
+ghost use Rattle.vt_cells.specs.Refusals.{OnlyOutOfMemory};
 ghost use Rattle.vt_rows.specs.Texts.{IsPrintableAscii};
+ghost use Rattle.vt_screen.specs.Run.{Refuses, Takes, state};
+ghost use Rattle.vt_screen.specs.Screen.{IsPrintable};
+ghost use Rattle.vt_screen.specs.Steps as step;
 ghost use Rattle.vt_screen.specs.Texts.{screen_after_text};
 
 use super::Screen;
+use crate::callbacks::Callbacks;
+use crate::reporter::Reporter;
+use vt_cells::{Error, columns};
 
-impl Screen {
-    /// How many columns there are from the cursor on up to the end of its row:
-    /// so many narrow characters are printed before a wrap.
-    #[inline]
-    pub fn room(&self) -> u16
-        ensures { result ≡ self.now.page.width - self.now.page.column }
-    {
-        self.grid.room()
-    }
+/// Prints a character.
+///
+/// A character of one or two columns becomes a glyph in the current
+/// attributes, after a wrap where there is no room for it. One without
+/// columns of its own is put on the glyph before the cursor. A control,
+/// and a character wider than the screen, draws nothing. U+FFFD, which
+/// stands for bytes that are no character, is not to be printed.
+///
+/// A wrap at the bottom may scroll a row off the page, as in
+/// [`super::scrolling::lf`].
+#[inline(always)]
+pub fn text<CB: Callbacks>(screen: &mut Screen, c: char, callbacks: &mut CB) -> Result<(), Error>
+    requires { c ≢ 0xFFFD }
+    ensures done { OnOk result
+        (Takes CB.does (state callbacks.old screen.old) (step.Print c) (state callbacks.new screen.new)) }
+    ensures refused { OnErr result
+        (Refuses (state callbacks.old screen.old) (step.Print c) (state callbacks.new screen.new)) }
+    ensures memory { OnlyOutOfMemory result }
+{
+    let width = columns(c);
+    let last = last_after(screen, c, width);
+    let mut reporter = Reporter {
+        callbacks,
+        alternate: screen.is_alternate,
+    };
+    screen.grid.print_columns(
+        c,
+        width,
+        screen.attrs,
+        &mut screen.scrollback,
+        &mut reporter,
+    )?;
+    screen.last = last;
+    Ok(())
+}
 
-    /// Prints a text of printable ASCII for which the cursor's row has room:
-    /// what [`Screen::text`] does with one character after the other, as one
-    /// edit of the row. No row leaves the page, and no callback is called.
-    #[inline]
-    pub fn print_text(&mut self, text: &[u8])
-        requires some { 0 < length text.now }
-        requires room { self.old.page.column + length text.now ≤ self.old.page.width }
-        requires printable { IsPrintableAscii text.now }
-        ensures { self.new ≡ screen_after_text text.now self.old }
-    {
-        self.grid.print_text(text, self.attrs);
-        self.last = Some(char::from(text[text.len() - 1]));
+/// The last character that REP repeats, once this one, which takes these
+/// columns, is printed.
+#[inline(always)]
+fn last_after(screen: &Screen, c: char, width: Option<u8>) -> Option<char>
+    requires sound { c ≢ 0xFFFD }
+    requires columns { width ≡ columns_of c }
+    ensures value { result ≡ step.last_after c screen.now }
+    ensures printable { IfSome result IsPrintable }
+{
+    let Some(columns) = width else {
+        return screen.last;
+    };
+    if columns == 0 || u16::from(columns) > screen.grid.size().cols {
+        return screen.last;
     }
+    Some(c)
+}
+
+/// How many columns there are from the cursor on up to the end of its row:
+/// so many narrow characters are printed before a wrap.
+#[inline]
+pub fn room(screen: &Screen) -> u16
+    ensures { result ≡ screen.now.page.width - screen.now.page.column }
+{
+    screen.grid.room()
+}
+
+/// Prints a text of printable ASCII for which the cursor's row has room:
+/// what [`text`] does with one character after the other, as one edit of the
+/// row. No row leaves the page, and no callback is called.
+#[inline]
+pub fn print_text(screen: &mut Screen, text: &[u8])
+    requires some { 0 < length text.now }
+    requires room { screen.old.page.column + length text.now ≤ screen.old.page.width }
+    requires printable { IsPrintableAscii text.now }
+    ensures { screen.new ≡ screen_after_text text.now screen.old }
+{
+    screen.grid.print_text(text, screen.attrs);
+    screen.last = Some(char::from(text[text.len() - 1]));
+}
+
+/// The last character that was printed in columns of its own, which REP
+/// (ECMA-48) repeats; None before the first one and after RIS.
+pub fn last_char(screen: &Screen) -> Option<char>
+    ensures value { result ≡ screen.now.last }
+    ensures reported { result ≢ Some 0xFFFD }
+{
+    screen.last
 }

@@ -7,11 +7,13 @@ ghost use Rattle.vt_grid.specs.Page.{blank_page};
 ghost use Rattle.vt_grid.specs.Resize.{page_resized};
 ghost use Rattle.vt_grid.specs.Scrollback.{no_scrollback};
 ghost use Rattle.vt_screen.specs.Internals.{IsNothing, pages_resized};
-ghost use Rattle.vt_screen.specs.Pages.{calls_resized, has_size, reports_of, resized};
+ghost use Rattle.vt_screen.specs.Pages as pages;
+ghost use Rattle.vt_screen.specs.Pages.{calls_resized, reports_of, resized};
 ghost use Rattle.vt_screen.specs.Run.{CalledOnAnyScreen};
 ghost use Rattle.vt_screen.specs.Screen.{IsScreen};
 
 use super::Screen;
+use super::pages::exchange;
 use crate::callbacks::Callbacks;
 use crate::reporter::Reporter;
 use std::alloc::Global;
@@ -35,105 +37,114 @@ impl Screen {
     pub fn set_size(&mut self, rows: NonZeroU16, cols: NonZeroU16) -> Result<(), Error>
         ensures ok { OnOk result (self.new ≡ resized rows.value cols.value self.old) }
         ensures err { OnErr result (self.new ≡ self.old) }
-        ensures grows { IsErr result → has_size rows.value cols.value self.old ≡ false }
+        ensures grows { IsErr result → pages.has_size rows.value cols.value self.old ≡ false }
         ensures memory { OnlyOutOfMemory result }
     {
-        self.set_size_with_cb(rows, cols, &mut ())?;
+        set_size_with_cb(self, rows, cols, &mut ())?;
         Ok(())
     }
+}
 
-    /// Gives the screen another size, as [`Screen::set_size`] does, and tells
-    /// the callbacks of the rows that aren't kept (see
-    /// [`Callbacks::on_scroll`]): first those of scrollback and the main page,
-    /// then those of the alternate one, each older ones first.
-    ///
-    /// Fails where memory is refused; then nothing has changed, and nothing was
-    /// told.
-    pub fn set_size_with_cb<CB: Callbacks>(
-        &mut self,
-        rows: NonZeroU16,
-        cols: NonZeroU16,
-        callbacks: &mut CB,
-    ) -> Result<(), Error>
-        ensures ok { OnOk result (self.new ≡ resized rows.value cols.value self.old) }
-        ensures told { OnOk result
-            (FoldsTo (CalledOnAnyScreen CB.does) callbacks.old (calls_resized rows.value cols.value self.old) callbacks.new) }
-        ensures err { OnErr result ((self.new ≡ self.old) × (callbacks.new ≡ callbacks.old)) }
-        ensures grows { IsErr result → has_size rows.value cols.value self.old ≡ false }
-        ensures memory { OnlyOutOfMemory result }
-    {
-        let size = Size {
-            rows: rows.get(),
-            cols: cols.get(),
-        };
-        if self.has_size(size) {
-            return Ok(());
-        }
-        self.resize_pages(size, callbacks)?;
-        Ok(())
+/// Gives the screen another size, as [`Screen::set_size`] does, and tells
+/// the callbacks of the rows that aren't kept (see
+/// [`Callbacks::on_scroll`]): first those of scrollback and the main page,
+/// then those of the alternate one, each older ones first.
+///
+/// Fails where memory is refused; then nothing has changed, and nothing was
+/// told.
+pub fn set_size_with_cb<CB: Callbacks>(
+    screen: &mut Screen,
+    rows: NonZeroU16,
+    cols: NonZeroU16,
+    callbacks: &mut CB,
+) -> Result<(), Error>
+    ensures ok { OnOk result (screen.new ≡ resized rows.value cols.value screen.old) }
+    ensures told { OnOk result
+        (FoldsTo (CalledOnAnyScreen CB.does) callbacks.old (calls_resized rows.value cols.value screen.old) callbacks.new) }
+    ensures err { OnErr result ((screen.new ≡ screen.old) × (callbacks.new ≡ callbacks.old)) }
+    ensures grows { IsErr result → pages.has_size rows.value cols.value screen.old ≡ false }
+    ensures memory { OnlyOutOfMemory result }
+{
+    let size = Size {
+        rows: rows.get(),
+        cols: cols.get(),
+    };
+    if has_size(screen, size) {
+        return Ok(());
     }
+    resize_pages(screen, size, callbacks)?;
+    Ok(())
+}
 
-    /// Whether this is the size of the screen.
-    fn has_size(&self, size: Size) -> bool
-        ensures value { result ≡ has_size size.rows size.cols self.now }
-        ensures whole { IsScreen self.now }
-    {
-        let now = self.grid.size();
-        size.rows == now.rows && size.cols == now.cols
-    }
+/// Whether this is the size of the screen.
+fn has_size(screen: &Screen, size: Size) -> bool
+    ensures value { result ≡ pages.has_size size.rows size.cols screen.now }
+    ensures whole { IsScreen screen.now }
+{
+    let now = screen.grid.size();
+    size.rows == now.rows && size.cols == now.cols
+}
 
-    /// Gives both pages another size; see [`Screen::set_size_with_cb`].
-    fn resize_pages<CB: Callbacks>(&mut self, size: Size, callbacks: &mut CB) -> Result<(), Error>
-        requires rows { 0 < size.rows }
-        requires cols { 0 < size.cols }
-        requires other { has_size size.rows size.cols self.old ≡ false }
-        requires whole { IsScreen self.old }
-        ensures ok { OnOk result (self.new ≡ resized size.rows size.cols self.old) }
-        ensures told { OnOk result
-            (FoldsTo (CalledOnAnyScreen CB.does) callbacks.old (calls_resized size.rows size.cols self.old) callbacks.new) }
-        ensures err { OnErr result ((self.new ≡ self.old) × (callbacks.new ≡ callbacks.old)) }
-        ensures memory { OnlyOutOfMemory result }
-    {
-        if !self.alternate_screen() {
-            return self.resize_below(size, callbacks);
-        }
-        self.exchange();
-        let done = self.resize_below(size, callbacks);
-        self.exchange();
-        done
+/// Gives both pages another size; see [`set_size_with_cb`].
+fn resize_pages<CB: Callbacks>(
+    screen: &mut Screen,
+    size: Size,
+    callbacks: &mut CB,
+) -> Result<(), Error>
+    requires rows { 0 < size.rows }
+    requires cols { 0 < size.cols }
+    requires other { pages.has_size size.rows size.cols screen.old ≡ false }
+    requires whole { IsScreen screen.old }
+    ensures ok { OnOk result (screen.new ≡ resized size.rows size.cols screen.old) }
+    ensures told { OnOk result
+        (FoldsTo (CalledOnAnyScreen CB.does) callbacks.old (calls_resized size.rows size.cols screen.old) callbacks.new) }
+    ensures err { OnErr result ((screen.new ≡ screen.old) × (callbacks.new ≡ callbacks.old)) }
+    ensures memory { OnlyOutOfMemory result }
+{
+    if !screen.alternate_screen() {
+        return resize_below(screen, size, callbacks);
     }
+    exchange(screen);
+    let done = resize_below(screen, size, callbacks);
+    exchange(screen);
+    done
+}
 
-    /// Gives both pages another size, while the main page is the active one.
-    fn resize_below<CB: Callbacks>(&mut self, size: Size, callbacks: &mut CB) -> Result<(), Error>
-        requires rows { 0 < size.rows }
-        requires cols { 0 < size.cols }
-        requires main { self.old.is_alternate ≡ false }
-        ensures ok { OnOk result (self.new ≡ pages_resized size.rows size.cols self.old) }
-        ensures told { OnOk result (FoldsTo (CalledOnAnyScreen CB.does) callbacks.old
-            (reports_of false size.rows (Some self.old.page) self.old.scrollback
-            ++ reports_of true size.rows self.old.other (no_scrollback 0))
-            callbacks.new) }
-        ensures err { OnErr result ((self.new ≡ self.old) × (callbacks.new ≡ callbacks.old)) }
-        ensures memory { OnlyOutOfMemory result }
-    {
-        let fresh = Grid::new(self.alloc, size)?;
-        let other_fresh = fresh_page(&self.other, self.alloc, size)?;
-        let mut reporter = Reporter {
-            callbacks: &mut *callbacks,
-            alternate: false,
-        };
-        self.grid
-            .set_size(fresh, &mut self.scrollback, &mut reporter)?;
-        self.other_scrollback.clear(&mut ());
-        resize_alternate(
-            &mut self.other,
-            other_fresh,
-            size,
-            &mut self.other_scrollback,
-            callbacks,
-        );
-        Ok(())
-    }
+/// Gives both pages another size, while the main page is the active one.
+fn resize_below<CB: Callbacks>(
+    screen: &mut Screen,
+    size: Size,
+    callbacks: &mut CB,
+) -> Result<(), Error>
+    requires rows { 0 < size.rows }
+    requires cols { 0 < size.cols }
+    requires main { screen.old.is_alternate ≡ false }
+    ensures ok { OnOk result (screen.new ≡ pages_resized size.rows size.cols screen.old) }
+    ensures told { OnOk result (FoldsTo (CalledOnAnyScreen CB.does) callbacks.old
+        (reports_of false size.rows (Some screen.old.page) screen.old.scrollback
+        ++ reports_of true size.rows screen.old.other (no_scrollback 0))
+        callbacks.new) }
+    ensures err { OnErr result ((screen.new ≡ screen.old) × (callbacks.new ≡ callbacks.old)) }
+    ensures memory { OnlyOutOfMemory result }
+{
+    let fresh = Grid::new(screen.alloc, size)?;
+    let other_fresh = fresh_page(&screen.other, screen.alloc, size)?;
+    let mut reporter = Reporter {
+        callbacks: &mut *callbacks,
+        alternate: false,
+    };
+    screen
+        .grid
+        .set_size(fresh, &mut screen.scrollback, &mut reporter)?;
+    screen.other_scrollback.clear(&mut ());
+    resize_alternate(
+        &mut screen.other,
+        other_fresh,
+        size,
+        &mut screen.other_scrollback,
+        callbacks,
+    );
+    Ok(())
 }
 
 /// A fresh page to take over another one, if there is one.

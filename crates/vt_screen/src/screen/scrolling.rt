@@ -1,122 +1,75 @@
 //! Controls that may scroll rows off the page, and scrollback.
 
-ghost use Rattle.std.specs.Prelude.{◌≡◌, ◌≢◌, IfSome, IsErr, OnErr, OnOk, false, length};
-ghost use Rattle.vt_cells.specs.Glyph.{columns_of};
+ghost use Rattle.std.specs.Prelude.{◌≡◌, IsErr, OnErr, OnOk, false, length};
 ghost use Rattle.vt_cells.specs.Refusals.{OnlyOutOfMemory};
 ghost use Rattle.vt_grid.specs.Scrollback.{ViewTakesMemory};
 ghost use Rattle.vt_screen.specs.Run.{Refuses, Takes, state};
-ghost use Rattle.vt_screen.specs.Screen.{IsPrintable, above_page, scrolled_back};
+ghost use Rattle.vt_screen.specs.Screen.{above_page, scrolled_back};
 ghost use Rattle.vt_screen.specs.Steps as step;
-ghost use Rattle.vt_screen.specs.Steps.{last_after, screen_after};
+ghost use Rattle.vt_screen.specs.Steps.{screen_after};
 
 use super::Screen;
 use crate::callbacks::Callbacks;
 use crate::reporter::Reporter;
-use vt_cells::{Error, columns};
+use vt_cells::Error;
+
+/// Moves the cursor down by one row, its column as it is; at the scroll
+/// region's bottom the region scrolls up instead (LF, VT and FF).
+///
+/// A row that leaves the page at its top goes to scrollback; the callbacks
+/// are told of each row that isn't kept there. Fails where memory for
+/// scrollback is refused; then nothing has changed, and nothing was told.
+#[inline]
+pub fn lf<CB: Callbacks>(screen: &mut Screen, callbacks: &mut CB) -> Result<(), Error>
+    ensures done { OnOk result
+        (Takes CB.does (state callbacks.old screen.old) step.LineFeed (state callbacks.new screen.new)) }
+    ensures refused { OnErr result
+        (Refuses (state callbacks.old screen.old) step.LineFeed (state callbacks.new screen.new)) }
+    ensures memory { OnlyOutOfMemory result }
+{
+    let mut reporter = Reporter {
+        callbacks,
+        alternate: screen.is_alternate,
+    };
+    screen
+        .grid
+        .line_feed(&mut screen.scrollback, &mut reporter)?;
+    Ok(())
+}
+
+/// Scrolls the scroll region up; default blank rows come in at its bottom
+/// (SU). Rows that leave the page are kept and told, and memory is refused,
+/// as in [`lf`].
+pub fn su<CB: Callbacks>(screen: &mut Screen, count: u16, callbacks: &mut CB) -> Result<(), Error>
+    ensures done { OnOk result
+        (Takes CB.does (state callbacks.old screen.old) (step.ScrollUp count) (state callbacks.new screen.new)) }
+    ensures refused { OnErr result
+        (Refuses (state callbacks.old screen.old) (step.ScrollUp count) (state callbacks.new screen.new)) }
+    ensures memory { OnlyOutOfMemory result }
+{
+    let mut reporter = Reporter {
+        callbacks,
+        alternate: screen.is_alternate,
+    };
+    screen
+        .grid
+        .scroll_up(count, &mut screen.scrollback, &mut reporter)?;
+    Ok(())
+}
+
+/// Gives up scrollback, and tells the callbacks of each of its rows, older
+/// ones first (ED 3).
+pub fn erase_scrollback<CB: Callbacks>(screen: &mut Screen, callbacks: &mut CB)
+    ensures { Takes CB.does (state callbacks.old screen.old) step.EraseScrollback (state callbacks.new screen.new) }
+{
+    let mut reporter = Reporter {
+        callbacks,
+        alternate: screen.is_alternate,
+    };
+    screen.scrollback.clear(&mut reporter);
+}
 
 impl Screen {
-    /// Prints a character.
-    ///
-    /// A character of one or two columns becomes a glyph in the current
-    /// attributes, after a wrap where there is no room for it. One without
-    /// columns of its own is put on the glyph before the cursor. A control,
-    /// and a character wider than the screen, draws nothing. U+FFFD, which
-    /// stands for bytes that are no character, is not to be printed.
-    ///
-    /// A wrap at the bottom may scroll a row off the page, as in
-    /// [`Screen::lf`].
-    #[inline(always)]
-    pub fn text<CB: Callbacks>(&mut self, c: char, callbacks: &mut CB) -> Result<(), Error>
-        requires { c ≢ 0xFFFD }
-        ensures done { OnOk result
-            (Takes CB.does (state callbacks.old self.old) (step.Print c) (state callbacks.new self.new)) }
-        ensures refused { OnErr result
-            (Refuses (state callbacks.old self.old) (step.Print c) (state callbacks.new self.new)) }
-        ensures memory { OnlyOutOfMemory result }
-    {
-        let width = columns(c);
-        let last = self.last_after(c, width);
-        let mut reporter = Reporter {
-            callbacks,
-            alternate: self.is_alternate,
-        };
-        self.grid
-            .print_columns(c, width, self.attrs, &mut self.scrollback, &mut reporter)?;
-        self.last = last;
-        Ok(())
-    }
-
-    /// The last character that REP repeats, once this one, which takes these
-    /// columns, is printed.
-    #[inline(always)]
-    fn last_after(&self, c: char, width: Option<u8>) -> Option<char>
-        requires sound { c ≢ 0xFFFD }
-        requires columns { width ≡ columns_of c }
-        ensures value { result ≡ last_after c self.now }
-        ensures printable { IfSome result IsPrintable }
-    {
-        let Some(columns) = width else {
-            return self.last;
-        };
-        if columns == 0 || u16::from(columns) > self.grid.size().cols {
-            return self.last;
-        }
-        Some(c)
-    }
-
-    /// Moves the cursor down by one row, its column as it is; at the scroll
-    /// region's bottom the region scrolls up instead (LF, VT and FF).
-    ///
-    /// A row that leaves the page at its top goes to scrollback; the callbacks
-    /// are told of each row that isn't kept there. Fails where memory for
-    /// scrollback is refused; then nothing has changed, and nothing was told.
-    #[inline]
-    pub fn lf<CB: Callbacks>(&mut self, callbacks: &mut CB) -> Result<(), Error>
-        ensures done { OnOk result
-            (Takes CB.does (state callbacks.old self.old) step.LineFeed (state callbacks.new self.new)) }
-        ensures refused { OnErr result
-            (Refuses (state callbacks.old self.old) step.LineFeed (state callbacks.new self.new)) }
-        ensures memory { OnlyOutOfMemory result }
-    {
-        let mut reporter = Reporter {
-            callbacks,
-            alternate: self.is_alternate,
-        };
-        self.grid.line_feed(&mut self.scrollback, &mut reporter)?;
-        Ok(())
-    }
-
-    /// Scrolls the scroll region up; default blank rows come in at its bottom
-    /// (SU). Rows that leave the page are kept and told, and memory is refused,
-    /// as in [`Screen::lf`].
-    pub fn su<CB: Callbacks>(&mut self, count: u16, callbacks: &mut CB) -> Result<(), Error>
-        ensures done { OnOk result
-            (Takes CB.does (state callbacks.old self.old) (step.ScrollUp count) (state callbacks.new self.new)) }
-        ensures refused { OnErr result
-            (Refuses (state callbacks.old self.old) (step.ScrollUp count) (state callbacks.new self.new)) }
-        ensures memory { OnlyOutOfMemory result }
-    {
-        let mut reporter = Reporter {
-            callbacks,
-            alternate: self.is_alternate,
-        };
-        self.grid
-            .scroll_up(count, &mut self.scrollback, &mut reporter)?;
-        Ok(())
-    }
-
-    /// Gives up scrollback, and tells the callbacks of each of its rows, older
-    /// ones first (ED 3).
-    pub fn erase_scrollback<CB: Callbacks>(&mut self, callbacks: &mut CB)
-        ensures { Takes CB.does (state callbacks.old self.old) step.EraseScrollback (state callbacks.new self.new) }
-    {
-        let mut reporter = Reporter {
-            callbacks,
-            alternate: self.is_alternate,
-        };
-        self.scrollback.clear(&mut reporter);
-    }
-
     /// Scrolls the view back by `rows` rows of scrollback, at most by all; 0 is
     /// the page alone. The number may exceed the screen's height: of the rows
     /// from there on the screen shows as many as it has room for. On the

@@ -5,11 +5,11 @@ use Rattle.vt100.proofs.repeating.repeat_other.Goals as goal
 pub loop-preserved : goal.loop-preserved
 loop-preserved g c =
     prints_left g.CB.Callbacks.does c.args.callbacks.now c.loop.callbacks
-    c.text.new.callbacks c.args.screen.now c.loop.screen c.text.new.self _
+    c.text.new.callbacks c.args.screen.now c.loop.screen c.text.new.screen _
     c.args.character c.args.count c.loop.counter c.loop-test.true c.loop.invariant c.in_ok-text.ensures.done
 
 pub returns-in_err-text-clause-stopped : goal.returns-in_err-text-clause-stopped
 returns-in_err-text-clause-stopped g c e =
     prints_stop g.CB.Callbacks.does c.args.callbacks.now c.loop.callbacks
-    c.text.new.callbacks c.args.screen.now c.loop.screen c.text.new.self _
+    c.text.new.callbacks c.args.screen.now c.loop.screen c.text.new.screen _
     c.args.character c.args.count c.loop.counter c.loop-test.true c.loop.invariant c.in_err-text.ensures.refused

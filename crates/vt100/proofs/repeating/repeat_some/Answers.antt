@@ -11,9 +11,9 @@ use Rattle.vt100.proofs.repeating.repeat_some.Goals as goal
 pub returns-then-count-eq0-clause-done : goal.returns-then-count-eq0-clause-done
 returns-then-count-eq0-clause-done g c =
     taken g.CB.Callbacks.does (Print c.args.byte) c.args.callbacks.now c.text.new.callbacks
-    c.args.screen.now c.text.new.self
+    c.args.screen.now c.text.new.screen
     (subst (λ (code : ℕ). Takes g.CB.Callbacks.does (state c.args.callbacks.now c.args.screen.now) (Print code)
-    (state c.text.new.callbacks c.text.new.self)) c.from.ensures c.in_ok-text.ensures.done)
+    (state c.text.new.callbacks c.text.new.screen)) c.from.ensures c.in_ok-text.ensures.done)
 
 pub returns-clause-done : goal.returns-clause-done
 returns-clause-done g c =

@@ -1,5 +1,0 @@
-use Rattle.vt_screen.proofs.KeptMoves.{kept_left}
-use Rattle.vt_screen.proofs.screen.Screen.bs.Goals as goal
-
-pub invariant_of-self : goal.invariant_of-self
-invariant_of-self c = rw c.col_dec.ensures (kept_left 1 c.self.inside.grid c.self.inside.last _ c.self.invariant)

@@ -1,6 +1,0 @@
-use Rattle.vt_screen.proofs.KeptMoves.{kept_chars_deleted}
-use Rattle.vt_screen.proofs.screen.Screen.dch.Goals as goal
-
-pub invariant_of-self : goal.invariant_of-self
-invariant_of-self c =
-    rw c.delete_cells.ensures (kept_chars_deleted c.args.count c.self.inside.grid c.self.inside.last _ c.self.invariant)

@@ -1,7 +1,0 @@
-use Rattle.vt_screen.proofs.Asides.{kept_exchanged}
-use Rattle.vt_screen.proofs.screen.Screen.exchange.Goals as goal
-
-pub invariant_of-self-2 : goal.invariant_of-self-2
-invariant_of-self-2 c =
-    rw (c.swap.ensures.x_after, c.swap.ensures.y_after, c.swap-2.ensures.x_after, c.swap-2.ensures.y_after)
-    (kept_exchanged c.self.inside.grid c.in-Some.other c.self.inside.last _ c.in-Some.is c.self.invariant)

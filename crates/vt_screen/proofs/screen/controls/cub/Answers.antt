@@ -1,0 +1,6 @@
+use Rattle.vt_screen.proofs.KeptMoves.{kept_left}
+use Rattle.vt_screen.proofs.screen.controls.cub.Goals as goal
+
+pub invariant_of-screen : goal.invariant_of-screen
+invariant_of-screen c =
+    rw c.col_dec.ensures (kept_left c.args.count c.screen.inside.grid c.screen.inside.last _ c.screen.invariant)

@@ -1,0 +1,6 @@
+use Rattle.vt_screen.proofs.KeptMoves.{kept_lines_deleted}
+use Rattle.vt_screen.proofs.screen.controls.dl.Goals as goal
+
+pub invariant_of-screen : goal.invariant_of-screen
+invariant_of-screen c =
+    rw c.delete_lines.ensures (kept_lines_deleted c.args.count c.screen.inside.grid c.screen.inside.last _ c.screen.invariant)

@@ -1,0 +1,7 @@
+use Rattle.vt_screen.proofs.KeptMoves.{kept_chars_inserted}
+use Rattle.vt_screen.proofs.screen.controls.ich.Goals as goal
+
+pub invariant_of-screen : goal.invariant_of-screen
+invariant_of-screen c =
+    rw c.insert_cells.ensures
+    (kept_chars_inserted c.args.count c.screen.inside.grid c.screen.inside.last _ c.screen.invariant)
