@@ -4,23 +4,21 @@ use Rattle.std.specs.Char.{IsScalar}
 use Rattle.std.specs.Prelude.{IfSome}
 use Rattle.vt_cells.specs.Op.{FitsAttrs}
 use Rattle.vt_cells.specs.Attrs.{Attrs}
-use Rattle.vt_grid.specs.Page.{Page, blank_page}
-use Rattle.vt_grid.specs.Moves.{carriage_return, moved_right, moved_to, line_feed, cursor_saved, cursor_restored}
-use Rattle.vt_grid.specs.Erasing.{erased_below, erased_rest, erased_chars}
+use Rattle.vt_grid.specs.Page.{Page, blank_page, scrolled_up}
+use Rattle.vt_grid.specs.Moves.{line_feed, cursor_saved, cursor_restored}
+use Rattle.vt_grid.specs.PageStep.{PageStep, page_after}
 use Rattle.vt_grid.specs.Printing.{printed}
-use Rattle.vt_grid.proofs.Pages.{page_blank, page_cursor_saved, page_cursor_restored}
-use Rattle.vt_grid.proofs.Pages.{page_carriage_return, page_moved_right, page_moved_to}
-use Rattle.vt_grid.proofs.Pages.{page_line_feed, page_erased_chars, page_erased_rest, page_erased_below}
+use Rattle.vt_grid.proofs.Pages.{page_blank, page_cursor_saved, page_cursor_restored, page_line_feed, page_scrolled_up}
 use Rattle.vt_grid.proofs.Printed.{page_printed}
 use Rattle.vt_grid.specs.Scrollback.{no_scrollback}
 use Rattle.vt_screen.specs.Internals.{Aside, IsKept}
 use Rattle.vt_screen.specs.Screen.{IsPrintable}
 use Rattle.vt_screen.proofs.Asides.{above_none, kept_last, kept_page}
-use Rattle.vt_screen.proofs.Sizes.{same_carriage_return, same_cursor_saved, same_cursor_restored}
-use Rattle.vt_screen.proofs.Sizes.{same_moved_right, same_moved_to, same_line_feed, same_erased_chars}
-use Rattle.vt_screen.proofs.Sizes.{same_erased_rest, same_erased_below, same_printed}
-use Rattle.vt_screen.proofs.Stable.{stable_blank, stable_line_feed, stable_erased_chars}
-use Rattle.vt_screen.proofs.Stable.{stable_erased_rest, stable_erased_below, stable_printed}
+use Rattle.vt_screen.proofs.Inside.{inside_page}
+use Rattle.vt_screen.proofs.PageSteps.{page_page_after, same_page_after, stable_page_after}
+use Rattle.vt_screen.proofs.Sizes.{same_cursor_saved, same_cursor_restored, same_scrolled_up, same_line_feed}
+use Rattle.vt_screen.proofs.Sizes.{same_printed}
+use Rattle.vt_screen.proofs.Stable.{stable_blank, stable_line_feed, stable_scrolled_up, stable_printed}
 use Rattle.vt_screen.proofs.Coloring.{coloring}
 
 -- a fresh screen
@@ -37,22 +35,12 @@ kept_blank height width capacity a b c d = record {
   above = above_none capacity;
 }
 
-pub kept_cr : (page : Page) (last : Option ℕ) (aside : Aside) →
-    IsKept page last aside → IsKept (carriage_return page) last aside
-kept_cr page last aside k =
-    kept_page page (carriage_return page) last aside
-    (page_carriage_return page k.sound) k.colored (same_carriage_return page) k
-
-pub kept_right : (n : ℕ) (page : Page) (last : Option ℕ) (aside : Aside) →
-    IsKept page last aside → IsKept (moved_right n page) last aside
-kept_right n page last aside k =
-    kept_page page (moved_right n page) last aside
-    (page_moved_right n page k.sound) k.colored (same_moved_right n page) k
-
-pub kept_to : (r c : ℕ) (page : Page) (last : Option ℕ) (aside : Aside) →
-    IsKept page last aside → IsKept (moved_to r c page) last aside
-kept_to r c page last aside k =
-    kept_page page (moved_to r c page) last aside (page_moved_to r c page k.sound) k.colored (same_moved_to r c page) k
+pub kept_page_after : (attrs : Attrs) (step : PageStep) (page : Page) (last : Option ℕ) (aside : Aside) →
+    FitsAttrs attrs → IsKept page last aside → IsKept (page_after attrs step page) last aside
+kept_page_after attrs step page last aside h k =
+    kept_page page (page_after attrs step page) last aside (page_page_after attrs step page k.sound)
+    (stable_page_after coloring attrs step page h k.colored)
+    (same_page_after attrs step page (inside_page page k.sound)) k
 
 pub kept_fed : (page : Page) (last : Option ℕ) (aside : Aside) →
     IsKept page last aside → IsKept (line_feed page) last aside
@@ -60,23 +48,11 @@ kept_fed page last aside k =
     kept_page page (line_feed page) last aside (page_line_feed page k.sound) (stable_line_feed coloring page k.colored)
     (same_line_feed page) k
 
-pub kept_erased_chars : (n : ℕ) (attrs : Attrs) (page : Page) (last : Option ℕ) (aside : Aside) →
-    FitsAttrs attrs → IsKept page last aside → IsKept (erased_chars n attrs page) last aside
-kept_erased_chars n attrs page last aside h k =
-    kept_page page (erased_chars n attrs page) last aside (page_erased_chars n attrs page k.sound)
-    (stable_erased_chars coloring n attrs page h k.colored) (same_erased_chars n attrs page) k
-
-pub kept_erased_rest : (attrs : Attrs) (page : Page) (last : Option ℕ) (aside : Aside) →
-    FitsAttrs attrs → IsKept page last aside → IsKept (erased_rest attrs page) last aside
-kept_erased_rest attrs page last aside h k =
-    kept_page page (erased_rest attrs page) last aside (page_erased_rest attrs page k.sound)
-    (stable_erased_rest coloring attrs page h k.colored) (same_erased_rest attrs page) k
-
-pub kept_erased_below : (attrs : Attrs) (page : Page) (last : Option ℕ) (aside : Aside) →
-    FitsAttrs attrs → IsKept page last aside → IsKept (erased_below attrs page) last aside
-kept_erased_below attrs page last aside h k =
-    kept_page page (erased_below attrs page) last aside (page_erased_below attrs page k.sound)
-    (stable_erased_below coloring attrs page h k.colored) (same_erased_below attrs page) k
+pub kept_scrolled_up : (n : ℕ) (page : Page) (last : Option ℕ) (aside : Aside) →
+    IsKept page last aside → IsKept (scrolled_up n page) last aside
+kept_scrolled_up n page last aside k =
+    kept_page page (scrolled_up n page) last aside (page_scrolled_up n page k.sound)
+    (stable_scrolled_up coloring n page k.colored) (same_scrolled_up n page) k
 
 pub kept_printed : (c : ℕ) (attrs : Attrs) (page : Page) (last new : Option ℕ) (aside : Aside) →
     IsScalar c → c ≢ 0xFFFD → IfSome new IsPrintable → FitsAttrs attrs →

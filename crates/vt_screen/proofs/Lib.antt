@@ -28,7 +28,6 @@ mod Exchanging
 mod Resized
 mod Reporting
 mod Kept
-mod KeptMoves
 pub mod TextSteps
 pub mod ContentTexts
 pub mod RowTexts

@@ -9,7 +9,7 @@ use Rattle.vt_cells.specs.Cell.{marked, CellValue, text_of, is_wide}
 use Rattle.vt_cells.specs.Glyph.{columns_of, is_selector, is_wide_text}
 use Rattle.vt_rows.specs.Cells.{at, ends_blank, erased, put_narrow, put_wide, marked_at, widened_at, narrowed_at}
 use Rattle.vt_rows.specs.Row.{RowValue, blank_row, with_cells, inserted_row, deleted_row}
-use Rattle.vt_grid.specs.Page.{Page, IsPage, cursor_row, with_row, up_source, rows_up, scrolled_up}
+use Rattle.vt_grid.specs.Page.{Page, cursor_row, with_row, up_source, rows_up, scrolled_up}
 use Rattle.vt_grid.specs.Moves.{carriage_return, moved_left, moved_right, moved_to}
 use Rattle.vt_grid.specs.Moves.{line_feed, cursor_saved, cursor_restored}
 use Rattle.vt_grid.specs.Regions.{in_region, last_row, moved_up, moved_down, next_line, previous_line}
@@ -17,7 +17,7 @@ use Rattle.vt_grid.specs.Regions.{moved_to_column, moved_to_row, tabbed, region_
 use Rattle.vt_grid.specs.Shifts.{rows_down, scrolled_down, reverse_index, lines_inserted}
 use Rattle.vt_grid.specs.Shifts.{lines_deleted, chars_inserted, chars_deleted}
 use Rattle.vt_grid.specs.Erasing.{erased_columns, erased_chars, erased_rest, blanked_below, erased_below}
-use Rattle.vt_grid.specs.Erasing.{erased_start, erased_row, blanked_above, erased_above, erased_page}
+use Rattle.vt_grid.specs.Erasing.{erased_start, erased_row, erased_page}
 use Rattle.vt_grid.specs.Printing.{carries, lifted_page, with_cursor_cells, left_row, goes_down, wrapped_page}
 use Rattle.vt_grid.specs.Printing.{lacks_room, room_made, glyph_put, mark_column, takes_mark, mark_put, carried}
 use Rattle.vt_grid.specs.Printing.{made_wide, made_narrow, width_followed, mark_printed, printed, printed_by}
@@ -25,7 +25,6 @@ use Rattle.vt_grid.specs.Page.{SameSize}
 use Rattle.vt_grid.proofs.Pages.{length-moved_rows}
 use Rattle.vt_grid.proofs.Prints.{width_line_feed, height_line_feed, width_wrapped_page, height_flagged_left}
 use Rattle.vt_grid.proofs.Shifting.{length-rows_down}
-use Rattle.vt_grid.proofs.Blanking.{length-blanked_above, page_erased_start}
 
 -- ---- pages of one size
 
@@ -192,15 +191,6 @@ same_erased_start attrs page = same_erased_columns 0 (min (page.column + 1) page
 
 pub same_erased_row : (attrs : Attrs) (page : Page) → SameSize (erased_row attrs page) page
 same_erased_row attrs page = same_with_row page.row (blank_row attrs page.width) page
-
--- of a cursor below all rows the rows above would be more than there are
-pub same_erased_above : (attrs : Attrs) (page : Page) → IsPage page → SameSize (erased_above attrs page) page
-unfolding erased_above
-same_erased_above attrs page p =
-    let start = erased_start attrs page in
-    same_through (blanked_above attrs start) start page
-    (record { width = refl; height = length-blanked_above attrs start (page_erased_start attrs page p) })
-    (same_erased_start attrs page)
 
 pub same_erased_page : (attrs : Attrs) (page : Page) → SameSize (erased_page attrs page) page
 same_erased_page attrs page =

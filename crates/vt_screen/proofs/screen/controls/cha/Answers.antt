@@ -1,6 +1,11 @@
-use Rattle.vt_screen.proofs.KeptMoves.{kept_to_column}
+use Rattle.std.proofs.Common.{rules}
+use Rattle.vt_cells.proofs.Packing.{attrs_fit}
+use Rattle.vt_grid.specs.PageStep.{MoveToColumn}
+use Rattle.vt_screen.proofs.Kept.{kept_page_after}
 use Rattle.vt_screen.proofs.screen.controls.cha.Goals as goal
 
 pub invariant_of-screen : goal.invariant_of-screen
 invariant_of-screen c =
-    rw c.col_set.ensures (kept_to_column c.args.col c.screen.inside.grid c.screen.inside.last _ c.screen.invariant)
+    rw c.col_set.ensures
+    (kept_page_after c.screen.inside.attrs (MoveToColumn c.args.col) c.screen.inside.grid c.screen.inside.last _
+    (search (rules, attrs_fit)) c.screen.invariant)

@@ -1,5 +1,11 @@
-use Rattle.vt_screen.proofs.Kept.{kept_cr}
+use Rattle.std.proofs.Common.{rules}
+use Rattle.vt_cells.proofs.Packing.{attrs_fit}
+use Rattle.vt_grid.specs.PageStep.{CarriageReturn}
+use Rattle.vt_screen.proofs.Kept.{kept_page_after}
 use Rattle.vt_screen.proofs.screen.controls.cr.Goals as goal
 
 pub invariant_of-screen : goal.invariant_of-screen
-invariant_of-screen c = rw c.cr.ensures (kept_cr c.screen.inside.grid c.screen.inside.last _ c.screen.invariant)
+invariant_of-screen c =
+    rw c.cr.ensures
+    (kept_page_after c.screen.inside.attrs CarriageReturn c.screen.inside.grid c.screen.inside.last _
+    (search (rules, attrs_fit)) c.screen.invariant)

@@ -1,6 +1,11 @@
-use Rattle.vt_screen.proofs.KeptMoves.{kept_down}
+use Rattle.std.proofs.Common.{rules}
+use Rattle.vt_cells.proofs.Packing.{attrs_fit}
+use Rattle.vt_grid.specs.PageStep.{MoveDown}
+use Rattle.vt_screen.proofs.Kept.{kept_page_after}
 use Rattle.vt_screen.proofs.screen.controls.cud.Goals as goal
 
 pub invariant_of-screen : goal.invariant_of-screen
 invariant_of-screen c =
-    rw c.row_inc_clamp.ensures (kept_down c.args.count c.screen.inside.grid c.screen.inside.last _ c.screen.invariant)
+    rw c.row_inc_clamp.ensures
+    (kept_page_after c.screen.inside.attrs (MoveDown c.args.count) c.screen.inside.grid c.screen.inside.last _
+    (search (rules, attrs_fit)) c.screen.invariant)

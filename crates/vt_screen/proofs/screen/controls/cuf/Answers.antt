@@ -1,6 +1,11 @@
-use Rattle.vt_screen.proofs.Kept.{kept_right}
+use Rattle.std.proofs.Common.{rules}
+use Rattle.vt_cells.proofs.Packing.{attrs_fit}
+use Rattle.vt_grid.specs.PageStep.{MoveRight}
+use Rattle.vt_screen.proofs.Kept.{kept_page_after}
 use Rattle.vt_screen.proofs.screen.controls.cuf.Goals as goal
 
 pub invariant_of-screen : goal.invariant_of-screen
 invariant_of-screen c =
-    rw c.col_inc_clamp.ensures (kept_right c.args.count c.screen.inside.grid c.screen.inside.last _ c.screen.invariant)
+    rw c.col_inc_clamp.ensures
+    (kept_page_after c.screen.inside.attrs (MoveRight c.args.count) c.screen.inside.grid c.screen.inside.last _
+    (search (rules, attrs_fit)) c.screen.invariant)

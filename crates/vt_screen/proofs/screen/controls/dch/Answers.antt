@@ -1,6 +1,11 @@
-use Rattle.vt_screen.proofs.KeptMoves.{kept_chars_deleted}
+use Rattle.std.proofs.Common.{rules}
+use Rattle.vt_cells.proofs.Packing.{attrs_fit}
+use Rattle.vt_grid.specs.PageStep.{DeleteChars}
+use Rattle.vt_screen.proofs.Kept.{kept_page_after}
 use Rattle.vt_screen.proofs.screen.controls.dch.Goals as goal
 
 pub invariant_of-screen : goal.invariant_of-screen
 invariant_of-screen c =
-    rw c.delete_cells.ensures (kept_chars_deleted c.args.count c.screen.inside.grid c.screen.inside.last _ c.screen.invariant)
+    rw c.delete_cells.ensures
+    (kept_page_after c.screen.inside.attrs (DeleteChars c.args.count) c.screen.inside.grid c.screen.inside.last _
+    (search (rules, attrs_fit)) c.screen.invariant)

@@ -1,7 +1,11 @@
-use Rattle.vt_screen.proofs.KeptMoves.{kept_region_set}
+use Rattle.std.proofs.Common.{rules}
+use Rattle.vt_cells.proofs.Packing.{attrs_fit}
+use Rattle.vt_grid.specs.PageStep.{SetRegion}
+use Rattle.vt_screen.proofs.Kept.{kept_page_after}
 use Rattle.vt_screen.proofs.screen.controls.decstbm.Goals as goal
 
 pub invariant_of-screen : goal.invariant_of-screen
 invariant_of-screen c =
     rw c.set_scroll_region.ensures
-    (kept_region_set c.args.top c.args.bottom c.screen.inside.grid c.screen.inside.last _ c.screen.invariant)
+    (kept_page_after c.screen.inside.attrs (SetRegion c.args.top c.args.bottom) c.screen.inside.grid c.screen.inside.last _
+    (search (rules, attrs_fit)) c.screen.invariant)

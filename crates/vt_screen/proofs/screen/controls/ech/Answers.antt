@@ -1,9 +1,11 @@
 use Rattle.std.proofs.Common.{rules}
 use Rattle.vt_cells.proofs.Packing.{attrs_fit}
-use Rattle.vt_screen.proofs.Kept.{kept_erased_chars}
+use Rattle.vt_grid.specs.PageStep.{EraseChars}
+use Rattle.vt_screen.proofs.Kept.{kept_page_after}
 use Rattle.vt_screen.proofs.screen.controls.ech.Goals as goal
 
 pub invariant_of-screen : goal.invariant_of-screen
 invariant_of-screen c =
-    rw c.erase_cells.ensures (kept_erased_chars c.args.count c.screen.inside.attrs
-    c.screen.inside.grid c.screen.inside.last _ (search (rules, attrs_fit)) c.screen.invariant)
+    rw c.erase_cells.ensures
+    (kept_page_after c.screen.inside.attrs (EraseChars c.args.count) c.screen.inside.grid c.screen.inside.last _
+    (search (rules, attrs_fit)) c.screen.invariant)

@@ -1,9 +1,11 @@
 use Rattle.std.proofs.Common.{rules}
 use Rattle.vt_cells.proofs.Packing.{attrs_fit}
-use Rattle.vt_screen.proofs.KeptMoves.{kept_erased_row}
+use Rattle.vt_grid.specs.PageStep.{EraseRow}
+use Rattle.vt_screen.proofs.Kept.{kept_page_after}
 use Rattle.vt_screen.proofs.screen.controls.erase_row.Goals as goal
 
 pub invariant_of-screen : goal.invariant_of-screen
 invariant_of-screen c =
     rw c.erase_row.ensures
-    (kept_erased_row c.screen.inside.attrs c.screen.inside.grid c.screen.inside.last _ (search (rules, attrs_fit)) c.screen.invariant)
+    (kept_page_after c.screen.inside.attrs EraseRow c.screen.inside.grid c.screen.inside.last _
+    (search (rules, attrs_fit)) c.screen.invariant)

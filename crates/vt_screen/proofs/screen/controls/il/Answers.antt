@@ -1,7 +1,11 @@
-use Rattle.vt_screen.proofs.KeptMoves.{kept_lines_inserted}
+use Rattle.std.proofs.Common.{rules}
+use Rattle.vt_cells.proofs.Packing.{attrs_fit}
+use Rattle.vt_grid.specs.PageStep.{InsertLines}
+use Rattle.vt_screen.proofs.Kept.{kept_page_after}
 use Rattle.vt_screen.proofs.screen.controls.il.Goals as goal
 
 pub invariant_of-screen : goal.invariant_of-screen
 invariant_of-screen c =
     rw c.insert_lines.ensures
-    (kept_lines_inserted c.args.count c.screen.inside.grid c.screen.inside.last _ c.screen.invariant)
+    (kept_page_after c.screen.inside.attrs (InsertLines c.args.count) c.screen.inside.grid c.screen.inside.last _
+    (search (rules, attrs_fit)) c.screen.invariant)

@@ -1,6 +1,11 @@
-use Rattle.vt_screen.proofs.KeptMoves.{kept_origin_set}
+use Rattle.std.proofs.Common.{rules}
+use Rattle.vt_cells.proofs.Packing.{attrs_fit}
+use Rattle.vt_grid.specs.PageStep.{UseOrigin}
+use Rattle.vt_screen.proofs.Kept.{kept_page_after}
 use Rattle.vt_screen.proofs.screen.controls.set_origin_mode.Goals as goal
 
 pub invariant_of-screen : goal.invariant_of-screen
 invariant_of-screen c =
-    rw c.set_origin_mode.ensures (kept_origin_set c.args.on c.screen.inside.grid c.screen.inside.last _ c.screen.invariant)
+    rw c.set_origin_mode.ensures
+    (kept_page_after c.screen.inside.attrs (UseOrigin c.args.on) c.screen.inside.grid c.screen.inside.last _
+    (search (rules, attrs_fit)) c.screen.invariant)

@@ -1,6 +1,11 @@
-use Rattle.vt_screen.proofs.KeptMoves.{kept_to_row}
+use Rattle.std.proofs.Common.{rules}
+use Rattle.vt_cells.proofs.Packing.{attrs_fit}
+use Rattle.vt_grid.specs.PageStep.{MoveToRow}
+use Rattle.vt_screen.proofs.Kept.{kept_page_after}
 use Rattle.vt_screen.proofs.screen.controls.vpa.Goals as goal
 
 pub invariant_of-screen : goal.invariant_of-screen
 invariant_of-screen c =
-    rw c.row_set.ensures (kept_to_row c.args.row c.screen.inside.grid c.screen.inside.last _ c.screen.invariant)
+    rw c.row_set.ensures
+    (kept_page_after c.screen.inside.attrs (MoveToRow c.args.row) c.screen.inside.grid c.screen.inside.last _
+    (search (rules, attrs_fit)) c.screen.invariant)

@@ -7,7 +7,7 @@ use Rattle.vt_screen.specs.Run.{CalledOnScroll}
 use Rattle.vt_screen.specs.contracts.screen.Screen.{the_view}
 use Rattle.vt_screen.proofs.Asides.{kept_sent, rows_scrolled_out}
 use Rattle.vt_screen.proofs.StableScrollback.{stable_scrolled_out}
-use Rattle.vt_screen.proofs.KeptMoves.{kept_scrolled_up}
+use Rattle.vt_screen.proofs.Kept.{kept_scrolled_up}
 use Rattle.vt_screen.proofs.Reporting.{same_callbacks, reported_to, scrolled_up_by}
 use Rattle.vt_screen.proofs.screen.scrolling.su.Goals as goal
 use Rattle.vt_screen.proofs.Coloring.{coloring}
