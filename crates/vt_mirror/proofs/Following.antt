@@ -1,5 +1,5 @@
 -- A terminal that reads what a run wrote.
-use Rattle.std.proofs.Common.{◌≡◌, ℕ, List, [], ◌∷◌, ◌++◌, subst}
+use Rattle.std.proofs.Common.{◌≡◌, ℕ, List, [], ◌∷◌, subst}
 use Rattle.std.specs.List.{AllByRecursion, FoldsTo}
 use Rattle.vt_grid.specs.Page.{SameSize}
 use Rattle.vt_redraw.specs.Steady.{IsSteady}

@@ -1,24 +1,23 @@
 -- A viewer shows the screen as it was at its last update.
-use Rattle.std.proofs.Common.{◌≡◌, ◌≢◌, ℕ, ◌<◌, ◌+◌, zero, Bool, true, false, List, [], ◌∷◌}
-use Rattle.std.proofs.Common.{length, Option, Some, None, refl, sym, ap, subst, ◌∙◌, arith}
+use Rattle.std.proofs.Common.{◌≡◌, ℕ, ◌+◌, Bool, true, false, List, [], ◌∷◌}
+use Rattle.std.proofs.Common.{length, Option, Some, None, refl, sym, ap, subst, ◌∙◌}
 use Rattle.std.specs.Prelude.{Result, Ok, Err, IfSome, string_bytes}
 use Rattle.std.specs.List.{FoldsTo}
 use Rattle.vt_cells.specs.declared.error.Error.{Error}
-use Rattle.vt_grid.specs.Page.{Page, SameSize}
-use Rattle.vt_redraw.specs.Picture.{Picture, SamePictureSize}
+use Rattle.vt_redraw.specs.Picture.{SamePictureSize}
 use Rattle.vt_redraw.specs.Steady.{IsSteady}
 use Rattle.vt_scan.specs.Automaton.{start}
 use Rattle.vt_scan.specs.Scanner.{StandsFor}
 use Rattle.vt_screen.specs.Pages.{has_size, resized}
-use Rattle.vt_screen.specs.Reading.{Terminal, read, terminal}
+use Rattle.vt_screen.specs.Reading.{read, terminal}
 use Rattle.vt_screen.specs.Screen.{IsScreen, ScreenValue}
 use Rattle.vt_screen.specs.Shown.{IsPlain, IsReader, IsReaderOf, KeepsRest, Redraws, shown}
 use Rattle.vt_screen.proofs.Viewing.{same_shown}
 use Rattle.vt100.specs.Parser.{Parsing}
 use Rattle.vt100.specs.Pieces.{HasRead, IsPlainParser}
 use Rattle.vt100.proofs.Pieces.{read_pieces}
-use Rattle.vt_mirror.specs.Calls.{Answers, Asks, Drawn, IsDiff, IsFull, IsOfKind, IsUpdate, JoinsMirror, Kind}
-use Rattle.vt_mirror.specs.Calls.{Scrolling, Leaves, MirrorProcesses, Resizes, Tells}
+use Rattle.vt_mirror.specs.Calls.{Asks, Drawn, IsDiff, IsFull, IsOfKind, IsUpdate, JoinsMirror, Kind}
+use Rattle.vt_mirror.specs.Calls.{Scrolling, Resizes, Tells}
 use Rattle.vt_mirror.specs.Mirror.{MirrorValue}
 use Rattle.vt_mirror.specs.Viewers.{Puts, ViewersValue, next_number, note_of}
 use Rattle.vt_mirror.specs.Watching.{Ask, CountUp, Goes, IsFresh, IsLeft, IsNew, IsTakenBy, MirrorDoes, Watches}

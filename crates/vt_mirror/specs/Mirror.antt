@@ -1,5 +1,5 @@
 -- A mirror: a terminal, and viewers that each get the texts by which they show the same.
-use Rattle.std.specs.Prelude.{◌≡◌, ℕ, Option, Some}
+use Rattle.std.specs.Prelude.{◌≡◌, ℕ, Some}
 use Rattle.vt_grid.specs.Page.{SameSize}
 use Rattle.vt_screen.specs.Screen.{ScreenValue}
 use Rattle.vt100.specs.Parser.{Parsing}
