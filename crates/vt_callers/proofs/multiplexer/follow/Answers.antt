@@ -1,8 +1,8 @@
-use Rattle.std.proofs.Common.{List, rules, subst, sym, take, ◌∙◌}
+use Rattle.std.proofs.Common.{List, rules, subst, take, ◌∙◌}
 use Rattle.std.proofs.lemmas.List.{take_all}
 use Rattle.vt_screen.specs.Screen.{IsScreen, ScreenValue}
 use Rattle.vt_callers.specs.Remote.{HasFollowed}
-use Rattle.vt_callers.proofs.Sending.{fails_behind, followed_first, followed_next, follows_all, next_fits, next_size}
+use Rattle.vt_callers.proofs.Sending.{followed_first, followed_next, follows_all, next_fits, next_size}
 use Rattle.vt_callers.proofs.multiplexer.follow.Goals as goal
 
 pub loop-next-init : goal.loop-next-init

@@ -1,5 +1,5 @@
 use Rattle.std.proofs.Common.{rules}
-use Rattle.vt_callers.proofs.Sending.{as_one, cut_all, cut_more, fails_behind}
+use Rattle.vt_callers.proofs.Sending.{as_one, cut_all, cut_more}
 use Rattle.vt_callers.proofs.multiplexer.send_cut.Goals as goal
 
 pub loop-size-preserved : goal.loop-size-preserved

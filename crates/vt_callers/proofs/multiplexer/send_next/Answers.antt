@@ -1,4 +1,4 @@
-use Rattle.std.proofs.Common.{rules, subst, sym, ◌∙◌, List, ℕ}
+use Rattle.std.proofs.Common.{rules, subst, ◌∙◌, List, ℕ}
 use Rattle.vt_callers.specs.Remote.{HasTaken}
 use Rattle.vt_callers.proofs.Sending.{taken_one}
 use Rattle.vt_callers.proofs.multiplexer.send_next.Goals as goal

@@ -1,5 +1,4 @@
 use Rattle.std.proofs.Common.{◌≡◌, ◌↔◌, true, List, ℕ, Bor, [], ◌∷◌, map, refl, ap, subst, ◌∙◌}
-use Rattle.std.proofs.lemmas.List.{append-nil}
 use Rattle.vt_scan.specs.Automaton.{start}
 use Rattle.vt_screen.specs.Contents.{contents_of}
 use Rattle.vt_screen.specs.Screen.{ScreenValue, fresh_screen}
