@@ -1,8 +1,8 @@
 //! What each sequence does, and which callbacks it calls.
 
-use crate::seen::expect_at_each_cut;
-use crate::steps::Step::Bytes;
 use std::test::Fail;
+use vt_test_aids::seen::expect_at_each_cut;
+use vt_test_aids::steps::Step::Bytes;
 
 #[rattlefmt::skip]
 const REPORTED: [(&[u8], &str); 66] = [

@@ -1,11 +1,10 @@
 //! Callbacks that resize the screen, exchange it or scroll it back, amid a text.
 
 use crate::changing::{Exchanger, Resizer, Viewer, run_exchanging, run_looking_back, run_resizing};
-use crate::plain_tests::expect_text;
-use crate::seen::shown;
-use crate::steps::size_of;
 use std::alloc::Global;
 use std::test::Fail;
+use vt_test_aids::seen::{expect_text, shown};
+use vt_test_aids::steps::size_of;
 use vt100::{Parser, Screen};
 
 /// Fails where a screen has another size or shows something else.

@@ -1,11 +1,11 @@
 //! Copies of screens: alike, and each going its own way.
 
-use crate::seen::{read_keeping, shown};
-use crate::steps::Step::{Text, View};
-use crate::steps::{Pieces, Step, taken};
 use std::alloc::Global;
 use std::test::Fail;
 use vt_notes::Notes;
+use vt_test_aids::seen::{read_keeping, shown};
+use vt_test_aids::steps::Step::{Text, View};
+use vt_test_aids::steps::{Pieces, Step, taken};
 use vt100::{Parser, Screen};
 
 /// How many rows scrollback has, shows and may keep.

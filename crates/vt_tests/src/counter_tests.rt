@@ -2,9 +2,9 @@
 
 use crate::counter::Counter;
 use crate::counter::Function::{self, *};
-use crate::steps::size_of;
 use std::alloc::Global;
 use std::test::Fail;
+use vt_test_aids::steps::size_of;
 use vt100::Parser;
 
 /// A sequence for each function.

@@ -1,9 +1,9 @@
 //! Screen and callbacks that a parser lends, amid a sequence.
 
-use crate::seen::{expect, read};
-use crate::steps::size_of;
 use std::test::Fail;
 use vt_notes::Notes;
+use vt_test_aids::seen::{expect, read};
+use vt_test_aids::steps::size_of;
 
 /// Amid a title the screen gets another size, and the callbacks forget; then the title ends.
 #[test]

@@ -1,12 +1,10 @@
-//! Tests of the terminal through its public surface: worked examples, each also with its bytes cut
-//! at every place, and callbacks that write each function themselves or change the screen that they
-//! are lent.
+//! Tests of the terminal through its public surface: what bytes make of a screen, in worked examples,
+//! each also with its bytes cut at every place, and callbacks that write each function themselves or
+//! change the screen that they are lent.
 #![tactic(auto)]
 
 #[cfg(test)]
 mod calls_tests;
-#[cfg(test)]
-mod capture_tests;
 #[cfg(test)]
 mod changing;
 #[cfg(test)]
@@ -18,17 +16,11 @@ mod counter;
 #[cfg(test)]
 mod counter_tests;
 #[cfg(test)]
-mod cuts;
-#[cfg(test)]
-mod difference_tests;
-#[cfg(test)]
 mod lending_tests;
 #[cfg(test)]
 mod limits_tests;
 #[cfg(test)]
 mod modes_tests;
-#[cfg(test)]
-mod moved_tests;
 #[cfg(test)]
 mod notes_tests;
 #[cfg(test)]
@@ -36,26 +28,10 @@ mod pages_tests;
 #[cfg(test)]
 mod parser_tests;
 #[cfg(test)]
-mod picture;
-#[cfg(test)]
-mod plain_tests;
-#[cfg(test)]
 mod printing_tests;
-#[cfg(test)]
-mod readback;
-#[cfg(test)]
-mod redraw_tests;
 #[cfg(test)]
 mod rendition_tests;
 #[cfg(test)]
-mod row_items_tests;
-#[cfg(test)]
 mod scrolling_tests;
 #[cfg(test)]
-mod seen;
-#[cfg(test)]
 mod sizes_tests;
-#[cfg(test)]
-mod state_tests;
-#[cfg(test)]
-mod steps;

@@ -1,9 +1,9 @@
 //! Inputs and capacities without a limit.
 
-use crate::seen::{expect_at_each_cut, read, read_keeping};
-use crate::steps::Step::{self, Resize, ResizeParser, Text, View};
 use std::test::Fail;
 use vt_notes::Note;
+use vt_test_aids::seen::{expect_at_each_cut, read, read_keeping};
+use vt_test_aids::steps::Step::{self, Resize, ResizeParser, Text, View};
 
 /// The greatest numbers of rows that scrollback can be told to keep. For none of them there is memory.
 const CAPACITIES: [usize; 4] = [

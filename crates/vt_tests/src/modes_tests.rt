@@ -1,8 +1,8 @@
 //! Modes, and reset, which takes all of them back.
 
-use crate::seen::{Example, expect_at_each_cut, expect_each, read_keeping, shown};
-use crate::steps::Step::{Resize, Text, View};
 use std::test::Fail;
+use vt_test_aids::seen::{Example, expect_at_each_cut, expect_each, read_keeping, shown};
+use vt_test_aids::steps::Step::{Resize, Text, View};
 
 /// Modes after a text, on a screen of two rows and four columns.
 #[rattlefmt::skip]

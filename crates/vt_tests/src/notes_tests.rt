@@ -1,8 +1,8 @@
 //! Calls as notes, with all that they lent.
 
-use crate::seen::read;
 use std::test::Fail;
 use vt_notes::Note;
+use vt_test_aids::seen::read;
 
 #[test]
 fn notes_a_title(rt: HostRuntime) -> Result<(), Fail> {

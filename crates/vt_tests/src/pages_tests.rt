@@ -1,10 +1,10 @@
 //! The two pages: entered, left, and what each keeps.
 
 use crate::copies_tests::counts;
-use crate::seen::{Example, expect_each, read_keeping};
-use crate::steps::Step::{GiveUp, Resize, Text, View};
-use crate::steps::{Pieces, Step};
 use std::test::Fail;
+use vt_test_aids::seen::{Example, expect_each, read_keeping};
+use vt_test_aids::steps::Step::{GiveUp, Resize, Text, View};
+use vt_test_aids::steps::{Pieces, Step};
 
 #[rattlefmt::skip]
 const PAGES: [Example; 41] = [

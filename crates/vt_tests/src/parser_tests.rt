@@ -1,9 +1,9 @@
 //! A parser by itself: its default size, the cells of its screen, and a parser as a writer.
 
-use crate::seen::read;
-use crate::steps::size_of;
 use std::io::Write;
 use std::test::Fail;
+use vt_test_aids::seen::read;
+use vt_test_aids::steps::size_of;
 use vt100::{Color, Parser};
 
 #[test]

@@ -1,8 +1,8 @@
 //! Printing: wraps, wide characters, marks and what follows U+FE0F.
 
-use crate::seen::expect_at_each_cut;
-use crate::steps::Step::Text;
 use std::test::Fail;
+use vt_test_aids::seen::expect_at_each_cut;
+use vt_test_aids::steps::Step::Text;
 
 #[rattlefmt::skip]
 const PRINTED: [((u16, u16), &str, &str); 47] = [

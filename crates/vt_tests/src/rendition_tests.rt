@@ -1,8 +1,8 @@
 //! SGR: attributes and calls after each sequence.
 
-use crate::seen::expect_at_each_cut;
-use crate::steps::Step::Text;
 use std::test::Fail;
+use vt_test_aids::seen::expect_at_each_cut;
+use vt_test_aids::steps::Step::Text;
 
 /// SGR sequences, and the attributes and calls after them.
 #[rattlefmt::skip]

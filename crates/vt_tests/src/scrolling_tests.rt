@@ -1,10 +1,10 @@
 //! Scrolling, scrollback and its view, and the rows that leave.
 
-use crate::seen::{Example, expect, expect_at_each_cut, expect_each, read_keeping};
-use crate::steps::Step::{GiveUp, Resize, Text, View};
-use crate::steps::{Pieces, taken};
 use std::test::Fail;
 use vt_notes::Note;
+use vt_test_aids::seen::{Example, expect, expect_at_each_cut, expect_each, read_keeping};
+use vt_test_aids::steps::Step::{GiveUp, Resize, Text, View};
+use vt_test_aids::steps::{Pieces, taken};
 
 #[rattlefmt::skip]
 const SHOWN: [((u16, u16), usize, &str, &str); 44] = [

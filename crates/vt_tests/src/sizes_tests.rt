@@ -1,8 +1,8 @@
 //! Other sizes: what is cut, what leaves, and what comes back.
 
-use crate::seen::{Example, expect_each};
-use crate::steps::Step::{Resize, ResizeParser, Text, View};
 use std::test::Fail;
+use vt_test_aids::seen::{Example, expect_each};
+use vt_test_aids::steps::Step::{Resize, ResizeParser, Text, View};
 
 #[rattlefmt::skip]
 const RESIZED: [Example; 35] = [

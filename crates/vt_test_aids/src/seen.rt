@@ -8,11 +8,11 @@ use vt_notes::Notes;
 use vt100::{Cell, Color, CursorStyle, MouseProtocolEncoding, MouseProtocolMode, Parser, Screen};
 
 /// A fresh parser's size, how many rows its scrollback keeps, what is done, and what is seen then.
-pub(crate) type Example = ((u16, u16), usize, &'static [Step], &'static str);
+pub type Example = ((u16, u16), usize, &'static [Step], &'static str);
 
 /// Fails where one of these examples gives something else, its bytes in two pieces or one by one, or
 /// where the screen after one of the bytes is not read back.
-pub(crate) fn expect_each(alloc: Global, examples: &[Example]) -> Result<(), Fail> {
+pub fn expect_each(alloc: Global, examples: &[Example]) -> Result<(), Fail> {
     for (size, capacity, steps, wanted) in examples {
         expect_at_each_cut(alloc, *size, *capacity, steps, wanted)?;
     }
@@ -21,7 +21,7 @@ pub(crate) fn expect_each(alloc: Global, examples: &[Example]) -> Result<(), Fai
 
 /// Fails where these steps, their bytes in two pieces or one by one, give something else, or where the
 /// screen after one of the bytes is not read back.
-pub(crate) fn expect_at_each_cut(
+pub fn expect_at_each_cut(
     alloc: Global,
     size: (u16, u16),
     capacity: usize,
@@ -49,7 +49,7 @@ fn expect_after(
 }
 
 /// Fails where a parser after these steps shows or called something else.
-pub(crate) fn expect(
+pub fn expect(
     alloc: Global,
     parser: &Parser<Notes>,
     steps: &[Step],
@@ -60,6 +60,15 @@ pub(crate) fn expect(
         return Err(Fail::new(format_args!("{steps:?} give {found}and not {wanted}")));
     }
     Ok(())
+}
+
+/// Fails where a text is another one.
+pub fn expect_text(text: String, wanted: &str) -> Result<(), Fail> {
+    if text.as_str() == wanted {
+        Ok(())
+    } else {
+        Err(Fail::new(format_args!("{text:?} and not {wanted:?}")))
+    }
 }
 
 /// What a parser shows, as a line, and the lines of its calls.
@@ -76,7 +85,7 @@ fn seen(alloc: Global, parser: &Parser<Notes>) -> Result<String, Fail> {
 /// are left out. Then come the cursor, whether the page is the alternate one, how many rows
 /// scrollback keeps and how many of them are in view, and attributes and modes; of all these but the
 /// cursor only what isn't the default.
-pub(crate) fn shown(alloc: Global, screen: &Screen) -> Result<String, Fail> {
+pub fn shown(alloc: Global, screen: &Screen) -> Result<String, Fail> {
     let (rows, _cols) = screen.size();
     let mut text = String::new(alloc);
     for row in 0..rows.get() {
@@ -92,16 +101,12 @@ pub(crate) fn shown(alloc: Global, screen: &Screen) -> Result<String, Fail> {
 }
 
 /// A fresh parser of this size after these pieces.
-pub(crate) fn read(
-    alloc: Global,
-    size: (u16, u16),
-    pieces: &[&[u8]],
-) -> Result<Parser<Notes>, Fail> {
+pub fn read(alloc: Global, size: (u16, u16), pieces: &[&[u8]]) -> Result<Parser<Notes>, Fail> {
     read_keeping(alloc, size, 0, pieces)
 }
 
 /// A fresh parser of this size, whose scrollback keeps `capacity` rows, after these pieces.
-pub(crate) fn read_keeping(
+pub fn read_keeping(
     alloc: Global,
     size: (u16, u16),
     capacity: usize,

@@ -1,14 +1,14 @@
 //! Redraws: their texts, and what a terminal shows that reads them.
 
-use crate::cuts::expect_read_back_at_each_byte;
-use crate::readback::ASKED;
-use crate::readback::Asked::{self, Attributes, Cursor, Redraw, Reset};
-use crate::seen::{expect, read};
-use crate::steps::Step::{self, Text, View};
-use crate::steps::{Pieces, feed, longest, taken};
 use std::alloc::Global;
 use std::test::Fail;
 use vt_notes::Notes;
+use vt_test_aids::cuts::expect_read_back_at_each_byte;
+use vt_test_aids::readback::ASKED;
+use vt_test_aids::readback::Asked::{self, Attributes, Cursor, Redraw, Reset};
+use vt_test_aids::seen::{expect, read};
+use vt_test_aids::steps::Step::{self, Text, View};
+use vt_test_aids::steps::{Pieces, feed, longest, taken};
 use vt100::{Parser, Screen};
 
 /// What each redraw of a screen with a shown cursor begins with.

@@ -9,7 +9,7 @@ use vt100::{Callbacks, Error, Parser};
 
 /// What is done to a parser or its screen.
 #[derive(Clone, Copy, Debug)]
-pub(crate) enum Step {
+pub enum Step {
     /// The parser reads a text.
     Text(&'static str),
 
@@ -31,14 +31,14 @@ pub(crate) enum Step {
 
 /// How bytes are read: in two pieces, of which the first has at most so many bytes, or one by one.
 #[derive(Clone, Copy)]
-pub(crate) enum Pieces {
+pub enum Pieces {
     Two(usize),
     Single,
 }
 
 impl Step {
     /// What is read.
-    pub(crate) fn bytes(self) -> &'static [u8] {
+    pub fn bytes(self) -> &'static [u8] {
         match self {
             Step::Text(text) => text.as_bytes(),
             Step::Bytes(bytes) => bytes,
@@ -47,7 +47,7 @@ impl Step {
     }
 
     /// Does this to a parser, or to its screen.
-    pub(crate) fn take(self, parser: &mut Parser<Notes>, pieces: Pieces) -> Result<(), Fail> {
+    pub fn take(self, parser: &mut Parser<Notes>, pieces: Pieces) -> Result<(), Fail> {
         match self {
             Step::Text(_) | Step::Bytes(_) => feed(parser, self.bytes(), pieces)?,
             Step::Resize(rows, cols) => {
@@ -66,14 +66,14 @@ impl Step {
 }
 
 /// Rows and columns as a parser wants them.
-pub(crate) fn size_of((rows, cols): (u16, u16)) -> Result<(NonZeroU16, NonZeroU16), Fail> {
+pub fn size_of((rows, cols): (u16, u16)) -> Result<(NonZeroU16, NonZeroU16), Fail> {
     let rows = NonZeroU16::new(rows).ok_or("no rows")?;
     let cols = NonZeroU16::new(cols).ok_or("no columns")?;
     Ok((rows, cols))
 }
 
 /// A fresh parser of this size, whose scrollback keeps `capacity` rows, after these steps.
-pub(crate) fn taken(
+pub fn taken(
     alloc: Global,
     size: (u16, u16),
     capacity: usize,
@@ -88,7 +88,7 @@ pub(crate) fn taken(
 }
 
 /// The length of the longest text among these steps.
-pub(crate) fn longest(steps: &[Step]) -> usize {
+pub fn longest(steps: &[Step]) -> usize {
     let mut longest: usize = 0;
     for step in steps {
         longest = longest.max(step.bytes().len());
@@ -97,7 +97,7 @@ pub(crate) fn longest(steps: &[Step]) -> usize {
 }
 
 /// Has a parser read bytes in these pieces.
-pub(crate) fn feed<CB: Callbacks>(
+pub fn feed<CB: Callbacks>(
     parser: &mut Parser<CB>,
     bytes: &[u8],
     pieces: Pieces,

@@ -1,14 +1,13 @@
 //! Captures: of rows that are shown or kept, streamed, and into sinks that refuse.
 
-use crate::cuts::expect_read_back_at_each_byte;
-use crate::plain_tests::expect_text;
-use crate::seen::read_keeping;
-use crate::steps::Step::{self, Bytes, Resize, Text, View};
-use crate::steps::{Pieces, feed, size_of, taken};
 use std::alloc::Global;
 use std::process::Abort;
 use std::test::Fail;
 use vt_notes::Recorder;
+use vt_test_aids::cuts::expect_read_back_at_each_byte;
+use vt_test_aids::seen::{expect_text, read_keeping};
+use vt_test_aids::steps::Step::{self, Bytes, Resize, Text, View};
+use vt_test_aids::steps::{Pieces, feed, size_of, taken};
 use vt100::capture::{
     BasicFormattedCaptureRange, BasicFormattedCaptureState, basic_formatted_rows,
     basic_formatted_to_plain,

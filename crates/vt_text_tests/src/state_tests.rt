@@ -1,13 +1,13 @@
 //! Texts of whole states and of input modes, and what a terminal takes over that reads them.
 
-use crate::readback::Asked::{Modes, State};
-use crate::readback::Change;
 use crate::redraw_tests::{expect_at_each_cut, expect_read_back};
-use crate::seen::read_keeping;
-use crate::steps::Step::{Text, View};
 use crate::{difference_tests, redraw_tests};
 use std::alloc::Global;
 use std::test::Fail;
+use vt_test_aids::readback::Asked::{Modes, State};
+use vt_test_aids::readback::Change;
+use vt_test_aids::seen::read_keeping;
+use vt_test_aids::steps::Step::{Text, View};
 
 #[rattlefmt::skip]
 const STATES: [redraw_tests::Example; 8] = [

@@ -1,11 +1,11 @@
 //! Differences: their texts, and what a terminal shows that reads them.
 
-use crate::cuts::expect_read_back_at_each_byte;
-use crate::readback::Change;
-use crate::steps::Step::{self, Text, View};
-use crate::steps::{Pieces, longest, taken};
 use std::alloc::Global;
 use std::test::Fail;
+use vt_test_aids::cuts::expect_read_back_at_each_byte;
+use vt_test_aids::readback::Change;
+use vt_test_aids::steps::Step::{self, Text, View};
+use vt_test_aids::steps::{Pieces, longest, taken};
 use vt100::Screen;
 
 /// A size, how many rows scrollback keeps, what is done to the one and to the other of two fresh

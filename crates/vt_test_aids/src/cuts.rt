@@ -11,7 +11,7 @@ use vt100::{Parser, Screen};
 /// Fails where, after one of the bytes of these steps or after one of the others, a terminal that reads
 /// the redraw of the screen with its modes, or what differs in both since the byte before, does not
 /// show the same.
-pub(crate) fn expect_read_back_at_each_byte(
+pub fn expect_read_back_at_each_byte(
     alloc: Global,
     size: (u16, u16),
     capacity: usize,

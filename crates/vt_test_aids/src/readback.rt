@@ -18,7 +18,7 @@ const READ: [Pieces; 2] = [Pieces::Two(usize::MAX), Pieces::Single];
 
 /// A text of a screen.
 #[derive(Clone, Copy, Debug)]
-pub(crate) enum Asked {
+pub enum Asked {
     /// `contents_formatted`.
     Redraw,
 
@@ -42,7 +42,7 @@ pub(crate) enum Asked {
 }
 
 /// All texts of a screen.
-pub(crate) const ASKED: [Asked; 7] = [
+pub const ASKED: [Asked; 7] = [
     Asked::Redraw,
     Asked::Cursor,
     Asked::Attributes,
@@ -54,7 +54,7 @@ pub(crate) const ASKED: [Asked; 7] = [
 
 impl Asked {
     /// This text of a screen.
-    pub(crate) fn text(self, screen: &Screen) -> Result<String, Error> {
+    pub fn text(self, screen: &Screen) -> Result<String, Error> {
         match self {
             Asked::Redraw => screen.contents_formatted(),
             Asked::Cursor => screen.cursor_state_formatted(),
@@ -67,7 +67,7 @@ impl Asked {
 
     /// Fails where a terminal that reads this text of a screen doesn't take over from it what the text
     /// is for, or changes in something else, or calls a function.
-    pub(crate) fn expect_read(self, alloc: Global, screen: &Screen) -> Result<(), Fail> {
+    pub fn expect_read(self, alloc: Global, screen: &Screen) -> Result<(), Fail> {
         let text = self.text(screen)?;
         let before = self.read_before(alloc, screen)?;
         for pieces in &READ {
@@ -107,7 +107,7 @@ impl Asked {
 
 /// A text of what differs between two screens.
 #[derive(Clone, Copy, Debug)]
-pub(crate) enum Change {
+pub enum Change {
     /// `contents_diff`.
     Picture,
 
@@ -123,7 +123,7 @@ pub(crate) enum Change {
 
 impl Change {
     /// This text of a screen against another one; fails where they aren't of one size.
-    pub(crate) fn text(self, screen: &Screen, prev: &Screen) -> Result<String, Fail> {
+    pub fn text(self, screen: &Screen, prev: &Screen) -> Result<String, Fail> {
         let (rows, cols) = screen.size();
         let (other_rows, other_cols) = prev.size();
         if rows.get() != other_rows.get() || cols.get() != other_cols.get() {
@@ -141,7 +141,7 @@ impl Change {
     /// Fails where a terminal that shows what `prev` shows, and has its modes, doesn't take over from
     /// `screen` what this text is for, once it has read it, or changes in something else, or calls a
     /// function.
-    pub(crate) fn expect_read(
+    pub fn expect_read(
         self,
         alloc: Global,
         screen: &Screen,

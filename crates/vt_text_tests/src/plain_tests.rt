@@ -1,11 +1,11 @@
 //! Plain texts: of the screen, of ranges and of rows.
 
-use crate::cuts::expect_read_back_at_each_byte;
-use crate::seen::read_keeping;
-use crate::steps::Step::{self, Resize, ResizeParser, Text, View};
-use crate::steps::{Pieces, longest, taken};
 use std::alloc::Global;
 use std::test::Fail;
+use vt_test_aids::cuts::expect_read_back_at_each_byte;
+use vt_test_aids::seen::{expect_text, read_keeping};
+use vt_test_aids::steps::Step::{self, Resize, ResizeParser, Text, View};
+use vt_test_aids::steps::{Pieces, longest, taken};
 use vt100::{Error, Screen};
 
 /// A size, a capacity of scrollback, what is done, and the text then.
@@ -74,15 +74,6 @@ fn expect_contents(
 ) -> Result<(), Fail> {
     let parser = taken(alloc, size, capacity, steps, pieces)?;
     expect_text(parser.screen().contents()?, wanted)
-}
-
-/// Fails where a text is another one.
-pub(crate) fn expect_text(text: String, wanted: &str) -> Result<(), Fail> {
-    if text.as_str() == wanted {
-        Ok(())
-    } else {
-        Err(Fail::new(format_args!("{text:?} and not {wanted:?}")))
-    }
 }
 
 /// What is done, a range from one row and column to another, and its text.

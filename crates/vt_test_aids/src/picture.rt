@@ -4,7 +4,7 @@ use vt100::{Color, Screen};
 
 /// What two screens of one size may have in common.
 #[derive(Clone, Copy, PartialEq, Eq, Debug)]
-pub(crate) enum Part {
+pub enum Part {
     /// The cells, with what each is drawn with.
     Cells,
 
@@ -22,10 +22,10 @@ pub(crate) enum Part {
 }
 
 /// All that is shown.
-pub(crate) const PICTURE: [Part; 4] = [Part::Cells, Part::Flags, Part::Cursor, Part::Attributes];
+pub const PICTURE: [Part; 4] = [Part::Cells, Part::Flags, Part::Cursor, Part::Attributes];
 
 /// All that is shown, and the modes.
-pub(crate) const PARTS: [Part; 5] = [
+pub const PARTS: [Part; 5] = [
     Part::Cells,
     Part::Flags,
     Part::Cursor,
@@ -35,7 +35,7 @@ pub(crate) const PARTS: [Part; 5] = [
 
 impl Part {
     /// Whether two screens of one size have this in common.
-    pub(crate) fn is_same(self, one: &Screen, other: &Screen) -> bool {
+    pub fn is_same(self, one: &Screen, other: &Screen) -> bool {
         match self {
             Part::Cells => have_same_cells(one, other, one.size().0.get()),
             Part::Flags => have_same_flags(one, other),
@@ -50,7 +50,7 @@ impl Part {
 }
 
 /// Whether the first rows of two screens have the same cells.
-pub(crate) fn have_same_cells(one: &Screen, other: &Screen, rows: u16) -> bool {
+pub fn have_same_cells(one: &Screen, other: &Screen, rows: u16) -> bool {
     let (_rows, cols) = one.size();
     for row in 0..rows {
         for col in 0..cols.get() {

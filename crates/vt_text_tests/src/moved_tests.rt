@@ -1,9 +1,9 @@
 //! Differences that move rows first: their texts, and what a terminal shows that reads them.
 
 use crate::difference_tests::{Example, expect_at_each_cut};
-use crate::readback::Change;
-use crate::steps::Step::Text;
 use std::test::Fail;
+use vt_test_aids::readback::Change;
+use vt_test_aids::steps::Step::Text;
 
 /// Four rows.
 const FOUR: &str = "aaaaaaaaa\r\nbbbbbbbbb\r\nccccccccc\r\nddddddddd";

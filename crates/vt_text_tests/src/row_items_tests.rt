@@ -1,14 +1,14 @@
 //! Redraws and differences of rows by themselves, and what a terminal shows that reads them.
 
-use crate::cuts::expect_read_back_at_each_byte;
-use crate::picture::have_same_cells;
 use crate::plain_tests::expect_texts;
-use crate::seen::read_keeping;
-use crate::steps::Step::Text;
-use crate::steps::{Pieces, taken};
 use std::alloc::Global;
 use std::test::Fail;
 use vt_notes::Notes;
+use vt_test_aids::cuts::expect_read_back_at_each_byte;
+use vt_test_aids::picture::have_same_cells;
+use vt_test_aids::seen::read_keeping;
+use vt_test_aids::steps::Step::Text;
+use vt_test_aids::steps::{Pieces, taken};
 use vt100::{Error, Parser, Screen};
 
 /// A size, a text, a first column and how many columns, and the texts of the rows there.
