@@ -33,7 +33,7 @@ pub record SendsOrFails {S : Type 0} (leaves : S → RowValue → S → Type 0) 
   pub refused : FailsUnchanged before heard after told result
 
 -- the page gets this height and width; or memory for the rows that leave it is refused, and nothing has changed
-pub record Resizes {S : Type 0} (leaves : S → RowValue → S → Type 0) (height width : ℕ)
+pub record ResizesPage {S : Type 0} (leaves : S → RowValue → S → Type 0) (height width : ℕ)
     (before : Page) (was : Scrollback) (heard : S) (after : Page) (kept : Scrollback) (told : S)
     (result : Result (Unit {0}) Error) : Type 0 where
   pub page : OnOk result (after ≡ page_resized height width was before)

@@ -5,7 +5,7 @@ ghost use Rattle.std.specs.Prelude.{◌≡◌, ◌^◌, ◌-◌, ◌<◌, length
 ghost use Rattle.vt_grid.specs.Page.{blank_page};
 ghost use Rattle.vt_grid.specs.PageRows.{blank_page_rows};
 ghost use Rattle.vt_grid.specs.Resize.{row_resized};
-ghost use Rattle.vt_grid.specs.Sending.{Resizes};
+ghost use Rattle.vt_grid.specs.Sending.{ResizesPage};
 
 use super::Grid;
 use crate::page_rows::PageRows;
@@ -38,7 +38,7 @@ impl Grid {
         leaving: &mut L,
     ) -> Result<(), Error>
         requires { fresh ≡ blank_page (length fresh.rows) fresh.width }
-        ensures { Resizes L.leaves (length fresh.rows) fresh.width self.old above.old leaving.old
+        ensures { ResizesPage L.leaves (length fresh.rows) fresh.width self.old above.old leaving.old
             self.new above.new leaving.new result }
     {
         self.fill(fresh.page_rows, above, leaving)?;
@@ -57,7 +57,7 @@ impl Grid {
         requires rows { 0 < length fresh.rows }
         requires height { length fresh.rows < 2 ^ 16 }
         requires cols { 0 < fresh.width }
-        ensures { Resizes L.leaves (length fresh.rows) fresh.width self.old above.old leaving.old
+        ensures { ResizesPage L.leaves (length fresh.rows) fresh.width self.old above.old leaving.old
             self.new above.new leaving.new result }
     {
         let size = fresh.size();
