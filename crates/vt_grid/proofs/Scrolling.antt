@@ -67,7 +67,8 @@ IsScrollback-grown_in_view h w above a =
 
 -- ---- the offset is set
 
-pub IsScrollback-with_view : (h w n : ℕ) (above : Scrollback) → IsScrollback above → IsScrollback (with_view h w n above)
+pub IsScrollback-with_view : (h w n : ℕ) (above : Scrollback) → IsScrollback above →
+    IsScrollback (with_view h w n above)
 unfolding with_view
 IsScrollback-with_view h w n above a =
     IsScrollback-grown_in_view h w (record above { offset = min n (length above.rows) })

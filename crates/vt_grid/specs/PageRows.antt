@@ -38,7 +38,8 @@ with_row_cells r cells page_rows = with_page_row r (with_cells (page_row page_ro
 
 -- row r, if there is one, goes on below exactly if `goes_on`
 abbrev pub with_page_row_flag : Option ℕ → Bool → PageRowsValue → PageRowsValue
-with_page_row_flag (Some r) goes_on page_rows = with_page_row r (record (page_row page_rows r) { wrapped = goes_on }) page_rows
+with_page_row_flag (Some r) goes_on page_rows =
+    with_page_row r (record (page_row page_rows r) { wrapped = goes_on }) page_rows
 with_page_row_flag None goes_on page_rows = page_rows
 
 -- the rows from top to bottom move up by n, or down

@@ -1,8 +1,13 @@
--- How scrollback makes the memory for what is to grow before it changes anything; for its private contracts only.
+-- What rows scrollback works on, and how it makes the memory for what is to grow before it changes anything; for its
+-- private contracts only.
 use Rattle.std.specs.Prelude.{◌≡◌, ℕ, ◌+◌, ◌-◌, ◌<◌, ◌≤◌, List, ◌++◌, length, All, take, drop, map, slice_index_or}
 use Rattle.vt_cells.specs.Attrs.{default_attrs}
-use Rattle.vt_rows.specs.Row.{RowValue, blank_row, trimmed_row}
+use Rattle.vt_rows.specs.Row.{RowValue, IsRow, blank_row, trimmed_row}
 use Rattle.vt_grid.specs.Scrollback.{Scrollback, grown_row, narrow_rows}
+
+-- each row is as a row of a page, in its own width
+abbrev pub AreRows : List RowValue → Type 0
+AreRows rows = All (λ row. IsRow (length row.cells) row) rows
 
 -- the rows from `first` on, as many as a screen of this height shows
 abbrev pub window_from : (first height : ℕ) → List RowValue → List RowValue

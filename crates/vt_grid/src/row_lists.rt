@@ -1,15 +1,15 @@
 //! Lists of rows: made anew, all of whose memory is taken at once, turned
 //! over, and reported.
 
-ghost use Rattle.std.specs.Prelude.{◌≡◌, ◌<◌, ◌++◌, [], All, IfOk, IsErr, OnErr, OnOk};
+ghost use Rattle.std.specs.Prelude.{◌≡◌, ◌<◌, ◌++◌, [], IfOk, IsErr, OnErr, OnOk};
 ghost use Rattle.std.specs.Prelude.{drop, length, map, replicate, take};
 ghost use Rattle.std.specs.List.{FoldsTo};
 ghost use Rattle.vt_cells.specs.Attrs.{default_attrs};
 ghost use Rattle.vt_cells.specs.Refusals.{OnlyOutOfMemory};
-ghost use Rattle.vt_rows.specs.Row.{IsRow, blank_row, trimmed_row};
+ghost use Rattle.vt_rows.specs.Row.{blank_row, trimmed_row};
 ghost use Rattle.vt_grid.specs.PageRows.{HasRows};
 ghost use Rattle.vt_grid.specs.Sending.{FailsUnchanged};
-ghost use Rattle.vt_grid.specs.Spare.{OldestIsShorter};
+ghost use Rattle.vt_grid.specs.Spare.{AreRows, OldestIsShorter};
 
 use crate::page_rows::PageRows;
 use std::alloc::Global;
@@ -88,7 +88,7 @@ pub fn turn_over<L: Leaving>(
 ) -> Result<(), Error>
     requires some { 0 < length rows.old.items }
     requires page { HasRows 1 page.now }
-    requires sound { All (λ row. IsRow (length row.cells) row) rows.old.items }
+    requires sound { AreRows rows.old.items }
     ensures rows { OnOk result (rows.new.items ≡ drop 1 rows.old.items ++ map trimmed_row (take 1 page.now.rows)) }
     ensures left { OnOk result (FoldsTo L.leaves leaving.old (take 1 rows.old.items) leaving.new) }
     ensures refused { FailsUnchanged rows.old.items leaving.old rows.new.items leaving.new result }
@@ -102,7 +102,7 @@ pub fn turn_over<L: Leaving>(
 
 /// Gives up and reports all rows, older first.
 pub fn report_all<L: Leaving>(rows: &mut VecDeque<Row>, leaving: &mut L)
-    requires { All (λ row. IsRow (length row.cells) row) rows.old.items }
+    requires { AreRows rows.old.items }
     ensures rows { rows.new.items ≡ [] }
     ensures reported { FoldsTo L.leaves leaving.old rows.old.items leaving.new }
 {

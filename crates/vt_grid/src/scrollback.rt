@@ -16,7 +16,7 @@ ghost use Rattle.vt_grid.specs.Scrollback.{IsScrollback, Sends, TakesMemory, Vie
 ghost use Rattle.vt_grid.specs.Scrollback.{before_last, cleared, grown_row, kept_after, last_of};
 ghost use Rattle.vt_grid.specs.Scrollback.{narrow_rows, no_scrollback, with_view, visible};
 ghost use Rattle.vt_grid.specs.Sending.{SendsOrFails};
-ghost use Rattle.vt_grid.specs.Spare.{AreSpare, grown_from, in_view, window_from};
+ghost use Rattle.vt_grid.specs.Spare.{AreRows, AreSpare, grown_from, in_view, window_from};
 
 mod one;
 
@@ -342,8 +342,8 @@ fn push_rows<L: Leaving>(gone: Vec<Row>, kept: &mut VecDeque<Row>, capacity: usi
     requires inside { length kept.old.items ≤ capacity }
     requires room { length kept.old.items + min (length gone.items) (capacity - length kept.old.items)
         ≤ deque_capacity kept.old }
-    requires sound { All (λ row. IsRow (length row.cells) row) gone.items }
-    requires sound_kept { All (λ row. IsRow (length row.cells) row) kept.old.items }
+    requires sound { AreRows gone.items }
+    requires sound_kept { AreRows kept.old.items }
     ensures rows { kept.new.items ≡ last_of capacity (kept.old.items ++ gone.items) }
     ensures reported { FoldsTo L.leaves leaving.old (before_last capacity (kept.old.items ++ gone.items)) leaving.new }
 {
@@ -358,7 +358,7 @@ fn push_row<L: Leaving>(row: Row, kept: &mut VecDeque<Row>, capacity: usize, lea
     requires some { 0 < capacity }
     requires inside { length kept.old.items ≤ capacity }
     requires room { length kept.old.items < capacity → deque_len kept.old < deque_capacity kept.old }
-    requires sound { All (λ row. IsRow (length row.cells) row) kept.old.items }
+    requires sound { AreRows kept.old.items }
     ensures rows { kept.new.items ≡ last_of capacity (kept.old.items ++ row ∷ []) }
     ensures reported { FoldsTo L.leaves leaving.old (before_last capacity (kept.old.items ++ row ∷ [])) leaving.new }
     ensures capacity { deque_capacity kept.new ≡ deque_capacity kept.old }
@@ -377,7 +377,7 @@ fn push_row<L: Leaving>(row: Row, kept: &mut VecDeque<Row>, capacity: usize, lea
 fn give_rows(kept: &mut VecDeque<Row>, page: &mut PageRows, up: usize)
     requires inside { up ≤ length page.old.rows }
     requires blank { All (λ row. row ≡ blank_row default_attrs (length row.cells)) page.old.rows }
-    requires sound { All (λ row. IsRow (length row.cells) row) kept.old.items }
+    requires sound { AreRows kept.old.items }
     ensures kept { kept.new.items ≡ take (length kept.old.items - up) kept.old.items }
     ensures len { length page.new.rows ≡ length page.old.rows }
     ensures width { page.new.width ≡ page.old.width }
@@ -432,7 +432,7 @@ fn narrow(row: &Row, columns: usize) -> usize
 /// wide as the screen.
 fn grow_in_view(rows: &mut VecDeque<Row>, offset: usize, size: Size, mut spare: Vec<Row>)
     requires inside { offset ≤ length rows.old.items }
-    requires sound { All (λ row. IsRow (length row.cells) row) rows.old.items }
+    requires sound { AreRows rows.old.items }
     requires spare { AreSpare size.cols
         (window_from (length rows.old.items - offset) size.rows rows.old.items) spare.items }
     ensures { rows.new.items ≡ grown_from (length rows.old.items - offset) size.rows size.cols rows.old.items }

@@ -58,8 +58,8 @@ pub record WritesOnWay (first : ScreenValue) (every : ℕ) (left rest written gr
   pub reads : Consumes left rest input
   pub appends : Appends written grown (text_on_way first every input)
 
--- for bytes at whose end memory was refused: all updates but that for the last bytes, at most as many as are read between
--- two updates
+-- for bytes at whose end memory was refused: all updates but that for the last bytes, at most as many as are read
+-- between two updates
 pub record WritesBehind (first : ScreenValue) (every : ℕ) (left rest written grown : Option (List ℕ)) : Type 0 where
   pub input : List ℕ
   pub last : List ℕ

@@ -140,7 +140,8 @@ fn read_stretch<R: Read>(
 /// Writes the text of the viewer's update, and flushes it.
 fn write_update<W: Write>(mirror: &mut Mirror, viewer: u64, writer: &mut W) -> Result<(), Fault>
     requires { is_viewer mirror.old.viewers viewer ≡ true }
-    ensures writes { OnOk result (WritesUpdate mirror.old viewer mirror.new (W.contents writer.old) (W.contents writer.new)) }
+    ensures writes { OnOk result
+        (WritesUpdate mirror.old viewer mirror.new (W.contents writer.old) (W.contents writer.new)) }
     ensures memory { result ≡ Err Fault.Memory → Keeps (W.contents writer.old) (W.contents writer.new) }
     ensures fault { IfErr result (λ fault. fault ≢ Fault.Read) }
 {
