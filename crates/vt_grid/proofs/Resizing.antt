@@ -20,7 +20,7 @@ use Rattle.vt_rows.proofs.Columns.{at-blanks}
 use Rattle.vt_rows.proofs.Moves.{IsRow-resized_row, moved_is}
 use Rattle.vt_rows.proofs.Rows.{IsRow-blank_row}
 use Rattle.vt_cells.specs.declared.pos.Pos.{Pos}
-use Rattle.vt_grid.specs.Internals.{IsSized, page_of, refilled}
+use Rattle.vt_grid.specs.Internals.{IsSized, given_back, page_of, refilled, taken_over}
 use Rattle.vt_grid.specs.Page.{Page, IsPage, blank_page, by_row, row_or}
 use Rattle.vt_grid.specs.Resize.{leaving, returning, window, rows_resized, row_resized}
 use Rattle.vt_grid.specs.Resize.{page_resized, out_of_view, taken_back, scrollback_resized}
@@ -199,14 +199,9 @@ settled v w width h down up last above rows fresh filled e wide pos end same eit
 -- what is filled from both sides
 pub refilled_by : (down up : ℕ) (above rows fresh half filled : List RowValue) → length half ≡ length fresh →
     ((k : ℕ) (d : RowValue) → k < length fresh →
-    get_or half k d
-    ≡ (if nat_lt k up && nat_le up (length above + k)
-    then resized_row (length (get_or fresh k d).cells) (get_or above (length above + k - up) d)
-    else get_or fresh k d)) →
+    get_or half k d ≡ given_back up above (get_or fresh k d) k d) →
     ((k : ℕ) (d : RowValue) → k < length half →
-    get_or filled k d
-    ≡ (if nat_le up k && nat_lt (down + (k - up)) (length rows)
-    then resized_row (length (get_or half k d).cells) (get_or rows (down + (k - up)) d) else get_or half k d)) →
+    get_or filled k d ≡ taken_over down up rows (get_or half k d) k d) →
     (k : ℕ) (d : RowValue) → k < length fresh → get_or filled k d ≡ refilled down up above rows (get_or fresh k d) k d
 refilled_by down up above rows fresh half filled e f g k d h =
     let l : k < length half = omega (arith, e) in
@@ -246,10 +241,7 @@ all_blank h w rows e =
 pub still_fresh : (up : ℕ) (above fresh half : List RowValue) → length half ≡ length fresh →
     All (λ row. row ≡ blank_row default_attrs (length row.cells)) fresh →
     ((k : ℕ) (d : RowValue) → k < length fresh →
-    get_or half k d
-    ≡ (if nat_lt k up && nat_le up (length above + k)
-    then resized_row (length (get_or fresh k d).cells) (get_or above (length above + k - up) d)
-    else get_or fresh k d)) →
+    get_or half k d ≡ given_back up above (get_or fresh k d) k d) →
     (k : ℕ) (d : RowValue) → up ≤ k → k < length half →
     get_or half k d ≡ blank_row default_attrs (length (get_or half k d).cells)
 still_fresh up above fresh half e all f k d below h =

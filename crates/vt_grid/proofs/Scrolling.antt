@@ -67,7 +67,8 @@ IsScrollback-grown_in_view h w above a =
 
 -- ---- the offset is set
 
-pub IsScrollback-with_view : (h w n : ℕ) (above : Scrollback) → IsScrollback above → IsScrollback (with_view h w n above)
+pub IsScrollback-with_view : (h w n : ℕ) (above : Scrollback) → IsScrollback above →
+    IsScrollback (with_view h w n above)
 unfolding with_view
 IsScrollback-with_view h w n above a =
     IsScrollback-grown_in_view h w (record above { offset = min n (length above.rows) })
@@ -243,6 +244,14 @@ added_is h w gone above rows theoretical f o n e t =
     pushed_is h w gone above rows rows theoretical above.offset (omega arith)
     (kept_is gone above rows theoretical above.offset stacks t offset)
     (nothing_grows (length rows - above.offset) h w rows (omega arith))
+
+pub added_reports : (gone : List RowValue) (above : Scrollback) → length above.rows < above.capacity →
+    length gone ≡ 1 → reported gone above ≡ []
+added_reports gone above room n =
+    reported_some gone above (omega arith)
+    ∙ nil_from_length (before_last above.capacity (stacked gone above))
+    (length-take (length (stacked gone above) - above.capacity) (stacked gone above)
+    ∙ omega (arith, length-stacked gone above))
 
 pub turned_reports : (gone : List RowValue) (above : Scrollback) → length above.rows ≡ above.capacity →
     0 < above.capacity → length gone ≡ 1 → reported gone above ≡ take 1 above.rows

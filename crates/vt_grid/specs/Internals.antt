@@ -1,13 +1,14 @@
 -- What the fields of a grid are together; for its model and private contracts only.
-use Rattle.std.specs.Prelude.{◌≡◌, ℕ, ◌+◌, ◌-◌, ◌<◌, nat_le, nat_lt, Bool, true, false, List}
+use Rattle.std.specs.Prelude.{◌≡◌, ℕ, ◌+◌, ◌-◌, ◌<◌, ◌&&◌, nat_le, nat_lt, Bool, true, false, List}
 use Rattle.std.specs.Prelude.{[], length, slice_index_or, Some, zero, if◌then◌else◌}
+use Rattle.std.specs.Char.{encode_utf8}
 use Rattle.vt_cells.specs.Attrs.{Attrs}
 use Rattle.vt_cells.specs.declared.pos.Pos.{Pos}
 use Rattle.vt_cells.specs.Cell.{CellValue, is_wide, is_blank, is_right_half, widened, IsCell}
 use Rattle.vt_rows.specs.Cells.{at}
 use Rattle.vt_rows.specs.Row.{RowValue, blank_row, resized_row}
 use Rattle.vt_grid.specs.Page.{Page, IsPage, cursor_row}
-use Rattle.vt_grid.specs.Printing.{lacks_room, carries}
+use Rattle.vt_grid.specs.Printing.{lacks_room, carries, glyph_put, room_made}
 use Rattle.vt_grid.specs.Outgoing.{fed_out, left_by}
 use Rattle.vt_grid.specs.PageRows.{PageRowsValue}
 
@@ -53,9 +54,33 @@ pub record IsSelected (page : Page) (k : ℕ) : Type 0 where
 abbrev pub room_out : ℕ → Page → List RowValue
 room_out columns page = if lacks_room columns page then fed_out page else []
 
+-- the rows that leave where a glyph of two columns is printed, and the page then; on a page of one column nothing
+abbrev pub wide_out : Page → List RowValue
+wide_out page = if nat_lt 1 page.width then room_out 2 page else []
+
+abbrev pub wide_printed : ℕ → Attrs → Page → Page
+wide_printed c attrs page =
+    if nat_lt 1 page.width then glyph_put (encode_utf8 c) true attrs (room_made 2 page) else page
+
 -- the rows that leave where a mark is printed
 abbrev pub mark_out : ℕ → Attrs → Page → List RowValue
 mark_out mark attrs page = if carries mark page then fed_out (left_by (Some zero) attrs page) else []
+
+-- what row k of a page becomes, which is blank before, where the newest `up` rows above go to its first ones
+abbrev pub given_back : (up : ℕ) → (above : List RowValue) →
+    (blank : RowValue) → (k : ℕ) → (d : RowValue) → RowValue
+given_back up above blank k d =
+    if nat_lt k up && nat_le up (length above + k)
+    then resized_row (length blank.cells) (slice_index_or above (length above + k - up) d)
+    else blank
+
+-- what it becomes where the rows of another page from `down` on go to its rows from `up` on
+abbrev pub taken_over : (down up : ℕ) → (rows : List RowValue) →
+    (blank : RowValue) → (k : ℕ) → (d : RowValue) → RowValue
+taken_over down up rows blank k d =
+    if nat_le up k && nat_lt (down + (k - up)) (length rows)
+    then resized_row (length blank.cells) (slice_index_or rows (down + (k - up)) d)
+    else blank
 
 -- what row k of a page of another size becomes, which is blank before: one of the newest rows above, or one of the page
 abbrev pub refilled : (down up : ℕ) → (above rows : List RowValue) →

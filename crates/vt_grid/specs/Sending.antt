@@ -1,9 +1,12 @@
 -- What a call does that lets rows go at the top of the page.
-use Rattle.std.specs.Prelude.{◌≡◌, ℕ, List, IsErr, OnErr, OnOk}
+use Rattle.std.specs.Prelude.{◌≡◌, ℕ, List, IsErr, OnErr, OnOk, take}
+use Rattle.std.specs.List.{FoldsTo}
 use Rattle.std.specs.declared.result.Result.{Result}
 use Rattle.vt_cells.specs.Refusals.{OnlyOutOfMemory}
 use Rattle.vt_cells.specs.declared.error.Error.{Error}
 use Rattle.vt_rows.specs.Row.{RowValue}
+use Rattle.vt_grid.specs.Page.{Page}
+use Rattle.vt_grid.specs.Resize.{leaving, out_of_view, page_resized, resize_reports, scrollback_resized}
 use Rattle.vt_grid.specs.Scrollback.{Scrollback, Sends, TakesMemory}
 
 -- the page becomes this one, and these rows go to scrollback; or memory for them is refused, and nothing has changed
@@ -14,4 +17,28 @@ pub record LetsRowsGo {P S : Type 0} (leaves : S → RowValue → S → Type 0) 
   pub sent : OnOk result (Sends leaves height width gone above heard kept told)
   pub err : OnErr result ((after ≡ before) × ((kept ≡ above) × (told ≡ heard)))
   pub grows : IsErr result → TakesMemory gone above
+  pub memory : OnlyOutOfMemory result
+
+-- a call that fails was refused memory, and nothing has changed
+pub record FailsUnchanged {P S : Type 0} (before : P) (heard : S) (after : P) (told : S)
+    (result : Result (Unit {0}) Error) : Type 0 where
+  pub err : OnErr result ((after ≡ before) × (told ≡ heard))
+  pub memory : OnlyOutOfMemory result
+
+-- these rows go to scrollback; or memory for them is refused, and scrollback is as it was before
+pub record SendsOrFails {S : Type 0} (leaves : S → RowValue → S → Type 0) (height width : ℕ) (gone : List RowValue)
+    (above : Scrollback) (heard : S) (before after : Scrollback) (told : S)
+    (result : Result (Unit {0}) Error) : Type 0 where
+  pub sent : OnOk result (Sends leaves height width gone above heard after told)
+  pub refused : FailsUnchanged before heard after told result
+
+-- the page gets this height and width; or memory for the rows that leave it is refused, and nothing has changed
+pub record ResizesPage {S : Type 0} (leaves : S → RowValue → S → Type 0) (height width : ℕ)
+    (before : Page) (was : Scrollback) (heard : S) (after : Page) (kept : Scrollback) (told : S)
+    (result : Result (Unit {0}) Error) : Type 0 where
+  pub page : OnOk result (after ≡ page_resized height width was before)
+  pub above : OnOk result (kept ≡ scrollback_resized height before was)
+  pub reported : OnOk result (FoldsTo leaves heard (resize_reports height before was) told)
+  pub err : OnErr result ((after ≡ before) × ((kept ≡ was) × (told ≡ heard)))
+  pub grows : IsErr result → TakesMemory (take (leaving height before) before.rows) (out_of_view was)
   pub memory : OnlyOutOfMemory result

@@ -11,10 +11,9 @@ ghost use Rattle.vt_rows.specs.Cells.{IsPaired, at, ends_blank, erased, marked_a
 ghost use Rattle.vt_rows.specs.Cells.{narrowed_at, put_narrow, put_wide, widened_at};
 ghost use Rattle.vt_rows.specs.Row.{RowValue, IsRow, blank_row, deleted_row, inserted_row};
 ghost use Rattle.vt_rows.specs.Texts.{IsPrintableAscii, put_text};
-ghost use Rattle.vt_grid.specs.Page.{rows_up};
-ghost use Rattle.vt_grid.specs.Shifts.{rows_down};
 ghost use Rattle.vt_grid.specs.Sending.{LetsRowsGo};
-ghost use Rattle.vt_grid.specs.PageRows.{blank_page_rows, with_page_row_flag, page_row, with_page_row, with_row_cells};
+ghost use Rattle.vt_grid.specs.PageRows.{CanLetRowsGo, blank_page_rows, page_row, page_rows_down, page_rows_up};
+ghost use Rattle.vt_grid.specs.PageRows.{with_page_row, with_page_row_flag, with_row_cells};
 
 mod resizing;
 
@@ -400,7 +399,7 @@ impl PageRows {
         requires in_order { top ≤ bottom }
         requires inside { bottom < length self.old.rows }
         requires sound { All (IsRow self.old.width) self.old.rows }
-        ensures { self.new ≡ record self.old { rows = rows_up self.old.width top bottom count self.old.rows } }
+        ensures { self.new ≡ page_rows_up top bottom count self.old }
     {
         let top = usize::from(top);
         let end = usize::from(bottom) + 1;
@@ -418,7 +417,7 @@ impl PageRows {
         requires in_order { top ≤ bottom }
         requires inside { bottom < length self.old.rows }
         requires sound { All (IsRow self.old.width) self.old.rows }
-        ensures { self.new ≡ record self.old { rows = rows_down self.old.width top bottom count self.old.rows } }
+        ensures { self.new ≡ page_rows_down top bottom count self.old }
     {
         let top = usize::from(top);
         let end = usize::from(bottom) + 1;
@@ -442,12 +441,9 @@ impl PageRows {
         above: &mut Scrollback,
         leaving: &mut L,
     ) -> Result<(), Error>
-        requires inside { bottom < length self.old.rows }
-        requires width { size.cols ≡ self.old.width }
-        requires sound { All (IsRow self.old.width) self.old.rows }
+        requires { CanLetRowsGo (bottom + 1) size.cols self.old }
         ensures { LetsRowsGo L.leaves size.rows size.cols (take (min count (bottom + 1)) self.old.rows)
-            self.old above.old leaving.old
-            (record self.old { rows = rows_up self.old.width 0 bottom count self.old.rows })
+            self.old above.old leaving.old (page_rows_up 0 bottom count self.old)
             self.new above.new leaving.new result }
     {
         let gone = usize::from(count).min(usize::from(bottom) + 1);

@@ -1,12 +1,15 @@
 //! Lists of rows: made anew, all of whose memory is taken at once, turned
 //! over, and reported.
 
-ghost use Rattle.std.specs.Prelude.{◌≡◌, ◌<◌, ◌≤◌, ◌++◌, [], All, IfOk, IsErr, OnErr, OnOk};
-ghost use Rattle.std.specs.Prelude.{drop, length, map, replicate, slice_index_or, take};
+ghost use Rattle.std.specs.Prelude.{◌≡◌, ◌<◌, ◌++◌, [], IfOk, IsErr, OnErr, OnOk};
+ghost use Rattle.std.specs.Prelude.{drop, length, map, replicate, take};
 ghost use Rattle.std.specs.List.{FoldsTo};
 ghost use Rattle.vt_cells.specs.Attrs.{default_attrs};
 ghost use Rattle.vt_cells.specs.Refusals.{OnlyOutOfMemory};
-ghost use Rattle.vt_rows.specs.Row.{IsRow, RowValue, blank_row, trimmed_row};
+ghost use Rattle.vt_rows.specs.Row.{blank_row, trimmed_row};
+ghost use Rattle.vt_grid.specs.PageRows.{HasRows};
+ghost use Rattle.vt_grid.specs.Sending.{FailsUnchanged};
+ghost use Rattle.vt_grid.specs.Spare.{AreRows, OldestIsShorter};
 
 use crate::page_rows::PageRows;
 use std::alloc::Global;
@@ -31,8 +34,7 @@ pub fn blank_rows(alloc: Global, columns: usize, count: usize) -> Result<Vec<Row
 /// Copies of the first rows of a page, without the default blanks at their
 /// ends.
 pub fn trimmed_rows(alloc: Global, page: &PageRows, count: usize) -> Result<Vec<Row>, Error>
-    requires inside { count ≤ length page.now.rows }
-    requires sound { All (IsRow page.now.width) page.now.rows }
+    requires { HasRows count page.now }
     ensures ok { IfOk result (λ copies. copies.items ≡ map trimmed_row (take count page.now.rows)) }
     ensures memory { OnlyOutOfMemory result }
 {
@@ -62,8 +64,7 @@ pub fn copied_rows(rows: &VecDeque<Row>, alloc: Global) -> Result<VecDeque<Row>,
 ///
 /// Fails where memory for it is refused, and then nothing has changed.
 pub fn push_copy(alloc: Global, rows: &mut VecDeque<Row>, page: &PageRows) -> Result<(), Error>
-    requires inside { 0 < length page.now.rows }
-    requires sound { All (IsRow page.now.width) page.now.rows }
+    requires { HasRows 1 page.now }
     ensures rows { OnOk result (rows.new.items ≡ rows.old.items ++ map trimmed_row (take 1 page.now.rows)) }
     ensures err { OnErr result (rows.new.items ≡ rows.old.items) }
     ensures memory { OnlyOutOfMemory result }
@@ -86,15 +87,12 @@ pub fn turn_over<L: Leaving>(
     leaving: &mut L,
 ) -> Result<(), Error>
     requires some { 0 < length rows.old.items }
-    requires inside { 0 < length page.now.rows }
-    requires sound { All (IsRow page.now.width) page.now.rows }
-    requires sound_rows { All (λ row. IsRow (length row.cells) row) rows.old.items }
+    requires page { HasRows 1 page.now }
+    requires sound { AreRows rows.old.items }
     ensures rows { OnOk result (rows.new.items ≡ drop 1 rows.old.items ++ map trimmed_row (take 1 page.now.rows)) }
     ensures left { OnOk result (FoldsTo L.leaves leaving.old (take 1 rows.old.items) leaving.new) }
-    ensures err { OnErr result ((rows.new.items ≡ rows.old.items) × (leaving.new ≡ leaving.old)) }
-    ensures grows { IsErr result → (d : RowValue) → length (slice_index_or rows.old.items 0 d).cells
-        < length (trimmed_row (slice_index_or page.now.rows 0 d)).cells }
-    ensures memory { OnlyOutOfMemory result }
+    ensures refused { FailsUnchanged rows.old.items leaving.old rows.new.items leaving.new result }
+    ensures grows { IsErr result → OldestIsShorter page.now.rows rows.old.items }
 {
     let row = page.row(0);
     rows[0].leave_for(row.cells(), row.wrapped(), leaving)?;
@@ -104,7 +102,7 @@ pub fn turn_over<L: Leaving>(
 
 /// Gives up and reports all rows, older first.
 pub fn report_all<L: Leaving>(rows: &mut VecDeque<Row>, leaving: &mut L)
-    requires { All (λ row. IsRow (length row.cells) row) rows.old.items }
+    requires { AreRows rows.old.items }
     ensures rows { rows.new.items ≡ [] }
     ensures reported { FoldsTo L.leaves leaving.old rows.old.items leaving.new }
 {
@@ -115,8 +113,7 @@ pub fn report_all<L: Leaving>(rows: &mut VecDeque<Row>, leaving: &mut L)
 
 /// Reports the first rows of a page without the default blanks at their ends.
 pub fn report_trimmed<L: Leaving>(page: &PageRows, count: usize, leaving: &mut L)
-    requires inside { count ≤ length page.now.rows }
-    requires sound { All (IsRow page.now.width) page.now.rows }
+    requires { HasRows count page.now }
     ensures { FoldsTo L.leaves leaving.old (map trimmed_row (take count page.now.rows)) leaving.new }
 {
     for k in 0..count {

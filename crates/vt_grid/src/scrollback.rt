@@ -1,19 +1,22 @@
 //! The rows that left a page at its top, as far as they are kept (xterm's
 //! saved lines).
 
-ghost use Rattle.std.specs.Prelude.{◌≡◌, ◌+◌, ◌-◌, ◌^◌, ◌==◌, ◌<◌, ◌≤◌, ◌↔◌, ◌&&◌, ◌++◌, ◌∷◌, [], ℕ};
+ghost use Rattle.std.specs.Prelude.{◌≡◌, ◌+◌, ◌-◌, ◌^◌, ◌==◌, ◌<◌, ◌≤◌, ◌↔◌, ◌++◌, ◌∷◌, [], ℕ};
 ghost use Rattle.std.specs.Prelude.{List, All, IfOk, IfSome, IsErr, IsSome, OnErr, OnOk, if◌then◌else◌};
-ghost use Rattle.std.specs.Prelude.{length, min, nat_le, nat_lt, slice_index_or, take};
+ghost use Rattle.std.specs.Prelude.{length, min, nat_lt, slice_index_or, take};
 ghost use Rattle.std.specs.List.{FoldsTo};
 ghost use Rattle.std.specs.VecDeque.{deque_capacity, deque_len};
 ghost use Rattle.vt_cells.specs.Attrs.{default_attrs};
 ghost use Rattle.vt_cells.specs.Refusals.{OnlyOutOfMemory};
-ghost use Rattle.vt_rows.specs.Row.{RowValue, IsRow, blank_row, resized_row};
+ghost use Rattle.vt_rows.specs.Row.{RowValue, IsRow, blank_row};
+ghost use Rattle.vt_grid.specs.Internals.{given_back};
+ghost use Rattle.vt_grid.specs.PageRows.{CanLetRowsGo, HasRows};
 ghost use Rattle.vt_grid.specs.Resize.{out_of_view, taken_back};
 ghost use Rattle.vt_grid.specs.Scrollback.{IsScrollback, Sends, TakesMemory, ViewTakesMemory};
 ghost use Rattle.vt_grid.specs.Scrollback.{before_last, cleared, grown_row, kept_after, last_of};
 ghost use Rattle.vt_grid.specs.Scrollback.{narrow_rows, no_scrollback, with_view, visible};
-ghost use Rattle.vt_grid.specs.Spare.{AreSpare, grown_from, in_view, window_from};
+ghost use Rattle.vt_grid.specs.Sending.{SendsOrFails};
+ghost use Rattle.vt_grid.specs.Spare.{AreRows, AreSpare, grown_from, in_view, window_from};
 
 mod one;
 
@@ -134,14 +137,10 @@ impl Scrollback {
         size: Size,
         leaving: &mut L,
     ) -> Result<(), Error>
-        requires inside { count ≤ length page.now.rows }
-        requires width { size.cols ≡ page.now.width }
-        requires sound { All (IsRow page.now.width) page.now.rows }
-        ensures sent { OnOk result
-            (Sends L.leaves size.rows size.cols (take count page.now.rows) self.old leaving.old self.new leaving.new) }
-        ensures err { OnErr result ((self.new ≡ self.old) × (leaving.new ≡ leaving.old)) }
+        requires page { CanLetRowsGo count size.cols page.now }
+        ensures pushed { SendsOrFails L.leaves size.rows size.cols (take count page.now.rows)
+            self.old leaving.old self.old self.new leaving.new result }
         ensures grows { IsErr result → TakesMemory (take count page.now.rows) self.old }
-        ensures memory { OnlyOutOfMemory result }
     {
         if count == 0 {
             return Ok(());
@@ -167,14 +166,10 @@ impl Scrollback {
         size: Size,
         leaving: &mut L,
     ) -> Result<(), Error>
-        requires inside { count ≤ length page.now.rows }
-        requires width { size.cols ≡ page.now.width }
-        requires sound { All (IsRow page.now.width) page.now.rows }
-        ensures sent { OnOk result (Sends L.leaves size.rows size.cols
-            (take count page.now.rows) (out_of_view self.old) leaving.old self.new leaving.new) }
-        ensures err { OnErr result ((self.new ≡ self.old) × (leaving.new ≡ leaving.old)) }
+        requires page { CanLetRowsGo count size.cols page.now }
+        ensures pushed { SendsOrFails L.leaves size.rows size.cols (take count page.now.rows)
+            (out_of_view self.old) leaving.old self.old self.new leaving.new result }
         ensures grows { IsErr result → TakesMemory (take count page.now.rows) (out_of_view self.old) }
-        ensures memory { OnlyOutOfMemory result }
     {
         let offset = self.offset;
         self.offset = 0;
@@ -199,11 +194,7 @@ impl Scrollback {
         ensures len { length page.new.rows ≡ length page.old.rows }
         ensures width { page.new.width ≡ page.old.width }
         ensures by_index { (k : ℕ) (d : RowValue) → k < length page.old.rows →
-            slice_index_or page.new.rows k d
-            ≡ (if nat_lt k up && nat_le up (length self.old.rows + k)
-            then resized_row (length (slice_index_or page.old.rows k d).cells)
-            (slice_index_or self.old.rows (length self.old.rows + k - up) d)
-            else slice_index_or page.old.rows k d) }
+            slice_index_or page.new.rows k d ≡ given_back up self.old.rows (slice_index_or page.old.rows k d) k d }
     {
         self.theoretical = self.theoretical.saturating_sub(up);
         give_rows(&mut self.rows, page, up);
@@ -213,8 +204,7 @@ impl Scrollback {
     fn pass<L: Leaving>(&mut self, page: &PageRows, count: usize, leaving: &mut L)
         requires none { self.old.capacity ≡ 0 }
         requires some { 0 < count }
-        requires inside { count ≤ length page.now.rows }
-        requires sound { All (IsRow page.now.width) page.now.rows }
+        requires page { HasRows count page.now }
         ensures { (height width : ℕ) →
             Sends L.leaves height width (take count page.now.rows) self.old leaving.old self.new leaving.new }
     {
@@ -230,15 +220,11 @@ impl Scrollback {
         size: Size,
         leaving: &mut L,
     ) -> Result<(), Error>
-        requires inside { count ≤ length page.now.rows }
-        requires width { size.cols ≡ page.now.width }
-        requires sound { All (IsRow page.now.width) page.now.rows }
+        requires page { CanLetRowsGo count size.cols page.now }
         requires some { 0 < count }
         requires kept { 0 < self.old.capacity }
-        ensures sent { OnOk result
-            (Sends L.leaves size.rows size.cols (take count page.now.rows) self.old leaving.old self.new leaving.new) }
-        ensures err { OnErr result ((self.new ≡ self.old) × (leaving.new ≡ leaving.old)) }
-        ensures memory { OnlyOutOfMemory result }
+        ensures { SendsOrFails L.leaves size.rows size.cols (take count page.now.rows)
+            self.old leaving.old self.old self.new leaving.new result }
     {
         let copies = trimmed_rows(self.alloc, page, count)?;
         let spare = blank_rows(
@@ -356,8 +342,8 @@ fn push_rows<L: Leaving>(gone: Vec<Row>, kept: &mut VecDeque<Row>, capacity: usi
     requires inside { length kept.old.items ≤ capacity }
     requires room { length kept.old.items + min (length gone.items) (capacity - length kept.old.items)
         ≤ deque_capacity kept.old }
-    requires sound { All (λ row. IsRow (length row.cells) row) gone.items }
-    requires sound_kept { All (λ row. IsRow (length row.cells) row) kept.old.items }
+    requires sound { AreRows gone.items }
+    requires sound_kept { AreRows kept.old.items }
     ensures rows { kept.new.items ≡ last_of capacity (kept.old.items ++ gone.items) }
     ensures reported { FoldsTo L.leaves leaving.old (before_last capacity (kept.old.items ++ gone.items)) leaving.new }
 {
@@ -372,7 +358,7 @@ fn push_row<L: Leaving>(row: Row, kept: &mut VecDeque<Row>, capacity: usize, lea
     requires some { 0 < capacity }
     requires inside { length kept.old.items ≤ capacity }
     requires room { length kept.old.items < capacity → deque_len kept.old < deque_capacity kept.old }
-    requires sound { All (λ row. IsRow (length row.cells) row) kept.old.items }
+    requires sound { AreRows kept.old.items }
     ensures rows { kept.new.items ≡ last_of capacity (kept.old.items ++ row ∷ []) }
     ensures reported { FoldsTo L.leaves leaving.old (before_last capacity (kept.old.items ++ row ∷ [])) leaving.new }
     ensures capacity { deque_capacity kept.new ≡ deque_capacity kept.old }
@@ -391,16 +377,12 @@ fn push_row<L: Leaving>(row: Row, kept: &mut VecDeque<Row>, capacity: usize, lea
 fn give_rows(kept: &mut VecDeque<Row>, page: &mut PageRows, up: usize)
     requires inside { up ≤ length page.old.rows }
     requires blank { All (λ row. row ≡ blank_row default_attrs (length row.cells)) page.old.rows }
-    requires sound { All (λ row. IsRow (length row.cells) row) kept.old.items }
+    requires sound { AreRows kept.old.items }
     ensures kept { kept.new.items ≡ take (length kept.old.items - up) kept.old.items }
     ensures len { length page.new.rows ≡ length page.old.rows }
     ensures width { page.new.width ≡ page.old.width }
     ensures by_index { (k : ℕ) (d : RowValue) → k < length page.old.rows →
-        slice_index_or page.new.rows k d
-        ≡ (if nat_lt k up && nat_le up (length kept.old.items + k)
-        then resized_row (length (slice_index_or page.old.rows k d).cells)
-        (slice_index_or kept.old.items (length kept.old.items + k - up) d)
-        else slice_index_or page.old.rows k d) }
+        slice_index_or page.new.rows k d ≡ given_back up kept.old.items (slice_index_or page.old.rows k d) k d }
 {
     let mut k = up;
     while k > 0 {
@@ -450,7 +432,7 @@ fn narrow(row: &Row, columns: usize) -> usize
 /// wide as the screen.
 fn grow_in_view(rows: &mut VecDeque<Row>, offset: usize, size: Size, mut spare: Vec<Row>)
     requires inside { offset ≤ length rows.old.items }
-    requires sound { All (λ row. IsRow (length row.cells) row) rows.old.items }
+    requires sound { AreRows rows.old.items }
     requires spare { AreSpare size.cols
         (window_from (length rows.old.items - offset) size.rows rows.old.items) spare.items }
     ensures { rows.new.items ≡ grown_from (length rows.old.items - offset) size.rows size.cols rows.old.items }

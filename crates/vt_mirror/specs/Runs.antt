@@ -1,14 +1,17 @@
 -- What a run over an input writes for its one viewer: the text of an update at the start, one after each so many bytes,
 -- and one at the end.
-use Rattle.std.specs.Prelude.{ℕ, zero, suc, ◌*◌, ◌/◌, ◌≤◌, ◌⊎◌, List, [], ◌∷◌, ◌++◌, length, map, take}
-use Rattle.std.specs.Io.KnownBytes.{Appends, Consumes, Keeps}
+use Rattle.std.specs.Prelude.{◌≡◌, ℕ, zero, suc, ◌*◌, ◌/◌, ◌≤◌, ◌⊎◌, List, [], ◌∷◌, ◌++◌, length, map, take, Err, OnOk}
+use Rattle.std.specs.Io.KnownBytes.{Appends, Consumes, IsAtEnd, Keeps}
 use Rattle.std.specs.List.{AllByRecursion}
 use Rattle.std.specs.declared.option.Option.{Option}
+use Rattle.std.specs.declared.result.Result.{Result}
 use Rattle.vt_grid.specs.Page.{SameSize}
 use Rattle.vt_scan.specs.Automaton.{start}
 use Rattle.vt_screen.specs.Chain.{chain_text}
 use Rattle.vt_screen.specs.Screen.{IsColored, IsScreen, ScreenValue}
 use Rattle.vt_screen.specs.Telling.{screen_in}
+use Rattle.vt_show.specs.declared.faults.Fault.{Fault}
+use Rattle.vt_show.specs.declared.faults.Fault.TheVariants.{Memory, Read}
 
 -- ---- which screens the viewer is told of, after the first one
 
@@ -55,8 +58,8 @@ pub record WritesOnWay (first : ScreenValue) (every : ℕ) (left rest written gr
   pub reads : Consumes left rest input
   pub appends : Appends written grown (text_on_way first every input)
 
--- for bytes at whose end memory was refused: all updates but that for the last bytes, at most as many as are read between
--- two updates
+-- for bytes at whose end memory was refused: all updates but that for the last bytes, at most as many as are read
+-- between two updates
 pub record WritesBehind (first : ScreenValue) (every : ℕ) (left rest written grown : Option (List ℕ)) : Type 0 where
   pub input : List ℕ
   pub last : List ℕ
@@ -68,3 +71,12 @@ pub record WritesBehind (first : ScreenValue) (every : ℕ) (left rest written g
 abbrev pub WritesSome : (first : ScreenValue) (every : ℕ) → (left rest written grown : Option (List ℕ)) → Type 0
 WritesSome first every left rest written grown =
     (Keeps left rest × Keeps written grown) ⊎ WritesBehind first every left rest written grown
+
+-- the input is read to its end, or up to a fault, and the updates are written that were due. `error` is how a fault is
+-- answered
+pub record WritesOrFails {E : Type 0} (error : Fault → E) (first : ScreenValue) (every : ℕ)
+    (left rest written grown : Option (List ℕ)) (result : Result (Unit {0}) E) : Type 0 where
+  pub end : OnOk result (IsAtEnd rest)
+  pub text : OnOk result (WritesToEnd first every left rest written grown)
+  pub read : result ≡ Err (error Read) → WritesOnWay first every left rest written grown
+  pub memory : result ≡ Err (error Memory) → WritesSome first every left rest written grown

@@ -1,10 +1,10 @@
 //! From an input to the updates of one viewer.
 
-ghost use Rattle.std.specs.Io.KnownBytes.{IsAtEnd, Keeps};
+ghost use Rattle.std.specs.Io.KnownBytes.{Keeps};
 ghost use Rattle.std.specs.Prelude.{◌≡◌, ◌≢◌, ◌<◌, ◌↔◌, Err, IfErr, IfOk, None, OnOk, Some, map, string_bytes, true};
 ghost use Rattle.vt_mirror.specs.Arguments.{AskFor, AskForNothing};
 ghost use Rattle.vt_mirror.specs.Internals.{IsBegun, ReadsAtMost, ReadsFewer, ReadsStretch, WritesUpdate};
-ghost use Rattle.vt_mirror.specs.Runs.{WritesOnWay, WritesSome, WritesToEnd};
+ghost use Rattle.vt_mirror.specs.Runs.{WritesOrFails};
 ghost use Rattle.vt_mirror.specs.Viewers.{is_viewer};
 ghost use Rattle.vt_screen.specs.Screen.{fresh_screen};
 ghost use Rattle.vt_show.specs.declared.faults.Fault.{Fault};
@@ -39,13 +39,8 @@ pub fn run<R: Read, W: Write>(
     cols: NonZeroU16,
     every: NonZeroU16,
 ) -> Result<(), Fault>
-    ensures end { OnOk result (IsAtEnd (R.remaining reader.new)) }
-    ensures text { OnOk result (WritesToEnd (fresh_screen rows.value cols.value 0) every.value
-        (R.remaining reader.old) (R.remaining reader.new) (W.contents writer.old) (W.contents writer.new)) }
-    ensures read { result ≡ Err Fault.Read → WritesOnWay (fresh_screen rows.value cols.value 0) every.value
-        (R.remaining reader.old) (R.remaining reader.new) (W.contents writer.old) (W.contents writer.new) }
-    ensures memory { result ≡ Err Fault.Memory → WritesSome (fresh_screen rows.value cols.value 0) every.value
-        (R.remaining reader.old) (R.remaining reader.new) (W.contents writer.old) (W.contents writer.new) }
+    ensures { WritesOrFails (λ fault. fault) (fresh_screen rows.value cols.value 0) every.value
+        (R.remaining reader.old) (R.remaining reader.new) (W.contents writer.old) (W.contents writer.new) result }
 {
     let Ok(mut mirror) = Mirror::new(alloc, rows, cols, 0) else {
         return Err(Fault::Memory);
@@ -69,16 +64,9 @@ pub fn run_words<R: Read, W: Write>(
     ensures wrong { result ≡ Err None ↔ AskForNothing (map (λ word. string_bytes word) words.now) }
     ensures nothing { result ≡ Err None → Keeps (R.remaining reader.old) (R.remaining reader.new)
         × Keeps (W.contents writer.old) (W.contents writer.new) }
-    ensures end { OnOk result (IsAtEnd (R.remaining reader.new)) }
-    ensures text { OnOk result (AskFor (map (λ word. string_bytes word) words.now)
-        (λ rows cols every. WritesToEnd (fresh_screen rows cols 0) every
-        (R.remaining reader.old) (R.remaining reader.new) (W.contents writer.old) (W.contents writer.new))) }
-    ensures read { result ≡ Err (Some Fault.Read) → AskFor (map (λ word. string_bytes word) words.now)
-        (λ rows cols every. WritesOnWay (fresh_screen rows cols 0) every
-        (R.remaining reader.old) (R.remaining reader.new) (W.contents writer.old) (W.contents writer.new)) }
-    ensures memory { result ≡ Err (Some Fault.Memory) → AskFor (map (λ word. string_bytes word) words.now)
-        (λ rows cols every. WritesSome (fresh_screen rows cols 0) every
-        (R.remaining reader.old) (R.remaining reader.new) (W.contents writer.old) (W.contents writer.new)) }
+    ensures asked { result ≢ Err None → AskFor (map (λ word. string_bytes word) words.now)
+        (λ rows cols every. WritesOrFails Some (fresh_screen rows cols 0) every
+        (R.remaining reader.old) (R.remaining reader.new) (W.contents writer.old) (W.contents writer.new) result) }
 {
     let Some((rows, cols, every)) = asked(words) else {
         return Err(None);
@@ -99,13 +87,8 @@ fn run_viewer<R: Read, W: Write>(
 ) -> Result<(), Fault>
     requires some { 0 < every }
     requires begun { IsBegun mirror.old viewer }
-    ensures end { OnOk result (IsAtEnd (R.remaining reader.new)) }
-    ensures text { OnOk result (WritesToEnd mirror.old.parser.screen every
-        (R.remaining reader.old) (R.remaining reader.new) (W.contents writer.old) (W.contents writer.new)) }
-    ensures read { result ≡ Err Fault.Read → WritesOnWay mirror.old.parser.screen every
-        (R.remaining reader.old) (R.remaining reader.new) (W.contents writer.old) (W.contents writer.new) }
-    ensures memory { result ≡ Err Fault.Memory → WritesSome mirror.old.parser.screen every
-        (R.remaining reader.old) (R.remaining reader.new) (W.contents writer.old) (W.contents writer.new) }
+    ensures { WritesOrFails (λ fault. fault) mirror.old.parser.screen every
+        (R.remaining reader.old) (R.remaining reader.new) (W.contents writer.old) (W.contents writer.new) result }
 {
     let mut buffer = [0; BUFFER_SIZE];
     write_update(mirror, viewer, writer)?;
@@ -157,7 +140,8 @@ fn read_stretch<R: Read>(
 /// Writes the text of the viewer's update, and flushes it.
 fn write_update<W: Write>(mirror: &mut Mirror, viewer: u64, writer: &mut W) -> Result<(), Fault>
     requires { is_viewer mirror.old.viewers viewer ≡ true }
-    ensures writes { OnOk result (WritesUpdate mirror.old viewer mirror.new (W.contents writer.old) (W.contents writer.new)) }
+    ensures writes { OnOk result
+        (WritesUpdate mirror.old viewer mirror.new (W.contents writer.old) (W.contents writer.new)) }
     ensures memory { result ≡ Err Fault.Memory → Keeps (W.contents writer.old) (W.contents writer.new) }
     ensures fault { IfErr result (λ fault. fault ≢ Fault.Read) }
 {

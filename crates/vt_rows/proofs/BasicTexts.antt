@@ -10,6 +10,7 @@ use Rattle.vt_cells.specs.Sinks.{IsStopped}
 use Rattle.vt_cells.proofs.Sinks.{stopped_before, stopped_behind}
 use Rattle.vt_cells.proofs.Same.{attrs_of-same, same_attrs-itself}
 use Rattle.vt_rows.specs.Basic.{attrs_after, cells_text, is_bare, shown_text}
+use Rattle.vt_rows.specs.Internals.{cell_text}
 
 no_change : (attrs : Attrs) → change_text attrs attrs ≡ []
 unfolding change_text
@@ -54,7 +55,7 @@ half_shown right_half e = refl
 
 -- a right half adds nothing to what is gathered
 pub right_adds : (attrs : Attrs) (cell : CellValue) (xs : List ℕ) → is_right_half cell ≡ true →
-    xs ≡ xs ++ (change_text attrs (attrs_after attrs cell) ++ shown_text cell)
+    xs ≡ xs ++ cell_text attrs cell
 right_adds attrs cell xs e = rw ((kept_right attrs cell e).1, half_shown cell e) (sym (append-nil xs))
 
 -- and keeps the attributes
@@ -68,7 +69,7 @@ pub ruleset attrs_kept = (kept_same, kept_default, kept_right, own)
 pub change_stopped : (refuses : List ℕ → List ℕ → List ℕ → Type 0) (before piece : List ℕ) (attrs new : Attrs)
     (cell : CellValue) (after : List ℕ) → attrs_after attrs cell ≡ new
     → IsStopped refuses before (piece ++ change_text attrs new) after
-    → IsStopped refuses before (piece ++ (change_text attrs (attrs_after attrs cell) ++ shown_text cell)) after
+    → IsStopped refuses before (piece ++ cell_text attrs cell) after
 change_stopped refuses before piece attrs new cell after e stopped =
     rw e (stopped_before refuses before piece (change_text attrs new) (shown_text cell) after stopped)
 
@@ -77,14 +78,13 @@ pub shown_stopped : (refuses : List ℕ → List ℕ → List ℕ → Type 0) (o
     (cell : CellValue) (shown after : List ℕ) → attrs_after attrs cell ≡ new → shown ≡ shown_text cell
     → gathered mid piece ≡ gathered old was ++ change_text attrs new → length old ≤ length mid
     → IsStopped refuses mid (piece ++ shown) after
-    → IsStopped refuses old (was ++ (change_text attrs (attrs_after attrs cell) ++ shown_text cell)) after
+    → IsStopped refuses old (was ++ cell_text attrs cell) after
 shown_stopped refuses old mid was piece attrs new cell shown after e s g le stopped =
     rw (e, sym s) (stopped_behind refuses old mid was piece (change_text attrs new) shown after g le stopped)
 
 -- the text of the first cells is that of one, and of those behind it
 pub one_first : (attrs : Attrs) (cells rest : List CellValue) (cell : CellValue) → cells ≡ cell ∷ rest →
-    cells_text attrs cells
-    ≡ (change_text attrs (attrs_after attrs cell) ++ shown_text cell) ++ cells_text (attrs_after attrs cell) rest
+    cells_text attrs cells ≡ cell_text attrs cell ++ cells_text (attrs_after attrs cell) rest
 one_first attrs cells rest cell e =
     ap (cells_text attrs) e
     ∙ sym (append_assoc (change_text attrs (attrs_after attrs cell)) (shown_text cell)

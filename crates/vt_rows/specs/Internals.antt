@@ -1,8 +1,12 @@
 -- What the helpers of the edits leave, and what iterators over captures have still to give; for their contracts, that
 -- of `shifts::turn`, and proofs.
-use Rattle.std.specs.Prelude.{◌≡◌, ℕ, ◌+◌, ◌-◌, ◌<◌, ◌&&◌, nat_le, nat_lt, true, List, [], ◌∷◌, ◌++◌}
+use Rattle.std.specs.Prelude.{◌≡◌, ℕ, ◌+◌, ◌-◌, ◌<◌, ◌≤◌, ◌&&◌, nat_le, nat_lt, true, List, [], ◌∷◌, ◌++◌}
 use Rattle.std.specs.Prelude.{length, replicate, slice_set, chars, encode_utf8_all, map, if◌then◌else◌}
+use Rattle.vt_cells.specs.Attrs.{Attrs}
 use Rattle.vt_cells.specs.Cell.{CellValue, blank, glyph, right_half, is_wide, is_right_half, attrs_of}
+use Rattle.vt_cells.specs.Op.{change_text}
+use Rattle.vt_cells.specs.PieceInternals.{gathered}
+use Rattle.vt_rows.specs.Basic.{attrs_after, shown_text}
 use Rattle.vt_rows.specs.CaptureRows.{ends_row, overflows}
 use Rattle.vt_rows.specs.Cells.{at}
 use Rattle.vt_rows.specs.Pieces.{Piece}
@@ -31,6 +35,15 @@ end_blanked cells =
 abbrev pub turn_source : ℕ → ℕ → ℕ → ℕ → ℕ
 turn_source from to n k =
     if nat_le from k && nat_lt k to then (if nat_lt (k + n) to then k + n else k + n - (to - from)) else k
+
+-- a text was added behind what was gathered, and nothing that was written is gone
+pub record Gathers (before piece text after left : List ℕ) : Type 0 where
+  pub bytes : gathered after left ≡ gathered before piece ++ text
+  pub grows : length before ≤ length after
+
+-- the text of a cell behind a text in `attrs`, with the change to its attributes
+abbrev pub cell_text : Attrs → CellValue → List ℕ
+cell_text attrs cell = change_text attrs (attrs_after attrs cell) ++ shown_text cell
 
 -- the text of a cell behind n columns without a glyph: these are written only where a glyph follows
 abbrev pub text_behind : ℕ → CellValue → List ℕ

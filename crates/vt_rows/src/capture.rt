@@ -1,14 +1,14 @@
 //! Rows that are lent to be read, and their texts.
 
-ghost use Rattle.std.specs.Prelude.{◌≡◌, ◌<◌, ◌≤◌, ◌↔◌, [], ◌∷◌, ◌++◌, if◌then◌else◌, false};
+ghost use Rattle.std.specs.Prelude.{◌≡◌, ◌<◌, ◌↔◌, [], ◌∷◌, ◌++◌, if◌then◌else◌, false};
 ghost use Rattle.std.specs.Prelude.{length, true, IfOk, IfSome, IsErr, IsSome, OnErr, OnOk};
 ghost use Rattle.vt_rows.specs.Cells.{at};
 ghost use Rattle.vt_cells.specs.Cell.{attrs_of};
 ghost use Rattle.vt_cells.specs.Op.{change_text};
-ghost use Rattle.vt_cells.specs.PieceInternals.{gathered};
 ghost use Rattle.vt_cells.specs.Sinks.{IsStopped};
 ghost use Rattle.vt_rows.specs.Basic.{attrs_after, attrs_after_all, basic_text, cells_text};
 ghost use Rattle.vt_rows.specs.Basic.{shown_text, unwritten, written_after};
+ghost use Rattle.vt_rows.specs.Internals.{Gathers, cell_text};
 ghost use Rattle.vt_rows.specs.Row.{IsRow, trimmed_row};
 
 mod plain;
@@ -187,16 +187,12 @@ fn add_cell<S: Sink>(
     cell: &Cell,
     attrs: &mut Attrs,
 ) -> Result<(), S::Error>
-    ensures text { OnOk result (gathered (S.text sink.new) piece.new
-        ≡ gathered (S.text sink.old) piece.old
-        ++ (change_text attrs.old (attrs_after attrs.old cell.now) ++ shown_text cell.now)) }
+    ensures added { OnOk result
+        (Gathers (S.text sink.old) piece.old (cell_text attrs.old cell.now) (S.text sink.new) piece.new) }
     ensures attrs { OnOk result (attrs.new ≡ attrs_after attrs.old cell.now) }
-    ensures grows { OnOk result (length (S.text sink.old) ≤ length (S.text sink.new)) }
-    ensures stopped { OnErr result (IsStopped S.refuses (S.text sink.old)
-        (piece.old ++ (change_text attrs.old (attrs_after attrs.old cell.now) ++ shown_text cell.now))
-        (S.text sink.new)) }
-    ensures some { OnErr result
-        (0 < length (change_text attrs.old (attrs_after attrs.old cell.now) ++ shown_text cell.now)) }
+    ensures stopped { OnErr result
+        (IsStopped S.refuses (S.text sink.old) (piece.old ++ cell_text attrs.old cell.now) (S.text sink.new)) }
+    ensures some { OnErr result (0 < length (cell_text attrs.old cell.now)) }
 {
     if cell.is_wide_continuation() {
         return Ok(());

@@ -1,8 +1,7 @@
 //! The plain text of columns of a row.
 
 ghost use Rattle.std.specs.Prelude.{◌≡◌, ◌<◌, ◌≤◌, ◌+◌, ◌++◌, drop, length, replicate, take, IfOk, IsErr, OnErr, OnOk};
-ghost use Rattle.vt_cells.specs.PieceInternals.{gathered};
-ghost use Rattle.vt_rows.specs.Internals.{gap_behind, plain_behind, text_behind};
+ghost use Rattle.vt_rows.specs.Internals.{Gathers, gap_behind, plain_behind, text_behind};
 ghost use Rattle.vt_rows.specs.Plain.{has_glyph, plain_text};
 
 use vt_cells::{Cell, Piece, Sink};
@@ -85,10 +84,9 @@ fn add_cell<S: Sink>(
     gap: usize,
 ) -> Result<usize, S::Error>
     requires { gap + 1 ≤ 18446744073709551615 }
-    ensures text { OnOk result
-        (gathered (S.text sink.new) piece.new ≡ gathered (S.text sink.old) piece.old ++ text_behind gap cell.now) }
+    ensures added { OnOk result
+        (Gathers (S.text sink.old) piece.old (text_behind gap cell.now) (S.text sink.new) piece.new) }
     ensures gap { IfOk result (λ new. new ≡ gap_behind gap cell.now) }
-    ensures grows { OnOk result (length (S.text sink.old) ≤ length (S.text sink.new)) }
     ensures some { OnErr result (0 < length (text_behind gap cell.now)) }
 {
     if cell.has_contents() {
@@ -105,9 +103,8 @@ fn add_cell<S: Sink>(
 /// Adds a number of spaces: mostly none.
 #[inline(always)]
 fn add_spaces<S: Sink>(sink: &mut S, piece: &mut Piece, count: usize) -> Result<(), S::Error>
-    ensures text { OnOk result
-        (gathered (S.text sink.new) piece.new ≡ gathered (S.text sink.old) piece.old ++ replicate count 0x20) }
-    ensures grows { OnOk result (length (S.text sink.old) ≤ length (S.text sink.new)) }
+    ensures added { OnOk result
+        (Gathers (S.text sink.old) piece.old (replicate count 0x20) (S.text sink.new) piece.new) }
     ensures some { IsErr result → 0 < count }
 {
     if count == 0 {
@@ -119,9 +116,8 @@ fn add_spaces<S: Sink>(sink: &mut S, piece: &mut Piece, count: usize) -> Result<
 /// Adds the spaces of a gap.
 #[inline(never)]
 fn add_gap<S: Sink>(sink: &mut S, piece: &mut Piece, count: usize) -> Result<(), S::Error>
-    ensures text { OnOk result
-        (gathered (S.text sink.new) piece.new ≡ gathered (S.text sink.old) piece.old ++ replicate count 0x20) }
-    ensures grows { OnOk result (length (S.text sink.old) ≤ length (S.text sink.new)) }
+    ensures added { OnOk result
+        (Gathers (S.text sink.old) piece.old (replicate count 0x20) (S.text sink.new) piece.new) }
     ensures some { IsErr result → 0 < count }
 {
     let mut left = count;

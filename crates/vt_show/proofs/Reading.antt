@@ -15,7 +15,6 @@ use Rattle.std.specs.declared.result.Result.{Result}
 use Rattle.std.specs.Io.KnownBytes.{Appends, Consumes, IsAtEnd}
 use Rattle.vt100.specs.Parser.{Parsing, Ran, parsing, quietly}
 use Rattle.vt100.proofs.Running.{ran_then}
-use Rattle.vt_show.specs.Arguments.{AskFor, AsksToShow}
 use Rattle.vt_show.specs.Internals.{ReadSoFar}
 use Rattle.vt_show.specs.Shown.{Writes, screen_text}
 
@@ -63,12 +62,3 @@ wrote mode rows cols (Some input) p q screen written old new (Ok x) stands fresh
       (ap (λ (z : Parsing (Unit {0})). z.screen) fresh) (ran start stands).1;
   appends = subst (λ (bytes : List ℕ). Appends old new bytes) (text ∙ ap (screen_text mode) shown) appends;
 }
-
--- what words asked for was written
-pub asked_written : (known : Option (List ℕ)) (words : List (List ℕ)) (rows cols : ℕ) (mode : Mode)
-    (old new : Option (List ℕ)) → AsksToShow words rows cols mode
-    → IfSome known (λ input. Writes mode rows cols input old new)
-    → IfSome known (λ input. AskFor words (λ rows cols mode. Writes mode rows cols input old new))
-asked_written None words rows cols mode old new asks writes = tt
-asked_written (Some input) words rows cols mode old new asks writes =
-    record { rows = rows; cols = cols; mode = mode; asks = asks; holds = writes }

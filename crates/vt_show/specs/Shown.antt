@@ -1,8 +1,9 @@
 -- What is written for an input: the text, by the mode, of the screen that a fresh terminal shows after reading it.
-use Rattle.std.specs.Prelude.{ℕ, List}
+use Rattle.std.specs.Prelude.{◌≡◌, ◌≢◌, ℕ, List, Err, IfSome, IsErr, OnOk}
 use Rattle.std.specs.List.{FoldsTo}
-use Rattle.std.specs.Io.KnownBytes.{Appends}
+use Rattle.std.specs.Io.KnownBytes.{Appends, IsAtEnd, Keeps}
 use Rattle.std.specs.declared.option.Option.{Option}
+use Rattle.std.specs.declared.result.Result.{Result}
 use Rattle.vt_cells.specs.Op.{bytes_of_all}
 use Rattle.vt_redraw.specs.Redraw.{redraw}
 use Rattle.vt_rows.specs.Basic.{unwritten}
@@ -14,6 +15,8 @@ use Rattle.vt_screen.specs.Run.{Performs, state}
 use Rattle.vt_screen.specs.Screen.{ScreenValue, fresh_screen, visible_rows}
 use Rattle.vt_screen.specs.Shown.{shown}
 use Rattle.vt100.specs.Parser.{quietly}
+use Rattle.vt_show.specs.declared.faults.Fault.{Fault}
+use Rattle.vt_show.specs.declared.faults.Fault.TheVariants.{Write}
 use Rattle.vt_show.specs.declared.mode.Mode.{Mode}
 use Rattle.vt_show.specs.declared.mode.Mode.TheVariants.{Plain, Formatted, Basic}
 
@@ -32,3 +35,12 @@ pub record Writes (mode : Mode) (rows cols : ℕ) (input : List ℕ) (old new : 
   pub screen : ScreenValue
   pub shows : ShowsAfter rows cols input screen
   pub appends : Appends old new (screen_text mode screen)
+
+-- the input is read to its end, and the text for it is written where it is known; after another fault than that of
+-- writing nothing was written, and after that one all was read. `error` is how a fault is answered
+pub record WritesOrFails {E : Type 0} (error : Fault → E) (mode : Mode) (rows cols : ℕ)
+    (left rest written grown : Option (List ℕ)) (result : Result (Unit {0}) E) : Type 0 where
+  pub end : OnOk result (IsAtEnd rest)
+  pub text : OnOk result (IfSome left (λ input. Writes mode rows cols input written grown))
+  pub nothing : IsErr result → result ≢ Err (error Write) → Keeps written grown
+  pub read_first : result ≡ Err (error Write) → IsAtEnd rest

@@ -6,7 +6,7 @@ ghost use Rattle.std.specs.Prelude.{◌≡◌, ◌≢◌, ◌↔◌, map, true, 
 ghost use Rattle.std.specs.Prelude.{string_bytes};
 ghost use Rattle.vt100.specs.Parser.{Ran, quietly};
 ghost use Rattle.vt_show.specs.Arguments.{AskFor, AskForNothing};
-ghost use Rattle.vt_show.specs.Shown.{Writes, screen_text};
+ghost use Rattle.vt_show.specs.Shown.{WritesOrFails, screen_text};
 ghost use Rattle.vt_show.specs.declared.faults.Fault.{Fault};
 
 use crate::faults::Fault;
@@ -36,12 +36,8 @@ pub fn run<R: Read, W: Write>(
     cols: NonZeroU16,
     mode: Mode,
 ) -> Result<(), Fault>
-    ensures end { OnOk result (IsAtEnd (R.remaining reader.new)) }
-    ensures text { OnOk result (IfSome (R.remaining reader.old) (λ input.
-        Writes mode (non_zero_u16_get rows) (non_zero_u16_get cols)
-        input (W.contents writer.old) (W.contents writer.new))) }
-    ensures nothing { IsErr result → result ≢ Err Fault.Write → Keeps (W.contents writer.old) (W.contents writer.new) }
-    ensures read_first { result ≡ Err Fault.Write → IsAtEnd (R.remaining reader.new) }
+    ensures { WritesOrFails (λ fault. fault) mode (non_zero_u16_get rows) (non_zero_u16_get cols)
+        (R.remaining reader.old) (R.remaining reader.new) (W.contents writer.old) (W.contents writer.new) result }
 {
     let Ok(mut parser) = Parser::new(alloc, rows, cols, 0) else {
         return Err(Fault::Memory);
@@ -61,14 +57,11 @@ pub fn run_words<R: Read, W: Write>(
     writer: &mut W,
 ) -> Result<(), Option<Fault>>
     ensures wrong { result ≡ Err None ↔ AskForNothing (map (λ word. string_bytes word) words.now) }
-    ensures nothing_read { result ≡ Err None → Keeps (R.remaining reader.old) (R.remaining reader.new) }
-    ensures end { OnOk result (IsAtEnd (R.remaining reader.new)) }
-    ensures text { OnOk result (IfSome (R.remaining reader.old) (λ input.
-        AskFor (map (λ word. string_bytes word) words.now)
-        (λ rows cols mode. Writes mode rows cols input (W.contents writer.old) (W.contents writer.new)))) }
-    ensures nothing { IsErr result → result ≢ Err (Some Fault.Write) →
-        Keeps (W.contents writer.old) (W.contents writer.new) }
-    ensures read_first { result ≡ Err (Some Fault.Write) → IsAtEnd (R.remaining reader.new) }
+    ensures nothing { result ≡ Err None → Keeps (R.remaining reader.old) (R.remaining reader.new)
+        × Keeps (W.contents writer.old) (W.contents writer.new) }
+    ensures asked { result ≢ Err None → AskFor (map (λ word. string_bytes word) words.now)
+        (λ rows cols mode. WritesOrFails Some mode rows cols
+        (R.remaining reader.old) (R.remaining reader.new) (W.contents writer.old) (W.contents writer.new) result) }
 {
     let Some((rows, cols, mode)) = asked(words) else {
         return Err(None);

@@ -6,7 +6,7 @@ ghost use Rattle.vt_cells.specs.Cell.{IsCell, attrs_of, glyph, is_right_half, is
 ghost use Rattle.vt_cells.specs.Glyph.{IsGlyphText, columns_of, is_selector, is_wide_text};
 ghost use Rattle.vt_rows.specs.Cells.{at, widened_at};
 ghost use Rattle.vt_rows.specs.Texts.{IsPrintableAscii};
-ghost use Rattle.vt_grid.specs.Internals.{IsSelected, mark_out, room_out};
+ghost use Rattle.vt_grid.specs.Internals.{IsSelected, mark_out, room_out, wide_out, wide_printed};
 ghost use Rattle.vt_grid.specs.Outgoing.{printed_out};
 ghost use Rattle.vt_grid.specs.Page.{IsPage, cursor_row, with_row};
 ghost use Rattle.vt_grid.specs.Printing.{carries, glyph_put, lifted_page, made_narrow, mark_column, mark_printed};
@@ -404,10 +404,8 @@ impl Grid {
     ) -> Result<(), Error>
         requires reported { c ≢ 0xFFFD }
         requires columns { columns_of c ≡ Some 2 }
-        ensures { LetsRowsGo L.leaves (length self.old.rows) self.old.width
-            (if nat_lt 1 self.old.width then room_out 2 self.old else []) self.old above.old leaving.old
-            (if nat_lt 1 self.old.width then glyph_put (encode_utf8 c) true attrs (room_made 2 self.old) else self.old)
-            self.new above.new leaving.new result }
+        ensures { LetsRowsGo L.leaves (length self.old.rows) self.old.width (wide_out self.old)
+            self.old above.old leaving.old (wide_printed c attrs self.old) self.new above.new leaving.new result }
     {
         if self.size.cols == 1 {
             return Ok(());

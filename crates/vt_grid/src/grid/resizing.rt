@@ -1,14 +1,11 @@
 //! Another size of a page, as xterm gives it: rows leave at the top, and come
 //! back there.
 
-ghost use Rattle.std.specs.Prelude.{◌≡◌, ◌^◌, ◌-◌, ◌<◌, IsErr, OnErr, OnOk, length, min, take};
-ghost use Rattle.std.specs.List.{FoldsTo};
-ghost use Rattle.vt_cells.specs.Refusals.{OnlyOutOfMemory};
+ghost use Rattle.std.specs.Prelude.{◌≡◌, ◌^◌, ◌-◌, ◌<◌, length, min};
 ghost use Rattle.vt_grid.specs.Page.{blank_page};
-ghost use Rattle.vt_grid.specs.Resize.{out_of_view, page_resized, resize_reports, row_resized, scrollback_resized};
-ghost use Rattle.vt_grid.specs.Resize as resize;
-ghost use Rattle.vt_grid.specs.Scrollback.{TakesMemory};
 ghost use Rattle.vt_grid.specs.PageRows.{blank_page_rows};
+ghost use Rattle.vt_grid.specs.Resize.{row_resized};
+ghost use Rattle.vt_grid.specs.Sending.{ResizesPage};
 
 use super::Grid;
 use crate::page_rows::PageRows;
@@ -41,14 +38,8 @@ impl Grid {
         leaving: &mut L,
     ) -> Result<(), Error>
         requires { fresh ≡ blank_page (length fresh.rows) fresh.width }
-        ensures page { OnOk result (self.new ≡ page_resized (length fresh.rows) fresh.width above.old self.old) }
-        ensures above { OnOk result (above.new ≡ scrollback_resized (length fresh.rows) self.old above.old) }
-        ensures reported { OnOk result
-            (FoldsTo L.leaves leaving.old (resize_reports (length fresh.rows) self.old above.old) leaving.new) }
-        ensures err { OnErr result ((self.new ≡ self.old) × ((above.new ≡ above.old) × (leaving.new ≡ leaving.old))) }
-        ensures grows { IsErr result →
-            TakesMemory (take (resize.leaving (length fresh.rows) self.old) self.old.rows) (out_of_view above.old) }
-        ensures memory { OnlyOutOfMemory result }
+        ensures { ResizesPage L.leaves (length fresh.rows) fresh.width self.old above.old leaving.old
+            self.new above.new leaving.new result }
     {
         self.fill(fresh.page_rows, above, leaving)?;
         Ok(())
@@ -66,14 +57,8 @@ impl Grid {
         requires rows { 0 < length fresh.rows }
         requires height { length fresh.rows < 2 ^ 16 }
         requires cols { 0 < fresh.width }
-        ensures page { OnOk result (self.new ≡ page_resized (length fresh.rows) fresh.width above.old self.old) }
-        ensures above { OnOk result (above.new ≡ scrollback_resized (length fresh.rows) self.old above.old) }
-        ensures reported { OnOk result
-            (FoldsTo L.leaves leaving.old (resize_reports (length fresh.rows) self.old above.old) leaving.new) }
-        ensures err { OnErr result ((self.new ≡ self.old) × ((above.new ≡ above.old) × (leaving.new ≡ leaving.old))) }
-        ensures grows { IsErr result →
-            TakesMemory (take (resize.leaving (length fresh.rows) self.old) self.old.rows) (out_of_view above.old) }
-        ensures memory { OnlyOutOfMemory result }
+        ensures { ResizesPage L.leaves (length fresh.rows) fresh.width self.old above.old leaving.old
+            self.new above.new leaving.new result }
     {
         let size = fresh.size();
         let below = self.size.rows - (self.pos.row + 1);

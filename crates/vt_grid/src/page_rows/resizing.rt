@@ -1,10 +1,9 @@
 //! Another size of a page: fresh rows take over the old ones.
 
-ghost use Rattle.std.specs.Prelude.{◌≡◌, ◌+◌, ◌-◌, ◌<◌, ◌≤◌, ◌&&◌, ℕ, All, if◌then◌else◌};
-ghost use Rattle.std.specs.Prelude.{length, nat_le, nat_lt, slice_index_or};
+ghost use Rattle.std.specs.Prelude.{◌≡◌, ◌<◌, ◌≤◌, ℕ, All, length, slice_index_or};
 ghost use Rattle.vt_cells.specs.Attrs.{default_attrs};
 ghost use Rattle.vt_rows.specs.Row.{RowValue, IsRow, blank_row, resized_row};
-ghost use Rattle.vt_grid.specs.Internals.{refilled};
+ghost use Rattle.vt_grid.specs.Internals.{refilled, taken_over};
 ghost use Rattle.vt_rows.specs.Cells.{IsPaired};
 ghost use Rattle.vt_grid.specs.Resize.{rows_resized, taken_back, window};
 ghost use Rattle.vt_grid.specs.PageRows.{blank_page_rows, page_row, with_page_row};
@@ -66,10 +65,7 @@ impl PageRows {
         ensures width { self.new.width ≡ self.old.width }
         ensures by_index { (k : ℕ) (d : RowValue) → k < length self.old.rows →
             slice_index_or self.new.rows k d
-            ≡ (if nat_le up k && nat_lt (down + (k - up)) (length rows.now.rows)
-            then resized_row (length (slice_index_or self.old.rows k d).cells)
-            (slice_index_or rows.now.rows (down + (k - up)) d)
-            else slice_index_or self.old.rows k d) }
+            ≡ taken_over down up rows.now.rows (slice_index_or self.old.rows k d) k d }
     {
         let mut k = (self.len() - up).min(rows.len().saturating_sub(down));
         while k > 0 {

@@ -1,9 +1,10 @@
 //! One row that leaves, where none is in view: no list is made for it.
 
-ghost use Rattle.std.specs.Prelude.{◌≡◌, ◌<◌, ℕ, All, IsErr, OnErr, OnOk, length, take};
+ghost use Rattle.std.specs.Prelude.{◌≡◌, ◌<◌, ℕ, IsErr, OnErr, OnOk, length, take};
 ghost use Rattle.vt_cells.specs.Refusals.{OnlyOutOfMemory};
-ghost use Rattle.vt_rows.specs.Row.{IsRow};
-ghost use Rattle.vt_grid.specs.Scrollback.{Sends, TurnsOver, pushed};
+ghost use Rattle.vt_grid.specs.PageRows.{HasRows};
+ghost use Rattle.vt_grid.specs.Scrollback.{TurnsOver, pushed};
+ghost use Rattle.vt_grid.specs.Sending.{SendsOrFails};
 
 use super::Scrollback;
 use crate::page_rows::PageRows;
@@ -20,13 +21,10 @@ impl Scrollback {
     ) -> Result<(), Error>
         requires some { 0 < self.old.capacity }
         requires hidden { self.old.offset ≡ 0 }
-        requires inside { 0 < length page.now.rows }
-        requires sound { All (IsRow page.now.width) page.now.rows }
-        ensures sent { OnOk result ((height width : ℕ) →
-            Sends L.leaves height width (take 1 page.now.rows) self.old leaving.old self.new leaving.new) }
-        ensures err { OnErr result ((self.new ≡ self.old) × (leaving.new ≡ leaving.old)) }
+        requires page { HasRows 1 page.now }
+        ensures pushed { (height width : ℕ) → SendsOrFails L.leaves height width (take 1 page.now.rows)
+            self.old leaving.old self.old self.new leaving.new result }
         ensures grows { IsErr result → TurnsOver (take 1 page.now.rows) self.old → ⊥ }
-        ensures memory { OnlyOutOfMemory result }
     {
         if self.rows.len() == self.capacity {
             return self.turn_over(page, leaving);
@@ -38,8 +36,7 @@ impl Scrollback {
     fn add(&mut self, page: &PageRows) -> Result<(), Error>
         requires room { length self.old.rows < self.old.capacity }
         requires hidden { self.old.offset ≡ 0 }
-        requires inside { 0 < length page.now.rows }
-        requires sound { All (IsRow page.now.width) page.now.rows }
+        requires page { HasRows 1 page.now }
         ensures added { OnOk result ((height width : ℕ) →
             self.new ≡ pushed height width (take 1 page.now.rows) self.old) }
         ensures err { OnErr result (self.new ≡ self.old) }
@@ -56,13 +53,10 @@ impl Scrollback {
         requires full { length self.old.rows ≡ self.old.capacity }
         requires some { 0 < self.old.capacity }
         requires hidden { self.old.offset ≡ 0 }
-        requires inside { 0 < length page.now.rows }
-        requires sound { All (IsRow page.now.width) page.now.rows }
-        ensures sent { OnOk result ((height width : ℕ) →
-            Sends L.leaves height width (take 1 page.now.rows) self.old leaving.old self.new leaving.new) }
-        ensures err { OnErr result ((self.new ≡ self.old) × (leaving.new ≡ leaving.old)) }
+        requires page { HasRows 1 page.now }
+        ensures pushed { (height width : ℕ) → SendsOrFails L.leaves height width (take 1 page.now.rows)
+            self.old leaving.old self.old self.new leaving.new result }
         ensures grows { IsErr result → TurnsOver (take 1 page.now.rows) self.old → ⊥ }
-        ensures memory { OnlyOutOfMemory result }
     {
         turn_over(&mut self.rows, page, leaving)?;
         self.theoretical = self.theoretical.saturating_add(1);

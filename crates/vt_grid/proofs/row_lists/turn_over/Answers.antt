@@ -5,4 +5,4 @@ use Rattle.vt_grid.proofs.row_lists.turn_over.Goals as goal
 pub leave_for-requires : goal.leave_for-requires
 leave_for-requires g c =
     subst (λ (row : RowValue). IsRow (length row.cells) row) (sym c.index_mut.ensures.value)
-    (c.requires.sound_rows 0 c.index_mut.result.now c.requires.some)
+    (c.requires.sound 0 c.index_mut.result.now c.requires.some)

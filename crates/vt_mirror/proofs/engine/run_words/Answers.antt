@@ -1,29 +1,30 @@
 use Rattle.std.proofs.Common.{rules}
 use Rattle.vt_mirror.proofs.engine.run_words.Goals as goal
 
-pub returns-in-Ok-clause-text : goal.returns-in-Ok-clause-text
-returns-in-Ok-clause-text g c = record {
+pub returns-in-Ok-clause-asked : goal.returns-in-Ok-clause-asked
+returns-in-Ok-clause-asked g c = λ _. record {
   rows = c.in-Some.rows.value;
   cols = c.in-Some.cols.value;
   every = c.in-Some.every.value;
   asks = c.in-Some.ensures.some;
-  holds = c.in-Ok.ensures.text;
+  holds = record {
+    end = c.in-Ok.ensures.end;
+    text = c.in-Ok.ensures.text;
+    read = search rules;
+    memory = search rules;
+  };
 }
 
-pub returns-in-Err-clause-read : goal.returns-in-Err-clause-read
-returns-in-Err-clause-read g c = λ e. record {
+pub returns-in-Err-clause-asked : goal.returns-in-Err-clause-asked
+returns-in-Err-clause-asked g c = λ _. record {
   rows = c.in-Some.rows.value;
   cols = c.in-Some.cols.value;
   every = c.in-Some.every.value;
   asks = c.in-Some.ensures.some;
-  holds = c.in-Err.ensures.read (search rules);
-}
-
-pub returns-in-Err-clause-memory : goal.returns-in-Err-clause-memory
-returns-in-Err-clause-memory g c = λ e. record {
-  rows = c.in-Some.rows.value;
-  cols = c.in-Some.cols.value;
-  every = c.in-Some.every.value;
-  asks = c.in-Some.ensures.some;
-  holds = c.in-Err.ensures.memory (search rules);
+  holds = record {
+    end = tt;
+    text = tt;
+    read = λ e. c.in-Err.ensures.read (search rules);
+    memory = λ e. c.in-Err.ensures.memory (search rules);
+  };
 }

@@ -1,9 +1,9 @@
 use Rattle.std.proofs.Common.{◌++◌, ◌∷◌, ◌∙◌, [], refl, List, ℕ, suc, drop, sym, ap, arith}
 use Rattle.std.proofs.Math.Seq.{drop-cons}
 use Rattle.vt_cells.proofs.Sinks.{on_err, some_among, stopped_among, stopped_first}
-use Rattle.vt_cells.specs.Op.{change_text}
 use Rattle.vt_cells.specs.PieceInternals.{gathered}
-use Rattle.vt_rows.specs.Basic.{attrs_after, cells_text, shown_text}
+use Rattle.vt_rows.specs.Basic.{attrs_after, cells_text}
+use Rattle.vt_rows.specs.Internals.{cell_text}
 use Rattle.vt_rows.proofs.BasicTexts.{one_first}
 use Rattle.vt_rows.proofs.capture.write_cells.Goals as goal
 
@@ -20,7 +20,7 @@ returns-in_err-add_cell-clause-stopped g c =
     ∙ c.loop-cell.invariant.bytes in
     on_err c.from_residual.result
     (stopped_among g.S.Sink.refuses (g.S.Sink.text c.args.sink.now) (g.S.Sink.text c.loop-cell.sink) c.loop-cell.piece
-    (change_text attrs (attrs_after attrs cell) ++ shown_text cell) (cells_text (attrs_after attrs cell) rest)
+    (cell_text attrs cell) (cells_text (attrs_after attrs cell) rest)
     (cells_text c.args.attrs cells) (g.S.Sink.text c.add_cell.new.sink) all c.loop-cell.invariant.grows
     c.in_err-add_cell.ensures.stopped)
 
@@ -38,7 +38,7 @@ returns-in_err-add_cell-clause-some g c =
     let some = c.in_err-add_cell.ensures.some in
     on_err c.from_residual.result
     (some_among (g.S.Sink.text c.args.sink.now) (g.S.Sink.text c.loop-cell.sink) c.loop-cell.piece
-    (change_text attrs (attrs_after attrs cell) ++ shown_text cell) (cells_text (attrs_after attrs cell) rest)
+    (cell_text attrs cell) (cells_text (attrs_after attrs cell) rest)
     (cells_text c.args.attrs cells) all c.loop-cell.invariant.grows (omega arith))
 
 pub returns-in_err-flush-clause-stopped : goal.returns-in_err-flush-clause-stopped

@@ -1,4 +1,4 @@
-use Rattle.std.proofs.Common.{◌≡◌, ◌<◌, ◌^◌, ◌∙◌, ℕ, length, take, refl, sym, ap, subst, arith}
+use Rattle.std.proofs.Common.{◌≡◌, ◌<◌, ◌^◌, ◌∙◌, ℕ, length, take, refl, sym, ap, subst, arith, rules}
 use Rattle.vt_grid.specs.Internals.{IsSized, page_of}
 use Rattle.vt_grid.specs.Page.{Page}
 use Rattle.vt_grid.specs.Resize.{out_of_view, leaving, returning, page_resized, scrollback_resized}
@@ -10,7 +10,7 @@ use Rattle.vt_grid.proofs.grid.Grid.fill.Goals as goal
 pub refit-requires-clause-hidden : goal.refit-requires-clause-hidden
 refit-requires-clause-hidden g c =
     let s = c.self.inside in
-    ap (λ (above : Scrollback). above.offset) c.in_ok-push_out_of_view.ensures.sent.0
+    ap (λ (above : Scrollback). above.offset) c.in_ok-push_out_of_view.ensures.pushed.sent.0
     ∙ offset-pushed s.size.rows s.size.cols _ c.args.above.now
 
 pub invariant_of-self : goal.invariant_of-self
@@ -26,7 +26,7 @@ invariant_of-self g c =
     c.saturating_sub-down.ensures ∙ omega (arith, c.saturating_sub.ensures, rows, i.height) in
     let up : c.at_most-up.result ≡ returning h above page =
     c.at_most-up.ensures ∙ omega (arith, c.saturating_sub-2.ensures, rows, i.height, c.theoretical_len.ensures.value) in
-    let sent = c.in_ok-push_out_of_view.ensures.sent.0
+    let sent = c.in_ok-push_out_of_view.ensures.pushed.sent.0
     ∙ ap (λ (n : ℕ). pushed s.size.rows s.size.cols (take n page.rows) (out_of_view above)) c.from.ensures in
     let steps = page_by_steps h w s.size.rows s.size.cols c.saturating_sub-down.result
     c.at_most-up.result above c.push_out_of_view.new.self page s.page_rows
@@ -41,8 +41,8 @@ invariant_of-self g c =
     (page_page_resized h w above page i.sound c.theoretical_len.ensures.sound
     c.requires.rows c.requires.height c.requires.cols width))
 
-pub returns-clause-page : goal.returns-clause-page
-returns-clause-page g c =
+pub returns : goal.returns
+returns g c =
     let s = c.self.inside in
     let i = c.self.invariant in
     let h = length c.args.fresh.rows in
@@ -54,7 +54,7 @@ returns-clause-page g c =
     c.saturating_sub-down.ensures ∙ omega (arith, c.saturating_sub.ensures, rows, i.height) in
     let up : c.at_most-up.result ≡ returning h above page =
     c.at_most-up.ensures ∙ omega (arith, c.saturating_sub-2.ensures, rows, i.height, c.theoretical_len.ensures.value) in
-    let sent = c.in_ok-push_out_of_view.ensures.sent.0
+    let sent = c.in_ok-push_out_of_view.ensures.pushed.sent.0
     ∙ ap (λ (n : ℕ). pushed s.size.rows s.size.cols (take n page.rows) (out_of_view above)) c.from.ensures in
     let steps = page_by_steps h w s.size.rows s.size.cols c.saturating_sub-down.result
     c.at_most-up.result above c.push_out_of_view.new.self page s.page_rows
@@ -63,21 +63,14 @@ returns-clause-page g c =
     down up sent refl refl c.refit.ensures.rows c.refit.ensures.width
     c.resized-self-inside.ensures.row c.resized-self-inside.ensures.col
     c.resized-self-inside-2.ensures.row c.resized-self-inside-2.ensures.col in
-    steps ∙ ap (page_resized h w above) c.self.view_is
-
-pub returns-clause-above : goal.returns-clause-above
-returns-clause-above g c =
-    let s = c.self.inside in
-    let i = c.self.invariant in
-    let h = length c.args.fresh.rows in
-    let page = page_of s.page_rows s.pos s.saved_pos s.scroll_top s.scroll_bottom s.origin_mode s.saved_origin_mode in
-    let rows : c.size-size.result.rows ≡ h = c.size-size.ensures.rows in
-    let down : c.saturating_sub-down.result ≡ leaving h page =
-    c.saturating_sub-down.ensures ∙ omega (arith, c.saturating_sub.ensures, rows, i.height) in
-    let up : c.at_most-up.result ≡ returning h c.args.above.now page =
-    c.at_most-up.ensures ∙ omega (arith, c.saturating_sub-2.ensures, rows, i.height, c.theoretical_len.ensures.value) in
-    let sent = c.in_ok-push_out_of_view.ensures.sent.0
-    ∙ ap (λ (n : ℕ). pushed s.size.rows s.size.cols (take n page.rows) (out_of_view c.args.above.now)) c.from.ensures in
-    above_by_steps h s.size.rows s.size.cols c.saturating_sub-down.result c.at_most-up.result c.args.above.now
-    c.push_out_of_view.new.self c.refit.new.above page i.height i.width down up sent c.refit.ensures.above
-    ∙ ap (λ (p : Page). scrollback_resized h p c.args.above.now) c.self.view_is
+    record {
+      page = steps ∙ ap (page_resized h w above) c.self.view_is;
+      above =
+          above_by_steps h s.size.rows s.size.cols c.saturating_sub-down.result c.at_most-up.result above
+          c.push_out_of_view.new.self c.refit.new.above page i.height i.width down up sent c.refit.ensures.above
+          ∙ ap (λ (p : Page). scrollback_resized h p above) c.self.view_is;
+      reported = search rules;
+      err = tt;
+      grows = search rules;
+      memory = tt;
+    }

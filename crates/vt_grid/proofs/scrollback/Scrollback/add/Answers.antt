@@ -17,14 +17,14 @@ invariant_of-self-2 c =
     } in
     let rows = c.args.page.now.rows in
     let gone = take 1 rows in
-    let n : length gone ≡ 1 = omega (arith, length-take 1 rows, c.requires.inside) in
+    let n : length gone ≡ 1 = omega (arith, length-take 1 rows, c.requires.page.inside) in
     let room = subst (λ (a : Scrollback). length a.rows < a.capacity) (sym c.self.view_is) c.requires.room in
     let hidden = ap (λ (a : Scrollback). a.offset) c.self.view_is ∙ c.requires.hidden in
     let all = added_is 0 c.args.page.now.width gone above c.push_copy.new.rows.items
     c.saturating_add-self-inside.result room hidden n c.in_ok-push_copy.ensures.rows
     (c.saturating_add-self-inside.ensures ∙ ap (λ (m : ℕ). min (inside.theoretical + m) greatest) (sym n)) in
     subst IsScrollback (sym all) (IsScrollback-pushed 0 c.args.page.now.width gone above
-    (All-take (IsRow c.args.page.now.width) 1 rows c.requires.sound) c.self.invariant)
+    (All-take (IsRow c.args.page.now.width) 1 rows c.requires.page.sound) c.self.invariant)
 
 pub returns-clause-added : goal.returns-clause-added
 returns-clause-added c = λ height width.
@@ -42,7 +42,7 @@ returns-clause-added c = λ height width.
       offset = inside.offset;
     } in
     let gone = take 1 c.args.page.now.rows in
-    let n : length gone ≡ 1 = omega (arith, length-take 1 c.args.page.now.rows, c.requires.inside) in
+    let n : length gone ≡ 1 = omega (arith, length-take 1 c.args.page.now.rows, c.requires.page.inside) in
     let room = subst (λ (a : Scrollback). length a.rows < a.capacity) (sym c.self.view_is) c.requires.room in
     let hidden = ap (λ (a : Scrollback). a.offset) c.self.view_is ∙ c.requires.hidden in
     subst (λ (old : Scrollback). new ≡ pushed height width gone old) c.self.view_is

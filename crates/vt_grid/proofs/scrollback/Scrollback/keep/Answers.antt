@@ -22,7 +22,7 @@ push_rows-requires-clause-room g c =
       size,
       same,
       length-take c.args.count rows,
-      c.requires.inside,
+      c.requires.page.rows.inside,
       c.in_ok-reserve.ensures,
       c.reserve.ensures,
       c.self.inside.rows.ok.0,
@@ -32,7 +32,7 @@ push_rows-requires-clause-room g c =
 pub push_rows-requires-clause-sound : goal.push_rows-requires-clause-sound
 push_rows-requires-clause-sound g c =
     All-copied c.args.page.now.width c.args.count c.args.page.now.rows
-    c.in_ok-copies.copies.items c.requires.sound c.in_ok-copies.ensures.ok
+    c.in_ok-copies.copies.items c.requires.page.rows.sound c.in_ok-copies.ensures.ok
 
 pub grow_in_view-requires-clause-sound : goal.grow_in_view-requires-clause-sound
 grow_in_view-requires-clause-sound g c =
@@ -45,7 +45,7 @@ grow_in_view-requires-clause-sound g c =
     } in
     let rows = c.args.page.now.rows in
     let gone = take c.args.count rows in
-    let n : length gone ≡ c.args.count = omega (arith, length-take c.args.count rows, c.requires.inside) in
+    let n : length gone ≡ c.args.count = omega (arith, length-take c.args.count rows, c.requires.page.rows.inside) in
     let pushed_rows : c.push_rows.new.kept.items
     ≡ last_of inside.capacity (c.reserve.new.self.items ++ map trimmed_row gone) =
     c.push_rows.ensures.rows
@@ -58,7 +58,7 @@ grow_in_view-requires-clause-sound g c =
     (c.followed-self-inside.ensures
     ∙ ap (λ (m : ℕ). if inside.offset == 0 then 0 else min (inside.offset + m) c.len-2.result) (sym n)) in
     All-kept c.args.page.now.width inside.capacity gone inside.rows.items c.reserve.new.self.items
-    c.push_rows.new.kept.items (All-take (IsRow c.args.page.now.width) c.args.count rows c.requires.sound)
+    c.push_rows.new.kept.items (All-take (IsRow c.args.page.now.width) c.args.count rows c.requires.page.rows.sound)
     c.self.invariant.sound c.reserve.ensures.items pushed_rows
 
 pub grow_in_view-requires-clause-spare : goal.grow_in_view-requires-clause-spare
@@ -72,7 +72,7 @@ grow_in_view-requires-clause-spare g c =
     } in
     let rows = c.args.page.now.rows in
     let gone = take c.args.count rows in
-    let n : length gone ≡ c.args.count = omega (arith, length-take c.args.count rows, c.requires.inside) in
+    let n : length gone ≡ c.args.count = omega (arith, length-take c.args.count rows, c.requires.page.rows.inside) in
     let pushed_rows : c.push_rows.new.kept.items
     ≡ last_of inside.capacity (c.reserve.new.self.items ++ map trimmed_row gone) =
     c.push_rows.ensures.rows
@@ -103,7 +103,7 @@ invariant_of-self-2 g c =
     } in
     let rows = c.args.page.now.rows in
     let gone = take c.args.count rows in
-    let n : length gone ≡ c.args.count = omega (arith, length-take c.args.count rows, c.requires.inside) in
+    let n : length gone ≡ c.args.count = omega (arith, length-take c.args.count rows, c.requires.page.rows.inside) in
     let pushed_rows : c.push_rows.new.kept.items
     ≡ last_of inside.capacity (c.reserve.new.self.items ++ map trimmed_row gone) =
     c.push_rows.ensures.rows
@@ -116,16 +116,16 @@ invariant_of-self-2 g c =
     (c.followed-self-inside.ensures
     ∙ ap (λ (m : ℕ). if inside.offset == 0 then 0 else min (inside.offset + m) c.len-2.result) (sym n)) in
     let wide : All (IsRow c.args.size.cols) gone =
-    subst (λ (m : ℕ). All (IsRow m) gone) (sym c.requires.width)
-    (All-take (IsRow c.args.page.now.width) c.args.count rows c.requires.sound) in
+    subst (λ (m : ℕ). All (IsRow m) gone) (sym c.requires.page.width)
+    (All-take (IsRow c.args.page.now.width) c.args.count rows c.requires.page.rows.sound) in
     let all = pushed_is c.args.size.rows c.args.size.cols gone above c.push_rows.new.kept.items
     c.grow_in_view.new.rows.items c.saturating_add-self-inside.result c.followed-self-inside.result
     (omega (arith, n, c.requires.some)) kept c.grow_in_view.ensures in
     subst IsScrollback (sym all)
     (IsScrollback-pushed c.args.size.rows c.args.size.cols gone above wide c.self.invariant)
 
-pub returns-clause-sent : goal.returns-clause-sent
-returns-clause-sent g c =
+pub returns : goal.returns
+returns g c =
     let inside = c.self.inside in
     let above : Scrollback = record {
       rows = inside.rows.items;
@@ -135,7 +135,7 @@ returns-clause-sent g c =
     } in
     let rows = c.args.page.now.rows in
     let gone = take c.args.count rows in
-    let n : length gone ≡ c.args.count = omega (arith, length-take c.args.count rows, c.requires.inside) in
+    let n : length gone ≡ c.args.count = omega (arith, length-take c.args.count rows, c.requires.page.rows.inside) in
     let pushed_rows : c.push_rows.new.kept.items
     ≡ last_of inside.capacity (c.reserve.new.self.items ++ map trimmed_row gone) =
     c.push_rows.ensures.rows
@@ -160,10 +160,11 @@ returns-clause-sent g c =
     let told = subst (λ (xs : List RowValue). FoldsTo g.L.Leaving.leaves c.args.leaving.now
     (before_last inside.capacity (c.reserve.new.self.items ++ xs)) c.push_rows.new.leaving)
     c.in_ok-copies.ensures.ok c.push_rows.ensures.reported in
-    subst (λ (old : Scrollback). Sends g.L.Leaving.leaves c.args.size.rows
+    let sent = subst (λ (old : Scrollback). Sends g.L.Leaving.leaves c.args.size.rows
     c.args.size.cols gone old c.args.leaving.now new c.push_rows.new.leaving)
     c.self.view_is (
       all,
       told_by_steps g.L.Leaving.leaves gone above c.reserve.new.self.items
           c.args.leaving.now c.push_rows.new.leaving some c.reserve.ensures.items told,
-    )
+    ) in
+    record { sent = sent; refused = record { err = tt; memory = tt } }

@@ -18,7 +18,7 @@ invariant_of-self-2 g c =
     } in
     let rows = c.args.page.now.rows in
     let gone = take 1 rows in
-    let n : length gone ≡ 1 = omega (arith, length-take 1 rows, c.requires.inside) in
+    let n : length gone ≡ 1 = omega (arith, length-take 1 rows, c.requires.page.inside) in
     let full = ap (λ (a : Scrollback). length a.rows) c.self.view_is
     ∙ (c.requires.full ∙ sym (ap (λ (a : Scrollback). a.capacity) c.self.view_is)) in
     let some : 0 < inside.capacity = subst (λ (a : Scrollback). 0 < a.capacity) (sym c.self.view_is) c.requires.some in
@@ -27,10 +27,10 @@ invariant_of-self-2 g c =
     c.saturating_add-self-inside.result full some hidden n c.in_ok-turn_over.ensures.rows
     (c.saturating_add-self-inside.ensures ∙ ap (λ (m : ℕ). min (inside.theoretical + m) greatest) (sym n)) in
     subst IsScrollback (sym all) (IsScrollback-pushed 0 c.args.page.now.width gone above
-    (All-take (IsRow c.args.page.now.width) 1 rows c.requires.sound) c.self.invariant)
+    (All-take (IsRow c.args.page.now.width) 1 rows c.requires.page.sound) c.self.invariant)
 
-pub returns-clause-sent : goal.returns-clause-sent
-returns-clause-sent g c = λ height width.
+pub returns-clause-pushed : goal.returns-clause-pushed
+returns-clause-pushed g c = λ height width.
     let inside = c.self.inside in
     let above : Scrollback = record {
       rows = inside.rows.items;
@@ -46,12 +46,12 @@ returns-clause-sent g c = λ height width.
     } in
     let rows = c.args.page.now.rows in
     let gone = take 1 rows in
-    let n : length gone ≡ 1 = omega (arith, length-take 1 rows, c.requires.inside) in
+    let n : length gone ≡ 1 = omega (arith, length-take 1 rows, c.requires.page.inside) in
     let full = ap (λ (a : Scrollback). length a.rows) c.self.view_is
     ∙ (c.requires.full ∙ sym (ap (λ (a : Scrollback). a.capacity) c.self.view_is)) in
     let some : 0 < inside.capacity = subst (λ (a : Scrollback). 0 < a.capacity) (sym c.self.view_is) c.requires.some in
     let hidden = ap (λ (a : Scrollback). a.offset) c.self.view_is ∙ c.requires.hidden in
-    subst (λ (old : Scrollback). Sends g.L.Leaving.leaves height
+    let sent = subst (λ (old : Scrollback). Sends g.L.Leaving.leaves height
     width gone old c.args.leaving.now new c.turn_over.new.leaving)
     c.self.view_is (
       turned_is height width gone above c.turn_over.new.rows.items
@@ -59,4 +59,5 @@ returns-clause-sent g c = λ height width.
           (c.saturating_add-self-inside.ensures ∙ ap (λ (m : ℕ). min (inside.theoretical + m) greatest) (sym n)),
       subst (λ (told : List RowValue). FoldsTo g.L.Leaving.leaves c.args.leaving.now told c.turn_over.new.leaving)
           (sym (turned_reports gone above full some n)) c.in_ok-turn_over.ensures.left,
-    )
+    ) in
+    record { sent = sent; refused = record { err = tt; memory = tt } }
