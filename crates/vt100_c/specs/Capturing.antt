@@ -1,8 +1,11 @@
 -- Rows that are written behind a capture.
-use Rattle.std.specs.Prelude.{ℕ, nat_lt, length, Option, Some, None, if◌then◌else◌}
+use Rattle.std.specs.Prelude.{◌≡◌, ◌<◌, ℕ, List, nat_lt, length, Option, Some, None, if◌then◌else◌}
+use Rattle.std.specs.List.{slice_get}
 use Rattle.vt_rows.specs.Basic.{Written}
 use Rattle.vt_rows.specs.Row.{RowValue}
+use Rattle.vt_screen.specs.Capture.{all_rows, basic_texts}
 use Rattle.vt_screen.specs.Screen.{ScreenValue}
+use Rattle.vt100_c.specs.Due.{source_at, text_at}
 use Rattle.vt100_c.specs.Records.{Logged}
 use Rattle.vt100_c.specs.Status.{ok, bad_argument, no_object, wrong_kind}
 use Rattle.vt100_c.specs.declared.object.Object.{Object}
@@ -38,9 +41,9 @@ due_at_capture of due (Some object) None = no_object
 due_at_capture of due (Some object) (Some capture) = due_behind due (of object.source) (state_in capture.source)
 
 -- of what is held beside a capture that was taken out
-abbrev pub due_beside_capture : {A : Type 0} → (Source → Option A) → (A → ℕ) → Option Object → Option Written → ℕ
-due_beside_capture of due None state = bad_argument
-due_beside_capture of due (Some object) state = due_behind due (of object.source) state
+abbrev pub due_beside_capture : {A : Type 0} → (Source → Option A) → (A → ℕ) → Option Object → Object → ℕ
+due_beside_capture of due None capture = bad_argument
+due_beside_capture of due (Some object) capture = due_behind due (of object.source) (state_in capture.source)
 
 abbrev pub HoldAtCapture : {A : Type 0} → (Source → Option A) → Option Object → Option Object →
     (A → Written → Type 0) → Type 0
@@ -48,10 +51,19 @@ HoldAtCapture of None capture Holds = ⊥
 HoldAtCapture of (Some object) None Holds = ⊥
 HoldAtCapture of (Some object) (Some capture) Holds = OnCapture (of object.source) (state_in capture.source) Holds
 
+-- a capture is held in this state, with this text
+pub record HoldsCapture (written : List ℕ) (state : Written) (held : Option Object) : Type 0 where
+  pub text : text_at held ≡ written
+  pub source : source_at held ≡ Some (Capture state)
+
 -- ---- a screen's rows, and a row that was reported
 
 abbrev pub any_screen_is_due : ScreenValue → ℕ
 any_screen_is_due screen = ok
+
+-- its rows have a text behind a capture
+abbrev pub HaveText : ScreenValue → Written → Type 0
+HaveText screen state = 0 < length (basic_texts state (all_rows screen))
 
 -- there is a row of this number
 abbrev pub has_reported : ℕ → Logged → ℕ
@@ -61,3 +73,7 @@ has_reported index log = if nat_lt index (length log.rows) then ok else bad_argu
 abbrev pub OnRow : Option RowValue → (RowValue → Type 0) → Type 0
 OnRow None Holds = ⊥
 OnRow (Some row) Holds = Holds row
+
+-- a log has a row of this number, and this holds of it behind a capture
+abbrev pub OnReported : ℕ → (RowValue → Written → Type 0) → Logged → Written → Type 0
+OnReported index Holds log state = OnRow (slice_get log.rows index) (λ row. Holds row state)

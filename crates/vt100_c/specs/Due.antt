@@ -1,7 +1,7 @@
 -- The status that is due for what handles hold: `ok` where nothing stands against the call. And what holds of the screens
 -- behind them.
 use Rattle.std.specs.Prelude.{◌≡◌, ◌⊎◌, ◌==◌, ◌&&◌, ℕ, nat_lt, nat_le, length, List, []}
-use Rattle.std.specs.Prelude.{Bool, Option, Some, None, Result, Ok, Err, if◌then◌else◌, string_bytes}
+use Rattle.std.specs.Prelude.{Bool, Option, Some, None, Result, Ok, Err, IfErr, OnErr, if◌then◌else◌, string_bytes}
 use Rattle.vt_grid.specs.Page.{Page}
 use Rattle.vt_screen.specs.Screen.{ScreenValue, visible_row}
 use Rattle.vt100_c.specs.Sources.{screen_in}
@@ -112,3 +112,9 @@ IsAnswer due status = (status ≡ due) ⊎ ((due ≡ ok) × (status ≡ out_of_m
 abbrev pub status_in : {A : Type 0} → Result A ℕ → ℕ
 status_in (Ok value) = ok
 status_in (Err status) = status
+
+-- a result is what is due, an error never told as `ok`; and behind an error this stays as it was
+pub record AnswersOrStays {A : Type 0} (due : ℕ) (result : Result A ℕ) (Stays : Type 0) : Type 0 where
+  pub answer : IsAnswer due (status_in result)
+  pub refused : IfErr result (λ status. ¬ (status ≡ ok))
+  pub left : OnErr result Stays

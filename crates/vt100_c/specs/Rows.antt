@@ -1,11 +1,12 @@
 -- The texts of rows, one behind the other.
-use Rattle.std.specs.Prelude.{◌≡◌, ◌+◌, ℕ, List, [], ◌∷◌, ◌++◌, length, take, nat_le, nat_lt, Option, Some, None, if◌then◌else◌}
+use Rattle.std.specs.Prelude.{◌≡◌, ◌+◌, ◌<◌, ◌≤◌, ℕ, List, [], ◌∷◌, ◌++◌, drop, length, take, nat_le, nat_lt}
+use Rattle.std.specs.Prelude.{Option, Some, None, if◌then◌else◌}
 use Rattle.std.specs.List.{concat}
 use Rattle.vt_screen.specs.Contents.{row_texts}
 use Rattle.vt_screen.specs.RowsShown.{changed_text, formatted_text, range_end, texts_from}
 use Rattle.vt_screen.specs.Screen.{ScreenValue, visible_rows}
 use Rattle.vt_screen.specs.Shown.{shown}
-use Rattle.vt100_c.specs.Due.{OnBoth, same_size}
+use Rattle.vt100_c.specs.Due.{HoldBoth, HoldsScreen, OnBoth, same_size, source_at, text_at}
 use Rattle.vt100_c.specs.Sources.{screen_in}
 use Rattle.vt100_c.specs.Status.{ok, bad_argument, other_size}
 use Rattle.vt100_c.specs.declared.object.Object.{Object}
@@ -55,7 +56,40 @@ changed_rows start width screen prev =
 abbrev pub AreEnds : (count : ℕ) → List ℕ → List (List ℕ) → Type 0
 AreEnds count ends texts = take count ends ≡ ends_from 0 texts
 
+-- texts are put one behind the other, and the first of these numbers are where they end
+pub record JoinsTexts (count : ℕ) (texts : List (List ℕ)) (joined ends : List ℕ) : Type 0 where
+  pub text : joined ≡ concat texts
+  pub ends_are : AreEnds count ends texts
+
+-- so are those of a screen's rows, and their ends are told; the numbers behind those stay
+pub record TellsRows (screen : ScreenValue) (texts : List (List ℕ)) (joined before after : List ℕ) : Type 0 where
+  pub rows : JoinsTexts (length screen.page.rows) texts joined after
+  pub rest : drop (length screen.page.rows) after ≡ drop (length screen.page.rows) before
+
+-- rows begin at a column, and there is a place for each one's end
+pub record FitRows (start room : ℕ) (screen : ScreenValue) : Type 0 where
+  pub column : start < screen.page.width
+  pub places : length screen.page.rows ≤ room
+
 -- there is a screen, and one behind a handle beside it, and this holds of both
 abbrev pub HoldBeside : Option ScreenValue → Option Object → (ScreenValue → ScreenValue → Type 0) → Type 0
 HoldBeside screen None Holds = ⊥
 HoldBeside screen (Some prev) Holds = OnBoth screen (screen_in prev.source) Holds
+
+-- ---- what a call makes of what handles hold
+
+-- these texts of the rows of the screen that is held, and tells their ends; the screen stays, and so do the numbers
+-- where the call is refused
+pub record MakesRows (texts : ScreenValue → List (List ℕ)) (old : Option Object) (status : ℕ) (new : Option Object)
+    (before after : List ℕ) : Type 0 where
+  pub source : source_at new ≡ source_at old
+  pub made : status ≡ ok → HoldsScreen old (λ screen. TellsRows screen (texts screen) (text_at new) before after)
+  pub refused : ¬ (status ≡ ok) → after ≡ before
+
+-- those that show its rows where the rows of the screen stand that another handle holds
+pub record ChangesRows (start width : ℕ) (old prev : Option Object) (status : ℕ) (new : Option Object)
+    (before after : List ℕ) : Type 0 where
+  pub source : source_at new ≡ source_at old
+  pub made : status ≡ ok → HoldBoth old prev
+      (λ screen other. TellsRows screen (changed_rows start width screen other) (text_at new) before after)
+  pub refused : ¬ (status ≡ ok) → after ≡ before

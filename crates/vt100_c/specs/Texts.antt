@@ -1,5 +1,5 @@
 -- Which text each call makes.
-use Rattle.std.specs.Prelude.{◌≡◌, ◌<◌, ◌≤◌, ℕ, List, length}
+use Rattle.std.specs.Prelude.{◌≡◌, ◌<◌, ◌≤◌, ℕ, List, Option, length}
 use Rattle.vt_cells.specs.Op.{bytes_of_all}
 use Rattle.vt_redraw.specs.Moved.{IsScrolling}
 use Rattle.vt_redraw.specs.Redraw.{cursor_state, difference, redraw}
@@ -11,11 +11,13 @@ use Rattle.vt_screen.specs.InputTexts.{input_change, input_text}
 use Rattle.vt_screen.specs.Screen.{ScreenValue, visible_rows}
 use Rattle.vt_screen.specs.Shown.{attributes_text, shown}
 use Rattle.vt_screen.specs.States.{state_change, state_text}
-use Rattle.vt100_c.specs.Due.{any_screen, any_screens, has_start, of_one_size}
+use Rattle.vt100_c.specs.Due.{HoldBoth, HoldsScreen, any_screen, any_screens, has_start, of_one_size, source_at, text_at}
+use Rattle.vt100_c.specs.Status.{ok, out_of_memory}
 use Rattle.vt100_c.specs.declared.making.Difference.{Difference}
 use Rattle.vt100_c.specs.declared.making.Difference.TheVariants as between
 use Rattle.vt100_c.specs.declared.making.Text.{Text}
 use Rattle.vt100_c.specs.declared.making.Text.TheVariants as text
+use Rattle.vt100_c.specs.declared.object.Object.{Object}
 
 -- ---- of one screen
 
@@ -72,3 +74,18 @@ HasDifference between.State screen prev =
 HasDifference between.InputMode screen prev =
     (0 < length (input_change prev.modes screen.modes)) × ¬ (screen.modes ≡ prev.modes)
 HasDifference _ screen prev = HasChange (bytes_of_all (difference (shown screen) (shown prev))) screen prev
+
+-- ---- what a call makes of what handles hold
+
+-- this text of the screen that is held; the screen stays
+pub record MakesText (name : Text) (old : Option Object) (status : ℕ) (new : Option Object) : Type 0 where
+  pub source : source_at new ≡ source_at old
+  pub some : status ≡ out_of_memory → HoldsScreen old (HasText name)
+  pub made : status ≡ ok → HoldsScreen old (λ screen. text_at new ≡ text_of name screen)
+
+-- this difference from the screen that another handle holds
+pub record MakesDifference (name : Difference) (old prev : Option Object) (status : ℕ) (new : Option Object) :
+    Type 0 where
+  pub source : source_at new ≡ source_at old
+  pub some : status ≡ out_of_memory → HoldBoth old prev (HasDifference name)
+  pub made : status ≡ ok → HoldBoth old prev (λ screen before. IsDifference name screen before (text_at new))

@@ -1,13 +1,15 @@
 //! Captures that are written: texts of rows with SGR alone.
 
-ghost use Rattle.std.specs.Prelude.{◌≡◌, ◌<◌, IfErr, IfOk, None, OnErr, OnOk, Some, length, string_bytes};
+ghost use Rattle.std.specs.Prelude.{◌≡◌, IfErr, IfOk, None, OnErr, OnOk, Some, string_bytes};
 ghost use Rattle.std.specs.List.{slice_get};
 ghost use Rattle.vt_rows.specs.Basic.{basic_text, unwritten, written_after};
 ghost use Rattle.vt_screen.specs.Capture.{all_rows, basic_texts, written_after_all};
 ghost use Rattle.vt100_c.specs.Calls.{MakesOne};
-ghost use Rattle.vt100_c.specs.Capturing.{HoldAtCapture, OnCapture, OnRow, any_screen_is_due, due_at_capture};
-ghost use Rattle.vt100_c.specs.Capturing.{due_behind, due_beside_capture, has_reported, state_in};
-ghost use Rattle.vt100_c.specs.Due.{IsAnswer, source_at, status_in, text_at};
+ghost use Rattle.vt100_c.specs.Capturing.{HaveText, HoldAtCapture, HoldsCapture, OnCapture, OnReported, OnRow};
+ghost use Rattle.vt100_c.specs.Capturing.{any_screen_is_due, due_at_capture, due_behind, due_beside_capture};
+ghost use Rattle.vt100_c.specs.Capturing.{has_reported, state_in};
+ghost use Rattle.vt100_c.specs.Due.{AnswersOrStays, IsAnswer, status_in};
+ghost use Rattle.vt100_c.specs.Keeping.{KeepsBoth, KeepsText};
 ghost use Rattle.vt100_c.specs.Log.{log_in};
 ghost use Rattle.vt100_c.specs.Sources.{screen_in};
 ghost use Rattle.vt100_c.specs.Status.{ok, out_of_memory};
@@ -48,18 +50,12 @@ pub extern "C" fn vt100_capture_screen(
     capture: &mut Handle,
     len: &mut usize,
 ) -> u8
-    ensures same { handle.new.held ≡ handle.old.held }
     ensures answer { IsAnswer (due_at_capture screen_in any_screen_is_due handle.old.held capture.old.held) result }
-    ensures some { result ≡ out_of_memory → HoldAtCapture screen_in handle.old.held capture.old.held
-        (λ screen state. 0 < length (basic_texts state (all_rows screen))) }
-    ensures text { result ≡ ok → HoldAtCapture screen_in handle.old.held capture.old.held
-        (λ screen state. text_at capture.new.held ≡ basic_texts state (all_rows screen)) }
-    ensures state { result ≡ ok → HoldAtCapture screen_in handle.old.held capture.old.held
-        (λ screen state. source_at capture.new.held
-        ≡ Some (Source.Capture (written_after_all state (all_rows screen)))) }
-    ensures len { result ≡ ok → len.new ≡ length (text_at capture.new.held) }
-    ensures refused { ¬ (result ≡ ok) → capture.new.held ≡ capture.old.held }
-    ensures refused_len { ¬ (result ≡ ok) → len.new ≡ len.old }
+    ensures some { result ≡ out_of_memory → HoldAtCapture screen_in handle.old.held capture.old.held HaveText }
+    ensures text { result ≡ ok → HoldAtCapture screen_in handle.old.held capture.old.held (λ screen state.
+        HoldsCapture (basic_texts state (all_rows screen)) (written_after_all state (all_rows screen))
+        capture.new.held) }
+    ensures keeps { KeepsBoth capture.old.held handle.old.held result capture.new.held handle.new.held len.old len.new }
 {
     if !handle.is_full() || !capture.is_full() {
         return NO_OBJECT;
@@ -75,18 +71,12 @@ pub extern "C" fn vt100_capture_screen(
 /// The capture's handle was full, and is empty now. So is the other one only
 /// where C gave one handle twice: that is a bad argument.
 fn screen_beside(alloc: Global, object: &mut Object, handle: &mut Handle, len: &mut usize) -> u8
-    ensures same { handle.new.held ≡ handle.old.held }
-    ensures answer { IsAnswer
-        (due_beside_capture screen_in any_screen_is_due handle.old.held (state_in object.old.source)) result }
-    ensures some { result ≡ out_of_memory → HoldAtCapture screen_in handle.old.held (Some object.old)
-        (λ screen state. 0 < length (basic_texts state (all_rows screen))) }
-    ensures text { result ≡ ok → HoldAtCapture screen_in handle.old.held (Some object.old)
-        (λ screen state. string_bytes object.new.text ≡ basic_texts state (all_rows screen)) }
-    ensures state { result ≡ ok → HoldAtCapture screen_in handle.old.held (Some object.old)
-        (λ screen state. object.new.source ≡ Source.Capture (written_after_all state (all_rows screen))) }
-    ensures len { result ≡ ok → len.new ≡ length (string_bytes object.new.text) }
-    ensures refused { ¬ (result ≡ ok) → object.new ≡ object.old }
-    ensures refused_len { ¬ (result ≡ ok) → len.new ≡ len.old }
+    ensures answer { IsAnswer (due_beside_capture screen_in any_screen_is_due handle.old.held object.old) result }
+    ensures some { result ≡ out_of_memory → HoldAtCapture screen_in handle.old.held (Some object.old) HaveText }
+    ensures text { result ≡ ok → HoldAtCapture screen_in handle.old.held (Some object.old) (λ screen state.
+        HoldsCapture (basic_texts state (all_rows screen)) (written_after_all state (all_rows screen))
+        (Some object.new)) }
+    ensures keeps { KeepsBoth (Some object.old) handle.old.held result (Some object.new) handle.new.held len.old len.new }
 {
     if !handle.is_full() {
         return BAD_ARGUMENT;
@@ -101,15 +91,11 @@ fn screen_beside(alloc: Global, object: &mut Object, handle: &mut Handle, len: &
 fn write_screen(alloc: Global, object: &mut Object, from: &Source, len: &mut usize) -> u8
     ensures answer { IsAnswer
         (due_behind any_screen_is_due (screen_in from.now) (state_in object.old.source)) result }
-    ensures some { result ≡ out_of_memory → OnCapture (screen_in from.now) (state_in object.old.source)
-        (λ screen state. 0 < length (basic_texts state (all_rows screen))) }
-    ensures text { result ≡ ok → OnCapture (screen_in from.now) (state_in object.old.source)
-        (λ screen state. string_bytes object.new.text ≡ basic_texts state (all_rows screen)) }
-    ensures state { result ≡ ok → OnCapture (screen_in from.now) (state_in object.old.source)
-        (λ screen state. object.new.source ≡ Source.Capture (written_after_all state (all_rows screen))) }
-    ensures len { result ≡ ok → len.new ≡ length (string_bytes object.new.text) }
-    ensures refused { ¬ (result ≡ ok) → object.new ≡ object.old }
-    ensures refused_len { ¬ (result ≡ ok) → len.new ≡ len.old }
+    ensures some { result ≡ out_of_memory → OnCapture (screen_in from.now) (state_in object.old.source) HaveText }
+    ensures text { result ≡ ok → OnCapture (screen_in from.now) (state_in object.old.source) (λ screen state.
+        HoldsCapture (basic_texts state (all_rows screen)) (written_after_all state (all_rows screen))
+        (Some object.new)) }
+    ensures keeps { KeepsText (Some object.old) result (Some object.new) len.old len.new }
 {
     let Some(screen) = screen_of(from) else {
         return WRONG_KIND;
@@ -124,12 +110,9 @@ fn screen_text(alloc: Global, screen: &Screen, capture: &mut Source) -> Result<S
         (λ screen state. string_bytes text ≡ basic_texts state (all_rows screen))) }
     ensures state { OnOk result (OnCapture (Some screen.now) (state_in capture.old)
         (λ screen state. capture.new ≡ Source.Capture (written_after_all state (all_rows screen)))) }
-    ensures err { OnErr result (capture.new ≡ capture.old) }
-    ensures answer { IsAnswer (due_behind any_screen_is_due (Some screen.now) (state_in capture.old))
-        (status_in result) }
-    ensures some { status_in result ≡ out_of_memory → OnCapture (Some screen.now) (state_in capture.old)
-        (λ screen state. 0 < length (basic_texts state (all_rows screen))) }
-    ensures refused { IfErr result (λ status. ¬ (status ≡ ok)) }
+    ensures answer { AnswersOrStays (due_behind any_screen_is_due (Some screen.now) (state_in capture.old))
+        result (capture.new ≡ capture.old) }
+    ensures some { status_in result ≡ out_of_memory → OnCapture (Some screen.now) (state_in capture.old) HaveText }
 {
     match capture {
         Source::Capture(state) => rows_text(alloc, screen, state),
@@ -151,7 +134,7 @@ fn rows_text(
     ensures ok { OnOk result (state.new ≡ written_after_all state.old (all_rows screen.now)) }
     ensures err { OnErr result (state.new ≡ state.old) }
     ensures memory { IfErr result (λ status. status ≡ out_of_memory) }
-    ensures some { OnErr result (0 < length (basic_texts state.old (all_rows screen.now))) }
+    ensures some { OnErr result (HaveText screen.now state.old) }
 {
     let mut text = String::new(alloc);
     let mut behind = state.clone().unwrap();
@@ -176,17 +159,10 @@ pub extern "C" fn vt100_capture_row(
     capture: &mut Handle,
     len: &mut usize,
 ) -> u8
-    ensures same { parser.new.held ≡ parser.old.held }
     ensures answer { IsAnswer (due_at_capture log_in (has_reported index) parser.old.held capture.old.held) result }
-    ensures text { result ≡ ok → HoldAtCapture log_in parser.old.held capture.old.held
-        (λ log state. OnRow (slice_get log.rows index)
-        (λ row. text_at capture.new.held ≡ basic_text state row)) }
-    ensures state { result ≡ ok → HoldAtCapture log_in parser.old.held capture.old.held
-        (λ log state. OnRow (slice_get log.rows index)
-        (λ row. source_at capture.new.held ≡ Some (Source.Capture (written_after state row)))) }
-    ensures len { result ≡ ok → len.new ≡ length (text_at capture.new.held) }
-    ensures refused { ¬ (result ≡ ok) → capture.new.held ≡ capture.old.held }
-    ensures refused_len { ¬ (result ≡ ok) → len.new ≡ len.old }
+    ensures text { result ≡ ok → HoldAtCapture log_in parser.old.held capture.old.held (OnReported index
+        (λ row state. HoldsCapture (basic_text state row) (written_after state row) capture.new.held)) }
+    ensures keeps { KeepsBoth capture.old.held parser.old.held result capture.new.held parser.new.held len.old len.new }
 {
     if !parser.is_full() || !capture.is_full() {
         return NO_OBJECT;
@@ -205,18 +181,10 @@ fn row_beside(
     index: usize,
     len: &mut usize,
 ) -> u8
-    ensures same { parser.new.held ≡ parser.old.held }
-    ensures answer { IsAnswer
-        (due_beside_capture log_in (has_reported index) parser.old.held (state_in object.old.source)) result }
-    ensures text { result ≡ ok → HoldAtCapture log_in parser.old.held (Some object.old)
-        (λ log state. OnRow (slice_get log.rows index)
-        (λ row. string_bytes object.new.text ≡ basic_text state row)) }
-    ensures state { result ≡ ok → HoldAtCapture log_in parser.old.held (Some object.old)
-        (λ log state. OnRow (slice_get log.rows index)
-        (λ row. object.new.source ≡ Source.Capture (written_after state row))) }
-    ensures len { result ≡ ok → len.new ≡ length (string_bytes object.new.text) }
-    ensures refused { ¬ (result ≡ ok) → object.new ≡ object.old }
-    ensures refused_len { ¬ (result ≡ ok) → len.new ≡ len.old }
+    ensures answer { IsAnswer (due_beside_capture log_in (has_reported index) parser.old.held object.old) result }
+    ensures text { result ≡ ok → HoldAtCapture log_in parser.old.held (Some object.old) (OnReported index
+        (λ row state. HoldsCapture (basic_text state row) (written_after state row) (Some object.new))) }
+    ensures keeps { KeepsBoth (Some object.old) parser.old.held result (Some object.new) parser.new.held len.old len.new }
 {
     if !parser.is_full() {
         return BAD_ARGUMENT;
@@ -231,15 +199,9 @@ fn row_beside(
 fn write_row(alloc: Global, object: &mut Object, from: &Source, index: usize, len: &mut usize) -> u8
     ensures answer { IsAnswer
         (due_behind (has_reported index) (log_in from.now) (state_in object.old.source)) result }
-    ensures text { result ≡ ok → OnCapture (log_in from.now) (state_in object.old.source)
-        (λ log state. OnRow (slice_get log.rows index)
-        (λ row. string_bytes object.new.text ≡ basic_text state row)) }
-    ensures state { result ≡ ok → OnCapture (log_in from.now) (state_in object.old.source)
-        (λ log state. OnRow (slice_get log.rows index)
-        (λ row. object.new.source ≡ Source.Capture (written_after state row))) }
-    ensures len { result ≡ ok → len.new ≡ length (string_bytes object.new.text) }
-    ensures refused { ¬ (result ≡ ok) → object.new ≡ object.old }
-    ensures refused_len { ¬ (result ≡ ok) → len.new ≡ len.old }
+    ensures text { result ≡ ok → OnCapture (log_in from.now) (state_in object.old.source) (OnReported index
+        (λ row state. HoldsCapture (basic_text state row) (written_after state row) (Some object.new))) }
+    ensures keeps { KeepsText (Some object.old) result (Some object.new) len.old len.new }
 {
     let Some(log) = log_of(from) else {
         return WRONG_KIND;
@@ -257,14 +219,11 @@ fn reported_text(
     capture: &mut Source,
 ) -> Result<String, u8>
     ensures text { IfOk result (λ text. OnCapture (Some log.now) (state_in capture.old)
-        (λ log state. OnRow (slice_get log.rows index) (λ row. string_bytes text ≡ basic_text state row))) }
+        (OnReported index (λ row state. string_bytes text ≡ basic_text state row))) }
     ensures state { OnOk result (OnCapture (Some log.now) (state_in capture.old)
-        (λ log state. OnRow (slice_get log.rows index)
-        (λ row. capture.new ≡ Source.Capture (written_after state row)))) }
-    ensures err { OnErr result (capture.new ≡ capture.old) }
-    ensures answer { IsAnswer (due_behind (has_reported index) (Some log.now) (state_in capture.old))
-        (status_in result) }
-    ensures refused { IfErr result (λ status. ¬ (status ≡ ok)) }
+        (OnReported index (λ row state. capture.new ≡ Source.Capture (written_after state row)))) }
+    ensures answer { AnswersOrStays (due_behind (has_reported index) (Some log.now) (state_in capture.old))
+        result (capture.new ≡ capture.old) }
 {
     match capture {
         Source::Capture(state) => event_text(alloc, log, index, state),
@@ -285,9 +244,7 @@ fn event_text(
         (λ text. OnRow (slice_get log.now.rows index) (λ row. string_bytes text ≡ basic_text state.old row)) }
     ensures ok { OnOk result
         (OnRow (slice_get log.now.rows index) (λ row. state.new ≡ written_after state.old row)) }
-    ensures err { OnErr result (state.new ≡ state.old) }
-    ensures answer { IsAnswer (has_reported index log.now) (status_in result) }
-    ensures refused { IfErr result (λ status. ¬ (status ≡ ok)) }
+    ensures answer { AnswersOrStays (has_reported index log.now) result (state.new ≡ state.old) }
 {
     match log.row(index) {
         Some(row) => row_text(alloc, &row, state),

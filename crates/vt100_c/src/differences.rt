@@ -1,16 +1,11 @@
 //! Texts that take a terminal from one screen to another.
 
-ghost use Rattle.std.specs.Prelude.{◌≡◌, Some, length, string_bytes};
-ghost use Rattle.vt_cells.specs.Op.{bytes_of_all};
-ghost use Rattle.vt_redraw.specs.Redraw.{difference};
-ghost use Rattle.vt_screen.specs.InputTexts.{input_change};
-ghost use Rattle.vt_screen.specs.Shown.{shown};
-ghost use Rattle.vt_screen.specs.States.{state_change};
-ghost use Rattle.vt100_c.specs.Due.{HoldBoth, IsAnswer, OnBoth, any_screens, due_at_both, due_on_both};
-ghost use Rattle.vt100_c.specs.Due.{due_beside, of_one_size, source_at, text_at};
+ghost use Rattle.std.specs.Prelude.{◌≡◌, Some, string_bytes};
+ghost use Rattle.vt100_c.specs.Due.{IsAnswer, OnBoth, any_screens, due_at_both, due_beside, due_on_both, of_one_size};
+ghost use Rattle.vt100_c.specs.Keeping.{KeepsBoth, KeepsText};
 ghost use Rattle.vt100_c.specs.Sources.{screen_in};
 ghost use Rattle.vt100_c.specs.Status.{ok, out_of_memory};
-ghost use Rattle.vt100_c.specs.Texts.{HasChange, HasDifference, IsDifference, IsScrollingDiff, due_for_both};
+ghost use Rattle.vt100_c.specs.Texts.{HasDifference, IsDifference, MakesDifference, due_for_both};
 ghost use Rattle.vt100_c.specs.declared.making.Difference.TheVariants as between;
 
 use crate::handle::Handle;
@@ -29,16 +24,9 @@ pub extern "C" fn vt100_contents_diff(
     prev: &mut Handle,
     len: &mut usize,
 ) -> u8
-    ensures prev { prev.new.held ≡ prev.old.held }
-    ensures source { source_at handle.new.held ≡ source_at handle.old.held }
     ensures answer { IsAnswer (due_at_both of_one_size handle.old.held prev.old.held) result }
-    ensures some { result ≡ out_of_memory → HoldBoth handle.old.held prev.old.held
-        (λ screen before. HasChange (bytes_of_all (difference (shown screen) (shown before))) screen before) }
-    ensures text { result ≡ ok → HoldBoth handle.old.held prev.old.held
-        (λ screen before. text_at handle.new.held ≡ bytes_of_all (difference (shown screen) (shown before))) }
-    ensures len { result ≡ ok → len.new ≡ length (text_at handle.new.held) }
-    ensures refused { ¬ (result ≡ ok) → handle.new.held ≡ handle.old.held }
-    ensures refused_len { ¬ (result ≡ ok) → len.new ≡ len.old }
+    ensures text { MakesDifference between.Contents handle.old.held prev.old.held result handle.new.held }
+    ensures keeps { KeepsBoth handle.old.held prev.old.held result handle.new.held prev.new.held len.old len.new }
 {
     make(alloc, handle, prev, Difference::Contents, len)
 }
@@ -52,16 +40,9 @@ pub extern "C" fn vt100_contents_diff_scrolling(
     prev: &mut Handle,
     len: &mut usize,
 ) -> u8
-    ensures prev { prev.new.held ≡ prev.old.held }
-    ensures source { source_at handle.new.held ≡ source_at handle.old.held }
     ensures answer { IsAnswer (due_at_both of_one_size handle.old.held prev.old.held) result }
-    ensures some { result ≡ out_of_memory → HoldBoth handle.old.held prev.old.held
-        (λ screen before. HasChange (bytes_of_all (difference (shown screen) (shown before))) screen before) }
-    ensures text { result ≡ ok → HoldBoth handle.old.held prev.old.held
-        (λ screen before. IsScrollingDiff screen before (text_at handle.new.held)) }
-    ensures len { result ≡ ok → len.new ≡ length (text_at handle.new.held) }
-    ensures refused { ¬ (result ≡ ok) → handle.new.held ≡ handle.old.held }
-    ensures refused_len { ¬ (result ≡ ok) → len.new ≡ len.old }
+    ensures text { MakesDifference between.Scrolling handle.old.held prev.old.held result handle.new.held }
+    ensures keeps { KeepsBoth handle.old.held prev.old.held result handle.new.held prev.new.held len.old len.new }
 {
     make(alloc, handle, prev, Difference::Scrolling, len)
 }
@@ -75,16 +56,9 @@ pub extern "C" fn vt100_state_diff(
     prev: &mut Handle,
     len: &mut usize,
 ) -> u8
-    ensures prev { prev.new.held ≡ prev.old.held }
-    ensures source { source_at handle.new.held ≡ source_at handle.old.held }
     ensures answer { IsAnswer (due_at_both of_one_size handle.old.held prev.old.held) result }
-    ensures some { result ≡ out_of_memory → HoldBoth handle.old.held prev.old.held
-        (λ screen before. HasDifference between.State screen before) }
-    ensures text { result ≡ ok → HoldBoth handle.old.held prev.old.held
-        (λ screen before. text_at handle.new.held ≡ state_change before screen) }
-    ensures len { result ≡ ok → len.new ≡ length (text_at handle.new.held) }
-    ensures refused { ¬ (result ≡ ok) → handle.new.held ≡ handle.old.held }
-    ensures refused_len { ¬ (result ≡ ok) → len.new ≡ len.old }
+    ensures text { MakesDifference between.State handle.old.held prev.old.held result handle.new.held }
+    ensures keeps { KeepsBoth handle.old.held prev.old.held result handle.new.held prev.new.held len.old len.new }
 {
     make(alloc, handle, prev, Difference::State, len)
 }
@@ -98,16 +72,9 @@ pub extern "C" fn vt100_input_mode_diff(
     prev: &mut Handle,
     len: &mut usize,
 ) -> u8
-    ensures prev { prev.new.held ≡ prev.old.held }
-    ensures source { source_at handle.new.held ≡ source_at handle.old.held }
     ensures answer { IsAnswer (due_at_both any_screens handle.old.held prev.old.held) result }
-    ensures some { result ≡ out_of_memory → HoldBoth handle.old.held prev.old.held
-        (λ screen before. HasDifference between.InputMode screen before) }
-    ensures text { result ≡ ok → HoldBoth handle.old.held prev.old.held
-        (λ screen before. text_at handle.new.held ≡ input_change before.modes screen.modes) }
-    ensures len { result ≡ ok → len.new ≡ length (text_at handle.new.held) }
-    ensures refused { ¬ (result ≡ ok) → handle.new.held ≡ handle.old.held }
-    ensures refused_len { ¬ (result ≡ ok) → len.new ≡ len.old }
+    ensures text { MakesDifference between.InputMode handle.old.held prev.old.held result handle.new.held }
+    ensures keeps { KeepsBoth handle.old.held prev.old.held result handle.new.held prev.new.held len.old len.new }
 {
     make(alloc, handle, prev, Difference::InputMode, len)
 }
@@ -120,15 +87,9 @@ fn make(
     difference: Difference,
     len: &mut usize,
 ) -> u8
-    ensures prev { prev.new.held ≡ prev.old.held }
-    ensures source { source_at handle.new.held ≡ source_at handle.old.held }
     ensures answer { IsAnswer (due_at_both (due_for_both difference) handle.old.held prev.old.held) result }
-    ensures some { result ≡ out_of_memory → HoldBoth handle.old.held prev.old.held (HasDifference difference) }
-    ensures text { result ≡ ok → HoldBoth handle.old.held prev.old.held
-        (λ screen before. IsDifference difference screen before (text_at handle.new.held)) }
-    ensures len { result ≡ ok → len.new ≡ length (text_at handle.new.held) }
-    ensures refused { ¬ (result ≡ ok) → handle.new.held ≡ handle.old.held }
-    ensures refused_len { ¬ (result ≡ ok) → len.new ≡ len.old }
+    ensures text { MakesDifference difference handle.old.held prev.old.held result handle.new.held }
+    ensures keeps { KeepsBoth handle.old.held prev.old.held result handle.new.held prev.new.held len.old len.new }
 {
     if !handle.is_full() || !prev.is_full() {
         return NO_OBJECT;
@@ -150,15 +111,9 @@ fn make_beside(
     difference: Difference,
     len: &mut usize,
 ) -> u8
-    ensures prev { prev.new.held ≡ prev.old.held }
-    ensures source { object.new.source ≡ object.old.source }
     ensures answer { IsAnswer (due_beside (due_for_both difference) (screen_in object.old.source) prev.old.held) result }
-    ensures some { result ≡ out_of_memory → HoldBoth (Some object.old) prev.old.held (HasDifference difference) }
-    ensures text { result ≡ ok → HoldBoth (Some object.old) prev.old.held
-        (λ screen before. IsDifference difference screen before (string_bytes object.new.text)) }
-    ensures len { result ≡ ok → len.new ≡ length (string_bytes object.new.text) }
-    ensures refused { ¬ (result ≡ ok) → object.new ≡ object.old }
-    ensures refused_len { ¬ (result ≡ ok) → len.new ≡ len.old }
+    ensures text { MakesDifference difference (Some object.old) prev.old.held result (Some object.new) }
+    ensures keeps { KeepsBoth (Some object.old) prev.old.held result (Some object.new) prev.new.held len.old len.new }
 {
     if !prev.is_full() {
         return BAD_ARGUMENT;
@@ -179,9 +134,7 @@ fn renew(object: &mut Object, prev: &Source, difference: Difference, len: &mut u
         OnBoth (screen_in object.old.source) (screen_in prev.now) (HasDifference difference) }
     ensures text { result ≡ ok → OnBoth (screen_in object.old.source) (screen_in prev.now)
         (λ screen before. IsDifference difference screen before (string_bytes object.new.text)) }
-    ensures len { result ≡ ok → len.new ≡ length (string_bytes object.new.text) }
-    ensures refused { ¬ (result ≡ ok) → object.new ≡ object.old }
-    ensures refused_len { ¬ (result ≡ ok) → len.new ≡ len.old }
+    ensures keeps { KeepsText (Some object.old) result (Some object.new) len.old len.new }
 {
     let made = difference_in(&object.source, prev, difference);
     keep(&mut object.text, made, len)

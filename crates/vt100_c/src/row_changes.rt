@@ -1,12 +1,10 @@
 //! The texts of the rows that a screen shows where those of another one stand.
 
-ghost use Rattle.std.specs.Prelude.{◌≡◌, IfErr, IfOk, OnErr, OnOk, Some, drop, length, string_bytes};
-ghost use Rattle.std.specs.List.{concat};
-ghost use Rattle.vt100_c.specs.Due.{HoldBoth, IsAnswer, OnBoth, due_at_both, due_beside, due_on_both};
-ghost use Rattle.vt100_c.specs.Due.{source_at, status_in, text_at};
-ghost use Rattle.vt100_c.specs.Rows.{AreEnds, HoldBeside, changed_rows, have_range};
+ghost use Rattle.std.specs.Prelude.{◌≡◌, IfOk, Some, length, string_bytes};
+ghost use Rattle.vt100_c.specs.Due.{AnswersOrStays, IsAnswer, OnBoth, due_at_both, due_beside, due_on_both};
+ghost use Rattle.vt100_c.specs.Keeping.{KeepsBoth};
+ghost use Rattle.vt100_c.specs.Rows.{ChangesRows, HoldBeside, TellsRows, changed_rows, have_range};
 ghost use Rattle.vt100_c.specs.Sources.{screen_in};
-ghost use Rattle.vt100_c.specs.Status.{ok};
 
 use crate::handle::Handle;
 use crate::making::{is_sized_as, keep, or_status};
@@ -33,19 +31,9 @@ pub extern "C" fn vt100_rows_diff(
     ends: &mut [usize],
     len: &mut usize,
 ) -> u8
-    ensures prev { prev.new.held ≡ prev.old.held }
-    ensures source { source_at handle.new.held ≡ source_at handle.old.held }
     ensures answer { IsAnswer (due_at_both (have_range start (length ends.old)) handle.old.held prev.old.held) result }
-    ensures text { result ≡ ok → HoldBoth handle.old.held prev.old.held
-        (λ screen before. text_at handle.new.held ≡ concat (changed_rows start width screen before)) }
-    ensures ends { result ≡ ok → HoldBoth handle.old.held prev.old.held
-        (λ screen before. AreEnds (length screen.page.rows) ends.new (changed_rows start width screen before)) }
-    ensures rest { result ≡ ok → HoldBoth handle.old.held prev.old.held
-        (λ screen _. drop (length screen.page.rows) ends.new ≡ drop (length screen.page.rows) ends.old) }
-    ensures refused_ends { ¬ (result ≡ ok) → ends.new ≡ ends.old }
-    ensures len { result ≡ ok → len.new ≡ length (text_at handle.new.held) }
-    ensures refused { ¬ (result ≡ ok) → handle.new.held ≡ handle.old.held }
-    ensures refused_len { ¬ (result ≡ ok) → len.new ≡ len.old }
+    ensures rows { ChangesRows start width handle.old.held prev.old.held result handle.new.held ends.old ends.new }
+    ensures keeps { KeepsBoth handle.old.held prev.old.held result handle.new.held prev.new.held len.old len.new }
 {
     if !handle.is_full() || !prev.is_full() {
         return NO_OBJECT;
@@ -69,16 +57,10 @@ fn beside(
     ends: &mut [usize],
 ) -> Result<String, u8>
     ensures prev { prev.new.held ≡ prev.old.held }
-    ensures text { IfOk result (λ made. HoldBeside (screen_in source.now) prev.old.held
-        (λ screen before. string_bytes made ≡ concat (changed_rows range.0 range.1 screen before))) }
-    ensures ends { OnOk result (HoldBeside (screen_in source.now) prev.old.held
-        (λ screen before. AreEnds (length screen.page.rows) ends.new (changed_rows range.0 range.1 screen before))) }
-    ensures rest { OnOk result (HoldBeside (screen_in source.now) prev.old.held
-        (λ screen _. drop (length screen.page.rows) ends.new ≡ drop (length screen.page.rows) ends.old)) }
-    ensures left { OnErr result (ends.new ≡ ends.old) }
-    ensures answer { IsAnswer
-        (due_beside (have_range range.0 (length ends.old)) (screen_in source.now) prev.old.held) (status_in result) }
-    ensures refused { IfErr result (λ status. ¬ (status ≡ ok)) }
+    ensures rows { IfOk result (λ made. HoldBeside (screen_in source.now) prev.old.held (λ screen before.
+        TellsRows screen (changed_rows range.0 range.1 screen before) (string_bytes made) ends.old ends.new)) }
+    ensures answer { AnswersOrStays (due_beside (have_range range.0 (length ends.old))
+        (screen_in source.now) prev.old.held) result (ends.new ≡ ends.old) }
 {
     if !prev.is_full() {
         return Err(BAD_ARGUMENT);
@@ -97,17 +79,10 @@ fn changed_in(
     range: (u16, u16),
     ends: &mut [usize],
 ) -> Result<String, u8>
-    ensures text { IfOk result (λ made. OnBoth (screen_in source.now) (screen_in prev.now)
-        (λ screen before. string_bytes made ≡ concat (changed_rows range.0 range.1 screen before))) }
-    ensures ends { OnOk result (OnBoth (screen_in source.now) (screen_in prev.now)
-        (λ screen before. AreEnds (length screen.page.rows) ends.new (changed_rows range.0 range.1 screen before))) }
-    ensures rest { OnOk result (OnBoth (screen_in source.now) (screen_in prev.now)
-        (λ screen _. drop (length screen.page.rows) ends.new ≡ drop (length screen.page.rows) ends.old)) }
-    ensures left { OnErr result (ends.new ≡ ends.old) }
-    ensures answer { IsAnswer
-        (due_on_both (have_range range.0 (length ends.old)) (screen_in source.now) (screen_in prev.now))
-        (status_in result) }
-    ensures refused { IfErr result (λ status. ¬ (status ≡ ok)) }
+    ensures rows { IfOk result (λ made. OnBoth (screen_in source.now) (screen_in prev.now) (λ screen before.
+        TellsRows screen (changed_rows range.0 range.1 screen before) (string_bytes made) ends.old ends.new)) }
+    ensures answer { AnswersOrStays (due_on_both (have_range range.0 (length ends.old))
+        (screen_in source.now) (screen_in prev.now)) result (ends.new ≡ ends.old) }
 {
     let Some(screen) = screen_of(source) else {
         return Err(WRONG_KIND);
@@ -127,15 +102,9 @@ fn changed_of(
     range: (u16, u16),
     ends: &mut [usize],
 ) -> Result<String, u8>
-    ensures text { IfOk result
-        (λ made. string_bytes made ≡ concat (changed_rows range.0 range.1 screen.now prev.now)) }
-    ensures ends { OnOk result
-        (AreEnds (length screen.now.page.rows) ends.new (changed_rows range.0 range.1 screen.now prev.now)) }
-    ensures rest { OnOk result
-        (drop (length screen.now.page.rows) ends.new ≡ drop (length screen.now.page.rows) ends.old) }
-    ensures left { OnErr result (ends.new ≡ ends.old) }
-    ensures answer { IsAnswer (have_range range.0 (length ends.old) screen.now prev.now) (status_in result) }
-    ensures refused { IfErr result (λ status. ¬ (status ≡ ok)) }
+    ensures rows { IfOk result (λ made. TellsRows screen.now
+        (changed_rows range.0 range.1 screen.now prev.now) (string_bytes made) ends.old ends.new) }
+    ensures answer { AnswersOrStays (have_range range.0 (length ends.old) screen.now prev.now) result (ends.new ≡ ends.old) }
 {
     if !is_sized_as(screen, prev) {
         return Err(OTHER_SIZE);
@@ -144,14 +113,7 @@ fn changed_of(
         return Err(BAD_ARGUMENT);
     }
     let mut places = places_for(alloc, screen)?;
-    let text = or_status(row_texts::changed(
-        alloc,
-        screen,
-        prev,
-        range.0,
-        range.1,
-        places.as_mut_slice(),
-    ))?;
+    let text = or_status(row_texts::changed(alloc, screen, prev, range, places.as_mut_slice()))?;
     write_ends(places.as_slice(), ends);
     Ok(text)
 }

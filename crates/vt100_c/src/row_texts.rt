@@ -1,10 +1,9 @@
 //! The texts of rows, put one behind the other.
 
 ghost use Rattle.std.specs.Prelude.{◌≡◌, ◌<◌, ◌≤◌, ◌++◌, IfOk, OnOk, length, slice_set, string_bytes};
-ghost use Rattle.std.specs.List.{concat};
 ghost use Rattle.vt_cells.specs.Refusals.{OnlyOutOfMemory};
 ghost use Rattle.vt_grid.specs.Page.{SameSize};
-ghost use Rattle.vt100_c.specs.Rows.{AreEnds, changed_rows, formatted_rows, plain_rows};
+ghost use Rattle.vt100_c.specs.Rows.{FitRows, JoinsTexts, changed_rows, formatted_rows, plain_rows};
 
 use std::alloc::Global;
 use vt100::{Error, Screen};
@@ -18,8 +17,8 @@ pub(crate) fn plain(
     ends: &mut [usize],
 ) -> Result<String, Error>
     requires { length screen.now.page.rows ≤ length ends.old }
-    ensures text { IfOk result (λ text. string_bytes text ≡ concat (plain_rows start width screen.now)) }
-    ensures ends { OnOk result (AreEnds (length screen.now.page.rows) ends.new (plain_rows start width screen.now)) }
+    ensures joined { IfOk result (λ text. JoinsTexts (length screen.now.page.rows)
+        (plain_rows start width screen.now) (string_bytes text) ends.new) }
     ensures memory { OnlyOutOfMemory result }
 {
     let mut joined = String::new(alloc);
@@ -41,11 +40,9 @@ pub(crate) fn formatted(
     width: u16,
     ends: &mut [usize],
 ) -> Result<String, Error>
-    requires room { length screen.now.page.rows ≤ length ends.old }
-    requires start { start < screen.now.page.width }
-    ensures text { IfOk result (λ text. string_bytes text ≡ concat (formatted_rows start width screen.now)) }
-    ensures ends { OnOk result
-        (AreEnds (length screen.now.page.rows) ends.new (formatted_rows start width screen.now)) }
+    requires { FitRows start (length ends.old) screen.now }
+    ensures joined { IfOk result (λ text. JoinsTexts (length screen.now.page.rows)
+        (formatted_rows start width screen.now) (string_bytes text) ends.new) }
     ensures memory { OnlyOutOfMemory result }
 {
     let mut joined = String::new(alloc);
@@ -65,20 +62,17 @@ pub(crate) fn changed(
     alloc: Global,
     screen: &Screen,
     prev: &Screen,
-    start: u16,
-    width: u16,
+    range: (u16, u16),
     ends: &mut [usize],
 ) -> Result<String, Error>
-    requires room { length screen.now.page.rows ≤ length ends.old }
-    requires start { start < screen.now.page.width }
+    requires rows { FitRows range.0 (length ends.old) screen.now }
     requires size { SameSize screen.now.page prev.now.page }
-    ensures text { IfOk result (λ text. string_bytes text ≡ concat (changed_rows start width screen.now prev.now)) }
-    ensures ends { OnOk result
-        (AreEnds (length screen.now.page.rows) ends.new (changed_rows start width screen.now prev.now)) }
+    ensures joined { IfOk result (λ text. JoinsTexts (length screen.now.page.rows)
+        (changed_rows range.0 range.1 screen.now prev.now) (string_bytes text) ends.new) }
     ensures memory { OnlyOutOfMemory result }
 {
     let mut joined = String::new(alloc);
-    let mut rows = screen.rows_diff(prev, start, width);
+    let mut rows = screen.rows_diff(prev, range.0, range.1);
     let mut row = 0;
     while let Some(item) = rows.next() {
         let text = item?;

@@ -1,10 +1,10 @@
 //! The texts of the rows that a screen shows, one behind the other.
 
-ghost use Rattle.std.specs.Prelude.{◌≡◌, ◌<◌, ◌≤◌, IfErr, IfOk, OnErr, OnOk, Some, length, string_bytes};
+ghost use Rattle.std.specs.Prelude.{◌≡◌, ◌<◌, ◌≤◌, IfErr, IfOk, Some, length, string_bytes};
 ghost use Rattle.std.specs.Prelude.{drop, if◌then◌else◌, take, true};
-ghost use Rattle.std.specs.List.{concat};
-ghost use Rattle.vt100_c.specs.Due.{HoldsScreen, IsAnswer, OnScreen, due_at, due_on, source_at, status_in, text_at};
-ghost use Rattle.vt100_c.specs.Rows.{AreEnds, formatted_rows, has_places, has_range, plain_rows};
+ghost use Rattle.vt100_c.specs.Due.{AnswersOrStays, IsAnswer, OnScreen, due_at, due_on};
+ghost use Rattle.vt100_c.specs.Keeping.{KeepsText};
+ghost use Rattle.vt100_c.specs.Rows.{MakesRows, TellsRows, formatted_rows, has_places, has_range, plain_rows};
 ghost use Rattle.vt100_c.specs.Sources.{screen_in};
 ghost use Rattle.vt100_c.specs.Status.{bad_argument, ok, out_of_memory};
 
@@ -30,18 +30,9 @@ pub extern "C" fn vt100_rows(
     ends: &mut [usize],
     len: &mut usize,
 ) -> u8
-    ensures source { source_at handle.new.held ≡ source_at handle.old.held }
     ensures answer { IsAnswer (due_at (has_places (length ends.old)) handle.old.held) result }
-    ensures text { result ≡ ok → HoldsScreen handle.old.held
-        (λ screen. text_at handle.new.held ≡ concat (plain_rows start width screen)) }
-    ensures ends { result ≡ ok → HoldsScreen handle.old.held
-        (λ screen. AreEnds (length screen.page.rows) ends.new (plain_rows start width screen)) }
-    ensures rest { result ≡ ok → HoldsScreen handle.old.held
-        (λ screen. drop (length screen.page.rows) ends.new ≡ drop (length screen.page.rows) ends.old) }
-    ensures refused_ends { ¬ (result ≡ ok) → ends.new ≡ ends.old }
-    ensures len { result ≡ ok → len.new ≡ length (text_at handle.new.held) }
-    ensures refused { ¬ (result ≡ ok) → handle.new.held ≡ handle.old.held }
-    ensures refused_len { ¬ (result ≡ ok) → len.new ≡ len.old }
+    ensures rows { MakesRows (plain_rows start width) handle.old.held result handle.new.held ends.old ends.new }
+    ensures keeps { KeepsText handle.old.held result handle.new.held len.old len.new }
 {
     if !handle.is_full() {
         return NO_OBJECT;
@@ -64,18 +55,9 @@ pub extern "C" fn vt100_rows_formatted(
     ends: &mut [usize],
     len: &mut usize,
 ) -> u8
-    ensures source { source_at handle.new.held ≡ source_at handle.old.held }
     ensures answer { IsAnswer (due_at (has_range start (length ends.old)) handle.old.held) result }
-    ensures text { result ≡ ok → HoldsScreen handle.old.held
-        (λ screen. text_at handle.new.held ≡ concat (formatted_rows start width screen)) }
-    ensures ends { result ≡ ok → HoldsScreen handle.old.held
-        (λ screen. AreEnds (length screen.page.rows) ends.new (formatted_rows start width screen)) }
-    ensures rest { result ≡ ok → HoldsScreen handle.old.held
-        (λ screen. drop (length screen.page.rows) ends.new ≡ drop (length screen.page.rows) ends.old) }
-    ensures refused_ends { ¬ (result ≡ ok) → ends.new ≡ ends.old }
-    ensures len { result ≡ ok → len.new ≡ length (text_at handle.new.held) }
-    ensures refused { ¬ (result ≡ ok) → handle.new.held ≡ handle.old.held }
-    ensures refused_len { ¬ (result ≡ ok) → len.new ≡ len.old }
+    ensures rows { MakesRows (formatted_rows start width) handle.old.held result handle.new.held ends.old ends.new }
+    ensures keeps { KeepsText handle.old.held result handle.new.held len.old len.new }
 {
     if !handle.is_full() {
         return NO_OBJECT;
@@ -95,15 +77,10 @@ fn plain_in(
     width: u16,
     ends: &mut [usize],
 ) -> Result<String, u8>
-    ensures text { IfOk result (λ made. OnScreen (screen_in source.now)
-        (λ screen. string_bytes made ≡ concat (plain_rows start width screen))) }
-    ensures ends { OnOk result (OnScreen (screen_in source.now)
-        (λ screen. AreEnds (length screen.page.rows) ends.new (plain_rows start width screen))) }
-    ensures rest { OnOk result (OnScreen (screen_in source.now)
-        (λ screen. drop (length screen.page.rows) ends.new ≡ drop (length screen.page.rows) ends.old)) }
-    ensures left { OnErr result (ends.new ≡ ends.old) }
-    ensures answer { IsAnswer (due_on (has_places (length ends.old)) (screen_in source.now)) (status_in result) }
-    ensures refused { IfErr result (λ status. ¬ (status ≡ ok)) }
+    ensures rows { IfOk result (λ made. OnScreen (screen_in source.now) (λ screen.
+        TellsRows screen (plain_rows start width screen) (string_bytes made) ends.old ends.new)) }
+    ensures answer { AnswersOrStays
+        (due_on (has_places (length ends.old)) (screen_in source.now)) result (ends.new ≡ ends.old) }
 {
     match screen_of(source) {
         Some(screen) => plain_of(alloc, screen, start, width, ends),
@@ -119,14 +96,9 @@ fn plain_of(
     width: u16,
     ends: &mut [usize],
 ) -> Result<String, u8>
-    ensures text { IfOk result (λ made. string_bytes made ≡ concat (plain_rows start width screen.now)) }
-    ensures ends { OnOk result
-        (AreEnds (length screen.now.page.rows) ends.new (plain_rows start width screen.now)) }
-    ensures rest { OnOk result
-        (drop (length screen.now.page.rows) ends.new ≡ drop (length screen.now.page.rows) ends.old) }
-    ensures left { OnErr result (ends.new ≡ ends.old) }
-    ensures answer { IsAnswer (has_places (length ends.old) screen.now) (status_in result) }
-    ensures refused { IfErr result (λ status. ¬ (status ≡ ok)) }
+    ensures rows { IfOk result (λ made.
+        TellsRows screen.now (plain_rows start width screen.now) (string_bytes made) ends.old ends.new) }
+    ensures answer { AnswersOrStays (has_places (length ends.old) screen.now) result (ends.new ≡ ends.old) }
 {
     if !has_places(screen, ends) {
         return Err(BAD_ARGUMENT);
@@ -145,15 +117,10 @@ fn formatted_in(
     width: u16,
     ends: &mut [usize],
 ) -> Result<String, u8>
-    ensures text { IfOk result (λ made. OnScreen (screen_in source.now)
-        (λ screen. string_bytes made ≡ concat (formatted_rows start width screen))) }
-    ensures ends { OnOk result (OnScreen (screen_in source.now)
-        (λ screen. AreEnds (length screen.page.rows) ends.new (formatted_rows start width screen))) }
-    ensures rest { OnOk result (OnScreen (screen_in source.now)
-        (λ screen. drop (length screen.page.rows) ends.new ≡ drop (length screen.page.rows) ends.old)) }
-    ensures left { OnErr result (ends.new ≡ ends.old) }
-    ensures answer { IsAnswer (due_on (has_range start (length ends.old)) (screen_in source.now)) (status_in result) }
-    ensures refused { IfErr result (λ status. ¬ (status ≡ ok)) }
+    ensures rows { IfOk result (λ made. OnScreen (screen_in source.now) (λ screen.
+        TellsRows screen (formatted_rows start width screen) (string_bytes made) ends.old ends.new)) }
+    ensures answer { AnswersOrStays
+        (due_on (has_range start (length ends.old)) (screen_in source.now)) result (ends.new ≡ ends.old) }
 {
     match screen_of(source) {
         Some(screen) => formatted_of(alloc, screen, start, width, ends),
@@ -170,14 +137,9 @@ fn formatted_of(
     width: u16,
     ends: &mut [usize],
 ) -> Result<String, u8>
-    ensures text { IfOk result (λ made. string_bytes made ≡ concat (formatted_rows start width screen.now)) }
-    ensures ends { OnOk result
-        (AreEnds (length screen.now.page.rows) ends.new (formatted_rows start width screen.now)) }
-    ensures rest { OnOk result
-        (drop (length screen.now.page.rows) ends.new ≡ drop (length screen.now.page.rows) ends.old) }
-    ensures left { OnErr result (ends.new ≡ ends.old) }
-    ensures answer { IsAnswer (has_range start (length ends.old) screen.now) (status_in result) }
-    ensures refused { IfErr result (λ status. ¬ (status ≡ ok)) }
+    ensures rows { IfOk result (λ made.
+        TellsRows screen.now (formatted_rows start width screen.now) (string_bytes made) ends.old ends.new) }
+    ensures answer { AnswersOrStays (has_range start (length ends.old) screen.now) result (ends.new ≡ ends.old) }
 {
     if !has_range(screen, start, ends) {
         return Err(BAD_ARGUMENT);

@@ -1,21 +1,11 @@
 //! Texts of a screen.
 
-ghost use Rattle.std.specs.Prelude.{◌≡◌, ◌<◌, length, string_bytes};
-ghost use Rattle.vt_cells.specs.Op.{bytes_of_all};
-ghost use Rattle.vt_redraw.specs.Redraw.{cursor_state, redraw};
-ghost use Rattle.vt_rows.specs.Basic.{unwritten};
-ghost use Rattle.vt_screen.specs.AnyRegion.{reset_text};
-ghost use Rattle.vt_screen.specs.Capture.{basic_texts};
-ghost use Rattle.vt_screen.specs.Contents.{between_of, contents_of};
-ghost use Rattle.vt_screen.specs.InputTexts.{input_text};
-ghost use Rattle.vt_screen.specs.Screen.{visible_rows};
-ghost use Rattle.vt_screen.specs.Shown.{attributes_text, shown};
-ghost use Rattle.vt_screen.specs.States.{state_text};
-ghost use Rattle.vt100_c.specs.Due.{HoldsScreen, IsAnswer, OnScreen, any_screen, due_at, due_on, has_start};
-ghost use Rattle.vt100_c.specs.Due.{source_at, text_at};
+ghost use Rattle.std.specs.Prelude.{Some};
+ghost use Rattle.vt100_c.specs.Due.{IsAnswer, any_screen, due_at, due_on, has_start};
+ghost use Rattle.vt100_c.specs.Keeping.{KeepsText};
 ghost use Rattle.vt100_c.specs.Sources.{screen_in};
-ghost use Rattle.vt100_c.specs.Status.{ok, out_of_memory};
-ghost use Rattle.vt100_c.specs.Texts.{HasText, due_for, text_of};
+ghost use Rattle.vt100_c.specs.Texts.{MakesText, due_for};
+ghost use Rattle.vt100_c.specs.declared.making.Text.TheVariants as text;
 
 use crate::handle::Handle;
 use crate::making::{Text, keep, text_in};
@@ -27,13 +17,9 @@ use std::alloc::Global;
 /// The text of the rows that are shown, without attributes ([`vt100::Screen::contents`]).
 #[unsafe(no_mangle)]
 pub extern "C" fn vt100_contents(alloc: Global, handle: &mut Handle, len: &mut usize) -> u8
-    ensures source { source_at handle.new.held ≡ source_at handle.old.held }
     ensures answer { IsAnswer (due_at any_screen handle.old.held) result }
-    ensures text { result ≡ ok → HoldsScreen handle.old.held
-        (λ screen. text_at handle.new.held ≡ contents_of screen) }
-    ensures len { result ≡ ok → len.new ≡ length (text_at handle.new.held) }
-    ensures refused { ¬ (result ≡ ok) → handle.new.held ≡ handle.old.held }
-    ensures refused_len { ¬ (result ≡ ok) → len.new ≡ len.old }
+    ensures text { MakesText text.Contents handle.old.held result handle.new.held }
+    ensures keeps { KeepsText handle.old.held result handle.new.held len.old len.new }
 {
     make(alloc, handle, Text::Contents, len)
 }
@@ -50,15 +36,9 @@ pub extern "C" fn vt100_contents_between(
     end_col: u16,
     len: &mut usize,
 ) -> u8
-    ensures source { source_at handle.new.held ≡ source_at handle.old.held }
     ensures answer { IsAnswer (due_at (has_start start_row start_col end_row) handle.old.held) result }
-    ensures some { result ≡ out_of_memory → HoldsScreen handle.old.held
-        (λ screen. 0 < length (between_of start_row start_col end_row end_col screen)) }
-    ensures text { result ≡ ok → HoldsScreen handle.old.held
-        (λ screen. text_at handle.new.held ≡ between_of start_row start_col end_row end_col screen) }
-    ensures len { result ≡ ok → len.new ≡ length (text_at handle.new.held) }
-    ensures refused { ¬ (result ≡ ok) → handle.new.held ≡ handle.old.held }
-    ensures refused_len { ¬ (result ≡ ok) → len.new ≡ len.old }
+    ensures text { MakesText (text.Between start_row start_col end_row end_col) handle.old.held result handle.new.held }
+    ensures keeps { KeepsText handle.old.held result handle.new.held len.old len.new }
 {
     let text = Text::Between(start_row, start_col, end_row, end_col);
     make(alloc, handle, text, len)
@@ -72,13 +52,9 @@ pub extern "C" fn vt100_contents_formatted(
     handle: &mut Handle,
     len: &mut usize,
 ) -> u8
-    ensures source { source_at handle.new.held ≡ source_at handle.old.held }
     ensures answer { IsAnswer (due_at any_screen handle.old.held) result }
-    ensures text { result ≡ ok → HoldsScreen handle.old.held
-        (λ screen. text_at handle.new.held ≡ bytes_of_all (redraw (shown screen))) }
-    ensures len { result ≡ ok → len.new ≡ length (text_at handle.new.held) }
-    ensures refused { ¬ (result ≡ ok) → handle.new.held ≡ handle.old.held }
-    ensures refused_len { ¬ (result ≡ ok) → len.new ≡ len.old }
+    ensures text { MakesText text.Formatted handle.old.held result handle.new.held }
+    ensures keeps { KeepsText handle.old.held result handle.new.held len.old len.new }
 {
     make(alloc, handle, Text::Formatted, len)
 }
@@ -91,13 +67,9 @@ pub extern "C" fn vt100_contents_formatted_reset(
     handle: &mut Handle,
     len: &mut usize,
 ) -> u8
-    ensures source { source_at handle.new.held ≡ source_at handle.old.held }
     ensures answer { IsAnswer (due_at any_screen handle.old.held) result }
-    ensures text { result ≡ ok → HoldsScreen handle.old.held
-        (λ screen. text_at handle.new.held ≡ reset_text (shown screen)) }
-    ensures len { result ≡ ok → len.new ≡ length (text_at handle.new.held) }
-    ensures refused { ¬ (result ≡ ok) → handle.new.held ≡ handle.old.held }
-    ensures refused_len { ¬ (result ≡ ok) → len.new ≡ len.old }
+    ensures text { MakesText text.FormattedReset handle.old.held result handle.new.held }
+    ensures keeps { KeepsText handle.old.held result handle.new.held len.old len.new }
 {
     make(alloc, handle, Text::FormattedReset, len)
 }
@@ -110,13 +82,9 @@ pub extern "C" fn vt100_contents_formatted_basic(
     handle: &mut Handle,
     len: &mut usize,
 ) -> u8
-    ensures source { source_at handle.new.held ≡ source_at handle.old.held }
     ensures answer { IsAnswer (due_at any_screen handle.old.held) result }
-    ensures text { result ≡ ok → HoldsScreen handle.old.held
-        (λ screen. text_at handle.new.held ≡ basic_texts unwritten (visible_rows screen)) }
-    ensures len { result ≡ ok → len.new ≡ length (text_at handle.new.held) }
-    ensures refused { ¬ (result ≡ ok) → handle.new.held ≡ handle.old.held }
-    ensures refused_len { ¬ (result ≡ ok) → len.new ≡ len.old }
+    ensures text { MakesText text.FormattedBasic handle.old.held result handle.new.held }
+    ensures keeps { KeepsText handle.old.held result handle.new.held len.old len.new }
 {
     make(alloc, handle, Text::FormattedBasic, len)
 }
@@ -125,13 +93,9 @@ pub extern "C" fn vt100_contents_formatted_basic(
 /// ([`vt100::Screen::state_formatted`]).
 #[unsafe(no_mangle)]
 pub extern "C" fn vt100_state_formatted(alloc: Global, handle: &mut Handle, len: &mut usize) -> u8
-    ensures source { source_at handle.new.held ≡ source_at handle.old.held }
     ensures answer { IsAnswer (due_at any_screen handle.old.held) result }
-    ensures text { result ≡ ok → HoldsScreen handle.old.held
-        (λ screen. text_at handle.new.held ≡ state_text screen) }
-    ensures len { result ≡ ok → len.new ≡ length (text_at handle.new.held) }
-    ensures refused { ¬ (result ≡ ok) → handle.new.held ≡ handle.old.held }
-    ensures refused_len { ¬ (result ≡ ok) → len.new ≡ len.old }
+    ensures text { MakesText text.State handle.old.held result handle.new.held }
+    ensures keeps { KeepsText handle.old.held result handle.new.held len.old len.new }
 {
     make(alloc, handle, Text::State, len)
 }
@@ -144,13 +108,9 @@ pub extern "C" fn vt100_cursor_state_formatted(
     handle: &mut Handle,
     len: &mut usize,
 ) -> u8
-    ensures source { source_at handle.new.held ≡ source_at handle.old.held }
     ensures answer { IsAnswer (due_at any_screen handle.old.held) result }
-    ensures text { result ≡ ok → HoldsScreen handle.old.held
-        (λ screen. text_at handle.new.held ≡ bytes_of_all (cursor_state (shown screen))) }
-    ensures len { result ≡ ok → len.new ≡ length (text_at handle.new.held) }
-    ensures refused { ¬ (result ≡ ok) → handle.new.held ≡ handle.old.held }
-    ensures refused_len { ¬ (result ≡ ok) → len.new ≡ len.old }
+    ensures text { MakesText text.CursorState handle.old.held result handle.new.held }
+    ensures keeps { KeepsText handle.old.held result handle.new.held len.old len.new }
 {
     make(alloc, handle, Text::CursorState, len)
 }
@@ -163,13 +123,9 @@ pub extern "C" fn vt100_attributes_formatted(
     handle: &mut Handle,
     len: &mut usize,
 ) -> u8
-    ensures source { source_at handle.new.held ≡ source_at handle.old.held }
     ensures answer { IsAnswer (due_at any_screen handle.old.held) result }
-    ensures text { result ≡ ok → HoldsScreen handle.old.held
-        (λ screen. text_at handle.new.held ≡ attributes_text screen.attrs) }
-    ensures len { result ≡ ok → len.new ≡ length (text_at handle.new.held) }
-    ensures refused { ¬ (result ≡ ok) → handle.new.held ≡ handle.old.held }
-    ensures refused_len { ¬ (result ≡ ok) → len.new ≡ len.old }
+    ensures text { MakesText text.Attributes handle.old.held result handle.new.held }
+    ensures keeps { KeepsText handle.old.held result handle.new.held len.old len.new }
 {
     make(alloc, handle, Text::Attributes, len)
 }
@@ -181,27 +137,18 @@ pub extern "C" fn vt100_input_mode_formatted(
     handle: &mut Handle,
     len: &mut usize,
 ) -> u8
-    ensures source { source_at handle.new.held ≡ source_at handle.old.held }
     ensures answer { IsAnswer (due_at any_screen handle.old.held) result }
-    ensures text { result ≡ ok → HoldsScreen handle.old.held
-        (λ screen. text_at handle.new.held ≡ input_text screen.modes) }
-    ensures len { result ≡ ok → len.new ≡ length (text_at handle.new.held) }
-    ensures refused { ¬ (result ≡ ok) → handle.new.held ≡ handle.old.held }
-    ensures refused_len { ¬ (result ≡ ok) → len.new ≡ len.old }
+    ensures text { MakesText text.InputMode handle.old.held result handle.new.held }
+    ensures keeps { KeepsText handle.old.held result handle.new.held len.old len.new }
 {
     make(alloc, handle, Text::InputMode, len)
 }
 
 /// Makes a text, keeps it with the handle, and says how long it is.
 fn make(alloc: Global, handle: &mut Handle, text: Text, len: &mut usize) -> u8
-    ensures source { source_at handle.new.held ≡ source_at handle.old.held }
     ensures answer { IsAnswer (due_at (due_for text) handle.old.held) result }
-    ensures some { result ≡ out_of_memory → HoldsScreen handle.old.held (HasText text) }
-    ensures text { result ≡ ok → HoldsScreen handle.old.held
-        (λ screen. text_at handle.new.held ≡ text_of text screen) }
-    ensures len { result ≡ ok → len.new ≡ length (text_at handle.new.held) }
-    ensures refused { ¬ (result ≡ ok) → handle.new.held ≡ handle.old.held }
-    ensures refused_len { ¬ (result ≡ ok) → len.new ≡ len.old }
+    ensures text { MakesText text handle.old.held result handle.new.held }
+    ensures keeps { KeepsText handle.old.held result handle.new.held len.old len.new }
 {
     if !handle.is_full() {
         return NO_OBJECT;
@@ -214,14 +161,9 @@ fn make(alloc: Global, handle: &mut Handle, text: Text, len: &mut usize) -> u8
 
 /// Makes a text, keeps it with the object, and says how long it is.
 fn renew(object: &mut Object, text: Text, len: &mut usize) -> u8
-    ensures source { object.new.source ≡ object.old.source }
     ensures answer { IsAnswer (due_on (due_for text) (screen_in object.old.source)) result }
-    ensures some { result ≡ out_of_memory → OnScreen (screen_in object.old.source) (HasText text) }
-    ensures text { result ≡ ok → OnScreen (screen_in object.old.source)
-        (λ screen. string_bytes object.new.text ≡ text_of text screen) }
-    ensures len { result ≡ ok → len.new ≡ length (string_bytes object.new.text) }
-    ensures refused { ¬ (result ≡ ok) → object.new ≡ object.old }
-    ensures refused_len { ¬ (result ≡ ok) → len.new ≡ len.old }
+    ensures text { MakesText text (Some object.old) result (Some object.new) }
+    ensures keeps { KeepsText (Some object.old) result (Some object.new) len.old len.new }
 {
     let made = text_in(&object.source, text);
     keep(&mut object.text, made, len)
