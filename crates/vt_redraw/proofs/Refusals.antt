@@ -2,14 +2,17 @@
 use Rattle.std.proofs.Common.{◌≡◌, ℕ, ◌-◌, ◌<◌, ◌≤◌, Bool, true, false, List, [], ◌∷◌, ◌++◌}
 use Rattle.std.proofs.Common.{length, refl, sym, subst, ap, arith}
 use Rattle.std.proofs.Common.{append-nil, append_assoc, length-append, replicate, ◌∙◌}
+use Rattle.std.specs.Prelude.{Result}
 use Rattle.std.proofs.lemmas.List.Concat.{flat_map-append}
+use Rattle.std.proofs.lemmas.Result.{on_err_weaker, on_ok_weaker}
+use Rattle.vt_cells.proofs.Pieces.{nothing_gathered}
 use Rattle.vt_cells.proofs.Sinks.{some_among}
 use Rattle.vt_cells.specs.Op.{Op, LineFeed, bytes_of, bytes_of_all}
 use Rattle.vt_cells.specs.PieceInternals.{gathered}
 use Rattle.vt_cells.specs.Cell.{CellValue}
 use Rattle.vt_rows.specs.Row.{RowValue}
 use Rattle.vt_redraw.specs.Items.{is_whole, item_of_difference, range_written}
-use Rattle.vt_redraw.specs.Internals.{Leads, Links, Writes, cells_from, mark_of}
+use Rattle.vt_redraw.specs.Internals.{AppendsOrStops, GathersOrStops, Leads, Links, Writes, cells_from, mark_of}
 use Rattle.vt_redraw.specs.Redraw.{row_written, under_last}
 use Rattle.vt_redraw.specs.Script.{Linked, Scripted, row_break, cells_written, attr_ops, behind_last_glyph}
 use Rattle.vt_redraw.specs.declared.links.Link.{Link}
@@ -96,6 +99,18 @@ grown_behind before piece mid more after e f =
     let first = grown_gathered before piece mid e in
     let then = grown mid more after f in
     omega arith
+
+-- operations that are written behind what was gathered
+pub gathers_behind : {A E : Type 0} (result : Result A E) (start before mid end behind : List ℕ) (ops : List Op) →
+    mid ≡ gathered start before → behind ≡ [] → AppendsOrStops result mid end ops →
+    GathersOrStops result start before end behind ops
+gathers_behind result start before mid end behind ops flushed empty appends = record {
+  text =
+      on_ok_weaker result (λ more. ap (λ (xs : List ℕ). gathered end xs) empty
+      ∙ (nothing_gathered end ∙ (more ∙ ap (λ (xs : List ℕ). xs ++ bytes_of_all ops) flushed))) appends.text;
+  grows = on_ok_weaker result (grown_behind start before mid (bytes_of_all ops) end flushed) appends.text;
+  some = on_err_weaker result (some_behind before (bytes_of_all ops)) appends.some;
+}
 
 -- a text behind another one isn't empty
 pub text_behind_some : (old first mid more whole : List ℕ) → mid ≡ old ++ first → mid ++ more ≡ old ++ whole →

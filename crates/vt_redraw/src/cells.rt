@@ -1,15 +1,14 @@
 //! What the cells of a row need over those that the reader shows.
 
-ghost use Rattle.std.specs.Prelude.{◌≡◌, ◌++◌, ◌+◌, ◌-◌, ◌<◌, ◌≤◌, ◌==◌, ◌||◌};
+ghost use Rattle.std.specs.Prelude.{◌≡◌, ◌++◌, ◌+◌, ◌<◌, ◌≤◌};
 ghost use Rattle.std.specs.Prelude.{false, [], ◌∷◌, IfOk, OnOk, drop, length};
-ghost use Rattle.vt_cells.specs.Cell.{attrs_of, is_right_half, is_wide, same_cell, text_of};
-ghost use Rattle.vt_cells.specs.Op.{Print, bytes_of, bytes_of_all};
+ghost use Rattle.vt_cells.specs.Cell.{attrs_of};
+ghost use Rattle.vt_cells.specs.Op.{bytes_of, bytes_of_all};
 ghost use Rattle.vt_cells.specs.PieceInternals.{gathered};
-ghost use Rattle.vt_rows.specs.Cells.{at};
-ghost use Rattle.vt_redraw.specs.Internals.{IsRange, Leads, Passes, cells_from};
-ghost use Rattle.vt_cells.specs.Glyph.{glyph_columns};
+ghost use Rattle.vt_redraw.specs.Internals.{AppendsOrStops, GathersOrStops, IsRange, Leads, Passes, Writes};
+ghost use Rattle.vt_redraw.specs.Internals.{cells_from, cells_over, columns_of, glyph_ops, run_ops, stands};
 ghost use Rattle.vt_redraw.specs.Refusals.{RefusedOnlyIfSome};
-ghost use Rattle.vt_redraw.specs.Script.{placed_op, erase_run, flag_behind, flag_past, pen_at};
+ghost use Rattle.vt_redraw.specs.Script.{erase_run, flag_behind, flag_past, pen_at};
 
 use crate::pen::Pen;
 use crate::picture_row::PictureRow;
@@ -19,7 +18,7 @@ use vt_cells::{Attrs, Cell, Piece, Pos, Sink, cell};
 /// How many columns a glyph takes.
 #[inline]
 pub fn columns(cell: &Cell) -> u16
-    ensures { result ≡ glyph_columns (is_wide cell.now) }
+    ensures { result ≡ columns_of cell.now }
 {
     if cell.is_wide() { 2 } else { 1 }
 }
@@ -38,12 +37,9 @@ pub fn write_text<S: Sink>(sink: &mut S, text: &str) -> Result<(), S::Error>
 /// Writes a glyph at a position; where the pen is then is left to the caller.
 #[inline]
 pub fn print_at<S: Sink>(sink: &mut S, pen: &mut Pen, pos: Pos, cell: &Cell) -> Result<(), S::Error>
-    ensures text { OnOk result (S.text sink.new
-        ≡ S.text sink.old
-        ++ bytes_of_all (placed_op pen.old pos.row pos.col (attrs_of cell.now) (Print (text_of cell.now)))) }
+    ensures text { OnOk result (S.text sink.new ≡ S.text sink.old ++ bytes_of_all (glyph_ops pen.old pos cell.now)) }
     ensures pen { OnOk result (pen.new ≡ pen_at pos.row pos.col (attrs_of cell.now)) }
-    ensures some { RefusedOnlyIfSome result
-        (bytes_of_all (placed_op pen.old pos.row pos.col (attrs_of cell.now) (Print (text_of cell.now)))) }
+    ensures some { RefusedOnlyIfSome result (bytes_of_all (glyph_ops pen.old pos cell.now)) }
 {
     pen.move_to(sink, pos)?;
     pen.change_attrs(sink, cell::attrs(cell))?;
@@ -59,13 +55,9 @@ fn gather_at<S: Sink>(
     pos: Pos,
     cell: &Cell,
 ) -> Result<(), S::Error>
-    ensures text { OnOk result (gathered (S.text sink.new) piece.new
-        ≡ gathered (S.text sink.old) piece.old
-        ++ bytes_of_all (placed_op pen.old pos.row pos.col (attrs_of cell.now) (Print (text_of cell.now)))) }
+    ensures gathers { GathersOrStops result
+        (S.text sink.old) piece.old (S.text sink.new) piece.new (glyph_ops pen.old pos cell.now) }
     ensures pen { OnOk result (pen.new ≡ pen_at pos.row pos.col (attrs_of cell.now)) }
-    ensures grows { OnOk result (length (S.text sink.old) ≤ length (S.text sink.new)) }
-    ensures some { RefusedOnlyIfSome result (piece.old
-        ++ bytes_of_all (placed_op pen.old pos.row pos.col (attrs_of cell.now) (Print (text_of cell.now)))) }
 {
     pen.move_behind(sink, piece, pos)?;
     pen.draw_as(sink, piece, cell)?;
@@ -81,15 +73,10 @@ fn gather_glyph<S: Sink>(
     pos: Pos,
     cell: &Cell,
 ) -> Result<(), S::Error>
-    requires { pos.col + glyph_columns (is_wide cell.now) < 65536 }
-    ensures text { OnOk result (gathered (S.text sink.new) piece.new
-        ≡ gathered (S.text sink.old) piece.old
-        ++ bytes_of_all (placed_op pen.old pos.row pos.col (attrs_of cell.now) (Print (text_of cell.now)))) }
-    ensures pen { OnOk result
-        (pen.new ≡ pen_at pos.row (pos.col + glyph_columns (is_wide cell.now)) (attrs_of cell.now)) }
-    ensures grows { OnOk result (length (S.text sink.old) ≤ length (S.text sink.new)) }
-    ensures some { RefusedOnlyIfSome result (piece.old
-        ++ bytes_of_all (placed_op pen.old pos.row pos.col (attrs_of cell.now) (Print (text_of cell.now)))) }
+    requires { pos.col + columns_of cell.now < 65536 }
+    ensures gathers { GathersOrStops result
+        (S.text sink.old) piece.old (S.text sink.new) piece.new (glyph_ops pen.old pos cell.now) }
+    ensures pen { OnOk result (pen.new ≡ pen_at pos.row (pos.col + columns_of cell.now) (attrs_of cell.now)) }
 {
     gather_at(sink, piece, pen, pos, cell)?;
     pen.col = pos.col + columns(cell);
@@ -127,13 +114,8 @@ pub fn write_run<S: Sink>(
 ) -> Result<(), S::Error>
     requires inside { pos.col + count ≤ length over.now.cells }
     requires short { pos.col + count < 65536 }
-    ensures text { OnOk result (S.text sink.new
-        ≡ S.text sink.old
-        ++ bytes_of_all
-        (placed_op pen.old pos.row pos.col attrs (erase_run count (drop (pos.col + count) over.now.cells)))) }
+    ensures run { AppendsOrStops result (S.text sink.old) (S.text sink.new) (run_ops pen.old pos attrs count over.now) }
     ensures pen { OnOk result (pen.new ≡ pen_at pos.row pos.col attrs) }
-    ensures some { RefusedOnlyIfSome result (bytes_of_all
-        (placed_op pen.old pos.row pos.col attrs (erase_run count (drop (pos.col + count) over.now.cells)))) }
 {
     pen.move_to(sink, pos)?;
     pen.change_attrs(sink, attrs)?;
@@ -154,14 +136,9 @@ fn write_run_behind<S: Sink>(
 ) -> Result<(), S::Error>
     requires inside { pos.col + count ≤ length over.now.cells }
     requires short { pos.col + count < 65536 }
-    ensures text { OnOk result (gathered (S.text sink.new) piece.new
-        ≡ gathered (S.text sink.old) piece.old
-        ++ bytes_of_all
-        (placed_op pen.old pos.row pos.col attrs (erase_run count (drop (pos.col + count) over.now.cells)))) }
+    ensures gathers { GathersOrStops result
+        (S.text sink.old) piece.old (S.text sink.new) piece.new (run_ops pen.old pos attrs count over.now) }
     ensures pen { OnOk result (pen.new ≡ pen_at pos.row pos.col attrs) }
-    ensures grows { OnOk result (length (S.text sink.old) ≤ length (S.text sink.new)) }
-    ensures some { RefusedOnlyIfSome result (piece.old ++ bytes_of_all
-        (placed_op pen.old pos.row pos.col attrs (erase_run count (drop (pos.col + count) over.now.cells)))) }
 {
     piece.flush(sink)?;
     write_run(sink, pen, pos, attrs, count, over)
@@ -193,8 +170,7 @@ pub fn flag_past(flag: bool, over: &PictureRow<'_>, col: u16) -> bool
 fn stands(cells: &PictureRow<'_>, over: &PictureRow<'_>, col: u16) -> bool
     requires inside { col < length cells.now.cells }
     requires over { length cells.now.cells ≤ length over.now.cells }
-    ensures { result
-        ≡ (is_right_half (at cells.now.cells col) || same_cell (at cells.now.cells col) (at over.now.cells col)) }
+    ensures { result ≡ stands col cells.now over.now }
 {
     let cell = cells.cell(col);
     *cell == *over.cell(col) || cell.is_wide_continuation()
@@ -209,9 +185,7 @@ fn pass(cells: &PictureRow<'_>, over: &PictureRow<'_>, col: u16, stop: usize) ->
     requires range { IsRange cells.now.cells over.now.cells }
     ensures order { col ≤ result }
     ensures passed { Passes col result cells.now.cells over.now.cells }
-    ensures other { result < stop →
-        (is_right_half (at cells.now.cells result) || same_cell (at cells.now.cells result) (at over.now.cells result))
-        ≡ false }
+    ensures other { result < stop → stands result cells.now over.now ≡ false }
 {
     let mut next = col;
     while usize::from(next) < stop && stands(cells, over, next) {
@@ -239,9 +213,7 @@ fn next_other(cells: &PictureRow<'_>, over: &PictureRow<'_>, col: u16) -> u16
     requires range { IsRange cells.now.cells over.now.cells }
     ensures order { col ≤ result }
     ensures passed { Passes col result cells.now.cells over.now.cells }
-    ensures other { result < length cells.now.cells →
-        (is_right_half (at cells.now.cells result) || same_cell (at cells.now.cells result) (at over.now.cells result))
-        ≡ false }
+    ensures other { result < length cells.now.cells → stands result cells.now over.now ≡ false }
 {
     let cols = usize::from(cells.cols());
     let own = cells.own_len();
@@ -265,18 +237,15 @@ fn write_next<S: Sink>(
     requires inside { pos.col < length cells.now.cells }
     requires range { IsRange cells.now.cells over.now.cells }
     requires short { length over.now.cells < 65536 }
-    requires other { (is_right_half (at cells.now.cells pos.col)
-        || same_cell (at cells.now.cells pos.col) (at over.now.cells pos.col))
-        ≡ false }
+    requires other { stands pos.col cells.now over.now ≡ false }
     ensures leads { IfOk result (λ n. Leads (gathered (S.text sink.new) piece.new)
         (cells_from pos.row (pos.col + n) pen.new flag.new cells.now.cells over.now.cells)
-        (gathered (S.text sink.old) piece.old)
-        (cells_from pos.row pos.col pen.old flag.old cells.now.cells over.now.cells)) }
+        (gathered (S.text sink.old) piece.old) (cells_over pos pen.old flag.old cells.now over.now)) }
     ensures some { IfOk result (λ n. 0 < n) }
     ensures inside { IfOk result (λ n. pos.col + n ≤ length over.now.cells) }
     ensures grows { OnOk result (length (S.text sink.old) ≤ length (S.text sink.new)) }
-    ensures refused { RefusedOnlyIfSome result (piece.old ++ bytes_of_all
-        (cells_from pos.row pos.col pen.old flag.old cells.now.cells over.now.cells).ops) }
+    ensures refused { RefusedOnlyIfSome result
+        (piece.old ++ bytes_of_all (cells_over pos pen.old flag.old cells.now over.now).ops) }
 {
     let cell = cells.cell(pos.col);
     if !cell::is_blank(cell) {
@@ -303,15 +272,9 @@ pub fn write_cells<S: Sink>(
     over: &PictureRow<'_>,
 ) -> Result<(), S::Error>
     requires range { IsRange cells.now.cells over.now.cells }
-    ensures text { OnOk result (S.text sink.new
-        ≡ S.text sink.old
-        ++ bytes_of_all (cells_from pos.row pos.col pen.old flag.old cells.now.cells over.now.cells).ops) }
-    ensures pen { OnOk result
-        (pen.new ≡ (cells_from pos.row pos.col pen.old flag.old cells.now.cells over.now.cells).pen) }
-    ensures flag { OnOk result
-        (flag.new ≡ (cells_from pos.row pos.col pen.old flag.old cells.now.cells over.now.cells).flag) }
-    ensures some { RefusedOnlyIfSome result (bytes_of_all
-        (cells_from pos.row pos.col pen.old flag.old cells.now.cells over.now.cells).ops) }
+    ensures writes { OnOk result (Writes (S.text sink.old) (S.text sink.new) pen.new flag.new
+        (cells_over pos pen.old flag.old cells.now over.now)) }
+    ensures some { RefusedOnlyIfSome result (bytes_of_all (cells_over pos pen.old flag.old cells.now over.now).ops) }
 {
     let Pos { row, col } = pos;
     let first = next_other(cells, over, col);
@@ -333,15 +296,9 @@ fn write_others<S: Sink>(
     over: &PictureRow<'_>,
 ) -> Result<(), S::Error>
     requires range { IsRange cells.now.cells over.now.cells }
-    ensures text { OnOk result (S.text sink.new
-        ≡ S.text sink.old
-        ++ bytes_of_all (cells_from pos.row pos.col pen.old flag.old cells.now.cells over.now.cells).ops) }
-    ensures pen { OnOk result
-        (pen.new ≡ (cells_from pos.row pos.col pen.old flag.old cells.now.cells over.now.cells).pen) }
-    ensures flag { OnOk result
-        (flag.new ≡ (cells_from pos.row pos.col pen.old flag.old cells.now.cells over.now.cells).flag) }
-    ensures some { RefusedOnlyIfSome result (bytes_of_all
-        (cells_from pos.row pos.col pen.old flag.old cells.now.cells over.now.cells).ops) }
+    ensures writes { OnOk result (Writes (S.text sink.old) (S.text sink.new) pen.new flag.new
+        (cells_over pos pen.old flag.old cells.now over.now)) }
+    ensures some { RefusedOnlyIfSome result (bytes_of_all (cells_over pos pen.old flag.old cells.now over.now).ops) }
 {
     let cols = cells.cols().min(over.cols());
     let mut piece = Piece::new();

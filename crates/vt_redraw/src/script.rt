@@ -4,7 +4,7 @@ ghost use Rattle.std.specs.Prelude.{◌≡◌, ◌++◌, ◌+◌, ◌<◌, ◌�
 ghost use Rattle.vt_cells.specs.Op.{bytes_of_all};
 ghost use Rattle.vt_rows.specs.Cells.{IsPaired};
 ghost use Rattle.vt_grid.specs.Page.{row_or};
-ghost use Rattle.vt_redraw.specs.Internals.{Leads, Writes, rows_under};
+ghost use Rattle.vt_redraw.specs.Internals.{IsRowOver, Leads, Writes, row_behind, rows_under};
 ghost use Rattle.vt_redraw.specs.Picture.{SamePictureSize};
 ghost use Rattle.vt_redraw.specs.Refusals.{RefusedOnlyIfSome};
 ghost use Rattle.vt_redraw.specs.Redraw.{row_written, rows_written, script};
@@ -28,13 +28,10 @@ fn write_row<S: Sink>(
     cells: &PictureRow<'_>,
     over: &PictureRow<'_>,
 ) -> Result<bool, S::Error>
-    requires some { 0 < length cells.now.cells }
-    requires same { length cells.now.cells ≡ length over.now.cells }
-    requires paired { IsPaired cells.now.cells }
+    requires { IsRowOver cells.now.cells over.now.cells }
     ensures writes { IfOk result (λ on. Writes (S.text sink.old) (S.text sink.new) pen.new on
-        (row_written row link.settled pen.old link.flag cells.now over.now.cells)) }
-    ensures some { RefusedOnlyIfSome result
-        (bytes_of_all (row_written row link.settled pen.old link.flag cells.now over.now.cells).ops) }
+        (row_behind row link pen.old cells.now over.now)) }
+    ensures some { RefusedOnlyIfSome result (bytes_of_all (row_behind row link pen.old cells.now over.now).ops) }
 {
     let mut flag = link.flag;
     let pos = Pos {
@@ -54,9 +51,7 @@ fn write_top<S: Sink>(
     cells: &PictureRow<'_>,
     over: &PictureRow<'_>,
 ) -> Result<bool, S::Error>
-    requires some { 0 < length cells.now.cells }
-    requires same { length cells.now.cells ≡ length over.now.cells }
-    requires paired { IsPaired cells.now.cells }
+    requires { IsRowOver cells.now.cells over.now.cells }
     ensures writes { IfOk result (λ on. Writes (S.text sink.old) (S.text sink.new) pen.new on
         (row_written 0 0 pen.old over.now.wrapped cells.now over.now.cells)) }
     ensures some { RefusedOnlyIfSome result

@@ -19,7 +19,7 @@ returns-then-not-is_blank-clause-leads g c =
     (gathered (text c.args.sink.now) c.args.piece.now)
     (gathered (text c.gather_glyph.new.sink) c.gather_glyph.new.piece) c.cell-cell.ensures c.requires.inside
     c.requires.range.inside c.requires.other (sym c.is_blank.ensures ∙ c.if-not-is_blank.true) c.columns-count.ensures
-    c.in_ok-gather_glyph.ensures.text c.in_ok-gather_glyph.ensures.pen (search rules)
+    c.in_ok-gather_glyph.ensures.gathers.text c.in_ok-gather_glyph.ensures.pen (search rules)
 
 pub returns-clause-leads : goal.returns-clause-leads
 returns-clause-leads g c =
@@ -30,7 +30,7 @@ returns-clause-leads g c =
     (gathered (text c.write_run_behind.new.sink) c.write_run_behind.new.piece) c.requires.inside c.requires.range.inside
     c.requires.other (ap is_blank (sym c.cell-cell.ensures) ∙ (sym c.is_blank.ensures ∙ c.if-not-is_blank.false))
     (c.attrs-attrs.ensures ∙ ap attrs_of c.cell-cell.ensures) c.run-count.ensures.value
-    c.in_ok-write_run_behind.ensures.text c.in_ok-write_run_behind.ensures.pen c.flag_past.ensures
+    c.in_ok-write_run_behind.ensures.gathers.text c.in_ok-write_run_behind.ensures.pen c.flag_past.ensures
 
 pub returns-clause-some : goal.returns-clause-some
 returns-clause-some g c =
@@ -53,7 +53,7 @@ returns-in_err-gather_glyph-clause-refused g c =
     c.args.flag.now (flag_behind c.args.flag.now (is_wide x) (drop (col + n) ys)) c.args.cells.now.cells ys x [] bytes
     c.cell-cell.ensures c.requires.inside c.requires.range.inside c.requires.other
     (sym c.is_blank.ensures ∙ c.if-not-is_blank.true) c.columns-count.ensures refl refl refl))
-    c.in_err-gather_glyph.ensures.some)
+    c.in_err-gather_glyph.ensures.gathers.some)
 
 pub returns-in_err-write_run_behind-clause-refused : goal.returns-in_err-write_run_behind-clause-refused
 returns-in_err-write_run_behind-clause-refused g c =
@@ -71,4 +71,4 @@ returns-in_err-write_run_behind-clause-refused g c =
     c.requires.range.inside c.requires.other
     (ap is_blank (sym c.cell-cell.ensures) ∙ (sym c.is_blank.ensures ∙ c.if-not-is_blank.false))
     (c.attrs-attrs.ensures ∙ ap attrs_of c.cell-cell.ensures) c.run-count.ensures.value refl refl refl))
-    c.in_err-write_run_behind.ensures.some)
+    c.in_err-write_run_behind.ensures.gathers.some)

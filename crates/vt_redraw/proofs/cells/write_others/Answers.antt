@@ -24,46 +24,27 @@ loop-col-preserved-then-stands g c =
       l.invariant.1,
     )
 
-pub returns-clause-text : goal.returns-clause-text
-returns-clause-text g c =
+pub returns-clause-writes : goal.returns-clause-writes
+returns-clause-writes g c =
     let l = c.loop-col in
     let text = g.S.Sink.text in
+    let row = c.args.pos.row in
     let xs = c.args.cells.now.cells in
     let ys = c.args.over.now.cells in
-    let row = c.args.pos.row in
     let size = c.cols.ensures in
     let over = c.cols-2.ensures in
     let less = c.min-cols.ensures in
     let inside = c.requires.range.inside in
     let past = c.loop-col-test.false in
-    c.in_ok-flush.ensures.text
-    ∙ leads_text (gathered (text l.sink) l.piece) (text c.args.sink.now) (cells_from row l.col l.pen l.flag xs ys)
-    (cells_from row c.args.pos.col c.args.pen.now c.args.flag.now xs ys) l.pen
-    l.flag (cells_end row l.col l.pen l.flag xs ys (omega arith)) l.invariant.0
-
-pub returns-clause-pen : goal.returns-clause-pen
-returns-clause-pen g c =
-    let l = c.loop-col in
-    let size = c.cols.ensures in
-    let over = c.cols-2.ensures in
-    let less = c.min-cols.ensures in
-    let inside = c.requires.range.inside in
-    let past = c.loop-col-test.false in
-    ap (λ w. w.pen)
-    (sym (cells_end c.args.pos.row l.col l.pen l.flag c.args.cells.now.cells c.args.over.now.cells (omega arith)))
-    ∙ l.invariant.0.pen
-
-pub returns-clause-flag : goal.returns-clause-flag
-returns-clause-flag g c =
-    let l = c.loop-col in
-    let size = c.cols.ensures in
-    let over = c.cols-2.ensures in
-    let less = c.min-cols.ensures in
-    let inside = c.requires.range.inside in
-    let past = c.loop-col-test.false in
-    ap (λ w. w.flag)
-    (sym (cells_end c.args.pos.row l.col l.pen l.flag c.args.cells.now.cells c.args.over.now.cells (omega arith)))
-    ∙ l.invariant.0.flag
+    let none = cells_end row l.col l.pen l.flag xs ys (omega arith) in
+    record {
+      bytes =
+          c.in_ok-flush.ensures.text
+          ∙ leads_text (gathered (text l.sink) l.piece) (text c.args.sink.now) (cells_from row l.col l.pen l.flag xs ys)
+          (cells_from row c.args.pos.col c.args.pen.now c.args.flag.now xs ys) l.pen l.flag none l.invariant.0;
+      stands = ap (λ w. w.pen) (sym none) ∙ l.invariant.0.pen;
+      goes_on = ap (λ w. w.flag) (sym none) ∙ l.invariant.0.flag;
+    }
 
 pub returns-in_err-col-clause-some : goal.returns-in_err-col-clause-some
 returns-in_err-col-clause-some g c =

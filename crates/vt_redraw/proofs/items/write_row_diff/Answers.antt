@@ -47,7 +47,7 @@ returns-then-not-is_whole-clause-text g c =
     c.up_to.ensures.cells (ap (λ (a : Attrs). pen_at r start a) c.new.ensures)
     ∙ ap (λ b. range_written r start stop b x.cells y.cells) c.wrapped-flag.ensures in
     part_item r start stop x y w (text c.args.sink.now) (text c.write_range.new.sink)
-    (sym c.is_whole.ensures ∙ c.if-not-is_whole.true) e c.in_ok-write_range.ensures.text
+    (sym c.is_whole.ensures ∙ c.if-not-is_whole.true) e c.in_ok-write_range.ensures.writes.bytes
     ∙ (ap (λ (z : RowValue). text c.args.sink.now ++ bytes_of_all (item_of_difference r start stop z y).ops)
     c.row-cells.ensures.value
     ∙ ap (λ (z : RowValue). text c.args.sink.now
@@ -74,7 +74,7 @@ returns-clause-text g c =
     on_ok_weaker c.write_end.result
     (λ more. whole_item r start stop x y w c.write_range.new.pen c.write_range.new.flag (text c.args.sink.now)
     (text c.write_range.new.sink) (text c.write_end.new.sink) (sym c.is_whole.ensures ∙ c.if-not-is_whole.false) e
-    c.in_ok-write_range.ensures.text c.in_ok-write_range.ensures.pen c.in_ok-write_range.ensures.flag more
+    c.in_ok-write_range.ensures.writes.bytes c.in_ok-write_range.ensures.writes.stands c.in_ok-write_range.ensures.writes.goes_on more
     ∙ (ap (λ (z : RowValue). text c.args.sink.now ++ bytes_of_all (item_of_difference r start stop z y).ops)
     c.row-cells.ensures.value
     ∙ ap (λ (z : RowValue). text c.args.sink.now
@@ -130,8 +130,8 @@ returns-clause-some g c =
     (c.row-over.ensures.value ∙ ap (λ n. row_or n c.args.prev.now.rows r) (sym c.requires.size.width))
     (subst (λ (z : RowValue). 0 < length (bytes_of_all (item_of_difference r start stop z y).ops))
     c.row-cells.ensures.value
-    (text_behind_some (text c.args.sink.now) (bytes_of_all w.ops) mid more _ c.in_ok-write_range.ensures.text
+    (text_behind_some (text c.args.sink.now) (bytes_of_all w.ops) mid more _ c.in_ok-write_range.ensures.writes.bytes
     (whole_item r start stop x y w c.write_range.new.pen c.write_range.new.flag (text c.args.sink.now) mid (mid ++ more)
-    (sym c.is_whole.ensures ∙ c.if-not-is_whole.false) e c.in_ok-write_range.ensures.text
-    c.in_ok-write_range.ensures.pen c.in_ok-write_range.ensures.flag refl) some)))
+    (sym c.is_whole.ensures ∙ c.if-not-is_whole.false) e c.in_ok-write_range.ensures.writes.bytes
+    c.in_ok-write_range.ensures.writes.stands c.in_ok-write_range.ensures.writes.goes_on refl) some)))
     c.write_end.ensures.some
