@@ -1,5 +1,5 @@
 -- How the code reads pictures, and how far a writer has come; for models, private contracts and proofs only.
-use Rattle.std.specs.Prelude.{◌≡◌, ℕ, ◌+◌, ◌-◌, ◌<◌, ◌≤◌, ◌^◌, ◌==◌, ◌&&◌, ◌||◌, nat_lt, not, Bool, true}
+use Rattle.std.specs.Prelude.{◌≡◌, ℕ, ◌+◌, ◌-◌, ◌<◌, ◌≤◌, ◌^◌, ◌==◌, ◌&&◌, ◌||◌, nat_lt, not, Bool, false, true}
 use Rattle.std.specs.Prelude.{List, [], ◌++◌, length, replicate, drop, All, if◌then◌else◌, Result, OnOk, IfOk}
 use Rattle.vt_cells.specs.Attrs.{Attrs, default_attrs}
 use Rattle.vt_cells.specs.Cell.{CellValue, blank, default_blank, is_blank, is_wide, is_right_half, attrs_of}
@@ -124,6 +124,13 @@ run_ops pen pos attrs count y = placed_op pen pos.row pos.col attrs (erase_run c
 abbrev pub stands : ℕ → (x y : RowValue) → Bool
 stands c x y = is_right_half (at x.cells c) || same_cell (at x.cells c) (at y.cells c)
 
+-- what is asked of the cell in a column of a range that needs something
+pub record IsOther (c : ℕ) (x y : RowValue) : Type 0 where
+  pub inside : c < length x.cells
+  pub range : IsRange x.cells y.cells
+  pub short : length y.cells < 65536
+  pub other : stands c x y ≡ false
+
 -- the text so far and what is still to write are together a text before and all that was to write then
 pub record Leads (text : List ℕ) (written : Scripted) (start : List ℕ) (whole : Scripted) : Type 0 where
   pub bytes : text ++ bytes_of_all written.ops ≡ start ++ bytes_of_all whole.ops
@@ -164,6 +171,16 @@ pub record GathersOrStops {A E : Type 0} (result : Result A E) (start before end
   pub text : OnOk result (gathered end behind ≡ gathered start before ++ bytes_of_all ops)
   pub grows : OnOk result (length start ≤ length end)
   pub some : RefusedOnlyIfSome result (before ++ bytes_of_all ops)
+
+-- a writer of the cells at a position, as many as it answers, or one that stops where a sink refuses a text of theirs
+pub record SettlesOrStops {E : Type 0} (result : Result ℕ E) (start before end behind : List ℕ)
+    (pen : Pen) (flag : Bool) (pos : Pos) (x y : RowValue) (whole : Scripted) : Type 0 where
+  pub leads : IfOk result (λ n. Leads (gathered end behind)
+      (cells_from pos.row (pos.col + n) pen flag x.cells y.cells) (gathered start before) whole)
+  pub some : IfOk result (λ n. 0 < n)
+  pub inside : IfOk result (λ n. pos.col + n ≤ length y.cells)
+  pub grows : OnOk result (length start ≤ length end)
+  pub refused : RefusedOnlyIfSome result (before ++ bytes_of_all whole.ops)
 
 -- what a link wrote, and what stands after it, is that of the script
 pub record Links (start text : List ℕ) (pen : Pen) (link : Link) (whole : Linked) : Type 0 where

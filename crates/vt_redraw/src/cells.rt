@@ -5,8 +5,8 @@ ghost use Rattle.std.specs.Prelude.{false, [], ◌∷◌, IfOk, OnOk, drop, leng
 ghost use Rattle.vt_cells.specs.Cell.{attrs_of};
 ghost use Rattle.vt_cells.specs.Op.{bytes_of, bytes_of_all};
 ghost use Rattle.vt_cells.specs.PieceInternals.{gathered};
-ghost use Rattle.vt_redraw.specs.Internals.{AppendsOrStops, GathersOrStops, IsRange, Leads, Passes, Writes};
-ghost use Rattle.vt_redraw.specs.Internals.{cells_from, cells_over, columns_of, glyph_ops, run_ops, stands};
+ghost use Rattle.vt_redraw.specs.Internals.{AppendsOrStops, GathersOrStops, IsOther, IsRange, Passes, Writes};
+ghost use Rattle.vt_redraw.specs.Internals.{SettlesOrStops, cells_over, columns_of, glyph_ops, run_ops, stands};
 ghost use Rattle.vt_redraw.specs.Refusals.{RefusedOnlyIfSome};
 ghost use Rattle.vt_redraw.specs.Script.{erase_run, flag_behind, flag_past, pen_at};
 
@@ -123,27 +123,6 @@ pub fn write_run<S: Sink>(
     write_erase(sink, count, end, over)
 }
 
-/// The same behind what was gathered, which is written before.
-#[tactic(auto, using(vt_cells::proofs::Pieces::nothing_gathered))]
-fn write_run_behind<S: Sink>(
-    sink: &mut S,
-    piece: &mut Piece,
-    pen: &mut Pen,
-    pos: Pos,
-    attrs: Attrs,
-    count: u16,
-    over: &PictureRow<'_>,
-) -> Result<(), S::Error>
-    requires inside { pos.col + count ≤ length over.now.cells }
-    requires short { pos.col + count < 65536 }
-    ensures gathers { GathersOrStops result
-        (S.text sink.old) piece.old (S.text sink.new) piece.new (run_ops pen.old pos attrs count over.now) }
-    ensures pen { OnOk result (pen.new ≡ pen_at pos.row pos.col attrs) }
-{
-    piece.flush(sink)?;
-    write_run(sink, pen, pos, attrs, count, over)
-}
-
 /// Whether the reader's row still goes on below after a glyph in front of this
 /// column.
 pub fn flag_behind(flag: bool, wide: bool, over: &PictureRow<'_>, col: u16) -> bool
@@ -224,7 +203,8 @@ fn next_other(cells: &PictureRow<'_>, over: &PictureRow<'_>, col: u16) -> u16
 }
 
 /// Gathers the cell at a position, a glyph, or writes a run of blanks that
-/// begins there. Answers how many columns this settles.
+/// begins there, behind what was gathered. Answers how many columns this
+/// settles.
 fn write_next<S: Sink>(
     sink: &mut S,
     piece: &mut Piece,
@@ -234,18 +214,9 @@ fn write_next<S: Sink>(
     cells: &PictureRow<'_>,
     over: &PictureRow<'_>,
 ) -> Result<u16, S::Error>
-    requires inside { pos.col < length cells.now.cells }
-    requires range { IsRange cells.now.cells over.now.cells }
-    requires short { length over.now.cells < 65536 }
-    requires other { stands pos.col cells.now over.now ≡ false }
-    ensures leads { IfOk result (λ n. Leads (gathered (S.text sink.new) piece.new)
-        (cells_from pos.row (pos.col + n) pen.new flag.new cells.now.cells over.now.cells)
-        (gathered (S.text sink.old) piece.old) (cells_over pos pen.old flag.old cells.now over.now)) }
-    ensures some { IfOk result (λ n. 0 < n) }
-    ensures inside { IfOk result (λ n. pos.col + n ≤ length over.now.cells) }
-    ensures grows { OnOk result (length (S.text sink.old) ≤ length (S.text sink.new)) }
-    ensures refused { RefusedOnlyIfSome result
-        (piece.old ++ bytes_of_all (cells_over pos pen.old flag.old cells.now over.now).ops) }
+    requires { IsOther pos.col cells.now over.now }
+    ensures { SettlesOrStops result (S.text sink.old) piece.old (S.text sink.new) piece.new
+        pen.new flag.new pos cells.now over.now (cells_over pos pen.old flag.old cells.now over.now) }
 {
     let cell = cells.cell(pos.col);
     if !cell::is_blank(cell) {
@@ -256,7 +227,8 @@ fn write_next<S: Sink>(
     }
     let attrs = cell::attrs(cell);
     let count = cells.run(pos.col, attrs);
-    write_run_behind(sink, piece, pen, pos, attrs, count, over)?;
+    piece.flush(sink)?;
+    write_run(sink, pen, pos, attrs, count, over)?;
     *flag = flag_past(*flag, over, pos.col + count);
     Ok(count)
 }
