@@ -1,10 +1,9 @@
 //! What the cells of a row need over those that the reader shows.
 
 ghost use Rattle.std.specs.Prelude.{◌≡◌, ◌++◌, ◌+◌, ◌<◌, ◌≤◌};
-ghost use Rattle.std.specs.Prelude.{false, [], ◌∷◌, IfOk, OnOk, drop, length};
+ghost use Rattle.std.specs.Prelude.{false, OnOk, drop, length};
 ghost use Rattle.vt_cells.specs.Cell.{attrs_of};
 ghost use Rattle.vt_cells.specs.Op.{bytes_of, bytes_of_all};
-ghost use Rattle.vt_cells.specs.PieceInternals.{gathered};
 ghost use Rattle.vt_redraw.specs.Internals.{AppendsOrStops, GathersOrStops, IsOther, IsRange, Passes, Writes};
 ghost use Rattle.vt_redraw.specs.Internals.{SettlesOrStops, cells_over, columns_of, glyph_ops, run_ops, stands};
 ghost use Rattle.vt_redraw.specs.Refusals.{RefusedOnlyIfSome};

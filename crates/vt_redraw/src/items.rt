@@ -3,19 +3,16 @@
 //! attributes.
 
 ghost use Rattle.std.specs.Prelude.{◌≡◌, ◌++◌, ◌+◌, ◌-◌, ◌<◌, ◌≤◌, ◌==◌, ◌&&◌, false};
-ghost use Rattle.std.specs.Prelude.{IfOk, OnOk, drop, length, nat_lt, take};
+ghost use Rattle.std.specs.Prelude.{IfOk, OnOk, length};
 ghost use Rattle.vt_cells.specs.Attrs.{default_attrs};
-ghost use Rattle.vt_cells.specs.Cell.{is_right_half};
 ghost use Rattle.vt_cells.specs.Op.{bytes_of_all};
 ghost use Rattle.vt_rows.specs.Cells.{IsPaired, blanks};
-ghost use Rattle.vt_grid.specs.Page.{row_or};
 ghost use Rattle.vt_redraw.specs.Items.{changed_row_text, formatted_row_text, is_linked, is_whole, linked_item};
 ghost use Rattle.vt_redraw.specs.Items.{range_written};
 ghost use Rattle.vt_redraw.specs.Internals.{AppendsOrStops, IsRange, LeadsOn, Writes, cells_from, end_ops, mark_of};
 ghost use Rattle.vt_redraw.specs.Internals.{range_over};
 ghost use Rattle.vt_redraw.specs.Picture.{SamePictureSize};
 ghost use Rattle.vt_redraw.specs.Refusals.{RefusedOnlyIfSome};
-ghost use Rattle.vt_redraw.specs.Script.{ops_then, row_break, cells_written, pen_at};
 
 use crate::cells::{flag_past, write_cells, write_run};
 use crate::links::{write_break, write_first, write_last};

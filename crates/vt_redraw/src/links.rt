@@ -2,9 +2,9 @@
 
 ghost use Rattle.std.specs.Prelude.{◌≡◌, ◌++◌, ◌+◌, ◌<◌, ◌&&◌, ◌||◌, not, nat_le, false, true, IfOk, OnOk, length};
 ghost use Rattle.std.specs.Prelude.{[], ◌∷◌};
-ghost use Rattle.vt_cells.specs.Cell.{attrs_of, is_blank, is_glyph, text_of};
+ghost use Rattle.vt_cells.specs.Cell.{is_blank, is_glyph};
 ghost use Rattle.vt_cells.specs.Op.{bytes_of_all};
-ghost use Rattle.vt_rows.specs.Cells.{IsPaired, at};
+ghost use Rattle.vt_rows.specs.Cells.{IsPaired};
 ghost use Rattle.vt_redraw.specs.Internals.{IsRowOver, IsRowUnder, LinksOrStops, Writes, break_of};
 ghost use Rattle.vt_redraw.specs.Redraw.{link_of};
 ghost use Rattle.vt_redraw.specs.Refusals.{RefusedOnlyIfSome};
