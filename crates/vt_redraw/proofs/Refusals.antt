@@ -5,10 +5,10 @@ use Rattle.std.proofs.Common.{append-nil, append_assoc, length-append, replicate
 use Rattle.std.specs.Prelude.{Result}
 use Rattle.std.proofs.lemmas.List.Concat.{flat_map-append}
 use Rattle.std.proofs.lemmas.Result.{on_err_weaker, on_ok_weaker}
-use Rattle.vt_cells.proofs.Pieces.{nothing_gathered}
+use Rattle.vt_cells.proofs.Buffers.{nothing_gathered}
 use Rattle.vt_cells.proofs.Sinks.{some_among}
 use Rattle.vt_cells.specs.Op.{Op, LineFeed, bytes_of, bytes_of_all}
-use Rattle.vt_cells.specs.PieceInternals.{gathered}
+use Rattle.vt_cells.specs.BufferInternals.{gathered}
 use Rattle.vt_cells.specs.Cell.{CellValue}
 use Rattle.vt_rows.specs.Row.{RowValue}
 use Rattle.vt_redraw.specs.Items.{is_whole, item_of_difference, range_written}
@@ -48,17 +48,17 @@ grown before more after e =
     let same : length after ≡ length (before ++ more) = ap (λ (xs : List ℕ). length xs) e in
     omega arith
 
-pub grown_gathered : (before piece after : List ℕ) → after ≡ gathered before piece → length before ≤ length after
+pub grown_gathered : (before buffer after : List ℕ) → after ≡ gathered before buffer → length before ≤ length after
 unfolding gathered
-grown_gathered before piece after e = grown before piece after e
+grown_gathered before buffer after e = grown before buffer after e
 
 -- what was still to be written isn't empty, so the whole isn't
-pub leads_some : (old mid piece : List ℕ) (rest whole : Scripted) → Leads (gathered mid piece) rest old whole →
-    length old ≤ length mid → 0 < length (piece ++ bytes_of_all rest.ops) → 0 < length (bytes_of_all whole.ops)
-leads_some old mid piece rest whole leads le some =
-    let size = length-append piece (bytes_of_all rest.ops) in
-    some_among old mid piece (bytes_of_all rest.ops) [] (bytes_of_all whole.ops)
-    (ap (λ (xs : List ℕ). gathered mid piece ++ xs) (append-nil (bytes_of_all rest.ops)) ∙ leads.bytes) le (omega arith)
+pub leads_some : (old mid buffer : List ℕ) (rest whole : Scripted) → Leads (gathered mid buffer) rest old whole →
+    length old ≤ length mid → 0 < length (buffer ++ bytes_of_all rest.ops) → 0 < length (bytes_of_all whole.ops)
+leads_some old mid buffer rest whole leads le some =
+    let size = length-append buffer (bytes_of_all rest.ops) in
+    some_among old mid buffer (bytes_of_all rest.ops) [] (bytes_of_all whole.ops)
+    (ap (λ (xs : List ℕ). gathered mid buffer ++ xs) (append-nil (bytes_of_all rest.ops)) ∙ leads.bytes) le (omega arith)
 
 -- the same with nothing gathered
 pub rest_some : (old mid : List ℕ) (rest whole : Scripted) → Leads mid rest old whole →
@@ -87,16 +87,16 @@ pub start_some : (first : List ℕ) (rest whole : Scripted) → Leads first rest
 start_some first rest whole leads some =
     subst (λ (xs : List ℕ). 0 < length xs) leads.bytes (some_first first (bytes_of_all rest.ops) some)
 
-pub piece_some : (piece xs ys : List ℕ) → (0 < length xs → 0 < length ys) →
-    0 < length (piece ++ xs) → 0 < length (piece ++ ys)
-piece_some [] xs ys more some = more some
-piece_some (x ∷ piece) xs ys more some = omega arith
+pub buffer_some : (buffer xs ys : List ℕ) → (0 < length xs → 0 < length ys) →
+    0 < length (buffer ++ xs) → 0 < length (buffer ++ ys)
+buffer_some [] xs ys more some = more some
+buffer_some (x ∷ buffer) xs ys more some = omega arith
 
 -- what was gathered is written before a text
-pub grown_behind : (before piece mid more after : List ℕ) → mid ≡ gathered before piece → after ≡ mid ++ more →
+pub grown_behind : (before buffer mid more after : List ℕ) → mid ≡ gathered before buffer → after ≡ mid ++ more →
     length before ≤ length after
-grown_behind before piece mid more after e f =
-    let first = grown_gathered before piece mid e in
+grown_behind before buffer mid more after e f =
+    let first = grown_gathered before buffer mid e in
     let then = grown mid more after f in
     omega arith
 

@@ -6,7 +6,7 @@ use Rattle.vt_cells.specs.Cell.{CellValue, blank, default_blank, is_blank, is_wi
 use Rattle.vt_cells.specs.Cell.{same_cell, text_of}
 use Rattle.vt_cells.specs.Glyph.{glyph_columns}
 use Rattle.vt_cells.specs.Op.{Op, Print, bytes_of_all}
-use Rattle.vt_cells.specs.PieceInternals.{gathered}
+use Rattle.vt_cells.specs.BufferInternals.{gathered}
 use Rattle.vt_cells.specs.declared.pos.Pos.{Pos}
 use Rattle.vt_rows.specs.Cells.{IsPaired, at, ends_blank, resized}
 use Rattle.vt_rows.specs.Row.{RowValue, IsRow, blank_row}

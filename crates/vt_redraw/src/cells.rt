@@ -12,7 +12,7 @@ ghost use Rattle.vt_redraw.specs.Script.{erase_run, flag_behind, flag_past, pen_
 use crate::pen::Pen;
 use crate::picture_row::PictureRow;
 use vt_cells::term::{BufWrite, ClearRowForward, EraseChar};
-use vt_cells::{Attrs, Cell, Piece, Pos, Sink, cell};
+use vt_cells::{Attrs, Buffer, Cell, Pos, Sink, cell};
 
 /// How many columns a glyph takes.
 #[inline]
@@ -49,35 +49,35 @@ pub fn print_at<S: Sink>(sink: &mut S, pen: &mut Pen, pos: Pos, cell: &Cell) -> 
 #[inline]
 fn gather_at<S: Sink>(
     sink: &mut S,
-    piece: &mut Piece,
+    buffer: &mut Buffer,
     pen: &mut Pen,
     pos: Pos,
     cell: &Cell,
 ) -> Result<(), S::Error>
     ensures gathers { GathersOrStops result
-        (S.text sink.old) piece.old (S.text sink.new) piece.new (glyph_ops pen.old pos cell.now) }
+        (S.text sink.old) buffer.old (S.text sink.new) buffer.new (glyph_ops pen.old pos cell.now) }
     ensures pen { OnOk result (pen.new ≡ pen_at pos.row pos.col (attrs_of cell.now)) }
 {
-    pen.move_behind(sink, piece, pos)?;
-    pen.draw_as(sink, piece, cell)?;
-    piece.add(sink, cell.contents())
+    pen.move_behind(sink, buffer, pos)?;
+    pen.draw_as(sink, buffer, cell)?;
+    buffer.add(sink, cell.contents())
 }
 
 /// Gathers a glyph at a position; the pen ends up behind it.
 #[inline]
 fn gather_glyph<S: Sink>(
     sink: &mut S,
-    piece: &mut Piece,
+    buffer: &mut Buffer,
     pen: &mut Pen,
     pos: Pos,
     cell: &Cell,
 ) -> Result<(), S::Error>
     requires { pos.col + columns_of cell.now < 65536 }
     ensures gathers { GathersOrStops result
-        (S.text sink.old) piece.old (S.text sink.new) piece.new (glyph_ops pen.old pos cell.now) }
+        (S.text sink.old) buffer.old (S.text sink.new) buffer.new (glyph_ops pen.old pos cell.now) }
     ensures pen { OnOk result (pen.new ≡ pen_at pos.row (pos.col + columns_of cell.now) (attrs_of cell.now)) }
 {
-    gather_at(sink, piece, pen, pos, cell)?;
+    gather_at(sink, buffer, pen, pos, cell)?;
     pen.col = pos.col + columns(cell);
     Ok(())
 }
@@ -206,7 +206,7 @@ fn next_other(cells: &PictureRow<'_>, over: &PictureRow<'_>, col: u16) -> u16
 /// settles.
 fn write_next<S: Sink>(
     sink: &mut S,
-    piece: &mut Piece,
+    buffer: &mut Buffer,
     pen: &mut Pen,
     flag: &mut bool,
     pos: Pos,
@@ -214,19 +214,19 @@ fn write_next<S: Sink>(
     over: &PictureRow<'_>,
 ) -> Result<u16, S::Error>
     requires { IsOther pos.col cells.now over.now }
-    ensures { SettlesOrStops result (S.text sink.old) piece.old (S.text sink.new) piece.new
+    ensures { SettlesOrStops result (S.text sink.old) buffer.old (S.text sink.new) buffer.new
         pen.new flag.new pos cells.now over.now (cells_over pos pen.old flag.old cells.now over.now) }
 {
     let cell = cells.cell(pos.col);
     if !cell::is_blank(cell) {
         let count = columns(cell);
-        gather_glyph(sink, piece, pen, pos, cell)?;
+        gather_glyph(sink, buffer, pen, pos, cell)?;
         *flag = flag_behind(*flag, cell.is_wide(), over, pos.col + count);
         return Ok(count);
     }
     let attrs = cell::attrs(cell);
     let count = cells.run(pos.col, attrs);
-    piece.flush(sink)?;
+    buffer.flush(sink)?;
     write_run(sink, pen, pos, attrs, count, over)?;
     *flag = flag_past(*flag, over, pos.col + count);
     Ok(count)
@@ -257,7 +257,7 @@ pub fn write_cells<S: Sink>(
 
 /// The same for cells of which some need something. Glyphs that follow one
 /// another are gathered, and written together.
-#[tactic(auto, using(vt_cells::proofs::Pieces::nothing_gathered))]
+#[tactic(auto, using(vt_cells::proofs::Buffers::nothing_gathered))]
 fn write_others<S: Sink>(
     sink: &mut S,
     pen: &mut Pen,
@@ -272,16 +272,16 @@ fn write_others<S: Sink>(
     ensures some { RefusedOnlyIfSome result (bytes_of_all (cells_over pos pen.old flag.old cells.now over.now).ops) }
 {
     let cols = cells.cols().min(over.cols());
-    let mut piece = Piece::new();
+    let mut buffer = Buffer::new();
     let mut col = pos.col;
     while col < cols {
         if stands(cells, over, col) {
             col = next_other(cells, over, col + 1);
         } else {
             let next = Pos { row: pos.row, col };
-            col += write_next(sink, &mut piece, pen, flag, next, cells, over)?;
+            col += write_next(sink, &mut buffer, pen, flag, next, cells, over)?;
         }
     }
-    piece.flush(sink)?;
+    buffer.flush(sink)?;
     Ok(())
 }

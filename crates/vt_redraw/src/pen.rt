@@ -4,12 +4,12 @@ ghost use Rattle.std.specs.Prelude.{◌≡◌, ◌≤◌, ◌++◌, OnOk, length
 ghost use Rattle.vt_cells.specs.Attrs.{default_attrs};
 ghost use Rattle.vt_cells.specs.Cell.{attrs_of};
 ghost use Rattle.vt_cells.specs.Op.{bytes_of_all};
-ghost use Rattle.vt_cells.specs.PieceInternals.{gathered};
+ghost use Rattle.vt_cells.specs.BufferInternals.{gathered};
 ghost use Rattle.vt_redraw.specs.Refusals.{RefusedOnlyIfSome};
 ghost use Rattle.vt_redraw.specs.Script.{attr_ops, move_ops, is_at, pen_at};
 
 use vt_cells::term::{BufWrite, ChangeAttrs, MoveFromTo};
-use vt_cells::{Attrs, Cell, Piece, Pos, Sink, cell};
+use vt_cells::{Attrs, Buffer, Cell, Pos, Sink, cell};
 
 /// Where the reading terminal's cursor is, and what it draws with.
 ///
@@ -98,37 +98,37 @@ impl Pen {
     pub fn move_behind<S: Sink>(
         &mut self,
         sink: &mut S,
-        piece: &mut Piece,
+        buffer: &mut Buffer,
         to: Pos,
     ) -> Result<(), S::Error>
-        ensures text { OnOk result (gathered (S.text sink.new) piece.new
-            ≡ gathered (S.text sink.old) piece.old ++ bytes_of_all (move_ops self.old to.row to.col)) }
+        ensures text { OnOk result (gathered (S.text sink.new) buffer.new
+            ≡ gathered (S.text sink.old) buffer.old ++ bytes_of_all (move_ops self.old to.row to.col)) }
         ensures pen { OnOk result (self.new ≡ pen_at to.row to.col self.old.attrs) }
         ensures grows { OnOk result (length (S.text sink.old) ≤ length (S.text sink.new)) }
-        ensures some { RefusedOnlyIfSome result (piece.old ++ bytes_of_all (move_ops self.old to.row to.col)) }
+        ensures some { RefusedOnlyIfSome result (buffer.old ++ bytes_of_all (move_ops self.old to.row to.col)) }
     {
         if self.is_at(to.row, to.col) {
             return Ok(());
         }
-        self.jump_behind(sink, piece, to)
+        self.jump_behind(sink, buffer, to)
     }
 
     /// Moves to another position in the same way.
     #[inline(never)]
-    #[tactic(auto, using(vt_cells::proofs::Pieces::nothing_gathered))]
+    #[tactic(auto, using(vt_cells::proofs::Buffers::nothing_gathered))]
     fn jump_behind<S: Sink>(
         &mut self,
         sink: &mut S,
-        piece: &mut Piece,
+        buffer: &mut Buffer,
         to: Pos,
     ) -> Result<(), S::Error>
-        ensures text { OnOk result (gathered (S.text sink.new) piece.new
-            ≡ gathered (S.text sink.old) piece.old ++ bytes_of_all (move_ops self.old to.row to.col)) }
+        ensures text { OnOk result (gathered (S.text sink.new) buffer.new
+            ≡ gathered (S.text sink.old) buffer.old ++ bytes_of_all (move_ops self.old to.row to.col)) }
         ensures pen { OnOk result (self.new ≡ pen_at to.row to.col self.old.attrs) }
         ensures grows { OnOk result (length (S.text sink.old) ≤ length (S.text sink.new)) }
-        ensures some { RefusedOnlyIfSome result (piece.old ++ bytes_of_all (move_ops self.old to.row to.col)) }
+        ensures some { RefusedOnlyIfSome result (buffer.old ++ bytes_of_all (move_ops self.old to.row to.col)) }
     {
-        piece.flush(sink)?;
+        buffer.flush(sink)?;
         self.jump(sink, to)
     }
 
@@ -137,11 +137,11 @@ impl Pen {
     pub fn draw_as<S: Sink>(
         &mut self,
         sink: &mut S,
-        piece: &mut Piece,
+        buffer: &mut Buffer,
         cell: &Cell,
     ) -> Result<(), S::Error>
-        ensures text { OnOk result (gathered (S.text sink.new) piece.new
-            ≡ gathered (S.text sink.old) piece.old ++ bytes_of_all (attr_ops self.old.attrs (attrs_of cell.now))) }
+        ensures text { OnOk result (gathered (S.text sink.new) buffer.new
+            ≡ gathered (S.text sink.old) buffer.old ++ bytes_of_all (attr_ops self.old.attrs (attrs_of cell.now))) }
         ensures pen { OnOk result (self.new ≡ pen_at self.old.row self.old.col (attrs_of cell.now)) }
         ensures grows { OnOk result (length (S.text sink.old) ≤ length (S.text sink.new)) }
         ensures some { RefusedOnlyIfSome result (bytes_of_all (attr_ops self.old.attrs (attrs_of cell.now))) }
@@ -150,7 +150,7 @@ impl Pen {
             return Ok(());
         }
         let new = cell::attrs(cell);
-        add_change(sink, piece, self.attrs, new)?;
+        add_change(sink, buffer, self.attrs, new)?;
         self.attrs = new;
         Ok(())
     }
@@ -161,16 +161,16 @@ impl Pen {
 #[tactic(auto, using(crate::proofs::Writing::change_written))]
 fn add_change<S: Sink>(
     sink: &mut S,
-    piece: &mut Piece,
+    buffer: &mut Buffer,
     was: Attrs,
     new: Attrs,
 ) -> Result<(), S::Error>
-    ensures text { OnOk result (gathered (S.text sink.new) piece.new
-        ≡ gathered (S.text sink.old) piece.old ++ bytes_of_all (attr_ops was new)) }
+    ensures text { OnOk result (gathered (S.text sink.new) buffer.new
+        ≡ gathered (S.text sink.old) buffer.old ++ bytes_of_all (attr_ops was new)) }
     ensures grows { OnOk result (length (S.text sink.old) ≤ length (S.text sink.new)) }
     ensures some { RefusedOnlyIfSome result (bytes_of_all (attr_ops was new)) }
 {
-    ChangeAttrs { was, new }.add(sink, piece)
+    ChangeAttrs { was, new }.add(sink, buffer)
 }
 
 /// Writes a change of attributes.

@@ -3,10 +3,10 @@ use Rattle.vt_cells.proofs.Sinks.{on_err}
 use Rattle.vt_cells.specs.Cell.{attrs_of, is_blank, is_wide, text_of}
 use Rattle.vt_cells.specs.Glyph.{glyph_columns}
 use Rattle.vt_cells.specs.Op.{Print, bytes_of_all}
-use Rattle.vt_cells.specs.PieceInternals.{gathered}
+use Rattle.vt_cells.specs.BufferInternals.{gathered}
 use Rattle.vt_redraw.specs.Script.{placed_op, erase_run, flag_behind, flag_past, pen_at}
 use Rattle.vt_redraw.proofs.CellSteps.{glyph_leads, next_run, run_some}
-use Rattle.vt_redraw.proofs.Refusals.{gathers_behind, piece_some, some_behind, some_first, start_some}
+use Rattle.vt_redraw.proofs.Refusals.{gathers_behind, buffer_some, some_behind, some_first, start_some}
 use Rattle.vt_redraw.proofs.cells.write_next.Goals as goal
 
 pub returns-then-not-is_blank : goal.returns-then-not-is_blank
@@ -16,8 +16,8 @@ returns-then-not-is_blank g c =
       leads =
           glyph_leads c.args.pos.row c.args.pos.col c.columns-count.result c.args.pen.now c.gather_glyph.new.pen
           c.args.flag.now c.flag_behind.result c.args.cells.now.cells c.args.over.now.cells c.cell-cell.result.now
-          (gathered (text c.args.sink.now) c.args.piece.now)
-          (gathered (text c.gather_glyph.new.sink) c.gather_glyph.new.piece) c.cell-cell.ensures c.requires.inside
+          (gathered (text c.args.sink.now) c.args.buffer.now)
+          (gathered (text c.gather_glyph.new.sink) c.gather_glyph.new.buffer) c.cell-cell.ensures c.requires.inside
           c.requires.range.inside c.requires.other (sym c.is_blank.ensures ∙ c.if-not-is_blank.true)
           c.columns-count.ensures c.in_ok-gather_glyph.ensures.gathers.text c.in_ok-gather_glyph.ensures.pen
           (search rules);
@@ -38,7 +38,7 @@ returns g c =
       leads =
           next_run c.args.pos.row c.args.pos.col c.run-count.result c.args.pen.now c.write_run.new.pen
           c.args.flag.now c.flag_past.result c.args.cells.now.cells c.args.over.now.cells c.attrs-attrs.result
-          (gathered (text c.args.sink.now) c.args.piece.now)
+          (gathered (text c.args.sink.now) c.args.buffer.now)
           (gathered (text c.write_run.new.sink) c.flush.new.self) c.requires.inside c.requires.range.inside
           c.requires.other blank same c.run-count.ensures.value behind.text c.in_ok-write_run.ensures.pen
           c.flag_past.ensures;
@@ -65,7 +65,7 @@ returns-in_err-gather_glyph g c =
       grows = search rules;
       refused =
           on_err c.from_residual.result
-          (piece_some c.args.piece.now bytes _
+          (buffer_some c.args.buffer.now bytes _
           (start_some bytes _ _
           (glyph_leads row col n c.args.pen.now (pen_at row (col + glyph_columns (is_wide x)) (attrs_of x))
           c.args.flag.now (flag_behind c.args.flag.now (is_wide x) (drop (col + n) ys)) c.args.cells.now.cells ys x []
@@ -82,7 +82,7 @@ returns-in_err-flush g c = record {
   grows = search rules;
   refused =
       on_err c.from_residual-in_err-flush.result
-      (some_first c.args.piece.now _ (c.in_err-flush.ensures.some refl));
+      (some_first c.args.buffer.now _ (c.in_err-flush.ensures.some refl));
 }
 
 pub returns-in_err-write_run : goal.returns-in_err-write_run
@@ -100,7 +100,7 @@ returns-in_err-write_run g c =
       grows = search rules;
       refused =
           on_err c.from_residual-in_err-write_run.result
-          (some_behind c.args.piece.now _
+          (some_behind c.args.buffer.now _
           (start_some bytes _ _
           (next_run row col n c.args.pen.now (pen_at row col attrs) c.args.flag.now
           (flag_past c.args.flag.now (drop (col + n) ys)) c.args.cells.now.cells ys attrs [] bytes c.requires.inside
