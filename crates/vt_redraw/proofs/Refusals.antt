@@ -58,7 +58,8 @@ pub leads_some : (old mid buffer : List ℕ) (rest whole : Scripted) → Leads (
 leads_some old mid buffer rest whole leads le some =
     let size = length-append buffer (bytes_of_all rest.ops) in
     some_among old mid buffer (bytes_of_all rest.ops) [] (bytes_of_all whole.ops)
-    (ap (λ (xs : List ℕ). gathered mid buffer ++ xs) (append-nil (bytes_of_all rest.ops)) ∙ leads.bytes) le (omega arith)
+    (ap (λ (xs : List ℕ). gathered mid buffer ++ xs) (append-nil (bytes_of_all rest.ops)) ∙ leads.bytes) le
+    (omega arith)
 
 -- the same with nothing gathered
 pub rest_some : (old mid : List ℕ) (rest whole : Scripted) → Leads mid rest old whole →

@@ -36,9 +36,8 @@ pub fn write_text<S: Sink>(sink: &mut S, text: &str) -> Result<(), S::Error>
 /// Writes a glyph at a position; where the pen is then is left to the caller.
 #[inline]
 pub fn print_at<S: Sink>(sink: &mut S, pen: &mut Pen, pos: Pos, cell: &Cell) -> Result<(), S::Error>
-    ensures text { OnOk result (S.text sink.new ≡ S.text sink.old ++ bytes_of_all (glyph_ops pen.old pos cell.now)) }
+    ensures ops { AppendsOrStops result (S.text sink.old) (S.text sink.new) (glyph_ops pen.old pos cell.now) }
     ensures pen { OnOk result (pen.new ≡ pen_at pos.row pos.col (attrs_of cell.now)) }
-    ensures some { RefusedOnlyIfSome result (bytes_of_all (glyph_ops pen.old pos cell.now)) }
 {
     pen.move_to(sink, pos)?;
     pen.change_attrs(sink, cell::attrs(cell))?;
@@ -113,7 +112,7 @@ pub fn write_run<S: Sink>(
 ) -> Result<(), S::Error>
     requires inside { pos.col + count ≤ length over.now.cells }
     requires short { pos.col + count < 65536 }
-    ensures run { AppendsOrStops result (S.text sink.old) (S.text sink.new) (run_ops pen.old pos attrs count over.now) }
+    ensures ops { AppendsOrStops result (S.text sink.old) (S.text sink.new) (run_ops pen.old pos attrs count over.now) }
     ensures pen { OnOk result (pen.new ≡ pen_at pos.row pos.col attrs) }
 {
     pen.move_to(sink, pos)?;

@@ -8,7 +8,6 @@ ghost use Rattle.vt_cells.specs.Op as op;
 ghost use Rattle.vt_rows.specs.Cells.{at};
 ghost use Rattle.vt_grid.specs.Page.{row_or};
 ghost use Rattle.vt_redraw.specs.Internals.{AppendsOrStops};
-ghost use Rattle.vt_redraw.specs.Refusals.{RefusedOnlyIfSome};
 ghost use Rattle.vt_redraw.specs.Redraw.{blank_passed, cursor_written, nearest, over_blank};
 ghost use Rattle.vt_redraw.specs.Redraw.{cursor_alone, pending_alone, pending_at, under_last};
 
@@ -36,8 +35,7 @@ pub fn nearest(view: &View<'_>, row: u16) -> Option<u16>
 
 /// Writes a number of line feeds.
 pub fn write_feeds<S: Sink>(sink: &mut S, count: u16) -> Result<(), S::Error>
-    ensures text { OnOk result (S.text sink.new ≡ S.text sink.old ++ bytes_of_all (replicate count op.LineFeed)) }
-    ensures some { RefusedOnlyIfSome result (bytes_of_all (replicate count op.LineFeed)) }
+    ensures { AppendsOrStops result (S.text sink.old) (S.text sink.new) (replicate count op.LineFeed) }
 {
     for _ in 0..count {
         LineFeed.write_buf(sink)?;
@@ -114,11 +112,8 @@ fn write_pending<S: Sink>(sink: &mut S, pen: Pen, view: &View<'_>, row: u16) -> 
 /// Brings the cursor to where the picture has it; the pen's attributes stay.
 #[tactic(auto, unfolding(crate::specs::Redraw::cursor_written))]
 pub fn write_cursor<S: Sink>(sink: &mut S, pen: Pen, view: &View<'_>) -> Result<(), S::Error>
-    ensures text { OnOk result (S.text sink.new
-        ≡ S.text sink.old
-        ++ bytes_of_all (cursor_written pen view.now.width view.now.rows view.now.row view.now.column)) }
-    ensures some { RefusedOnlyIfSome result
-        (bytes_of_all (cursor_written pen view.now.width view.now.rows view.now.row view.now.column)) }
+    ensures { AppendsOrStops result (S.text sink.old) (S.text sink.new)
+        (cursor_written pen view.now.width view.now.rows view.now.row view.now.column) }
 {
     let Pen { row, col, .. } = view.pen();
     if pen.is_at(row, col) {

@@ -1,11 +1,10 @@
 //! Links of rows with the rows above them, and breaks between them.
 
-ghost use Rattle.std.specs.Prelude.{◌≡◌, ◌++◌, ◌+◌, ◌<◌, ◌&&◌, ◌||◌, not, nat_le, false, true, IfOk, OnOk, length};
-ghost use Rattle.std.specs.Prelude.{[], ◌∷◌};
+ghost use Rattle.std.specs.Prelude.{◌≡◌, ◌+◌, ◌<◌, ◌&&◌, ◌||◌, [], ◌∷◌, not, nat_le, false, true, IfOk, OnOk, length};
 ghost use Rattle.vt_cells.specs.Cell.{is_blank, is_glyph};
 ghost use Rattle.vt_cells.specs.Op.{bytes_of_all};
 ghost use Rattle.vt_rows.specs.Cells.{IsPaired};
-ghost use Rattle.vt_redraw.specs.Internals.{IsRowOver, IsRowUnder, LinksOrStops, Writes, break_of};
+ghost use Rattle.vt_redraw.specs.Internals.{AppendsOrStops, IsRowOver, IsRowUnder, LinksOrStops, Writes, break_of};
 ghost use Rattle.vt_redraw.specs.Redraw.{link_of};
 ghost use Rattle.vt_redraw.specs.Refusals.{RefusedOnlyIfSome};
 ghost use Rattle.vt_redraw.specs.Script.{row_break, first_written, behind_last_glyph, is_at, starts_other};
@@ -37,10 +36,9 @@ pub fn write_last<S: Sink>(
 ) -> Result<(), S::Error>
     requires some { 0 < length cells.now.cells }
     requires paired { IsPaired cells.now.cells }
-    ensures text { OnOk result
-        (S.text sink.new ≡ S.text sink.old ++ bytes_of_all (behind_last_glyph row pen.old cells.now.cells).ops) }
+    ensures ops { AppendsOrStops result (S.text sink.old) (S.text sink.new)
+        (behind_last_glyph row pen.old cells.now.cells).ops }
     ensures pen { OnOk result (pen.new ≡ (behind_last_glyph row pen.old cells.now.cells).pen) }
-    ensures some { RefusedOnlyIfSome result (bytes_of_all (behind_last_glyph row pen.old cells.now.cells).ops) }
 {
     if pen.is_at(row, cells.cols()) {
         return Ok(());

@@ -5,6 +5,7 @@ ghost use Rattle.vt_cells.specs.Attrs.{default_attrs};
 ghost use Rattle.vt_cells.specs.Cell.{attrs_of};
 ghost use Rattle.vt_cells.specs.Op.{bytes_of_all};
 ghost use Rattle.vt_cells.specs.BufferInternals.{gathered};
+ghost use Rattle.vt_redraw.specs.Internals.{AppendsOrStops, GathersOrStops};
 ghost use Rattle.vt_redraw.specs.Refusals.{RefusedOnlyIfSome};
 ghost use Rattle.vt_redraw.specs.Script.{attr_ops, move_ops, is_at, pen_at};
 
@@ -50,9 +51,8 @@ impl Pen {
     /// Moves to a position, and writes the move.
     #[inline]
     pub fn move_to<S: Sink>(&mut self, sink: &mut S, to: Pos) -> Result<(), S::Error>
-        ensures text { OnOk result (S.text sink.new ≡ S.text sink.old ++ bytes_of_all (move_ops self.old to.row to.col)) }
+        ensures ops { AppendsOrStops result (S.text sink.old) (S.text sink.new) (move_ops self.old to.row to.col) }
         ensures pen { OnOk result (self.new ≡ pen_at to.row to.col self.old.attrs) }
-        ensures some { RefusedOnlyIfSome result (bytes_of_all (move_ops self.old to.row to.col)) }
     {
         if self.is_at(to.row, to.col) {
             return Ok(());
@@ -64,9 +64,8 @@ impl Pen {
     #[inline(never)]
     #[tactic(auto, unfolding(crate::specs::Script::move_ops))]
     fn jump<S: Sink>(&mut self, sink: &mut S, to: Pos) -> Result<(), S::Error>
-        ensures text { OnOk result (S.text sink.new ≡ S.text sink.old ++ bytes_of_all (move_ops self.old to.row to.col)) }
+        ensures ops { AppendsOrStops result (S.text sink.old) (S.text sink.new) (move_ops self.old to.row to.col) }
         ensures pen { OnOk result (self.new ≡ pen_at to.row to.col self.old.attrs) }
-        ensures some { RefusedOnlyIfSome result (bytes_of_all (move_ops self.old to.row to.col)) }
     {
         let from = Pos {
             row: self.row,
@@ -81,9 +80,8 @@ impl Pen {
     /// Takes other attributes, and writes the change.
     #[inline]
     pub fn change_attrs<S: Sink>(&mut self, sink: &mut S, new: Attrs) -> Result<(), S::Error>
-        ensures text { OnOk result (S.text sink.new ≡ S.text sink.old ++ bytes_of_all (attr_ops self.old.attrs new)) }
+        ensures ops { AppendsOrStops result (S.text sink.old) (S.text sink.new) (attr_ops self.old.attrs new) }
         ensures pen { OnOk result (self.new ≡ pen_at self.old.row self.old.col new) }
-        ensures some { RefusedOnlyIfSome result (bytes_of_all (attr_ops self.old.attrs new)) }
     {
         if self.attrs.is_same(&new) {
             return Ok(());
@@ -101,11 +99,9 @@ impl Pen {
         buffer: &mut Buffer,
         to: Pos,
     ) -> Result<(), S::Error>
-        ensures text { OnOk result (gathered (S.text sink.new) buffer.new
-            ≡ gathered (S.text sink.old) buffer.old ++ bytes_of_all (move_ops self.old to.row to.col)) }
+        ensures gathers { GathersOrStops result
+            (S.text sink.old) buffer.old (S.text sink.new) buffer.new (move_ops self.old to.row to.col) }
         ensures pen { OnOk result (self.new ≡ pen_at to.row to.col self.old.attrs) }
-        ensures grows { OnOk result (length (S.text sink.old) ≤ length (S.text sink.new)) }
-        ensures some { RefusedOnlyIfSome result (buffer.old ++ bytes_of_all (move_ops self.old to.row to.col)) }
     {
         if self.is_at(to.row, to.col) {
             return Ok(());
@@ -122,11 +118,9 @@ impl Pen {
         buffer: &mut Buffer,
         to: Pos,
     ) -> Result<(), S::Error>
-        ensures text { OnOk result (gathered (S.text sink.new) buffer.new
-            ≡ gathered (S.text sink.old) buffer.old ++ bytes_of_all (move_ops self.old to.row to.col)) }
+        ensures gathers { GathersOrStops result
+            (S.text sink.old) buffer.old (S.text sink.new) buffer.new (move_ops self.old to.row to.col) }
         ensures pen { OnOk result (self.new ≡ pen_at to.row to.col self.old.attrs) }
-        ensures grows { OnOk result (length (S.text sink.old) ≤ length (S.text sink.new)) }
-        ensures some { RefusedOnlyIfSome result (buffer.old ++ bytes_of_all (move_ops self.old to.row to.col)) }
     {
         buffer.flush(sink)?;
         self.jump(sink, to)
@@ -177,8 +171,7 @@ fn add_change<S: Sink>(
 #[inline(never)]
 #[tactic(auto, using(crate::proofs::Writing::change_written))]
 pub fn write_change<S: Sink>(sink: &mut S, was: Attrs, new: Attrs) -> Result<(), S::Error>
-    ensures text { OnOk result (S.text sink.new ≡ S.text sink.old ++ bytes_of_all (attr_ops was new)) }
-    ensures some { RefusedOnlyIfSome result (bytes_of_all (attr_ops was new)) }
+    ensures { AppendsOrStops result (S.text sink.old) (S.text sink.new) (attr_ops was new) }
 {
     ChangeAttrs { was, new }.write_buf(sink)
 }

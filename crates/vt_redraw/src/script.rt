@@ -1,8 +1,8 @@
 //! The rows of a picture, from the top, and the whole script.
 
-ghost use Rattle.std.specs.Prelude.{◌≡◌, ◌++◌, ◌+◌, ◌<◌, IfOk, OnOk};
+ghost use Rattle.std.specs.Prelude.{◌≡◌, ◌+◌, ◌<◌, IfOk, OnOk};
 ghost use Rattle.vt_cells.specs.Op.{bytes_of_all};
-ghost use Rattle.vt_redraw.specs.Internals.{IsRowOver, Writes, row_behind};
+ghost use Rattle.vt_redraw.specs.Internals.{AppendsOrStops, IsRowOver, Writes, row_behind};
 ghost use Rattle.vt_redraw.specs.Picture.{SamePictureSize};
 ghost use Rattle.vt_redraw.specs.Refusals.{RefusedOnlyIfSome};
 ghost use Rattle.vt_redraw.specs.Redraw.{row_written, rows_written, script};
@@ -72,10 +72,9 @@ fn write_rows<S: Sink>(
     prev: &View<'_>,
 ) -> Result<(), S::Error>
     requires size { SamePictureSize view.now prev.now }
-    ensures text { OnOk result
-        (S.text sink.new ≡ S.text sink.old ++ bytes_of_all (rows_written pen.old view.now.rows prev.now.rows).ops) }
+    ensures ops { AppendsOrStops result (S.text sink.old) (S.text sink.new)
+        (rows_written pen.old view.now.rows prev.now.rows).ops }
     ensures pen { OnOk result (pen.new ≡ (rows_written pen.old view.now.rows prev.now.rows).pen) }
-    ensures some { RefusedOnlyIfSome result (bytes_of_all (rows_written pen.old view.now.rows prev.now.rows).ops) }
 {
     let last = view.rows() - 1;
     let mut above = view.row(0);
@@ -98,8 +97,7 @@ fn write_rows<S: Sink>(
 #[tactic(auto, unfolding(crate::specs::Redraw::script))]
 pub fn write_script<S: Sink>(sink: &mut S, view: &View<'_>, prev: &View<'_>) -> Result<(), S::Error>
     requires size { SamePictureSize view.now prev.now }
-    ensures text { OnOk result (S.text sink.new ≡ S.text sink.old ++ bytes_of_all (script view.now prev.now)) }
-    ensures some { RefusedOnlyIfSome result (bytes_of_all (script view.now prev.now)) }
+    ensures { AppendsOrStops result (S.text sink.old) (S.text sink.new) (script view.now prev.now) }
 {
     let mut pen = prev.pen();
     write_rows(sink, &mut pen, view, prev)?;

@@ -33,7 +33,7 @@ returns g c =
     let blank = ap is_blank (sym c.cell-cell.ensures) ∙ (sym c.is_blank.ensures ∙ c.if-not-is_blank.false) in
     let same = c.attrs-attrs.ensures ∙ ap attrs_of c.cell-cell.ensures in
     let behind = gathers_behind _ _ _ _ _ _ _
-    c.in_ok-flush.ensures.text c.in_ok-flush.ensures.empty c.in_ok-write_run.ensures.run in
+    c.in_ok-flush.ensures.text c.in_ok-flush.ensures.empty c.in_ok-write_run.ensures.ops in
     record {
       leads =
           next_run c.args.pos.row c.args.pos.col c.run-count.result c.args.pen.now c.write_run.new.pen
@@ -107,5 +107,5 @@ returns-in_err-write_run g c =
           c.requires.range.inside c.requires.other
           (ap is_blank (sym c.cell-cell.ensures) ∙ (sym c.is_blank.ensures ∙ c.if-not-is_blank.false))
           (c.attrs-attrs.ensures ∙ ap attrs_of c.cell-cell.ensures) c.run-count.ensures.value refl refl refl)
-          c.in_err-write_run.ensures.run.some));
+          c.in_err-write_run.ensures.ops.some));
     }

@@ -40,7 +40,8 @@ returns-clause-writes g c =
     record {
       bytes =
           c.in_ok-flush.ensures.text
-          ∙ leads_text (gathered (text l.sink) l.buffer) (text c.args.sink.now) (cells_from row l.col l.pen l.flag xs ys)
+          ∙ leads_text (gathered (text l.sink) l.buffer) (text c.args.sink.now)
+          (cells_from row l.col l.pen l.flag xs ys)
           (cells_from row c.args.pos.col c.args.pen.now c.args.flag.now xs ys) l.pen l.flag none l.invariant.0;
       stands = ap (λ w. w.pen) (sym none) ∙ l.invariant.0.pen;
       goes_on = ap (λ w. w.flag) (sym none) ∙ l.invariant.0.flag;

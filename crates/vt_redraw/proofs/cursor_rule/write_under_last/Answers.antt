@@ -25,8 +25,9 @@ returns g c =
       text =
           on_ok_weaker c.write_feeds.result
           (λ fed. under_last_text c.args.pen c.write_last.new.pen c.args.found c.args.row c.row.result.cells
-          (text c.args.sink.now) (text c.write_last.new.sink) (text c.write_change.new.sink) (text c.write_feeds.new.sink)
-          c.in_ok-write_last.ensures.text c.in_ok-write_last.ensures.pen c.in_ok-write_change.ensures.text fed
+          (text c.args.sink.now) (text c.write_last.new.sink)
+          (text c.write_change.new.sink) (text c.write_feeds.new.sink)
+          c.in_ok-write_last.ensures.ops.text c.in_ok-write_last.ensures.pen c.in_ok-write_change.ensures.text fed
           ∙ ap (λ (z : RowValue). text c.args.sink.now
           ++ bytes_of_all (under_last c.args.pen c.args.found c.args.row z.cells)) c.row.ensures.value)
           c.write_feeds.ensures.text;

@@ -23,7 +23,8 @@ returns g c =
     let xs = c.args.cells.now.cells in
     let ys = c.blank-over.result.cells in
     let rest = cells_from r link.settled c.write_first.new.pen link.flag xs ys in
-    let wrote : (end : List ℕ) → end ≡ mid ++ bytes_of_all rest.ops → end ≡ start ++ bytes_of_all (linked_item r xs).ops =
+    let wrote : (end : List ℕ) → end ≡ mid ++ bytes_of_all rest.ops →
+    end ≡ start ++ bytes_of_all (linked_item r xs).ops =
     λ end. linked_wrote r xs ys (pen_at r 0 c.new.result) c.write_first.new.pen link start mid end
     (ap (λ (z : RowValue). z.cells) c.blank-over.ensures ∙ ap (blanks default_attrs) c.cols.ensures)
     (ap (λ (a : Attrs). pen_at r 0 a) c.new.ensures) c.in_ok-link.ensures.links in

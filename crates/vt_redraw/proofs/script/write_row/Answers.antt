@@ -11,8 +11,8 @@ returns-clause-writes g c =
     let text = g.S.Sink.text in
     row_writes c.args.row c.args.link.settled c.args.pen.now c.write_cells.new.pen c.write_break.new.pen
     c.args.link.flag c.write_cells.new.flag c.in_ok-on.on c.args.cells.now c.args.over.now.cells
-    (text c.args.sink.now) (text c.write_cells.new.sink) (text c.write_break.new.sink) c.in_ok-write_cells.ensures.writes.bytes
-    c.in_ok-write_cells.ensures.writes.stands c.in_ok-write_cells.ensures.writes.goes_on c.in_ok-on.ensures.writes
+    (text c.args.sink.now) (text c.write_cells.new.sink) (text c.write_break.new.sink)
+    c.in_ok-write_cells.ensures.writes.bytes c.in_ok-write_cells.ensures.writes.stands c.in_ok-write_cells.ensures.writes.goes_on c.in_ok-on.ensures.writes
 
 pub returns-in_err-write_cells-clause-some : goal.returns-in_err-write_cells-clause-some
 returns-in_err-write_cells-clause-some g c =
