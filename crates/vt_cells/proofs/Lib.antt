@@ -1,4 +1,4 @@
-pub mod Pieces
+pub mod Buffers
 pub mod Changes
 pub mod ChangeTexts
 pub mod Texts

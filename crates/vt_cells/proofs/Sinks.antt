@@ -4,7 +4,7 @@ use Rattle.std.proofs.Common.{refl, sym, subst, ap, ◌∙◌, arith, append_ass
 use Rattle.std.specs.Result.{OnErr}
 use Rattle.std.specs.declared.result.Result.{Result}
 use Rattle.std.specs.declared.result.Result.TheVariants.{Ok, Err}
-use Rattle.vt_cells.specs.PieceInternals.{gathered}
+use Rattle.vt_cells.specs.BufferInternals.{gathered}
 use Rattle.vt_cells.specs.Sinks.{IsStopped}
 
 -- what holds anyway holds after an error
@@ -63,48 +63,48 @@ stopped_in refuses old mid text rest whole after e le stopped =
     }
 
 -- it stopped behind what was gathered, in the first of two texts
-pub stopped_before : (refuses : List ℕ → List ℕ → List ℕ → Type 0) (before piece text rest after : List ℕ)
-    → IsStopped refuses before (piece ++ text) after → IsStopped refuses before (piece ++ (text ++ rest)) after
-stopped_before refuses before piece text rest after stopped =
-    stopped_in refuses before before (piece ++ text) rest (piece ++ (text ++ rest)) after
-    (ap (λ (xs : List ℕ). before ++ xs) (append_assoc piece text rest)) (omega arith) stopped
+pub stopped_before : (refuses : List ℕ → List ℕ → List ℕ → Type 0) (before buffer text rest after : List ℕ)
+    → IsStopped refuses before (buffer ++ text) after → IsStopped refuses before (buffer ++ (text ++ rest)) after
+stopped_before refuses before buffer text rest after stopped =
+    stopped_in refuses before before (buffer ++ text) rest (buffer ++ (text ++ rest)) after
+    (ap (λ (xs : List ℕ). before ++ xs) (append_assoc buffer text rest)) (omega arith) stopped
 
 -- or in the second, after the first was gathered
-pub stopped_behind : (refuses : List ℕ → List ℕ → List ℕ → Type 0) (old mid was piece text more after : List ℕ)
-    → gathered mid piece ≡ gathered old was ++ text → length old ≤ length mid
-    → IsStopped refuses mid (piece ++ more) after → IsStopped refuses old (was ++ (text ++ more)) after
+pub stopped_behind : (refuses : List ℕ → List ℕ → List ℕ → Type 0) (old mid was buffer text more after : List ℕ)
+    → gathered mid buffer ≡ gathered old was ++ text → length old ≤ length mid
+    → IsStopped refuses mid (buffer ++ more) after → IsStopped refuses old (was ++ (text ++ more)) after
 unfolding gathered
-stopped_behind refuses old mid was piece text more after e le stopped =
-    stopped_in refuses old mid (piece ++ more) [] (was ++ (text ++ more)) after
-    (ap (λ (xs : List ℕ). mid ++ xs) (append-nil (piece ++ more))
-    ∙ sym (append_assoc mid piece more)
+stopped_behind refuses old mid was buffer text more after e le stopped =
+    stopped_in refuses old mid (buffer ++ more) [] (was ++ (text ++ more)) after
+    (ap (λ (xs : List ℕ). mid ++ xs) (append-nil (buffer ++ more))
+    ∙ sym (append_assoc mid buffer more)
     ∙ ap (λ (xs : List ℕ). xs ++ more) (e ∙ append_assoc old was text)
     ∙ append_assoc old (was ++ text) more
     ∙ ap (λ (xs : List ℕ). old ++ xs) (append_assoc was text more))
     le stopped
 
 -- or among many texts, of which those before are gathered
-pub stopped_among : (refuses : List ℕ → List ℕ → List ℕ → Type 0) (old mid piece text rest whole after : List ℕ)
-    → gathered mid piece ++ (text ++ rest) ≡ old ++ whole → length old ≤ length mid
-    → IsStopped refuses mid (piece ++ text) after → IsStopped refuses old whole after
+pub stopped_among : (refuses : List ℕ → List ℕ → List ℕ → Type 0) (old mid buffer text rest whole after : List ℕ)
+    → gathered mid buffer ++ (text ++ rest) ≡ old ++ whole → length old ≤ length mid
+    → IsStopped refuses mid (buffer ++ text) after → IsStopped refuses old whole after
 unfolding gathered
-stopped_among refuses old mid piece text rest whole after e le stopped =
-    stopped_in refuses old mid (piece ++ text) rest whole after
-    (ap (λ (xs : List ℕ). mid ++ xs) (append_assoc piece text rest)
-    ∙ sym (append_assoc mid piece (text ++ rest)) ∙ e)
+stopped_among refuses old mid buffer text rest whole after e le stopped =
+    stopped_in refuses old mid (buffer ++ text) rest whole after
+    (ap (λ (xs : List ℕ). mid ++ xs) (append_assoc buffer text rest)
+    ∙ sym (append_assoc mid buffer (text ++ rest)) ∙ e)
     le stopped
 
 -- a text is not empty if a part of it isn't
-pub some_among : (old mid piece text rest whole : List ℕ)
-    → gathered mid piece ++ (text ++ rest) ≡ old ++ whole → length old ≤ length mid
-    → 0 < length piece + length text → 0 < length whole
+pub some_among : (old mid buffer text rest whole : List ℕ)
+    → gathered mid buffer ++ (text ++ rest) ≡ old ++ whole → length old ≤ length mid
+    → 0 < length buffer + length text → 0 < length whole
 unfolding gathered
-some_among old mid piece text rest whole e le some =
-    let wrote = length-append (mid ++ piece) (text ++ rest) in
-    let first = length-append mid piece in
+some_among old mid buffer text rest whole e le some =
+    let wrote = length-append (mid ++ buffer) (text ++ rest) in
+    let first = length-append mid buffer in
     let more = length-append text rest in
     let all = length-append old whole in
-    let same : length ((mid ++ piece) ++ (text ++ rest)) ≡ length (old ++ whole) = ap (λ (xs : List ℕ). length xs) e in
+    let same : length ((mid ++ buffer) ++ (text ++ rest)) ≡ length (old ++ whole) = ap (λ (xs : List ℕ). length xs) e in
     omega arith
 
 -- or at a text behind one that it took

@@ -1,5 +1,6 @@
 pub mod Attrs
 pub mod AttrsInternals
+pub mod BufferInternals
 pub mod Cell
 pub mod CellEq
 pub mod CellInternals
@@ -9,6 +10,5 @@ pub mod ErrorText
 pub mod Glyph
 pub mod InputModes
 pub mod Op
-pub mod PieceInternals
 pub mod Refusals
 pub mod Sinks

@@ -3,13 +3,13 @@
 #![tactic(auto)]
 
 pub mod attrs;
+pub mod buffer;
 pub mod cell;
 pub mod color;
 pub mod error;
 mod head;
 pub mod modes;
 mod packed_color;
-pub mod piece;
 pub mod pos;
 pub mod runs;
 mod shape;
@@ -18,11 +18,11 @@ pub mod term;
 pub mod width;
 
 pub use attrs::{Attrs, Intensity};
+pub use buffer::Buffer;
 pub use cell::{Cell, MARK_LIMIT};
 pub use color::Color;
 pub use error::Error;
 pub use modes::{CursorStyle, MouseProtocolEncoding, MouseProtocolMode};
-pub use piece::Piece;
 pub use pos::Pos;
 pub use sink::Sink;
 pub use width::columns;

@@ -2,14 +2,17 @@
 use Rattle.std.proofs.Common.{◌≡◌, ℕ, ◌-◌, ◌<◌, ◌≤◌, Bool, true, false, List, [], ◌∷◌, ◌++◌}
 use Rattle.std.proofs.Common.{length, refl, sym, subst, ap, arith}
 use Rattle.std.proofs.Common.{append-nil, append_assoc, length-append, replicate, ◌∙◌}
+use Rattle.std.specs.Prelude.{Result}
 use Rattle.std.proofs.lemmas.List.Concat.{flat_map-append}
+use Rattle.std.proofs.lemmas.Result.{on_err_weaker, on_ok_weaker}
+use Rattle.vt_cells.proofs.Buffers.{nothing_gathered}
 use Rattle.vt_cells.proofs.Sinks.{some_among}
 use Rattle.vt_cells.specs.Op.{Op, LineFeed, bytes_of, bytes_of_all}
-use Rattle.vt_cells.specs.PieceInternals.{gathered}
+use Rattle.vt_cells.specs.BufferInternals.{gathered}
 use Rattle.vt_cells.specs.Cell.{CellValue}
 use Rattle.vt_rows.specs.Row.{RowValue}
 use Rattle.vt_redraw.specs.Items.{is_whole, item_of_difference, range_written}
-use Rattle.vt_redraw.specs.Internals.{Leads, Links, Writes, cells_from, mark_of}
+use Rattle.vt_redraw.specs.Internals.{AppendsOrStops, GathersOrStops, Leads, Links, Writes, cells_from, mark_of}
 use Rattle.vt_redraw.specs.Redraw.{row_written, under_last}
 use Rattle.vt_redraw.specs.Script.{Linked, Scripted, row_break, cells_written, attr_ops, behind_last_glyph}
 use Rattle.vt_redraw.specs.declared.links.Link.{Link}
@@ -45,17 +48,18 @@ grown before more after e =
     let same : length after ≡ length (before ++ more) = ap (λ (xs : List ℕ). length xs) e in
     omega arith
 
-pub grown_gathered : (before piece after : List ℕ) → after ≡ gathered before piece → length before ≤ length after
+pub grown_gathered : (before buffer after : List ℕ) → after ≡ gathered before buffer → length before ≤ length after
 unfolding gathered
-grown_gathered before piece after e = grown before piece after e
+grown_gathered before buffer after e = grown before buffer after e
 
 -- what was still to be written isn't empty, so the whole isn't
-pub leads_some : (old mid piece : List ℕ) (rest whole : Scripted) → Leads (gathered mid piece) rest old whole →
-    length old ≤ length mid → 0 < length (piece ++ bytes_of_all rest.ops) → 0 < length (bytes_of_all whole.ops)
-leads_some old mid piece rest whole leads le some =
-    let size = length-append piece (bytes_of_all rest.ops) in
-    some_among old mid piece (bytes_of_all rest.ops) [] (bytes_of_all whole.ops)
-    (ap (λ (xs : List ℕ). gathered mid piece ++ xs) (append-nil (bytes_of_all rest.ops)) ∙ leads.bytes) le (omega arith)
+pub leads_some : (old mid buffer : List ℕ) (rest whole : Scripted) → Leads (gathered mid buffer) rest old whole →
+    length old ≤ length mid → 0 < length (buffer ++ bytes_of_all rest.ops) → 0 < length (bytes_of_all whole.ops)
+leads_some old mid buffer rest whole leads le some =
+    let size = length-append buffer (bytes_of_all rest.ops) in
+    some_among old mid buffer (bytes_of_all rest.ops) [] (bytes_of_all whole.ops)
+    (ap (λ (xs : List ℕ). gathered mid buffer ++ xs) (append-nil (bytes_of_all rest.ops)) ∙ leads.bytes) le
+    (omega arith)
 
 -- the same with nothing gathered
 pub rest_some : (old mid : List ℕ) (rest whole : Scripted) → Leads mid rest old whole →
@@ -84,18 +88,30 @@ pub start_some : (first : List ℕ) (rest whole : Scripted) → Leads first rest
 start_some first rest whole leads some =
     subst (λ (xs : List ℕ). 0 < length xs) leads.bytes (some_first first (bytes_of_all rest.ops) some)
 
-pub piece_some : (piece xs ys : List ℕ) → (0 < length xs → 0 < length ys) →
-    0 < length (piece ++ xs) → 0 < length (piece ++ ys)
-piece_some [] xs ys more some = more some
-piece_some (x ∷ piece) xs ys more some = omega arith
+pub buffer_some : (buffer xs ys : List ℕ) → (0 < length xs → 0 < length ys) →
+    0 < length (buffer ++ xs) → 0 < length (buffer ++ ys)
+buffer_some [] xs ys more some = more some
+buffer_some (x ∷ buffer) xs ys more some = omega arith
 
 -- what was gathered is written before a text
-pub grown_behind : (before piece mid more after : List ℕ) → mid ≡ gathered before piece → after ≡ mid ++ more →
+pub grown_behind : (before buffer mid more after : List ℕ) → mid ≡ gathered before buffer → after ≡ mid ++ more →
     length before ≤ length after
-grown_behind before piece mid more after e f =
-    let first = grown_gathered before piece mid e in
+grown_behind before buffer mid more after e f =
+    let first = grown_gathered before buffer mid e in
     let then = grown mid more after f in
     omega arith
+
+-- operations that are written behind what was gathered
+pub gathers_behind : {A E : Type 0} (result : Result A E) (start before mid end behind : List ℕ) (ops : List Op) →
+    mid ≡ gathered start before → behind ≡ [] → AppendsOrStops result mid end ops →
+    GathersOrStops result start before end behind ops
+gathers_behind result start before mid end behind ops flushed empty appends = record {
+  text =
+      on_ok_weaker result (λ more. ap (λ (xs : List ℕ). gathered end xs) empty
+      ∙ (nothing_gathered end ∙ (more ∙ ap (λ (xs : List ℕ). xs ++ bytes_of_all ops) flushed))) appends.text;
+  grows = on_ok_weaker result (grown_behind start before mid (bytes_of_all ops) end flushed) appends.text;
+  some = on_err_weaker result (some_behind before (bytes_of_all ops)) appends.some;
+}
 
 -- a text behind another one isn't empty
 pub text_behind_some : (old first mid more whole : List ℕ) → mid ≡ old ++ first → mid ++ more ≡ old ++ whole →

@@ -1,15 +1,22 @@
 -- How the code reads pictures, and how far a writer has come; for models, private contracts and proofs only.
-use Rattle.std.specs.Prelude.{◌≡◌, ℕ, ◌+◌, ◌-◌, ◌<◌, ◌≤◌, ◌^◌, ◌==◌, ◌&&◌, ◌||◌, nat_lt, not, Bool, true}
-use Rattle.std.specs.Prelude.{List, [], ◌++◌, length, replicate, drop, All, if◌then◌else◌}
-use Rattle.vt_cells.specs.Attrs.{default_attrs}
+use Rattle.std.specs.Prelude.{◌≡◌, ℕ, ◌+◌, ◌-◌, ◌<◌, ◌≤◌, ◌^◌, ◌==◌, ◌&&◌, ◌||◌, nat_lt, not, Bool, false, true}
+use Rattle.std.specs.Prelude.{List, [], ◌++◌, length, replicate, drop, All, if◌then◌else◌, Result, OnOk, IfOk}
+use Rattle.vt_cells.specs.Attrs.{Attrs, default_attrs}
 use Rattle.vt_cells.specs.Cell.{CellValue, blank, default_blank, is_blank, is_wide, is_right_half, attrs_of}
-use Rattle.vt_cells.specs.Op.{Op, bytes_of_all}
-use Rattle.vt_rows.specs.Cells.{at, ends_blank, resized}
+use Rattle.vt_cells.specs.Cell.{same_cell, text_of}
+use Rattle.vt_cells.specs.Glyph.{glyph_columns}
+use Rattle.vt_cells.specs.Op.{Op, Print, bytes_of_all}
+use Rattle.vt_cells.specs.BufferInternals.{gathered}
+use Rattle.vt_cells.specs.declared.pos.Pos.{Pos}
+use Rattle.vt_rows.specs.Cells.{IsPaired, at, ends_blank, resized}
 use Rattle.vt_rows.specs.Row.{RowValue, IsRow, blank_row}
 use Rattle.vt_grid.specs.Scrollback.{Scrollback, IsScrollback, visible}
 use Rattle.vt_redraw.specs.Picture.{Picture, cut_rows}
-use Rattle.vt_redraw.specs.Script.{Scripted, Linked, cells_written, behind_last_glyph}
-use Rattle.vt_redraw.specs.Redraw.{rows_below}
+use Rattle.vt_redraw.specs.Items.{with_whole_start, with_whole_start_over}
+use Rattle.vt_redraw.specs.Refusals.{RefusedOnlyIfSome}
+use Rattle.vt_redraw.specs.Script.{Scripted, Linked, cells_written, behind_last_glyph, row_break}
+use Rattle.vt_redraw.specs.Script.{erase_run, placed_op}
+use Rattle.vt_redraw.specs.Redraw.{row_written, rows_below}
 use Rattle.vt_redraw.specs.Moved.{rows_moved}
 use Rattle.vt_grid.specs.Page.{row_or}
 use Rattle.vt_redraw.specs.declared.links.Link.{Link}
@@ -45,6 +52,19 @@ pub record IsRange (cells over : List CellValue) : Type 0 where
   pub halves : (k : ℕ) → is_wide (at cells k) ≡ true → k + 1 < length cells → is_right_half (at cells (k + 1)) ≡ true
   pub room : (k : ℕ) → is_wide (at cells k) ≡ true → k + 1 < length over
 
+-- what is asked of the cells of a row, and of those that the reader shows there
+pub record IsRowOver (cells over : List CellValue) : Type 0 where
+  pub some : 0 < length cells
+  pub same : length cells ≡ length over
+  pub paired : IsPaired cells
+
+-- what is asked of the row under row r, with the cells of that one
+pub record IsRowUnder (r : ℕ) (upper cells over : List CellValue) : Type 0 where
+  pub short : r + 1 < 65536
+  pub above : 0 < length upper
+  pub last : IsPaired upper
+  pub row : IsRowOver cells over
+
 -- a row of a picture: cut or grown, and going on below only where it is not the last one
 abbrev pub cut_row : (is_last : Bool) → ℕ → RowValue → RowValue
 cut_row is_last width row = record {
@@ -60,6 +80,13 @@ pub record IsSource (above : Scrollback) (rows : List RowValue) (width : ℕ) (p
   pub height : length rows < 2 ^ 16
   pub row : pen.row < length rows
   pub column : pen.col ≤ width
+
+-- what is asked of rows that are read in these columns: those of a page of this width, with scrollback above it
+pub record IsPageUnder (scrollback : Scrollback) (full : ℕ) (rows : List RowValue) (columns : ℕ) : Type 0 where
+  pub above : IsScrollback scrollback
+  pub page : All (IsRow full) rows
+  pub width : full ≡ columns
+  pub some : 0 < columns
 
 -- a row of a picture over rows in view; past the end a blank one
 abbrev pub row_seen : (is_last : Bool) → ℕ → List RowValue → ℕ → RowValue
@@ -82,19 +109,78 @@ picture_of_source source above rows width pen hidden = record {
   hidden = hidden;
 }
 
+-- how many columns a cell takes that is no right half
+abbrev pub columns_of : CellValue → ℕ
+columns_of x = glyph_columns (is_wide x)
+
+-- a glyph at a position, and a run of blanks in these attributes over a row
+abbrev pub glyph_ops : Pen → Pos → CellValue → List Op
+glyph_ops pen pos x = placed_op pen pos.row pos.col (attrs_of x) (Print (text_of x))
+
+abbrev pub run_ops : Pen → Pos → Attrs → (count : ℕ) → RowValue → List Op
+run_ops pen pos attrs count y = placed_op pen pos.row pos.col attrs (erase_run count (drop (pos.col + count) y.cells))
+
+-- the cell in a column needs nothing: it stands there, or is the right half of a glyph before it
+abbrev pub stands : ℕ → (x y : RowValue) → Bool
+stands c x y = is_right_half (at x.cells c) || same_cell (at x.cells c) (at y.cells c)
+
+-- what is asked of the cell in a column of a range that needs something
+pub record IsOther (c : ℕ) (x y : RowValue) : Type 0 where
+  pub inside : c < length x.cells
+  pub range : IsRange x.cells y.cells
+  pub short : length y.cells < 65536
+  pub other : stands c x y ≡ false
+
 -- the text so far and what is still to write are together a text before and all that was to write then
 pub record Leads (text : List ℕ) (written : Scripted) (start : List ℕ) (whole : Scripted) : Type 0 where
   pub bytes : text ++ bytes_of_all written.ops ≡ start ++ bytes_of_all whole.ops
   pub pen : written.pen ≡ whole.pen
   pub flag : written.flag ≡ whole.flag
 
+-- the same, and the text so far has only grown
+pub record LeadsOn (text : List ℕ) (written : Scripted) (start : List ℕ) (whole : Scripted) : Type 0 where
+  pub leads : Leads text written start whole
+  pub grows : length start ≤ length text
+
 -- what the cells of row r from column c on need over those of another row
 abbrev pub cells_from : (r c : ℕ) → Pen → Bool → (xs ys : List CellValue) → Scripted
 cells_from r c pen flag xs ys = cells_written r c pen flag 0 (drop c xs) (drop c ys)
 
+-- the same for a row from a position on
+abbrev pub cells_over : Pos → Pen → Bool → (x y : RowValue) → Scripted
+cells_over pos pen flag x y = cells_from pos.row pos.col pen flag x.cells y.cells
+
+-- and with a right half at that position as a default blank
+abbrev pub range_over : Pos → Pen → Bool → (x y : RowValue) → Scripted
+range_over pos pen flag x y =
+    cells_written pos.row pos.col pen flag 0 (with_whole_start (drop pos.col x.cells))
+    (with_whole_start_over (drop pos.col x.cells) (drop pos.col y.cells))
+
 -- what the cells need from a column on, they need from a later one on: between them all stands
 pub record Passes (c next : ℕ) (xs ys : List CellValue) : Type 0 where
   pub same : (r : ℕ) (pen : Pen) (flag : Bool) → cells_from r c pen flag xs ys ≡ cells_from r next pen flag xs ys
+
+-- a writer that appends the text of these operations, or stops where a sink refuses that it is appended
+pub record AppendsOrStops {A E : Type 0} (result : Result A E) (start end : List ℕ) (ops : List Op) : Type 0 where
+  pub text : OnOk result (end ≡ start ++ bytes_of_all ops)
+  pub some : RefusedOnlyIfSome result (bytes_of_all ops)
+
+-- the same for one that gathers small texts before it writes them
+pub record GathersOrStops {A E : Type 0} (result : Result A E) (start before end behind : List ℕ)
+    (ops : List Op) : Type 0 where
+  pub text : OnOk result (gathered end behind ≡ gathered start before ++ bytes_of_all ops)
+  pub grows : OnOk result (length start ≤ length end)
+  pub some : RefusedOnlyIfSome result (before ++ bytes_of_all ops)
+
+-- a writer of the cells at a position, as many as it answers, or one that stops where a sink refuses a text of theirs
+pub record SettlesOrStops {E : Type 0} (result : Result ℕ E) (start before end behind : List ℕ)
+    (pen : Pen) (flag : Bool) (pos : Pos) (x y : RowValue) (whole : Scripted) : Type 0 where
+  pub leads : IfOk result (λ n. Leads (gathered end behind)
+      (cells_from pos.row (pos.col + n) pen flag x.cells y.cells) (gathered start before) whole)
+  pub some : IfOk result (λ n. 0 < n)
+  pub inside : IfOk result (λ n. pos.col + n ≤ length y.cells)
+  pub grows : OnOk result (length start ≤ length end)
+  pub refused : RefusedOnlyIfSome result (before ++ bytes_of_all whole.ops)
 
 -- what a link wrote, and what stands after it, is that of the script
 pub record Links (start text : List ℕ) (pen : Pen) (link : Link) (whole : Linked) : Type 0 where
@@ -103,11 +189,21 @@ pub record Links (start text : List ℕ) (pen : Pen) (link : Link) (whole : Link
   pub goes_on : link.flag ≡ whole.flag
   pub done : link.settled ≡ whole.settled
 
+-- a writer of a link, or one that stops where a sink refuses its text
+pub record LinksOrStops {E : Type 0} (result : Result Link E)
+    (start text : List ℕ) (pen : Pen) (whole : Linked) : Type 0 where
+  pub links : IfOk result (λ link. Links start text pen link whole)
+  pub some : RefusedOnlyIfSome result (bytes_of_all whole.ops)
+
 -- what a row wrote is that of the script
 pub record Writes (start text : List ℕ) (pen : Pen) (flag : Bool) (whole : Scripted) : Type 0 where
   pub bytes : text ≡ start ++ bytes_of_all whole.ops
   pub stands : pen ≡ whole.pen
   pub goes_on : flag ≡ whole.flag
+
+-- what a row needs behind its link
+abbrev pub row_behind : ℕ → Link → Pen → (x y : RowValue) → Scripted
+row_behind r link pen x y = row_written r link.settled pen link.flag x y.cells
 
 -- what the rows below row r need
 abbrev pub rows_under : (r width : ℕ) → Pen → Bool → (xs ys : List RowValue) → Scripted
@@ -116,3 +212,13 @@ rows_under r width pen on xs ys = rows_below r pen (row_or width xs r) on (drop 
 -- the operations by which a whole row is made to go on below
 abbrev pub mark_of : ℕ → Pen → (flag wanted : Bool) → List CellValue → List Op
 mark_of r pen flag wanted cells = if wanted && not flag then (behind_last_glyph r pen cells).ops else []
+
+-- the break behind a row
+abbrev pub break_of : ℕ → Pen → Bool → RowValue → Scripted
+break_of r pen flag x = row_break r pen flag x.wrapped x.cells
+
+-- the operations that a whole row needs behind its cells: the break, or the last glyph again
+abbrev pub end_ops : ℕ → Pen → Bool → RowValue → List Op
+end_ops r pen flag x =
+    (break_of r pen flag x).ops
+    ++ mark_of r (break_of r pen flag x).pen (break_of r pen flag x).flag x.wrapped x.cells

@@ -4,6 +4,7 @@ use Rattle.std.specs.Prelude.{◌≡◌, ℕ, zero, suc, ◌-◌, ◌==◌, ◌&
 use Rattle.std.specs.Prelude.{List, [], ◌∷◌, ◌++◌, length, take, drop, if◌then◌else◌}
 use Rattle.vt_cells.specs.Attrs.{default_attrs}
 use Rattle.vt_cells.specs.Cell.{CellValue, blank, glyph, right_half, default_blank, is_right_half}
+use Rattle.vt_cells.specs.Op.{bytes_of_all}
 use Rattle.vt_rows.specs.Cells.{at, blanks}
 use Rattle.vt_rows.specs.Row.{RowValue}
 use Rattle.vt_grid.specs.Canvas.{Canvas}
@@ -72,6 +73,15 @@ abbrev pub item_of_redraw : (r start stop : ℕ) → (linked : Bool) → RowValu
 item_of_redraw r start stop linked x =
     if is_whole start stop (length x.cells) && linked then linked_item r x.cells
     else range_written r start stop false x.cells (blanks default_attrs (length x.cells))
+
+-- the texts of these items, of row r of a picture
+abbrev pub changed_row_text : (r start stop : ℕ) → (self prev : Picture) → List ℕ
+changed_row_text r start stop self prev =
+    bytes_of_all (item_of_difference r start stop (row_or self.width self.rows r) (row_or self.width prev.rows r)).ops
+
+abbrev pub formatted_row_text : (r start stop : ℕ) → Picture → List ℕ
+formatted_row_text r start stop self =
+    bytes_of_all (item_of_redraw r start stop (is_linked self.width self.rows r) (row_or self.width self.rows r)).ops
 
 -- ---- items that are drawn
 

@@ -1,25 +1,23 @@
 //! What the cells of a row need over those that the reader shows.
 
-ghost use Rattle.std.specs.Prelude.{◌≡◌, ◌++◌, ◌+◌, ◌-◌, ◌<◌, ◌≤◌, ◌==◌, ◌||◌};
-ghost use Rattle.std.specs.Prelude.{false, [], ◌∷◌, IfOk, OnOk, drop, length};
-ghost use Rattle.vt_cells.specs.Cell.{attrs_of, is_right_half, is_wide, same_cell, text_of};
-ghost use Rattle.vt_cells.specs.Op.{Print, bytes_of, bytes_of_all};
-ghost use Rattle.vt_cells.specs.PieceInternals.{gathered};
-ghost use Rattle.vt_rows.specs.Cells.{at};
-ghost use Rattle.vt_redraw.specs.Internals.{IsRange, Leads, Passes, cells_from};
-ghost use Rattle.vt_cells.specs.Glyph.{glyph_columns};
+ghost use Rattle.std.specs.Prelude.{◌≡◌, ◌++◌, ◌+◌, ◌<◌, ◌≤◌};
+ghost use Rattle.std.specs.Prelude.{false, OnOk, drop, length};
+ghost use Rattle.vt_cells.specs.Cell.{attrs_of};
+ghost use Rattle.vt_cells.specs.Op.{bytes_of, bytes_of_all};
+ghost use Rattle.vt_redraw.specs.Internals.{AppendsOrStops, GathersOrStops, IsOther, IsRange, Passes, Writes};
+ghost use Rattle.vt_redraw.specs.Internals.{SettlesOrStops, cells_over, columns_of, glyph_ops, run_ops, stands};
 ghost use Rattle.vt_redraw.specs.Refusals.{RefusedOnlyIfSome};
-ghost use Rattle.vt_redraw.specs.Script.{placed_op, erase_run, flag_behind, flag_past, pen_at};
+ghost use Rattle.vt_redraw.specs.Script.{erase_run, flag_behind, flag_past, pen_at};
 
 use crate::pen::Pen;
 use crate::picture_row::PictureRow;
 use vt_cells::term::{BufWrite, ClearRowForward, EraseChar};
-use vt_cells::{Attrs, Cell, Piece, Pos, Sink, cell};
+use vt_cells::{Attrs, Buffer, Cell, Pos, Sink, cell};
 
 /// How many columns a glyph takes.
 #[inline]
 pub fn columns(cell: &Cell) -> u16
-    ensures { result ≡ glyph_columns (is_wide cell.now) }
+    ensures { result ≡ columns_of cell.now }
 {
     if cell.is_wide() { 2 } else { 1 }
 }
@@ -38,12 +36,8 @@ pub fn write_text<S: Sink>(sink: &mut S, text: &str) -> Result<(), S::Error>
 /// Writes a glyph at a position; where the pen is then is left to the caller.
 #[inline]
 pub fn print_at<S: Sink>(sink: &mut S, pen: &mut Pen, pos: Pos, cell: &Cell) -> Result<(), S::Error>
-    ensures text { OnOk result (S.text sink.new
-        ≡ S.text sink.old
-        ++ bytes_of_all (placed_op pen.old pos.row pos.col (attrs_of cell.now) (Print (text_of cell.now)))) }
+    ensures ops { AppendsOrStops result (S.text sink.old) (S.text sink.new) (glyph_ops pen.old pos cell.now) }
     ensures pen { OnOk result (pen.new ≡ pen_at pos.row pos.col (attrs_of cell.now)) }
-    ensures some { RefusedOnlyIfSome result
-        (bytes_of_all (placed_op pen.old pos.row pos.col (attrs_of cell.now) (Print (text_of cell.now)))) }
 {
     pen.move_to(sink, pos)?;
     pen.change_attrs(sink, cell::attrs(cell))?;
@@ -54,44 +48,35 @@ pub fn print_at<S: Sink>(sink: &mut S, pen: &mut Pen, pos: Pos, cell: &Cell) -> 
 #[inline]
 fn gather_at<S: Sink>(
     sink: &mut S,
-    piece: &mut Piece,
+    buffer: &mut Buffer,
     pen: &mut Pen,
     pos: Pos,
     cell: &Cell,
 ) -> Result<(), S::Error>
-    ensures text { OnOk result (gathered (S.text sink.new) piece.new
-        ≡ gathered (S.text sink.old) piece.old
-        ++ bytes_of_all (placed_op pen.old pos.row pos.col (attrs_of cell.now) (Print (text_of cell.now)))) }
+    ensures gathers { GathersOrStops result
+        (S.text sink.old) buffer.old (S.text sink.new) buffer.new (glyph_ops pen.old pos cell.now) }
     ensures pen { OnOk result (pen.new ≡ pen_at pos.row pos.col (attrs_of cell.now)) }
-    ensures grows { OnOk result (length (S.text sink.old) ≤ length (S.text sink.new)) }
-    ensures some { RefusedOnlyIfSome result (piece.old
-        ++ bytes_of_all (placed_op pen.old pos.row pos.col (attrs_of cell.now) (Print (text_of cell.now)))) }
 {
-    pen.move_behind(sink, piece, pos)?;
-    pen.draw_as(sink, piece, cell)?;
-    piece.add(sink, cell.contents())
+    pen.move_behind(sink, buffer, pos)?;
+    pen.draw_as(sink, buffer, cell)?;
+    buffer.add(sink, cell.contents())
 }
 
 /// Gathers a glyph at a position; the pen ends up behind it.
 #[inline]
 fn gather_glyph<S: Sink>(
     sink: &mut S,
-    piece: &mut Piece,
+    buffer: &mut Buffer,
     pen: &mut Pen,
     pos: Pos,
     cell: &Cell,
 ) -> Result<(), S::Error>
-    requires { pos.col + glyph_columns (is_wide cell.now) < 65536 }
-    ensures text { OnOk result (gathered (S.text sink.new) piece.new
-        ≡ gathered (S.text sink.old) piece.old
-        ++ bytes_of_all (placed_op pen.old pos.row pos.col (attrs_of cell.now) (Print (text_of cell.now)))) }
-    ensures pen { OnOk result
-        (pen.new ≡ pen_at pos.row (pos.col + glyph_columns (is_wide cell.now)) (attrs_of cell.now)) }
-    ensures grows { OnOk result (length (S.text sink.old) ≤ length (S.text sink.new)) }
-    ensures some { RefusedOnlyIfSome result (piece.old
-        ++ bytes_of_all (placed_op pen.old pos.row pos.col (attrs_of cell.now) (Print (text_of cell.now)))) }
+    requires { pos.col + columns_of cell.now < 65536 }
+    ensures gathers { GathersOrStops result
+        (S.text sink.old) buffer.old (S.text sink.new) buffer.new (glyph_ops pen.old pos cell.now) }
+    ensures pen { OnOk result (pen.new ≡ pen_at pos.row (pos.col + columns_of cell.now) (attrs_of cell.now)) }
 {
-    gather_at(sink, piece, pen, pos, cell)?;
+    gather_at(sink, buffer, pen, pos, cell)?;
     pen.col = pos.col + columns(cell);
     Ok(())
 }
@@ -127,44 +112,13 @@ pub fn write_run<S: Sink>(
 ) -> Result<(), S::Error>
     requires inside { pos.col + count ≤ length over.now.cells }
     requires short { pos.col + count < 65536 }
-    ensures text { OnOk result (S.text sink.new
-        ≡ S.text sink.old
-        ++ bytes_of_all
-        (placed_op pen.old pos.row pos.col attrs (erase_run count (drop (pos.col + count) over.now.cells)))) }
+    ensures ops { AppendsOrStops result (S.text sink.old) (S.text sink.new) (run_ops pen.old pos attrs count over.now) }
     ensures pen { OnOk result (pen.new ≡ pen_at pos.row pos.col attrs) }
-    ensures some { RefusedOnlyIfSome result (bytes_of_all
-        (placed_op pen.old pos.row pos.col attrs (erase_run count (drop (pos.col + count) over.now.cells)))) }
 {
     pen.move_to(sink, pos)?;
     pen.change_attrs(sink, attrs)?;
     let end = pos.col + count;
     write_erase(sink, count, end, over)
-}
-
-/// The same behind what was gathered, which is written before.
-#[tactic(auto, using(vt_cells::proofs::Pieces::nothing_gathered))]
-fn write_run_behind<S: Sink>(
-    sink: &mut S,
-    piece: &mut Piece,
-    pen: &mut Pen,
-    pos: Pos,
-    attrs: Attrs,
-    count: u16,
-    over: &PictureRow<'_>,
-) -> Result<(), S::Error>
-    requires inside { pos.col + count ≤ length over.now.cells }
-    requires short { pos.col + count < 65536 }
-    ensures text { OnOk result (gathered (S.text sink.new) piece.new
-        ≡ gathered (S.text sink.old) piece.old
-        ++ bytes_of_all
-        (placed_op pen.old pos.row pos.col attrs (erase_run count (drop (pos.col + count) over.now.cells)))) }
-    ensures pen { OnOk result (pen.new ≡ pen_at pos.row pos.col attrs) }
-    ensures grows { OnOk result (length (S.text sink.old) ≤ length (S.text sink.new)) }
-    ensures some { RefusedOnlyIfSome result (piece.old ++ bytes_of_all
-        (placed_op pen.old pos.row pos.col attrs (erase_run count (drop (pos.col + count) over.now.cells)))) }
-{
-    piece.flush(sink)?;
-    write_run(sink, pen, pos, attrs, count, over)
 }
 
 /// Whether the reader's row still goes on below after a glyph in front of this
@@ -193,8 +147,7 @@ pub fn flag_past(flag: bool, over: &PictureRow<'_>, col: u16) -> bool
 fn stands(cells: &PictureRow<'_>, over: &PictureRow<'_>, col: u16) -> bool
     requires inside { col < length cells.now.cells }
     requires over { length cells.now.cells ≤ length over.now.cells }
-    ensures { result
-        ≡ (is_right_half (at cells.now.cells col) || same_cell (at cells.now.cells col) (at over.now.cells col)) }
+    ensures { result ≡ stands col cells.now over.now }
 {
     let cell = cells.cell(col);
     *cell == *over.cell(col) || cell.is_wide_continuation()
@@ -209,9 +162,7 @@ fn pass(cells: &PictureRow<'_>, over: &PictureRow<'_>, col: u16, stop: usize) ->
     requires range { IsRange cells.now.cells over.now.cells }
     ensures order { col ≤ result }
     ensures passed { Passes col result cells.now.cells over.now.cells }
-    ensures other { result < stop →
-        (is_right_half (at cells.now.cells result) || same_cell (at cells.now.cells result) (at over.now.cells result))
-        ≡ false }
+    ensures other { result < stop → stands result cells.now over.now ≡ false }
 {
     let mut next = col;
     while usize::from(next) < stop && stands(cells, over, next) {
@@ -239,9 +190,7 @@ fn next_other(cells: &PictureRow<'_>, over: &PictureRow<'_>, col: u16) -> u16
     requires range { IsRange cells.now.cells over.now.cells }
     ensures order { col ≤ result }
     ensures passed { Passes col result cells.now.cells over.now.cells }
-    ensures other { result < length cells.now.cells →
-        (is_right_half (at cells.now.cells result) || same_cell (at cells.now.cells result) (at over.now.cells result))
-        ≡ false }
+    ensures other { result < length cells.now.cells → stands result cells.now over.now ≡ false }
 {
     let cols = usize::from(cells.cols());
     let own = cells.own_len();
@@ -252,42 +201,32 @@ fn next_other(cells: &PictureRow<'_>, over: &PictureRow<'_>, col: u16) -> u16
 }
 
 /// Gathers the cell at a position, a glyph, or writes a run of blanks that
-/// begins there. Answers how many columns this settles.
+/// begins there, behind what was gathered. Answers how many columns this
+/// settles.
 fn write_next<S: Sink>(
     sink: &mut S,
-    piece: &mut Piece,
+    buffer: &mut Buffer,
     pen: &mut Pen,
     flag: &mut bool,
     pos: Pos,
     cells: &PictureRow<'_>,
     over: &PictureRow<'_>,
 ) -> Result<u16, S::Error>
-    requires inside { pos.col < length cells.now.cells }
-    requires range { IsRange cells.now.cells over.now.cells }
-    requires short { length over.now.cells < 65536 }
-    requires other { (is_right_half (at cells.now.cells pos.col)
-        || same_cell (at cells.now.cells pos.col) (at over.now.cells pos.col))
-        ≡ false }
-    ensures leads { IfOk result (λ n. Leads (gathered (S.text sink.new) piece.new)
-        (cells_from pos.row (pos.col + n) pen.new flag.new cells.now.cells over.now.cells)
-        (gathered (S.text sink.old) piece.old)
-        (cells_from pos.row pos.col pen.old flag.old cells.now.cells over.now.cells)) }
-    ensures some { IfOk result (λ n. 0 < n) }
-    ensures inside { IfOk result (λ n. pos.col + n ≤ length over.now.cells) }
-    ensures grows { OnOk result (length (S.text sink.old) ≤ length (S.text sink.new)) }
-    ensures refused { RefusedOnlyIfSome result (piece.old ++ bytes_of_all
-        (cells_from pos.row pos.col pen.old flag.old cells.now.cells over.now.cells).ops) }
+    requires { IsOther pos.col cells.now over.now }
+    ensures { SettlesOrStops result (S.text sink.old) buffer.old (S.text sink.new) buffer.new
+        pen.new flag.new pos cells.now over.now (cells_over pos pen.old flag.old cells.now over.now) }
 {
     let cell = cells.cell(pos.col);
     if !cell::is_blank(cell) {
         let count = columns(cell);
-        gather_glyph(sink, piece, pen, pos, cell)?;
+        gather_glyph(sink, buffer, pen, pos, cell)?;
         *flag = flag_behind(*flag, cell.is_wide(), over, pos.col + count);
         return Ok(count);
     }
     let attrs = cell::attrs(cell);
     let count = cells.run(pos.col, attrs);
-    write_run_behind(sink, piece, pen, pos, attrs, count, over)?;
+    buffer.flush(sink)?;
+    write_run(sink, pen, pos, attrs, count, over)?;
     *flag = flag_past(*flag, over, pos.col + count);
     Ok(count)
 }
@@ -303,15 +242,9 @@ pub fn write_cells<S: Sink>(
     over: &PictureRow<'_>,
 ) -> Result<(), S::Error>
     requires range { IsRange cells.now.cells over.now.cells }
-    ensures text { OnOk result (S.text sink.new
-        ≡ S.text sink.old
-        ++ bytes_of_all (cells_from pos.row pos.col pen.old flag.old cells.now.cells over.now.cells).ops) }
-    ensures pen { OnOk result
-        (pen.new ≡ (cells_from pos.row pos.col pen.old flag.old cells.now.cells over.now.cells).pen) }
-    ensures flag { OnOk result
-        (flag.new ≡ (cells_from pos.row pos.col pen.old flag.old cells.now.cells over.now.cells).flag) }
-    ensures some { RefusedOnlyIfSome result (bytes_of_all
-        (cells_from pos.row pos.col pen.old flag.old cells.now.cells over.now.cells).ops) }
+    ensures writes { OnOk result (Writes (S.text sink.old) (S.text sink.new) pen.new flag.new
+        (cells_over pos pen.old flag.old cells.now over.now)) }
+    ensures some { RefusedOnlyIfSome result (bytes_of_all (cells_over pos pen.old flag.old cells.now over.now).ops) }
 {
     let Pos { row, col } = pos;
     let first = next_other(cells, over, col);
@@ -323,7 +256,7 @@ pub fn write_cells<S: Sink>(
 
 /// The same for cells of which some need something. Glyphs that follow one
 /// another are gathered, and written together.
-#[tactic(auto, using(vt_cells::proofs::Pieces::nothing_gathered))]
+#[tactic(auto, using(vt_cells::proofs::Buffers::nothing_gathered))]
 fn write_others<S: Sink>(
     sink: &mut S,
     pen: &mut Pen,
@@ -333,27 +266,21 @@ fn write_others<S: Sink>(
     over: &PictureRow<'_>,
 ) -> Result<(), S::Error>
     requires range { IsRange cells.now.cells over.now.cells }
-    ensures text { OnOk result (S.text sink.new
-        ≡ S.text sink.old
-        ++ bytes_of_all (cells_from pos.row pos.col pen.old flag.old cells.now.cells over.now.cells).ops) }
-    ensures pen { OnOk result
-        (pen.new ≡ (cells_from pos.row pos.col pen.old flag.old cells.now.cells over.now.cells).pen) }
-    ensures flag { OnOk result
-        (flag.new ≡ (cells_from pos.row pos.col pen.old flag.old cells.now.cells over.now.cells).flag) }
-    ensures some { RefusedOnlyIfSome result (bytes_of_all
-        (cells_from pos.row pos.col pen.old flag.old cells.now.cells over.now.cells).ops) }
+    ensures writes { OnOk result (Writes (S.text sink.old) (S.text sink.new) pen.new flag.new
+        (cells_over pos pen.old flag.old cells.now over.now)) }
+    ensures some { RefusedOnlyIfSome result (bytes_of_all (cells_over pos pen.old flag.old cells.now over.now).ops) }
 {
     let cols = cells.cols().min(over.cols());
-    let mut piece = Piece::new();
+    let mut buffer = Buffer::new();
     let mut col = pos.col;
     while col < cols {
         if stands(cells, over, col) {
             col = next_other(cells, over, col + 1);
         } else {
             let next = Pos { row: pos.row, col };
-            col += write_next(sink, &mut piece, pen, flag, next, cells, over)?;
+            col += write_next(sink, &mut buffer, pen, flag, next, cells, over)?;
         }
     }
-    piece.flush(sink)?;
+    buffer.flush(sink)?;
     Ok(())
 }

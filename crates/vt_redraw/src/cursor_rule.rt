@@ -1,14 +1,13 @@
 //! Where the reader's cursor goes: to a position, or to a wrap that is pending.
 
-ghost use Rattle.std.specs.Prelude.{◌≡◌, ◌++◌, ◌+◌, ◌-◌, ◌<◌, ◌≤◌, [], ◌∷◌, None};
+ghost use Rattle.std.specs.Prelude.{◌≡◌, ◌++◌, ◌+◌, ◌-◌, ◌<◌, ◌≤◌, None};
 ghost use Rattle.std.specs.Prelude.{OnOk, IfSome, Some, length, replicate};
-ghost use Rattle.vt_cells.specs.Attrs.{default_attrs};
-ghost use Rattle.vt_cells.specs.Cell.{attrs_of, text_of};
+ghost use Rattle.vt_cells.specs.Cell.{attrs_of};
 ghost use Rattle.vt_cells.specs.Op.{bytes_of_all};
 ghost use Rattle.vt_cells.specs.Op as op;
 ghost use Rattle.vt_rows.specs.Cells.{at};
 ghost use Rattle.vt_grid.specs.Page.{row_or};
-ghost use Rattle.vt_redraw.specs.Refusals.{RefusedOnlyIfSome};
+ghost use Rattle.vt_redraw.specs.Internals.{AppendsOrStops};
 ghost use Rattle.vt_redraw.specs.Redraw.{blank_passed, cursor_written, nearest, over_blank};
 ghost use Rattle.vt_redraw.specs.Redraw.{cursor_alone, pending_alone, pending_at, under_last};
 
@@ -36,8 +35,7 @@ pub fn nearest(view: &View<'_>, row: u16) -> Option<u16>
 
 /// Writes a number of line feeds.
 pub fn write_feeds<S: Sink>(sink: &mut S, count: u16) -> Result<(), S::Error>
-    ensures text { OnOk result (S.text sink.new ≡ S.text sink.old ++ bytes_of_all (replicate count op.LineFeed)) }
-    ensures some { RefusedOnlyIfSome result (bytes_of_all (replicate count op.LineFeed)) }
+    ensures { AppendsOrStops result (S.text sink.old) (S.text sink.new) (replicate count op.LineFeed) }
 {
     for _ in 0..count {
         LineFeed.write_buf(sink)?;
@@ -71,11 +69,8 @@ fn write_under_last<S: Sink>(
 ) -> Result<(), S::Error>
     requires above { found ≤ row }
     requires inside { row < length view.now.rows }
-    ensures text { OnOk result (S.text sink.new
-        ≡ S.text sink.old
-        ++ bytes_of_all (under_last pen found row (row_or view.now.width view.now.rows found).cells)) }
-    ensures some { RefusedOnlyIfSome result
-        (bytes_of_all (under_last pen found row (row_or view.now.width view.now.rows found).cells)) }
+    ensures { AppendsOrStops result (S.text sink.old) (S.text sink.new)
+        (under_last pen found row (row_or view.now.width view.now.rows found).cells) }
 {
     let mut last = pen;
     write_last(sink, &mut last, found, &view.row(found))?;
@@ -92,12 +87,8 @@ fn write_over_blank<S: Sink>(
     row: u16,
 ) -> Result<(), S::Error>
     requires { row < length view.now.rows }
-    ensures text { OnOk result (S.text sink.new
-        ≡ S.text sink.old
-        ++ bytes_of_all (over_blank pen row view.now.width
-        (attrs_of (at (row_or view.now.width view.now.rows row).cells (view.now.width - 1))))) }
-    ensures some { RefusedOnlyIfSome result (bytes_of_all (over_blank pen row view.now.width
-        (attrs_of (at (row_or view.now.width view.now.rows row).cells (view.now.width - 1))))) }
+    ensures { AppendsOrStops result (S.text sink.old) (S.text sink.new) (over_blank pen row view.now.width
+        (attrs_of (at (row_or view.now.width view.now.rows row).cells (view.now.width - 1)))) }
 {
     let col = view.cols() - 1;
     let attrs = cell::attrs(view.row(row).cell(col));
@@ -109,11 +100,8 @@ fn write_over_blank<S: Sink>(
 /// Has a wrap pending at the end of row `row`.
 fn write_pending<S: Sink>(sink: &mut S, pen: Pen, view: &View<'_>, row: u16) -> Result<(), S::Error>
     requires { row < length view.now.rows }
-    ensures text { OnOk result (S.text sink.new
-        ≡ S.text sink.old
-        ++ bytes_of_all (pending_at (nearest view.now.width view.now.rows row) pen view.now.width view.now.rows row)) }
-    ensures some { RefusedOnlyIfSome result (bytes_of_all
-        (pending_at (nearest view.now.width view.now.rows row) pen view.now.width view.now.rows row)) }
+    ensures { AppendsOrStops result (S.text sink.old) (S.text sink.new)
+        (pending_at (nearest view.now.width view.now.rows row) pen view.now.width view.now.rows row) }
 {
     match nearest(view, row) {
         Some(found) => write_under_last(sink, pen, view, found, row),
@@ -124,11 +112,8 @@ fn write_pending<S: Sink>(sink: &mut S, pen: Pen, view: &View<'_>, row: u16) -> 
 /// Brings the cursor to where the picture has it; the pen's attributes stay.
 #[tactic(auto, unfolding(crate::specs::Redraw::cursor_written))]
 pub fn write_cursor<S: Sink>(sink: &mut S, pen: Pen, view: &View<'_>) -> Result<(), S::Error>
-    ensures text { OnOk result (S.text sink.new
-        ≡ S.text sink.old
-        ++ bytes_of_all (cursor_written pen view.now.width view.now.rows view.now.row view.now.column)) }
-    ensures some { RefusedOnlyIfSome result
-        (bytes_of_all (cursor_written pen view.now.width view.now.rows view.now.row view.now.column)) }
+    ensures { AppendsOrStops result (S.text sink.old) (S.text sink.new)
+        (cursor_written pen view.now.width view.now.rows view.now.row view.now.column) }
 {
     let Pen { row, col, .. } = view.pen();
     if pen.is_at(row, col) {

@@ -3,18 +3,16 @@
 //! attributes.
 
 ghost use Rattle.std.specs.Prelude.{◌≡◌, ◌++◌, ◌+◌, ◌-◌, ◌<◌, ◌≤◌, ◌==◌, ◌&&◌, false};
-ghost use Rattle.std.specs.Prelude.{IfOk, OnOk, drop, length, nat_lt, take};
+ghost use Rattle.std.specs.Prelude.{IfOk, OnOk, length};
 ghost use Rattle.vt_cells.specs.Attrs.{default_attrs};
-ghost use Rattle.vt_cells.specs.Cell.{is_right_half};
 ghost use Rattle.vt_cells.specs.Op.{bytes_of_all};
 ghost use Rattle.vt_rows.specs.Cells.{IsPaired, blanks};
-ghost use Rattle.vt_grid.specs.Page.{row_or};
-ghost use Rattle.vt_redraw.specs.Items.{with_whole_start, with_whole_start_over, is_linked, is_whole, item_of_difference};
-ghost use Rattle.vt_redraw.specs.Items.{item_of_redraw, linked_item, range_written};
-ghost use Rattle.vt_redraw.specs.Internals.{IsRange, Leads, cells_from, mark_of};
+ghost use Rattle.vt_redraw.specs.Items.{changed_row_text, formatted_row_text, is_linked, is_whole, linked_item};
+ghost use Rattle.vt_redraw.specs.Items.{range_written};
+ghost use Rattle.vt_redraw.specs.Internals.{AppendsOrStops, IsRange, LeadsOn, Writes, cells_from, end_ops, mark_of};
+ghost use Rattle.vt_redraw.specs.Internals.{range_over};
 ghost use Rattle.vt_redraw.specs.Picture.{SamePictureSize};
 ghost use Rattle.vt_redraw.specs.Refusals.{RefusedOnlyIfSome};
-ghost use Rattle.vt_redraw.specs.Script.{ops_then, row_break, cells_written, pen_at};
 
 use crate::cells::{flag_past, write_cells, write_run};
 use crate::links::{write_break, write_first, write_last};
@@ -35,14 +33,9 @@ fn write_begin<S: Sink>(
     over: &PictureRow<'_>,
 ) -> Result<u16, S::Error>
     requires range { IsRange cells.now.cells over.now.cells }
-    ensures leads { IfOk result (λ col. Leads (S.text sink.new)
-        (cells_from pos.row col pen.new flag.new cells.now.cells over.now.cells) (S.text sink.old)
-        (cells_written pos.row pos.col pen.old flag.old 0 (with_whole_start (drop pos.col cells.now.cells))
-        (with_whole_start_over (drop pos.col cells.now.cells) (drop pos.col over.now.cells)))) }
-    ensures grows { IfOk result (λ _. length (S.text sink.old) ≤ length (S.text sink.new)) }
-    ensures some { RefusedOnlyIfSome result (bytes_of_all
-        (cells_written pos.row pos.col pen.old flag.old 0 (with_whole_start (drop pos.col cells.now.cells))
-        (with_whole_start_over (drop pos.col cells.now.cells) (drop pos.col over.now.cells))).ops) }
+    ensures leads { IfOk result (λ col. LeadsOn (S.text sink.new) (cells_from pos.row col pen.new flag.new
+        cells.now.cells over.now.cells) (S.text sink.old) (range_over pos pen.old flag.old cells.now over.now)) }
+    ensures some { RefusedOnlyIfSome result (bytes_of_all (range_over pos pen.old flag.old cells.now over.now).ops) }
 {
     let Pos { row: _, col } = pos;
     if col >= cells.cols().min(over.cols()) {
@@ -72,19 +65,9 @@ fn write_range<S: Sink>(
     over: &PictureRow<'_>,
 ) -> Result<(), S::Error>
     requires range { IsRange cells.now.cells over.now.cells }
-    ensures text { OnOk result (S.text sink.new
-        ≡ S.text sink.old
-        ++ bytes_of_all (cells_written pos.row pos.col pen.old flag.old 0 (with_whole_start (drop pos.col cells.now.cells))
-        (with_whole_start_over (drop pos.col cells.now.cells) (drop pos.col over.now.cells))).ops) }
-    ensures pen { OnOk result (pen.new
-        ≡ (cells_written pos.row pos.col pen.old flag.old 0 (with_whole_start (drop pos.col cells.now.cells))
-        (with_whole_start_over (drop pos.col cells.now.cells) (drop pos.col over.now.cells))).pen) }
-    ensures flag { OnOk result (flag.new
-        ≡ (cells_written pos.row pos.col pen.old flag.old 0 (with_whole_start (drop pos.col cells.now.cells))
-        (with_whole_start_over (drop pos.col cells.now.cells) (drop pos.col over.now.cells))).flag) }
-    ensures some { RefusedOnlyIfSome result (bytes_of_all
-        (cells_written pos.row pos.col pen.old flag.old 0 (with_whole_start (drop pos.col cells.now.cells))
-        (with_whole_start_over (drop pos.col cells.now.cells) (drop pos.col over.now.cells))).ops) }
+    ensures writes { OnOk result (Writes (S.text sink.old) (S.text sink.new) pen.new flag.new
+        (range_over pos pen.old flag.old cells.now over.now)) }
+    ensures some { RefusedOnlyIfSome result (bytes_of_all (range_over pos pen.old flag.old cells.now over.now).ops) }
 {
     let row = pos.row;
     let col = write_begin(sink, pen, flag, pos, cells, over)?;
@@ -102,10 +85,8 @@ fn write_mark<S: Sink>(
 ) -> Result<(), S::Error>
     requires some { 0 < length cells.now.cells }
     requires paired { IsPaired cells.now.cells }
-    ensures text { OnOk result (S.text sink.new
-        ≡ S.text sink.old ++ bytes_of_all (mark_of row pen.old flag cells.now.wrapped cells.now.cells)) }
-    ensures some { RefusedOnlyIfSome result
-        (bytes_of_all (mark_of row pen.old flag cells.now.wrapped cells.now.cells)) }
+    ensures { AppendsOrStops result (S.text sink.old) (S.text sink.new)
+        (mark_of row pen.old flag cells.now.wrapped cells.now.cells) }
 {
     if flag {
         return Ok(());
@@ -127,15 +108,7 @@ fn write_end<S: Sink>(
 ) -> Result<(), S::Error>
     requires some { 0 < length cells.now.cells }
     requires paired { IsPaired cells.now.cells }
-    ensures text { OnOk result (S.text sink.new
-        ≡ S.text sink.old
-        ++ bytes_of_all ((row_break row pen.old flag cells.now.wrapped cells.now.cells).ops
-        ++ mark_of row (row_break row pen.old flag cells.now.wrapped cells.now.cells).pen
-        (row_break row pen.old flag cells.now.wrapped cells.now.cells).flag cells.now.wrapped cells.now.cells)) }
-    ensures some { RefusedOnlyIfSome result
-        (bytes_of_all ((row_break row pen.old flag cells.now.wrapped cells.now.cells).ops
-        ++ mark_of row (row_break row pen.old flag cells.now.wrapped cells.now.cells).pen
-        (row_break row pen.old flag cells.now.wrapped cells.now.cells).flag cells.now.wrapped cells.now.cells)) }
+    ensures { AppendsOrStops result (S.text sink.old) (S.text sink.new) (end_ops row pen.old flag cells.now) }
 {
     let on = write_break(sink, pen, row, flag, cells)?;
     write_mark(sink, pen, row, on, cells)
@@ -160,12 +133,9 @@ pub fn write_row_diff<S: Sink>(
     requires inside { row < length view.now.rows }
     requires order { start ≤ stop }
     requires stop { stop ≤ view.now.width }
-    ensures text { OnOk result (S.text sink.new
-        ≡ S.text sink.old
-        ++ bytes_of_all (item_of_difference row start stop
-        (row_or view.now.width view.now.rows row) (row_or view.now.width prev.now.rows row)).ops) }
-    ensures some { RefusedOnlyIfSome result (bytes_of_all (item_of_difference row start stop
-        (row_or view.now.width view.now.rows row) (row_or view.now.width prev.now.rows row)).ops) }
+    ensures text { OnOk result
+        (S.text sink.new ≡ S.text sink.old ++ changed_row_text row start stop view.now prev.now) }
+    ensures some { RefusedOnlyIfSome result (changed_row_text row start stop view.now prev.now) }
 {
     let cells = view.row(row);
     let over = prev.row(row);
@@ -195,9 +165,7 @@ fn is_whole(start: u16, stop: u16, cells: &PictureRow<'_>) -> bool
 fn write_linked<S: Sink>(sink: &mut S, row: u16, cells: &PictureRow<'_>) -> Result<(), S::Error>
     requires some { 0 < length cells.now.cells }
     requires paired { IsPaired cells.now.cells }
-    ensures text { OnOk result
-        (S.text sink.new ≡ S.text sink.old ++ bytes_of_all (linked_item row cells.now.cells).ops) }
-    ensures some { RefusedOnlyIfSome result (bytes_of_all (linked_item row cells.now.cells).ops) }
+    ensures { AppendsOrStops result (S.text sink.old) (S.text sink.new) (linked_item row cells.now.cells).ops }
 {
     let over = PictureRow::blank(cells.cols());
     let mut pen = Pen {
@@ -224,12 +192,8 @@ fn write_over_blanks<S: Sink>(
     requires order { pos.col ≤ stop }
     requires stop { stop ≤ length cells.now.cells }
     requires paired { IsPaired cells.now.cells }
-    ensures text { OnOk result (S.text sink.new
-        ≡ S.text sink.old
-        ++ bytes_of_all (range_written pos.row pos.col stop false
-        cells.now.cells (blanks default_attrs (length cells.now.cells))).ops) }
-    ensures some { RefusedOnlyIfSome result (bytes_of_all (range_written pos.row pos.col stop false
-        cells.now.cells (blanks default_attrs (length cells.now.cells))).ops) }
+    ensures { AppendsOrStops result (S.text sink.old) (S.text sink.new) (range_written pos.row pos.col stop false
+        cells.now.cells (blanks default_attrs (length cells.now.cells))).ops }
 {
     let over = PictureRow::blank(cells.cols());
     let mut pen = Pen {
@@ -273,13 +237,8 @@ pub fn write_row_formatted<S: Sink>(
     requires inside { row < length view.now.rows }
     requires order { start ≤ stop }
     requires stop { stop ≤ view.now.width }
-    ensures text { OnOk result (S.text sink.new
-        ≡ S.text sink.old
-        ++ bytes_of_all (item_of_redraw row start stop (is_linked view.now.width view.now.rows row)
-        (row_or view.now.width view.now.rows row)).ops) }
-    ensures some { RefusedOnlyIfSome result
-        (bytes_of_all (item_of_redraw row start stop (is_linked view.now.width view.now.rows row)
-        (row_or view.now.width view.now.rows row)).ops) }
+    ensures text { OnOk result (S.text sink.new ≡ S.text sink.old ++ formatted_row_text row start stop view.now) }
+    ensures some { RefusedOnlyIfSome result (formatted_row_text row start stop view.now) }
 {
     let cells = view.row(row);
     if needs_link(view, row, start, stop, &cells) {

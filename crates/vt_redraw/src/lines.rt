@@ -8,7 +8,6 @@ ghost use Rattle.vt_redraw.specs.Moved.{lines_inserted_text, moving_text, up_tex
 use crate::band::Band;
 use crate::pen::write_change;
 use crate::view::View;
-use itoa::Buffer;
 use vt_cells::term::{BufWrite, MoveTo};
 use vt_cells::{Attrs, Pos, Sink};
 
@@ -64,7 +63,7 @@ impl BufWrite for InsertLines {
 fn write_decimal<S: Sink>(sink: &mut S, number: u16) -> Result<(), S::Error>
     ensures { OnOk result (S.text sink.new ≡ S.text sink.old ++ decimal number) }
 {
-    let mut buffer = Buffer::new();
+    let mut buffer = itoa::Buffer::new();
     sink.write_str(buffer.format(number))
 }
 

@@ -1,10 +1,10 @@
 //! Links of rows with the rows above them, and breaks between them.
 
-ghost use Rattle.std.specs.Prelude.{◌≡◌, ◌++◌, ◌+◌, ◌<◌, ◌&&◌, ◌||◌, not, nat_le, false, true, IfOk, OnOk, length};
-ghost use Rattle.vt_cells.specs.Cell.{attrs_of, is_blank, is_right_half, text_of};
+ghost use Rattle.std.specs.Prelude.{◌≡◌, ◌+◌, ◌<◌, ◌&&◌, ◌||◌, [], ◌∷◌, not, nat_le, false, true, IfOk, OnOk, length};
+ghost use Rattle.vt_cells.specs.Cell.{is_blank, is_glyph};
 ghost use Rattle.vt_cells.specs.Op.{bytes_of_all};
-ghost use Rattle.vt_rows.specs.Cells.{IsPaired, at};
-ghost use Rattle.vt_redraw.specs.Internals.{Links, Writes};
+ghost use Rattle.vt_rows.specs.Cells.{IsPaired};
+ghost use Rattle.vt_redraw.specs.Internals.{AppendsOrStops, IsRowOver, IsRowUnder, LinksOrStops, Writes, break_of};
 ghost use Rattle.vt_redraw.specs.Redraw.{link_of};
 ghost use Rattle.vt_redraw.specs.Refusals.{RefusedOnlyIfSome};
 ghost use Rattle.vt_redraw.specs.Script.{row_break, first_written, behind_last_glyph, is_at, starts_other};
@@ -36,10 +36,9 @@ pub fn write_last<S: Sink>(
 ) -> Result<(), S::Error>
     requires some { 0 < length cells.now.cells }
     requires paired { IsPaired cells.now.cells }
-    ensures text { OnOk result
-        (S.text sink.new ≡ S.text sink.old ++ bytes_of_all (behind_last_glyph row pen.old cells.now.cells).ops) }
+    ensures ops { AppendsOrStops result (S.text sink.old) (S.text sink.new)
+        (behind_last_glyph row pen.old cells.now.cells).ops }
     ensures pen { OnOk result (pen.new ≡ (behind_last_glyph row pen.old cells.now.cells).pen) }
-    ensures some { RefusedOnlyIfSome result (bytes_of_all (behind_last_glyph row pen.old cells.now.cells).ops) }
 {
     if pen.is_at(row, cells.cols()) {
         return Ok(());
@@ -58,17 +57,12 @@ fn write_first_blank<S: Sink>(
     row: u16,
     flag: bool,
     cell: &Cell,
-    cells: &PictureRow<'_>,
     over: &PictureRow<'_>,
 ) -> Result<Link, S::Error>
-    requires some { 0 < length cells.now.cells }
-    requires same { length cells.now.cells ≡ length over.now.cells }
-    requires first { cell.now ≡ at cells.now.cells 0 }
+    requires over { 0 < length over.now.cells }
     requires blank { is_blank cell.now ≡ true }
-    ensures links { IfOk result (λ link. Links (S.text sink.old) (S.text sink.new) pen.new
-        link (first_written row pen.old flag cells.now.cells over.now.cells)) }
-    ensures some { RefusedOnlyIfSome result
-        (bytes_of_all (first_written row pen.old flag cells.now.cells over.now.cells).ops) }
+    ensures { LinksOrStops result (S.text sink.old) (S.text sink.new) pen.new
+        (first_written row pen.old flag (cell.now ∷ []) over.now.cells) }
 {
     pen.change_attrs(sink, cell::attrs(cell))?;
     sink.write_str(" ")?;
@@ -97,18 +91,12 @@ fn write_first_glyph<S: Sink>(
     row: u16,
     flag: bool,
     cell: &Cell,
-    cells: &PictureRow<'_>,
     over: &PictureRow<'_>,
 ) -> Result<Link, S::Error>
-    requires some { 0 < length cells.now.cells }
-    requires same { length cells.now.cells ≡ length over.now.cells }
-    requires first { cell.now ≡ at cells.now.cells 0 }
-    requires glyph { is_blank cell.now ≡ false }
-    requires begin { is_right_half cell.now ≡ false }
-    ensures links { IfOk result (λ link. Links (S.text sink.old) (S.text sink.new) pen.new
-        link (first_written row pen.old flag cells.now.cells over.now.cells)) }
-    ensures some { RefusedOnlyIfSome result
-        (bytes_of_all (first_written row pen.old flag cells.now.cells over.now.cells).ops) }
+    requires over { 0 < length over.now.cells }
+    requires glyph { is_glyph cell.now ≡ true }
+    ensures { LinksOrStops result (S.text sink.old) (S.text sink.new) pen.new
+        (first_written row pen.old flag (cell.now ∷ []) over.now.cells) }
 {
     pen.change_attrs(sink, cell::attrs(cell))?;
     write_text(sink, cell.contents())?;
@@ -130,22 +118,18 @@ pub fn write_first<S: Sink>(
     cells: &PictureRow<'_>,
     over: &PictureRow<'_>,
 ) -> Result<Link, S::Error>
-    requires some { 0 < length cells.now.cells }
-    requires same { length cells.now.cells ≡ length over.now.cells }
-    requires paired { IsPaired cells.now.cells }
-    ensures links { IfOk result (λ link. Links (S.text sink.old) (S.text sink.new) pen.new
-        link (first_written row pen.old flag cells.now.cells over.now.cells)) }
-    ensures some { RefusedOnlyIfSome result
-        (bytes_of_all (first_written row pen.old flag cells.now.cells over.now.cells).ops) }
+    requires { IsRowOver cells.now.cells over.now.cells }
+    ensures { LinksOrStops result (S.text sink.old) (S.text sink.new) pen.new
+        (first_written row pen.old flag cells.now.cells over.now.cells) }
 {
     let cell = cells.cell(0);
     if cell::is_blank(cell) {
         // For the proof: a value in the tail, so that its clause is found.
-        let link = write_first_blank(sink, pen, row, flag, cell, cells, over)?;
+        let link = write_first_blank(sink, pen, row, flag, cell, over)?;
         return Ok(link);
     }
     // For the proof: a value in the tail, so that its clause is found.
-    let link = write_first_glyph(sink, pen, row, flag, cell, cells, over)?;
+    let link = write_first_glyph(sink, pen, row, flag, cell, over)?;
     Ok(link)
 }
 
@@ -189,16 +173,9 @@ pub fn write_link<S: Sink>(
     cells: &PictureRow<'_>,
     over: &PictureRow<'_>,
 ) -> Result<Link, S::Error>
-    requires short { row + 1 < 65536 }
-    requires above { 0 < length above.now.cells }
-    requires last { IsPaired above.now.cells }
-    requires some { 0 < length cells.now.cells }
-    requires same { length cells.now.cells ≡ length over.now.cells }
-    requires paired { IsPaired cells.now.cells }
-    ensures links { IfOk result (λ link. Links (S.text sink.old) (S.text sink.new)
-        pen.new link (link_of row pen.old above.now on cells.now over.now)) }
-    ensures some { RefusedOnlyIfSome result
-        (bytes_of_all (link_of row pen.old above.now on cells.now over.now).ops) }
+    requires { IsRowUnder row above.now.cells cells.now.cells over.now.cells }
+    ensures { LinksOrStops result (S.text sink.old) (S.text sink.new) pen.new
+        (link_of row pen.old above.now on cells.now over.now) }
 {
     let flag = over.wrapped();
     if !above.wrapped() {
@@ -226,9 +203,8 @@ pub fn write_break<S: Sink>(
     requires some { 0 < length cells.now.cells }
     requires paired { IsPaired cells.now.cells }
     ensures writes { IfOk result (λ on. Writes (S.text sink.old) (S.text sink.new)
-        pen.new on (row_break row pen.old flag cells.now.wrapped cells.now.cells)) }
-    ensures some { RefusedOnlyIfSome result
-        (bytes_of_all (row_break row pen.old flag cells.now.wrapped cells.now.cells).ops) }
+        pen.new on (break_of row pen.old flag cells.now)) }
+    ensures some { RefusedOnlyIfSome result (bytes_of_all (break_of row pen.old flag cells.now).ops) }
 {
     if !flag {
         return Ok(flag);

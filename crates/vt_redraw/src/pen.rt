@@ -4,12 +4,13 @@ ghost use Rattle.std.specs.Prelude.{◌≡◌, ◌≤◌, ◌++◌, OnOk, length
 ghost use Rattle.vt_cells.specs.Attrs.{default_attrs};
 ghost use Rattle.vt_cells.specs.Cell.{attrs_of};
 ghost use Rattle.vt_cells.specs.Op.{bytes_of_all};
-ghost use Rattle.vt_cells.specs.PieceInternals.{gathered};
+ghost use Rattle.vt_cells.specs.BufferInternals.{gathered};
+ghost use Rattle.vt_redraw.specs.Internals.{AppendsOrStops, GathersOrStops};
 ghost use Rattle.vt_redraw.specs.Refusals.{RefusedOnlyIfSome};
 ghost use Rattle.vt_redraw.specs.Script.{attr_ops, move_ops, is_at, pen_at};
 
 use vt_cells::term::{BufWrite, ChangeAttrs, MoveFromTo};
-use vt_cells::{Attrs, Cell, Piece, Pos, Sink, cell};
+use vt_cells::{Attrs, Buffer, Cell, Pos, Sink, cell};
 
 /// Where the reading terminal's cursor is, and what it draws with.
 ///
@@ -50,9 +51,8 @@ impl Pen {
     /// Moves to a position, and writes the move.
     #[inline]
     pub fn move_to<S: Sink>(&mut self, sink: &mut S, to: Pos) -> Result<(), S::Error>
-        ensures text { OnOk result (S.text sink.new ≡ S.text sink.old ++ bytes_of_all (move_ops self.old to.row to.col)) }
+        ensures ops { AppendsOrStops result (S.text sink.old) (S.text sink.new) (move_ops self.old to.row to.col) }
         ensures pen { OnOk result (self.new ≡ pen_at to.row to.col self.old.attrs) }
-        ensures some { RefusedOnlyIfSome result (bytes_of_all (move_ops self.old to.row to.col)) }
     {
         if self.is_at(to.row, to.col) {
             return Ok(());
@@ -64,9 +64,8 @@ impl Pen {
     #[inline(never)]
     #[tactic(auto, unfolding(crate::specs::Script::move_ops))]
     fn jump<S: Sink>(&mut self, sink: &mut S, to: Pos) -> Result<(), S::Error>
-        ensures text { OnOk result (S.text sink.new ≡ S.text sink.old ++ bytes_of_all (move_ops self.old to.row to.col)) }
+        ensures ops { AppendsOrStops result (S.text sink.old) (S.text sink.new) (move_ops self.old to.row to.col) }
         ensures pen { OnOk result (self.new ≡ pen_at to.row to.col self.old.attrs) }
-        ensures some { RefusedOnlyIfSome result (bytes_of_all (move_ops self.old to.row to.col)) }
     {
         let from = Pos {
             row: self.row,
@@ -81,9 +80,8 @@ impl Pen {
     /// Takes other attributes, and writes the change.
     #[inline]
     pub fn change_attrs<S: Sink>(&mut self, sink: &mut S, new: Attrs) -> Result<(), S::Error>
-        ensures text { OnOk result (S.text sink.new ≡ S.text sink.old ++ bytes_of_all (attr_ops self.old.attrs new)) }
+        ensures ops { AppendsOrStops result (S.text sink.old) (S.text sink.new) (attr_ops self.old.attrs new) }
         ensures pen { OnOk result (self.new ≡ pen_at self.old.row self.old.col new) }
-        ensures some { RefusedOnlyIfSome result (bytes_of_all (attr_ops self.old.attrs new)) }
     {
         if self.attrs.is_same(&new) {
             return Ok(());
@@ -98,37 +96,33 @@ impl Pen {
     pub fn move_behind<S: Sink>(
         &mut self,
         sink: &mut S,
-        piece: &mut Piece,
+        buffer: &mut Buffer,
         to: Pos,
     ) -> Result<(), S::Error>
-        ensures text { OnOk result (gathered (S.text sink.new) piece.new
-            ≡ gathered (S.text sink.old) piece.old ++ bytes_of_all (move_ops self.old to.row to.col)) }
+        ensures gathers { GathersOrStops result
+            (S.text sink.old) buffer.old (S.text sink.new) buffer.new (move_ops self.old to.row to.col) }
         ensures pen { OnOk result (self.new ≡ pen_at to.row to.col self.old.attrs) }
-        ensures grows { OnOk result (length (S.text sink.old) ≤ length (S.text sink.new)) }
-        ensures some { RefusedOnlyIfSome result (piece.old ++ bytes_of_all (move_ops self.old to.row to.col)) }
     {
         if self.is_at(to.row, to.col) {
             return Ok(());
         }
-        self.jump_behind(sink, piece, to)
+        self.jump_behind(sink, buffer, to)
     }
 
     /// Moves to another position in the same way.
     #[inline(never)]
-    #[tactic(auto, using(vt_cells::proofs::Pieces::nothing_gathered))]
+    #[tactic(auto, using(vt_cells::proofs::Buffers::nothing_gathered))]
     fn jump_behind<S: Sink>(
         &mut self,
         sink: &mut S,
-        piece: &mut Piece,
+        buffer: &mut Buffer,
         to: Pos,
     ) -> Result<(), S::Error>
-        ensures text { OnOk result (gathered (S.text sink.new) piece.new
-            ≡ gathered (S.text sink.old) piece.old ++ bytes_of_all (move_ops self.old to.row to.col)) }
+        ensures gathers { GathersOrStops result
+            (S.text sink.old) buffer.old (S.text sink.new) buffer.new (move_ops self.old to.row to.col) }
         ensures pen { OnOk result (self.new ≡ pen_at to.row to.col self.old.attrs) }
-        ensures grows { OnOk result (length (S.text sink.old) ≤ length (S.text sink.new)) }
-        ensures some { RefusedOnlyIfSome result (piece.old ++ bytes_of_all (move_ops self.old to.row to.col)) }
     {
-        piece.flush(sink)?;
+        buffer.flush(sink)?;
         self.jump(sink, to)
     }
 
@@ -137,11 +131,11 @@ impl Pen {
     pub fn draw_as<S: Sink>(
         &mut self,
         sink: &mut S,
-        piece: &mut Piece,
+        buffer: &mut Buffer,
         cell: &Cell,
     ) -> Result<(), S::Error>
-        ensures text { OnOk result (gathered (S.text sink.new) piece.new
-            ≡ gathered (S.text sink.old) piece.old ++ bytes_of_all (attr_ops self.old.attrs (attrs_of cell.now))) }
+        ensures text { OnOk result (gathered (S.text sink.new) buffer.new
+            ≡ gathered (S.text sink.old) buffer.old ++ bytes_of_all (attr_ops self.old.attrs (attrs_of cell.now))) }
         ensures pen { OnOk result (self.new ≡ pen_at self.old.row self.old.col (attrs_of cell.now)) }
         ensures grows { OnOk result (length (S.text sink.old) ≤ length (S.text sink.new)) }
         ensures some { RefusedOnlyIfSome result (bytes_of_all (attr_ops self.old.attrs (attrs_of cell.now))) }
@@ -150,7 +144,7 @@ impl Pen {
             return Ok(());
         }
         let new = cell::attrs(cell);
-        add_change(sink, piece, self.attrs, new)?;
+        add_change(sink, buffer, self.attrs, new)?;
         self.attrs = new;
         Ok(())
     }
@@ -161,24 +155,23 @@ impl Pen {
 #[tactic(auto, using(crate::proofs::Writing::change_written))]
 fn add_change<S: Sink>(
     sink: &mut S,
-    piece: &mut Piece,
+    buffer: &mut Buffer,
     was: Attrs,
     new: Attrs,
 ) -> Result<(), S::Error>
-    ensures text { OnOk result (gathered (S.text sink.new) piece.new
-        ≡ gathered (S.text sink.old) piece.old ++ bytes_of_all (attr_ops was new)) }
+    ensures text { OnOk result (gathered (S.text sink.new) buffer.new
+        ≡ gathered (S.text sink.old) buffer.old ++ bytes_of_all (attr_ops was new)) }
     ensures grows { OnOk result (length (S.text sink.old) ≤ length (S.text sink.new)) }
     ensures some { RefusedOnlyIfSome result (bytes_of_all (attr_ops was new)) }
 {
-    ChangeAttrs { was, new }.add(sink, piece)
+    ChangeAttrs { was, new }.add(sink, buffer)
 }
 
 /// Writes a change of attributes.
 #[inline(never)]
 #[tactic(auto, using(crate::proofs::Writing::change_written))]
 pub fn write_change<S: Sink>(sink: &mut S, was: Attrs, new: Attrs) -> Result<(), S::Error>
-    ensures text { OnOk result (S.text sink.new ≡ S.text sink.old ++ bytes_of_all (attr_ops was new)) }
-    ensures some { RefusedOnlyIfSome result (bytes_of_all (attr_ops was new)) }
+    ensures { AppendsOrStops result (S.text sink.old) (S.text sink.new) (attr_ops was new) }
 {
     ChangeAttrs { was, new }.write_buf(sink)
 }

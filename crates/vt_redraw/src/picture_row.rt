@@ -1,11 +1,11 @@
 //! The rows of a picture, read where they lie.
 
 ghost use Rattle.std.specs.Prelude.{◌≡◌, ◌-◌, ◌+◌, ◌<◌, ◌≤◌, ◌&&◌, ◌==◌, ℕ, drop, false};
-ghost use Rattle.std.specs.Prelude.{length, not, replicate, take, if◌then◌else◌};
+ghost use Rattle.std.specs.Prelude.{length, not, take, if◌then◌else◌};
 ghost use Rattle.vt_cells.specs.Attrs.{default_attrs};
-ghost use Rattle.vt_cells.specs.Cell.{attrs_of, blank, default_blank, is_blank, is_right_half, is_wide};
+ghost use Rattle.vt_cells.specs.Cell.{blank, default_blank, is_blank, is_wide};
 ghost use Rattle.vt_rows.specs.Cells.{IsPaired, at, ends_blank, resized};
-ghost use Rattle.vt_rows.specs.Row.{RowValue, blank_row, with_cells};
+ghost use Rattle.vt_rows.specs.Row.{RowValue, blank_row};
 ghost use Rattle.vt_redraw.specs.Internals.{cut_row, cell_past_cut, kept_len};
 ghost use Rattle.vt_redraw.specs.Script.{is_blank_of, is_torn, last_column, blank_run};
 

@@ -1,10 +1,8 @@
 //! The rows of a picture, from the top, and the whole script.
 
-ghost use Rattle.std.specs.Prelude.{◌≡◌, ◌++◌, ◌+◌, ◌<◌, ◌≤◌, IfOk, OnOk, length};
+ghost use Rattle.std.specs.Prelude.{◌≡◌, ◌+◌, ◌<◌, IfOk, OnOk};
 ghost use Rattle.vt_cells.specs.Op.{bytes_of_all};
-ghost use Rattle.vt_rows.specs.Cells.{IsPaired};
-ghost use Rattle.vt_grid.specs.Page.{row_or};
-ghost use Rattle.vt_redraw.specs.Internals.{Leads, Writes, rows_under};
+ghost use Rattle.vt_redraw.specs.Internals.{AppendsOrStops, IsRowOver, Writes, row_behind};
 ghost use Rattle.vt_redraw.specs.Picture.{SamePictureSize};
 ghost use Rattle.vt_redraw.specs.Refusals.{RefusedOnlyIfSome};
 ghost use Rattle.vt_redraw.specs.Redraw.{row_written, rows_written, script};
@@ -28,13 +26,10 @@ fn write_row<S: Sink>(
     cells: &PictureRow<'_>,
     over: &PictureRow<'_>,
 ) -> Result<bool, S::Error>
-    requires some { 0 < length cells.now.cells }
-    requires same { length cells.now.cells ≡ length over.now.cells }
-    requires paired { IsPaired cells.now.cells }
+    requires { IsRowOver cells.now.cells over.now.cells }
     ensures writes { IfOk result (λ on. Writes (S.text sink.old) (S.text sink.new) pen.new on
-        (row_written row link.settled pen.old link.flag cells.now over.now.cells)) }
-    ensures some { RefusedOnlyIfSome result
-        (bytes_of_all (row_written row link.settled pen.old link.flag cells.now over.now.cells).ops) }
+        (row_behind row link pen.old cells.now over.now)) }
+    ensures some { RefusedOnlyIfSome result (bytes_of_all (row_behind row link pen.old cells.now over.now).ops) }
 {
     let mut flag = link.flag;
     let pos = Pos {
@@ -54,9 +49,7 @@ fn write_top<S: Sink>(
     cells: &PictureRow<'_>,
     over: &PictureRow<'_>,
 ) -> Result<bool, S::Error>
-    requires some { 0 < length cells.now.cells }
-    requires same { length cells.now.cells ≡ length over.now.cells }
-    requires paired { IsPaired cells.now.cells }
+    requires { IsRowOver cells.now.cells over.now.cells }
     ensures writes { IfOk result (λ on. Writes (S.text sink.old) (S.text sink.new) pen.new on
         (row_written 0 0 pen.old over.now.wrapped cells.now over.now.cells)) }
     ensures some { RefusedOnlyIfSome result
@@ -79,10 +72,9 @@ fn write_rows<S: Sink>(
     prev: &View<'_>,
 ) -> Result<(), S::Error>
     requires size { SamePictureSize view.now prev.now }
-    ensures text { OnOk result
-        (S.text sink.new ≡ S.text sink.old ++ bytes_of_all (rows_written pen.old view.now.rows prev.now.rows).ops) }
+    ensures ops { AppendsOrStops result (S.text sink.old) (S.text sink.new)
+        (rows_written pen.old view.now.rows prev.now.rows).ops }
     ensures pen { OnOk result (pen.new ≡ (rows_written pen.old view.now.rows prev.now.rows).pen) }
-    ensures some { RefusedOnlyIfSome result (bytes_of_all (rows_written pen.old view.now.rows prev.now.rows).ops) }
 {
     let last = view.rows() - 1;
     let mut above = view.row(0);
@@ -105,8 +97,7 @@ fn write_rows<S: Sink>(
 #[tactic(auto, unfolding(crate::specs::Redraw::script))]
 pub fn write_script<S: Sink>(sink: &mut S, view: &View<'_>, prev: &View<'_>) -> Result<(), S::Error>
     requires size { SamePictureSize view.now prev.now }
-    ensures text { OnOk result (S.text sink.new ≡ S.text sink.old ++ bytes_of_all (script view.now prev.now)) }
-    ensures some { RefusedOnlyIfSome result (bytes_of_all (script view.now prev.now)) }
+    ensures { AppendsOrStops result (S.text sink.old) (S.text sink.new) (script view.now prev.now) }
 {
     let mut pen = prev.pen();
     write_rows(sink, &mut pen, view, prev)?;

@@ -1,10 +1,10 @@
 //! What a screen shows, read where it lies.
 
-ghost use Rattle.std.specs.Prelude.{◌≡◌, ◌<◌, ◌+◌, ◌==◌, All, length};
+ghost use Rattle.std.specs.Prelude.{◌≡◌, ◌<◌, ◌+◌, ◌==◌, length};
 ghost use Rattle.vt_grid.specs.Page.{IsPage, row_or};
 ghost use Rattle.vt_grid.specs.Scrollback.{IsScrollback, visible};
 ghost use Rattle.vt_rows.specs.Row.{IsRow};
-ghost use Rattle.vt_redraw.specs.Internals.{row_seen};
+ghost use Rattle.vt_redraw.specs.Internals.{IsPageUnder, row_seen};
 ghost use Rattle.vt_redraw.specs.Moved.{IsBand, moved, rows_moved};
 ghost use Rattle.vt_redraw.specs.Picture.{IsPicture, cut_rows, picture_over};
 ghost use Rattle.vt_redraw.specs.Redraw.{blank_like, pen_of};
@@ -180,10 +180,7 @@ fn row_seen<'a>(
     row: u16,
     is_last: bool,
 ) -> PictureRow<'a>
-    requires above { IsScrollback above.now }
-    requires page { All (IsRow rows.now.width) rows.now.rows }
-    requires width { rows.now.width ≡ cols }
-    requires some { 0 < cols }
+    requires { IsPageUnder above.now rows.now.width rows.now.rows cols }
     ensures { result ≡ row_seen is_last cols (visible above.now rows.now.rows) row }
 {
     let last = is_last | ends(rows, row);
@@ -208,10 +205,7 @@ fn row_moved<'a>(
     band: Band,
     row: u16,
 ) -> PictureRow<'a>
-    requires above { IsScrollback above.now }
-    requires page { All (IsRow rows.now.width) rows.now.rows }
-    requires width { rows.now.width ≡ cols }
-    requires some { 0 < cols }
+    requires page { IsPageUnder above.now rows.now.width rows.now.rows cols }
     requires inside { row < length rows.now.rows }
     ensures { result ≡ row_or cols (rows_moved cols band (cut_rows cols (visible above.now rows.now.rows))) row }
 {

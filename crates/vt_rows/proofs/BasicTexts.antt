@@ -5,7 +5,7 @@ use Rattle.std.proofs.lemmas.Bool.{cond_both}
 use Rattle.vt_cells.specs.Cell.{CellValue, blank, glyph, right_half, attrs_of, is_default_blank, is_right_half}
 use Rattle.vt_cells.specs.Attrs.{same_attrs, Attrs}
 use Rattle.vt_cells.specs.Op.{change_text}
-use Rattle.vt_cells.specs.PieceInternals.{gathered}
+use Rattle.vt_cells.specs.BufferInternals.{gathered}
 use Rattle.vt_cells.specs.Sinks.{IsStopped}
 use Rattle.vt_cells.proofs.Sinks.{stopped_before, stopped_behind}
 use Rattle.vt_cells.proofs.Same.{attrs_of-same, same_attrs-itself}
@@ -66,21 +66,21 @@ right_keeps attrs cell e = sym (kept_right attrs cell e).0
 pub ruleset attrs_kept = (kept_same, kept_default, kept_right, own)
 
 -- a sink that stopped within the change of attributes before a cell stopped within the cell's text
-pub change_stopped : (refuses : List ℕ → List ℕ → List ℕ → Type 0) (before piece : List ℕ) (attrs new : Attrs)
+pub change_stopped : (refuses : List ℕ → List ℕ → List ℕ → Type 0) (before buffer : List ℕ) (attrs new : Attrs)
     (cell : CellValue) (after : List ℕ) → attrs_after attrs cell ≡ new
-    → IsStopped refuses before (piece ++ change_text attrs new) after
-    → IsStopped refuses before (piece ++ cell_text attrs cell) after
-change_stopped refuses before piece attrs new cell after e stopped =
-    rw e (stopped_before refuses before piece (change_text attrs new) (shown_text cell) after stopped)
+    → IsStopped refuses before (buffer ++ change_text attrs new) after
+    → IsStopped refuses before (buffer ++ cell_text attrs cell) after
+change_stopped refuses before buffer attrs new cell after e stopped =
+    rw e (stopped_before refuses before buffer (change_text attrs new) (shown_text cell) after stopped)
 
 -- and so one that stopped behind that change
-pub shown_stopped : (refuses : List ℕ → List ℕ → List ℕ → Type 0) (old mid was piece : List ℕ) (attrs new : Attrs)
+pub shown_stopped : (refuses : List ℕ → List ℕ → List ℕ → Type 0) (old mid was buffer : List ℕ) (attrs new : Attrs)
     (cell : CellValue) (shown after : List ℕ) → attrs_after attrs cell ≡ new → shown ≡ shown_text cell
-    → gathered mid piece ≡ gathered old was ++ change_text attrs new → length old ≤ length mid
-    → IsStopped refuses mid (piece ++ shown) after
+    → gathered mid buffer ≡ gathered old was ++ change_text attrs new → length old ≤ length mid
+    → IsStopped refuses mid (buffer ++ shown) after
     → IsStopped refuses old (was ++ cell_text attrs cell) after
-shown_stopped refuses old mid was piece attrs new cell shown after e s g le stopped =
-    rw (e, sym s) (stopped_behind refuses old mid was piece (change_text attrs new) shown after g le stopped)
+shown_stopped refuses old mid was buffer attrs new cell shown after e s g le stopped =
+    rw (e, sym s) (stopped_behind refuses old mid was buffer (change_text attrs new) shown after g le stopped)
 
 -- the text of the first cells is that of one, and of those behind it
 pub one_first : (attrs : Attrs) (cells rest : List CellValue) (cell : CellValue) → cells ≡ cell ∷ rest →

@@ -5,7 +5,7 @@ use Rattle.std.specs.Prelude.{length, replicate, slice_set, chars, encode_utf8_a
 use Rattle.vt_cells.specs.Attrs.{Attrs}
 use Rattle.vt_cells.specs.Cell.{CellValue, blank, glyph, right_half, is_wide, is_right_half, attrs_of}
 use Rattle.vt_cells.specs.Op.{change_text}
-use Rattle.vt_cells.specs.PieceInternals.{gathered}
+use Rattle.vt_cells.specs.BufferInternals.{gathered}
 use Rattle.vt_rows.specs.Basic.{attrs_after, shown_text}
 use Rattle.vt_rows.specs.CaptureRows.{ends_row, overflows}
 use Rattle.vt_rows.specs.Cells.{at}

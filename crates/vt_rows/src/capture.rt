@@ -23,7 +23,7 @@ pub use plain::{
 pub use rows::{BasicFormattedRows, basic_formatted_rows};
 use std::marker::Model;
 use vt_cells::term::ChangeAttrs;
-use vt_cells::{Attrs, Cell, Piece, Sink, cell};
+use vt_cells::{Attrs, Buffer, Cell, Sink, cell};
 
 /// The contents of a row: its cells, and whether its text goes on in the row
 /// below. It is as a row of a page is, in its own width.
@@ -160,7 +160,7 @@ fn write_line_end<S: Sink>(sink: &mut S, is_due: bool) -> Result<(), S::Error>
 
 /// Writes cells behind a text in `attrs`, and answers the attributes of the
 /// last text.
-#[tactic(auto, using(vt_cells::proofs::Pieces::nothing_gathered))]
+#[tactic(auto, using(vt_cells::proofs::Buffers::nothing_gathered))]
 fn write_cells<S: Sink>(sink: &mut S, cells: &[Cell], attrs: Attrs) -> Result<Attrs, S::Error>
     ensures text { OnOk result (S.text sink.new ≡ S.text sink.old ++ cells_text attrs cells.now) }
     ensures attrs { IfOk result (λ last. last ≡ attrs_after_all attrs cells.now) }
@@ -168,12 +168,12 @@ fn write_cells<S: Sink>(sink: &mut S, cells: &[Cell], attrs: Attrs) -> Result<At
         (IsStopped S.refuses (S.text sink.old) (cells_text attrs cells.now) (S.text sink.new)) }
     ensures some { OnErr result (0 < length (cells_text attrs cells.now)) }
 {
-    let mut piece = Piece::new();
+    let mut buffer = Buffer::new();
     let mut last = attrs;
     for cell in cells {
-        add_cell(sink, &mut piece, cell, &mut last)?;
+        add_cell(sink, &mut buffer, cell, &mut last)?;
     }
-    piece.flush(sink)?;
+    buffer.flush(sink)?;
     Ok(last)
 }
 
@@ -183,27 +183,27 @@ fn write_cells<S: Sink>(sink: &mut S, cells: &[Cell], attrs: Attrs) -> Result<At
 #[tactic(auto, using(crate::proofs::BasicTexts::right_adds, crate::proofs::BasicTexts::right_keeps))]
 fn add_cell<S: Sink>(
     sink: &mut S,
-    piece: &mut Piece,
+    buffer: &mut Buffer,
     cell: &Cell,
     attrs: &mut Attrs,
 ) -> Result<(), S::Error>
     ensures added { OnOk result
-        (Gathers (S.text sink.old) piece.old (cell_text attrs.old cell.now) (S.text sink.new) piece.new) }
+        (Gathers (S.text sink.old) buffer.old (cell_text attrs.old cell.now) (S.text sink.new) buffer.new) }
     ensures attrs { OnOk result (attrs.new ≡ attrs_after attrs.old cell.now) }
     ensures stopped { OnErr result
-        (IsStopped S.refuses (S.text sink.old) (piece.old ++ cell_text attrs.old cell.now) (S.text sink.new)) }
+        (IsStopped S.refuses (S.text sink.old) (buffer.old ++ cell_text attrs.old cell.now) (S.text sink.new)) }
     ensures some { OnErr result (0 < length (cell_text attrs.old cell.now)) }
 {
     if cell.is_wide_continuation() {
         return Ok(());
     }
     if keeps_attrs(cell, attrs) {
-        return piece.add(sink, shown_text(cell));
+        return buffer.add(sink, shown_text(cell));
     }
     let was = *attrs;
     *attrs = cell::attrs(cell);
-    ChangeAttrs { was, new: *attrs }.add(sink, piece)?;
-    piece.add(sink, shown_text(cell))
+    ChangeAttrs { was, new: *attrs }.add(sink, buffer)?;
+    buffer.add(sink, shown_text(cell))
 }
 
 /// Whether a cell leaves the attributes of the text before it: a default blank

@@ -4,7 +4,7 @@ ghost use Rattle.std.specs.Prelude.{◌≡◌, ◌<◌, ◌≤◌, ◌+◌, ◌+
 ghost use Rattle.vt_rows.specs.Internals.{Gathers, gap_behind, plain_behind, text_behind};
 ghost use Rattle.vt_rows.specs.Plain.{has_glyph, plain_text};
 
-use vt_cells::{Cell, Piece, Sink};
+use vt_cells::{Buffer, Cell, Sink};
 
 /// As many spaces as are written at once.
 const SPACES: &str = "                ";
@@ -59,18 +59,18 @@ fn columns_between(cells: &[Cell], start: usize, stop: usize) -> &[Cell]
 }
 
 /// Writes the text of cells behind `gap` columns without a glyph.
-#[tactic(auto, using(vt_cells::proofs::Pieces::nothing_gathered))]
+#[tactic(auto, using(vt_cells::proofs::Buffers::nothing_gathered))]
 fn write_behind<S: Sink>(sink: &mut S, cells: &[Cell], gap: usize) -> Result<(), S::Error>
     requires { gap + length cells.now ≤ 18446744073709551615 }
     ensures text { OnOk result (S.text sink.new ≡ S.text sink.old ++ plain_behind gap cells.now) }
     ensures some { OnErr result (0 < length (plain_behind gap cells.now)) }
 {
-    let mut piece = Piece::new();
+    let mut buffer = Buffer::new();
     let mut gap = gap;
     for cell in cells {
-        gap = add_cell(sink, &mut piece, cell, gap)?;
+        gap = add_cell(sink, &mut buffer, cell, gap)?;
     }
-    piece.flush(sink)?;
+    buffer.flush(sink)?;
     Ok(())
 }
 
@@ -79,19 +79,19 @@ fn write_behind<S: Sink>(sink: &mut S, cells: &[Cell], gap: usize) -> Result<(),
 #[inline(always)]
 fn add_cell<S: Sink>(
     sink: &mut S,
-    piece: &mut Piece,
+    buffer: &mut Buffer,
     cell: &Cell,
     gap: usize,
 ) -> Result<usize, S::Error>
     requires { gap + 1 ≤ 18446744073709551615 }
     ensures added { OnOk result
-        (Gathers (S.text sink.old) piece.old (text_behind gap cell.now) (S.text sink.new) piece.new) }
+        (Gathers (S.text sink.old) buffer.old (text_behind gap cell.now) (S.text sink.new) buffer.new) }
     ensures gap { IfOk result (λ new. new ≡ gap_behind gap cell.now) }
     ensures some { OnErr result (0 < length (text_behind gap cell.now)) }
 {
     if cell.has_contents() {
-        add_spaces(sink, piece, gap)?;
-        piece.add(sink, cell.contents())?;
+        add_spaces(sink, buffer, gap)?;
+        buffer.add(sink, cell.contents())?;
         Ok(0)
     } else if cell.is_wide_continuation() {
         Ok(gap)
@@ -102,31 +102,31 @@ fn add_cell<S: Sink>(
 
 /// Adds a number of spaces: mostly none.
 #[inline(always)]
-fn add_spaces<S: Sink>(sink: &mut S, piece: &mut Piece, count: usize) -> Result<(), S::Error>
+fn add_spaces<S: Sink>(sink: &mut S, buffer: &mut Buffer, count: usize) -> Result<(), S::Error>
     ensures added { OnOk result
-        (Gathers (S.text sink.old) piece.old (replicate count 0x20) (S.text sink.new) piece.new) }
+        (Gathers (S.text sink.old) buffer.old (replicate count 0x20) (S.text sink.new) buffer.new) }
     ensures some { IsErr result → 0 < count }
 {
     if count == 0 {
         return Ok(());
     }
-    add_gap(sink, piece, count)
+    add_gap(sink, buffer, count)
 }
 
 /// Adds the spaces of a gap.
 #[inline(never)]
-fn add_gap<S: Sink>(sink: &mut S, piece: &mut Piece, count: usize) -> Result<(), S::Error>
+fn add_gap<S: Sink>(sink: &mut S, buffer: &mut Buffer, count: usize) -> Result<(), S::Error>
     ensures added { OnOk result
-        (Gathers (S.text sink.old) piece.old (replicate count 0x20) (S.text sink.new) piece.new) }
+        (Gathers (S.text sink.old) buffer.old (replicate count 0x20) (S.text sink.new) buffer.new) }
     ensures some { IsErr result → 0 < count }
 {
     let mut left = count;
     while left >= SPACES.len() {
-        piece.add(sink, SPACES)?;
+        buffer.add(sink, SPACES)?;
         left -= SPACES.len();
     }
     while left > 0 {
-        piece.add(sink, " ")?;
+        buffer.add(sink, " ")?;
         left -= 1;
     }
     Ok(())

@@ -3,11 +3,11 @@
 ghost use Rattle.std.specs.Prelude.{◌≡◌, ◌++◌, ◌<◌, ◌≤◌, length, OnErr, OnOk};
 ghost use Rattle.vt_cells.specs.Op as op;
 ghost use Rattle.vt_cells.specs.Op.{bytes_of, change_numbers, change_text, csi, joined};
-ghost use Rattle.vt_cells.specs.PieceInternals.{gathered};
+ghost use Rattle.vt_cells.specs.BufferInternals.{gathered};
 ghost use Rattle.vt_cells.specs.Sinks.{IsStopped};
 
 use crate::attrs::Attrs;
-use crate::piece::Piece;
+use crate::buffer::Buffer;
 use crate::sink::Sink;
 use crate::term::BufWrite;
 use crate::term::sgr::ChangeText;
@@ -40,35 +40,35 @@ impl ChangeAttrs {
     /// An error is the sink's own; then part of the text may have been written.
     #[inline]
     #[tactic(auto, unfolding(crate::specs::Op::change_text))]
-    pub fn add<S: Sink>(&self, sink: &mut S, piece: &mut Piece) -> Result<(), S::Error>
-        ensures text { OnOk result (gathered (S.text sink.new) piece.new
-            ≡ gathered (S.text sink.old) piece.old ++ change_text self.now.was self.now.new) }
+    pub fn add<S: Sink>(&self, sink: &mut S, buffer: &mut Buffer) -> Result<(), S::Error>
+        ensures text { OnOk result (gathered (S.text sink.new) buffer.new
+            ≡ gathered (S.text sink.old) buffer.old ++ change_text self.now.was self.now.new) }
         ensures grows { OnOk result (length (S.text sink.old) ≤ length (S.text sink.new)) }
         ensures err { OnErr result (IsStopped S.refuses (S.text sink.old)
-            (piece.old ++ change_text self.now.was self.now.new) (S.text sink.new)) }
+            (buffer.old ++ change_text self.now.was self.now.new) (S.text sink.new)) }
         ensures some { OnErr result (0 < length (change_text self.now.was self.now.new)) }
     {
         if self.was.is_same(&self.new) {
             Ok(())
         } else if self.new.is_same(&Attrs::new()) {
-            piece.add(sink, "\x1b[m")
+            buffer.add(sink, "\x1b[m")
         } else {
-            self.add_numbers(sink, piece)
+            self.add_numbers(sink, buffer)
         }
     }
 
     /// Adds the change as the numbers of what differs, none where nothing does.
     #[inline(never)]
-    fn add_numbers<S: Sink>(&self, sink: &mut S, piece: &mut Piece) -> Result<(), S::Error>
-        ensures text { OnOk result (gathered (S.text sink.new) piece.new
-            ≡ gathered (S.text sink.old) piece.old ++ csi (joined (change_numbers self.now.was self.now.new)) 0x6D) }
+    fn add_numbers<S: Sink>(&self, sink: &mut S, buffer: &mut Buffer) -> Result<(), S::Error>
+        ensures text { OnOk result (gathered (S.text sink.new) buffer.new
+            ≡ gathered (S.text sink.old) buffer.old ++ csi (joined (change_numbers self.now.was self.now.new)) 0x6D) }
         ensures grows { OnOk result (length (S.text sink.old) ≤ length (S.text sink.new)) }
         ensures err { OnErr result (IsStopped S.refuses (S.text sink.old)
-            (piece.old ++ csi (joined (change_numbers self.now.was self.now.new)) 0x6D) (S.text sink.new)) }
+            (buffer.old ++ csi (joined (change_numbers self.now.was self.now.new)) 0x6D) (S.text sink.new)) }
     {
         let mut text = ChangeText::new();
         text.write(&self.was, &self.new);
-        piece.add(sink, text.as_str())
+        buffer.add(sink, text.as_str())
     }
 
     /// Appends the same text.

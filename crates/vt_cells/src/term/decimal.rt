@@ -3,12 +3,11 @@
 ghost use Rattle.std.specs.Prelude.{◌≡◌, ◌++◌, decimal, OnOk};
 
 use crate::sink::Sink;
-use itoa::Buffer;
 
 /// Appends `number` in decimal.
 pub fn write_decimal<S: Sink>(sink: &mut S, number: u32) -> Result<(), S::Error>
     ensures { OnOk result (S.text sink.new ≡ S.text sink.old ++ decimal number) }
 {
-    let mut buffer = Buffer::new();
+    let mut buffer = itoa::Buffer::new();
     sink.write_str(buffer.format(number))
 }

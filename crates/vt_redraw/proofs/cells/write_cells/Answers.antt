@@ -5,8 +5,8 @@ use Rattle.vt_redraw.specs.Script.{Scripted, no_ops}
 use Rattle.vt_redraw.proofs.CellSteps.{cells_end}
 use Rattle.vt_redraw.proofs.cells.write_cells.Goals as goal
 
-pub returns-then-first-cols-clause-text : goal.returns-then-first-cols-clause-text
-returns-then-first-cols-clause-text g c =
+pub returns-then-first-cols-clause-writes : goal.returns-then-first-cols-clause-writes
+returns-then-first-cols-clause-writes g c =
     let row = c.args.pos.row in
     let first = c.next_other-first.result in
     let pen = c.args.pen.now in
@@ -19,34 +19,8 @@ returns-then-first-cols-clause-text g c =
     let none : cells_from row c.args.pos.col pen flag xs ys ≡ no_ops pen flag =
     c.next_other-first.ensures.passed.same row pen flag
     ∙ cells_end row first pen flag xs ys (omega (arith, size, past)) in
-    sym (append-nil text) ∙ ap (λ (w : Scripted). text ++ bytes_of_all w.ops) (sym none)
-
-pub returns-then-first-cols-clause-pen : goal.returns-then-first-cols-clause-pen
-returns-then-first-cols-clause-pen g c =
-    let row = c.args.pos.row in
-    let first = c.next_other-first.result in
-    let pen = c.args.pen.now in
-    let flag = c.args.flag.now in
-    let xs = c.args.cells.now.cells in
-    let ys = c.args.over.now.cells in
-    let size = c.cols.ensures in
-    let past = c.if-first-cols.true in
-    let none : cells_from row c.args.pos.col pen flag xs ys ≡ no_ops pen flag =
-    c.next_other-first.ensures.passed.same row pen flag
-    ∙ cells_end row first pen flag xs ys (omega (arith, size, past)) in
-    ap (λ (w : Scripted). w.pen) (sym none)
-
-pub returns-then-first-cols-clause-flag : goal.returns-then-first-cols-clause-flag
-returns-then-first-cols-clause-flag g c =
-    let row = c.args.pos.row in
-    let first = c.next_other-first.result in
-    let pen = c.args.pen.now in
-    let flag = c.args.flag.now in
-    let xs = c.args.cells.now.cells in
-    let ys = c.args.over.now.cells in
-    let size = c.cols.ensures in
-    let past = c.if-first-cols.true in
-    let none : cells_from row c.args.pos.col pen flag xs ys ≡ no_ops pen flag =
-    c.next_other-first.ensures.passed.same row pen flag
-    ∙ cells_end row first pen flag xs ys (omega (arith, size, past)) in
-    ap (λ (w : Scripted). w.flag) (sym none)
+    record {
+      bytes = sym (append-nil text) ∙ ap (λ (w : Scripted). text ++ bytes_of_all w.ops) (sym none);
+      stands = ap (λ (w : Scripted). w.pen) (sym none);
+      goes_on = ap (λ (w : Scripted). w.flag) (sym none);
+    }

@@ -1,5 +1,5 @@
 use Rattle.std.proofs.Common.{◌∙◌, ◌+◌, rules, sym, ap, arith}
-use Rattle.vt_cells.specs.PieceInternals.{gathered}
+use Rattle.vt_cells.specs.BufferInternals.{gathered}
 use Rattle.vt_redraw.specs.Internals.{cells_from}
 use Rattle.vt_redraw.proofs.CellSteps.{leads_then, leads_text, passes_cell, passes_leads, passes_then, cells_end}
 use Rattle.std.proofs.Common.{refl}
@@ -14,7 +14,7 @@ loop-col-preserved-then-stands g c =
     let xs = c.args.cells.now.cells in
     let ys = c.args.over.now.cells in
     let row = c.args.pos.row in
-    let now = gathered (text l.sink) l.piece in
+    let now = gathered (text l.sink) l.buffer in
     let next = c.next_other-col.result in (
       leads_then (text c.args.sink.now) now now (cells_from row c.args.pos.col c.args.pen.now c.args.flag.now xs ys)
           (cells_from row l.col l.pen l.flag xs ys) (cells_from row next l.pen l.flag xs ys)
@@ -24,53 +24,35 @@ loop-col-preserved-then-stands g c =
       l.invariant.1,
     )
 
-pub returns-clause-text : goal.returns-clause-text
-returns-clause-text g c =
+pub returns-clause-writes : goal.returns-clause-writes
+returns-clause-writes g c =
     let l = c.loop-col in
     let text = g.S.Sink.text in
+    let row = c.args.pos.row in
     let xs = c.args.cells.now.cells in
     let ys = c.args.over.now.cells in
-    let row = c.args.pos.row in
     let size = c.cols.ensures in
     let over = c.cols-2.ensures in
     let less = c.min-cols.ensures in
     let inside = c.requires.range.inside in
     let past = c.loop-col-test.false in
-    c.in_ok-flush.ensures.text
-    ∙ leads_text (gathered (text l.sink) l.piece) (text c.args.sink.now) (cells_from row l.col l.pen l.flag xs ys)
-    (cells_from row c.args.pos.col c.args.pen.now c.args.flag.now xs ys) l.pen
-    l.flag (cells_end row l.col l.pen l.flag xs ys (omega arith)) l.invariant.0
-
-pub returns-clause-pen : goal.returns-clause-pen
-returns-clause-pen g c =
-    let l = c.loop-col in
-    let size = c.cols.ensures in
-    let over = c.cols-2.ensures in
-    let less = c.min-cols.ensures in
-    let inside = c.requires.range.inside in
-    let past = c.loop-col-test.false in
-    ap (λ w. w.pen)
-    (sym (cells_end c.args.pos.row l.col l.pen l.flag c.args.cells.now.cells c.args.over.now.cells (omega arith)))
-    ∙ l.invariant.0.pen
-
-pub returns-clause-flag : goal.returns-clause-flag
-returns-clause-flag g c =
-    let l = c.loop-col in
-    let size = c.cols.ensures in
-    let over = c.cols-2.ensures in
-    let less = c.min-cols.ensures in
-    let inside = c.requires.range.inside in
-    let past = c.loop-col-test.false in
-    ap (λ w. w.flag)
-    (sym (cells_end c.args.pos.row l.col l.pen l.flag c.args.cells.now.cells c.args.over.now.cells (omega arith)))
-    ∙ l.invariant.0.flag
+    let none = cells_end row l.col l.pen l.flag xs ys (omega arith) in
+    record {
+      bytes =
+          c.in_ok-flush.ensures.text
+          ∙ leads_text (gathered (text l.sink) l.buffer) (text c.args.sink.now)
+          (cells_from row l.col l.pen l.flag xs ys)
+          (cells_from row c.args.pos.col c.args.pen.now c.args.flag.now xs ys) l.pen l.flag none l.invariant.0;
+      stands = ap (λ w. w.pen) (sym none) ∙ l.invariant.0.pen;
+      goes_on = ap (λ w. w.flag) (sym none) ∙ l.invariant.0.flag;
+    }
 
 pub returns-in_err-col-clause-some : goal.returns-in_err-col-clause-some
 returns-in_err-col-clause-some g c =
     let l = c.loop-col in
     let text = g.S.Sink.text in
     on_err c.from_residual.result
-    (leads_some (text c.args.sink.now) (text l.sink) l.piece _ _ l.invariant.0 l.invariant.1
+    (leads_some (text c.args.sink.now) (text l.sink) l.buffer _ _ l.invariant.0 l.invariant.1
     c.in_err-col.ensures.refused)
 
 pub returns-in_err-flush-clause-some : goal.returns-in_err-flush-clause-some
@@ -78,5 +60,5 @@ returns-in_err-flush-clause-some g c =
     let l = c.loop-col in
     let text = g.S.Sink.text in
     on_err c.from_residual-in_err-flush.result
-    (leads_some (text c.args.sink.now) (text l.sink) l.piece _ _ l.invariant.0 l.invariant.1
-    (some_first l.piece _ (c.in_err-flush.ensures.some refl)))
+    (leads_some (text c.args.sink.now) (text l.sink) l.buffer _ _ l.invariant.0 l.invariant.1
+    (some_first l.buffer _ (c.in_err-flush.ensures.some refl)))

@@ -7,7 +7,7 @@ use Rattle.std.proofs.Common.{[], ◌<◌, length, subst}
 use Rattle.vt_cells.proofs.Sinks.{on_err}
 use Rattle.vt_cells.specs.Attrs.{default_attrs, Attrs}
 use Rattle.vt_redraw.specs.Script.{flag_past}
-use Rattle.vt_redraw.proofs.Refusals.{start_some}
+use Rattle.vt_redraw.proofs.Refusals.{grown, start_some}
 use Rattle.vt_redraw.proofs.items.write_begin.Goals as goal
 
 pub returns-then-is_wide_continuation-clause-leads : goal.returns-then-is_wide_continuation-clause-leads
@@ -19,10 +19,16 @@ returns-then-is_wide_continuation-clause-leads g c =
     let one = c.cols.ensures in
     let two = c.cols-2.ensures in
     let before = c.if-col-min.false in
-    half_stands c.args.pos.row col c.args.pen.now c.args.flag.now xs ys
-    (g.S.Sink.text c.args.sink.now) (omega arith) c.requires.range.inside
-    (ap is_right_half (sym c.cell.ensures) ∙ (sym c.is_wide_continuation.ensures ∙ c.if-not-is_wide_continuation.false))
-    (ap is_right_half (sym c.cell-2.ensures) ∙ (sym c.is_wide_continuation-2.ensures ∙ c.if-is_wide_continuation.true))
+    record {
+      leads =
+          half_stands c.args.pos.row col c.args.pen.now c.args.flag.now xs ys
+          (g.S.Sink.text c.args.sink.now) (omega arith) c.requires.range.inside
+          (ap is_right_half (sym c.cell.ensures)
+          ∙ (sym c.is_wide_continuation.ensures ∙ c.if-not-is_wide_continuation.false))
+          (ap is_right_half (sym c.cell-2.ensures)
+          ∙ (sym c.is_wide_continuation-2.ensures ∙ c.if-is_wide_continuation.true));
+      grows = omega arith;
+    }
 
 pub returns-clause-leads : goal.returns-clause-leads
 returns-clause-leads g c =
@@ -35,16 +41,23 @@ returns-clause-leads g c =
     let two = c.cols-2.ensures in
     let before = c.if-col-min.false in
     let n = c.run-count.result in
-    half_erased c.args.pos.row col n (n + 1) c.args.pen.now c.write_run.new.pen c.args.flag.now c.flag_past.result
-    xs ys (text c.args.sink.now) (text c.write_run.new.sink) (omega arith) c.requires.range.inside
-    (ap is_right_half (sym c.cell.ensures) ∙ (sym c.is_wide_continuation.ensures ∙ c.if-not-is_wide_continuation.false))
-    (ap is_right_half (sym c.cell-2.ensures) ∙ (sym c.is_wide_continuation-2.ensures ∙ c.if-is_wide_continuation.false))
-    (c.run-count.ensures.value ∙ ap (λ a. blank_run a (drop (col + 1) xs)) c.new-attrs.ensures) refl
-    (c.in_ok-write_run.ensures.text
-    ∙ ap (λ a. text c.args.sink.now
-    ++ bytes_of_all (placed_op c.args.pen.now c.args.pos.row col a (erase_run (n + 1) (drop (col + (n + 1)) ys))))
-    c.new-attrs.ensures)
-    (c.in_ok-write_run.ensures.pen ∙ ap (λ a. pen_at c.args.pos.row col a) c.new-attrs.ensures) c.flag_past.ensures
+    record {
+      leads =
+          half_erased c.args.pos.row col n (n + 1) c.args.pen.now c.write_run.new.pen c.args.flag.now c.flag_past.result
+          xs ys (text c.args.sink.now) (text c.write_run.new.sink) (omega arith) c.requires.range.inside
+          (ap is_right_half (sym c.cell.ensures)
+          ∙ (sym c.is_wide_continuation.ensures ∙ c.if-not-is_wide_continuation.false))
+          (ap is_right_half (sym c.cell-2.ensures)
+          ∙ (sym c.is_wide_continuation-2.ensures ∙ c.if-is_wide_continuation.false))
+          (c.run-count.ensures.value ∙ ap (λ a. blank_run a (drop (col + 1) xs)) c.new-attrs.ensures) refl
+          (c.in_ok-write_run.ensures.ops.text
+          ∙ ap (λ a. text c.args.sink.now
+          ++ bytes_of_all (placed_op c.args.pen.now c.args.pos.row col a (erase_run (n + 1) (drop (col + (n + 1)) ys))))
+          c.new-attrs.ensures)
+          (c.in_ok-write_run.ensures.pen ∙ ap (λ a. pen_at c.args.pos.row col a) c.new-attrs.ensures)
+          c.flag_past.ensures;
+      grows = grown _ _ _ c.in_ok-write_run.ensures.ops.text;
+    }
 
 pub returns-in_err-write_run-clause-some : goal.returns-in_err-write_run-clause-some
 returns-in_err-write_run-clause-some g c =
@@ -67,4 +80,4 @@ returns-in_err-write_run-clause-some g c =
     (ap is_right_half (sym c.cell.ensures) ∙ (sym c.is_wide_continuation.ensures ∙ c.if-not-is_wide_continuation.false))
     (ap is_right_half (sym c.cell-2.ensures) ∙ (sym c.is_wide_continuation-2.ensures ∙ c.if-is_wide_continuation.false))
     (c.run-count.ensures.value ∙ ap (λ a. blank_run a (drop (col + 1) xs)) c.new-attrs.ensures) refl refl refl refl)
-    (subst (λ (a : Attrs). 0 < length (bytes a)) c.new-attrs.ensures c.in_err-write_run.ensures.some))
+    (subst (λ (a : Attrs). 0 < length (bytes a)) c.new-attrs.ensures c.in_err-write_run.ensures.ops.some))

@@ -26,33 +26,24 @@ write_range-requires g c =
           (range_taken xs c.blank-over.result.cells c.args.stop (omega arith) c.requires.paired);
     }
 
-pub returns-clause-text : goal.returns-clause-text
-returns-clause-text g c =
+pub returns : goal.returns
+returns g c =
     let text = g.S.Sink.text in
     let xs = c.args.cells.now.cells in
     let r = c.args.pos.row in
     let start = c.args.pos.col in
     let stop = c.args.stop in
     let over = ap (λ (z : RowValue). z.cells) c.blank-over.ensures ∙ ap (blanks default_attrs) c.cols.ensures in
-    on_ok_weaker c.write_range.result
-    (λ more. more
-    ∙ (ap (λ (w : Scripted). text c.args.sink.now ++ bytes_of_all w.ops)
-    (range_wrote r start stop (pen_at r start c.new.result) false c.up_to.result.cells xs c.blank-over.result.cells
-    c.requires.order c.up_to.ensures.cells (ap (λ (a : Attrs). pen_at r start a) c.new.ensures))
-    ∙ ap (λ (zs : List CellValue). text c.args.sink.now ++ bytes_of_all (range_written r start stop false xs zs).ops)
-    over))
-    c.write_range.ensures.text
-
-pub returns-clause-some : goal.returns-clause-some
-returns-clause-some g c =
-    let xs = c.args.cells.now.cells in
-    let r = c.args.pos.row in
-    let start = c.args.pos.col in
-    let stop = c.args.stop in
-    let over = ap (λ (z : RowValue). z.cells) c.blank-over.ensures ∙ ap (blanks default_attrs) c.cols.ensures in
-    on_err_weaker c.write_range.result
-    (subst (λ (w : Scripted). 0 < length (bytes_of_all w.ops))
-    (range_wrote r start stop (pen_at r start c.new.result) false c.up_to.result.cells xs c.blank-over.result.cells
+    let range =
+    range_wrote r start stop (pen_at r start c.new.result) false c.up_to.result.cells xs c.blank-over.result.cells
     c.requires.order c.up_to.ensures.cells (ap (λ (a : Attrs). pen_at r start a) c.new.ensures)
-    ∙ ap (λ (zs : List CellValue). range_written r start stop false xs zs) over))
-    c.write_range.ensures.some
+    ∙ ap (λ (zs : List CellValue). range_written r start stop false xs zs) over in
+    record {
+      text =
+          on_ok_weaker c.write_range.result
+          (λ more. more.bytes ∙ ap (λ (w : Scripted). text c.args.sink.now ++ bytes_of_all w.ops) range)
+          c.write_range.ensures.writes;
+      some =
+          on_err_weaker c.write_range.result (subst (λ (w : Scripted). 0 < length (bytes_of_all w.ops)) range)
+          c.write_range.ensures.some;
+    }

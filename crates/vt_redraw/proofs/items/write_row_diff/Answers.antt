@@ -1,18 +1,18 @@
-use Rattle.std.proofs.Common.{◌≡◌, ◌++◌, ◌∙◌, ap, sym, subst, List, drop, arith}
+use Rattle.std.proofs.Common.{◌≡◌, ◌++◌, ◌∙◌, ap, sym, subst, List, arith}
 use Rattle.std.proofs.lemmas.Result.{on_ok_weaker}
 use Rattle.vt_cells.specs.Cell.{CellValue}
 use Rattle.vt_cells.specs.Op.{bytes_of_all}
 use Rattle.vt_cells.specs.Attrs.{Attrs}
 use Rattle.vt_grid.specs.Page.{row_or}
 use Rattle.vt_rows.specs.Row.{RowValue}
-use Rattle.vt_redraw.specs.Items.{with_whole_start, with_whole_start_over, item_of_difference, range_written}
+use Rattle.vt_redraw.specs.Items.{item_of_difference, range_written}
 use Rattle.vt_redraw.specs.Internals.{IsRange}
-use Rattle.vt_redraw.specs.Script.{Scripted, cells_written, pen_at}
+use Rattle.vt_redraw.specs.Script.{pen_at}
 use Rattle.vt_redraw.proofs.ItemSteps.{range_taken, range_wrote, part_item, whole_item}
 use Rattle.std.proofs.Common.{◌<◌, length, refl}
 use Rattle.std.proofs.lemmas.Result.{on_err_weaker}
 use Rattle.vt_cells.proofs.Sinks.{on_err}
-use Rattle.vt_redraw.specs.Internals.{mark_of}
+use Rattle.vt_redraw.specs.Internals.{mark_of, range_over}
 use Rattle.vt_redraw.specs.Script.{row_break}
 use Rattle.vt_redraw.proofs.Refusals.{range_some, text_behind_some}
 use Rattle.vt_redraw.proofs.items.write_row_diff.Goals as goal
@@ -40,14 +40,13 @@ returns-then-not-is_whole-clause-text g c =
     let pen = pen_at r start c.new.result in
     let flag = c.wrapped-flag.result in
     let cut = c.up_to.result.cells in
-    let w : Scripted =
-    cells_written r start pen flag 0 (with_whole_start (drop start cut)) (with_whole_start_over (drop start cut) (drop start y.cells)) in
+    let w = range_over (record { row = r; col = start }) pen flag c.up_to.result y in
     let e : w ≡ range_written r start stop y.wrapped x.cells y.cells =
     range_wrote r start stop pen flag cut x.cells y.cells c.requires.order
     c.up_to.ensures.cells (ap (λ (a : Attrs). pen_at r start a) c.new.ensures)
     ∙ ap (λ b. range_written r start stop b x.cells y.cells) c.wrapped-flag.ensures in
     part_item r start stop x y w (text c.args.sink.now) (text c.write_range.new.sink)
-    (sym c.is_whole.ensures ∙ c.if-not-is_whole.true) e c.in_ok-write_range.ensures.text
+    (sym c.is_whole.ensures ∙ c.if-not-is_whole.true) e c.in_ok-write_range.ensures.writes.bytes
     ∙ (ap (λ (z : RowValue). text c.args.sink.now ++ bytes_of_all (item_of_difference r start stop z y).ops)
     c.row-cells.ensures.value
     ∙ ap (λ (z : RowValue). text c.args.sink.now
@@ -65,8 +64,7 @@ returns-clause-text g c =
     let pen = pen_at r start c.new.result in
     let flag = c.wrapped-flag.result in
     let cut = c.up_to.result.cells in
-    let w : Scripted =
-    cells_written r start pen flag 0 (with_whole_start (drop start cut)) (with_whole_start_over (drop start cut) (drop start y.cells)) in
+    let w = range_over (record { row = r; col = start }) pen flag c.up_to.result y in
     let e : w ≡ range_written r start stop y.wrapped x.cells y.cells =
     range_wrote r start stop pen flag cut x.cells y.cells c.requires.order
     c.up_to.ensures.cells (ap (λ (a : Attrs). pen_at r start a) c.new.ensures)
@@ -74,7 +72,8 @@ returns-clause-text g c =
     on_ok_weaker c.write_end.result
     (λ more. whole_item r start stop x y w c.write_range.new.pen c.write_range.new.flag (text c.args.sink.now)
     (text c.write_range.new.sink) (text c.write_end.new.sink) (sym c.is_whole.ensures ∙ c.if-not-is_whole.false) e
-    c.in_ok-write_range.ensures.text c.in_ok-write_range.ensures.pen c.in_ok-write_range.ensures.flag more
+    c.in_ok-write_range.ensures.writes.bytes
+    c.in_ok-write_range.ensures.writes.stands c.in_ok-write_range.ensures.writes.goes_on more
     ∙ (ap (λ (z : RowValue). text c.args.sink.now ++ bytes_of_all (item_of_difference r start stop z y).ops)
     c.row-cells.ensures.value
     ∙ ap (λ (z : RowValue). text c.args.sink.now
@@ -117,8 +116,7 @@ returns-clause-some g c =
     let mid = text c.write_range.new.sink in
     let broke = row_break r c.write_range.new.pen c.write_range.new.flag x.wrapped x.cells in
     let more = bytes_of_all (broke.ops ++ mark_of r broke.pen broke.flag x.wrapped x.cells) in
-    let w : Scripted =
-    cells_written r start pen flag 0 (with_whole_start (drop start cut)) (with_whole_start_over (drop start cut) (drop start y.cells)) in
+    let w = range_over (record { row = r; col = start }) pen flag c.up_to.result y in
     let e : w ≡ range_written r start stop y.wrapped x.cells y.cells =
     range_wrote r start stop pen flag cut x.cells y.cells c.requires.order
     c.up_to.ensures.cells (ap (λ (a : Attrs). pen_at r start a) c.new.ensures)
@@ -130,8 +128,8 @@ returns-clause-some g c =
     (c.row-over.ensures.value ∙ ap (λ n. row_or n c.args.prev.now.rows r) (sym c.requires.size.width))
     (subst (λ (z : RowValue). 0 < length (bytes_of_all (item_of_difference r start stop z y).ops))
     c.row-cells.ensures.value
-    (text_behind_some (text c.args.sink.now) (bytes_of_all w.ops) mid more _ c.in_ok-write_range.ensures.text
+    (text_behind_some (text c.args.sink.now) (bytes_of_all w.ops) mid more _ c.in_ok-write_range.ensures.writes.bytes
     (whole_item r start stop x y w c.write_range.new.pen c.write_range.new.flag (text c.args.sink.now) mid (mid ++ more)
-    (sym c.is_whole.ensures ∙ c.if-not-is_whole.false) e c.in_ok-write_range.ensures.text
-    c.in_ok-write_range.ensures.pen c.in_ok-write_range.ensures.flag refl) some)))
+    (sym c.is_whole.ensures ∙ c.if-not-is_whole.false) e c.in_ok-write_range.ensures.writes.bytes
+    c.in_ok-write_range.ensures.writes.stands c.in_ok-write_range.ensures.writes.goes_on refl) some)))
     c.write_end.ensures.some

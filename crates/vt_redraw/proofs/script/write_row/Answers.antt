@@ -11,8 +11,8 @@ returns-clause-writes g c =
     let text = g.S.Sink.text in
     row_writes c.args.row c.args.link.settled c.args.pen.now c.write_cells.new.pen c.write_break.new.pen
     c.args.link.flag c.write_cells.new.flag c.in_ok-on.on c.args.cells.now c.args.over.now.cells
-    (text c.args.sink.now) (text c.write_cells.new.sink) (text c.write_break.new.sink) c.in_ok-write_cells.ensures.text
-    c.in_ok-write_cells.ensures.pen c.in_ok-write_cells.ensures.flag c.in_ok-on.ensures.writes
+    (text c.args.sink.now) (text c.write_cells.new.sink) (text c.write_break.new.sink)
+    c.in_ok-write_cells.ensures.writes.bytes c.in_ok-write_cells.ensures.writes.stands c.in_ok-write_cells.ensures.writes.goes_on c.in_ok-on.ensures.writes
 
 pub returns-in_err-write_cells-clause-some : goal.returns-in_err-write_cells-clause-some
 returns-in_err-write_cells-clause-some g c =
@@ -27,9 +27,9 @@ returns-in_err-on-clause-some g c =
     let mid = text c.write_cells.new.sink in
     let break = row_break c.args.row c.write_cells.new.pen c.write_cells.new.flag x.wrapped x.cells in
     on_err c.from_residual-in_err-on.result
-    (text_behind_some (text c.args.sink.now) _ mid (bytes_of_all break.ops) _ c.in_ok-write_cells.ensures.text
+    (text_behind_some (text c.args.sink.now) _ mid (bytes_of_all break.ops) _ c.in_ok-write_cells.ensures.writes.bytes
     (row_writes c.args.row c.args.link.settled c.args.pen.now c.write_cells.new.pen break.pen
     c.args.link.flag c.write_cells.new.flag break.flag x c.args.over.now.cells
-    (text c.args.sink.now) mid (mid ++ bytes_of_all break.ops) c.in_ok-write_cells.ensures.text
-    c.in_ok-write_cells.ensures.pen c.in_ok-write_cells.ensures.flag (wrote_all mid break)).bytes
+    (text c.args.sink.now) mid (mid ++ bytes_of_all break.ops) c.in_ok-write_cells.ensures.writes.bytes
+    c.in_ok-write_cells.ensures.writes.stands c.in_ok-write_cells.ensures.writes.goes_on (wrote_all mid break)).bytes
     c.in_err-on.ensures.some)

@@ -1,4 +1,4 @@
-use Rattle.std.proofs.Common.{[], ◌+◌, ◌++◌, ap, sym, ◌∙◌, arith}
+use Rattle.std.proofs.Common.{[], ◌+◌, ◌++◌, ap, rules, sym, ◌∙◌, arith}
 use Rattle.vt_cells.proofs.Sinks.{on_err}
 use Rattle.vt_cells.specs.Op.{bytes_of_all}
 use Rattle.vt_grid.specs.Page.{row_or}
@@ -10,20 +10,24 @@ use Rattle.vt_redraw.proofs.Refusals.{wrote_all}
 use Rattle.vt_redraw.proofs.RowSteps.{below_leads, rows_end, top_leads}
 use Rattle.vt_redraw.proofs.script.write_rows.Goals as goal
 
-pub returns-in_err-on-clause-some : goal.returns-in_err-on-clause-some
-returns-in_err-on-clause-some g c =
+pub returns-in_err-on-clause-ops : goal.returns-in_err-on-clause-ops
+returns-in_err-on-clause-ops g c =
     let width = c.args.view.now.width in
     let xs = c.args.view.now.rows in
     let ys = c.args.prev.now.rows in
     let x = c.row-above.result in
     let y = c.row.result in
     let row = row_written 0 0 c.args.pen.now y.wrapped x y.cells in
-    on_err c.from_residual.result
-    (start_some (bytes_of_all row.ops) _ _
-    (top_leads width c.args.pen.now row.pen row.flag xs ys x y [] (bytes_of_all row.ops)
-    c.rows-last.ensures.some c.requires.size.height c.row-above.ensures.value
-    (c.row.ensures.value ∙ ap (λ n. row_or n ys 0) (sym c.requires.size.width)) (wrote_all [] row))
-    c.in_err-on.ensures.some)
+    record {
+      text = search rules;
+      some =
+          on_err c.from_residual.result
+          (start_some (bytes_of_all row.ops) _ _
+          (top_leads width c.args.pen.now row.pen row.flag xs ys x y [] (bytes_of_all row.ops)
+          c.rows-last.ensures.some c.requires.size.height c.row-above.ensures.value
+          (c.row.ensures.value ∙ ap (λ n. row_or n ys 0) (sym c.requires.size.width)) (wrote_all [] row))
+          c.in_err-on.ensures.some);
+    }
 
 pub loop-row-init : goal.loop-row-init
 loop-row-init g c =
@@ -41,8 +45,8 @@ loop-row-init g c =
       some = c.row-above.ensures.some;
     }
 
-pub returns-in_err-link-clause-some : goal.returns-in_err-link-clause-some
-returns-in_err-link-clause-some g c =
+pub returns-in_err-link-clause-ops : goal.returns-in_err-link-clause-ops
+returns-in_err-link-clause-ops g c =
     let l = c.loop-row in
     let text = g.S.Sink.text in
     let r = l.row in
@@ -56,18 +60,23 @@ returns-in_err-link-clause-some g c =
     let row = row_written (r + 1) link.settled link.pen link.flag x y.cells in
     let size = c.rows-last.ensures.value in
     let before = c.loop-row-test.true in
-    on_err c.from_residual-in_err-link.result
-    (rest_some (text c.args.sink.now) (text l.sink) (rows_under r width l.pen l.on xs ys) _ l.invariant.leads
-    l.invariant.grows
-    (start_some (first ++ bytes_of_all row.ops) (rows_under (r + 1) width row.pen row.flag xs ys) _
-    (below_leads width r l.pen link.pen row.pen l.on row.flag (link_made link) xs ys l.above x y [] first
-    (first ++ bytes_of_all row.ops) (omega arith) c.requires.size.height l.invariant.above c.row-cells.ensures.value
-    (c.row-over.ensures.value ∙ ap (λ n. row_or n ys (r + 1)) (sym c.requires.size.width))
-    (linked_all [] link) (wrote_all first row))
-    (some_first first (bytes_of_all row.ops) c.in_err-link.ensures.some)))
+    record {
+      text = search rules;
+      some =
+          on_err c.from_residual-in_err-link.result
+          (rest_some (text c.args.sink.now) (text l.sink) (rows_under r width l.pen l.on xs ys) _ l.invariant.leads
+          l.invariant.grows
+          (start_some (first ++ bytes_of_all row.ops) (rows_under (r + 1) width row.pen row.flag xs ys) _
+          (below_leads width r l.pen link.pen row.pen l.on row.flag (link_made link) xs ys l.above x y [] first
+          (first ++ bytes_of_all row.ops) (omega arith) c.requires.size.height l.invariant.above
+          c.row-cells.ensures.value
+          (c.row-over.ensures.value ∙ ap (λ n. row_or n ys (r + 1)) (sym c.requires.size.width))
+          (linked_all [] link) (wrote_all first row))
+          (some_first first (bytes_of_all row.ops) c.in_err-link.ensures.some)));
+    }
 
-pub returns-in_err-on-2-clause-some : goal.returns-in_err-on-2-clause-some
-returns-in_err-on-2-clause-some g c =
+pub returns-in_err-on-2-clause-ops : goal.returns-in_err-on-2-clause-ops
+returns-in_err-on-2-clause-ops g c =
     let l = c.loop-row in
     let text = g.S.Sink.text in
     let r = l.row in
@@ -82,15 +91,19 @@ returns-in_err-on-2-clause-some g c =
     let row = row_written (r + 1) link.settled pen link.flag x y.cells in
     let size = c.rows-last.ensures.value in
     let before = c.loop-row-test.true in
-    on_err c.from_residual-in_err-on-2.result
-    (rest_some (text c.args.sink.now) (text l.sink) (rows_under r width l.pen l.on xs ys) _ l.invariant.leads
-    l.invariant.grows
-    (behind_some (text l.sink) mid (bytes_of_all row.ops) (rows_under (r + 1) width row.pen row.flag xs ys) _
-    (below_leads width r l.pen pen row.pen l.on row.flag link xs ys l.above x y (text l.sink) mid
-    (mid ++ bytes_of_all row.ops) (omega arith) c.requires.size.height l.invariant.above c.row-cells.ensures.value
-    (c.row-over.ensures.value ∙ ap (λ n. row_or n ys (r + 1)) (sym c.requires.size.width))
-    c.in_ok-link.ensures.links (wrote_all mid row))
-    (grown _ _ _ c.in_ok-link.ensures.links.bytes) c.in_err-on-2.ensures.some))
+    record {
+      text = search rules;
+      some =
+          on_err c.from_residual-in_err-on-2.result
+          (rest_some (text c.args.sink.now) (text l.sink) (rows_under r width l.pen l.on xs ys) _ l.invariant.leads
+          l.invariant.grows
+          (behind_some (text l.sink) mid (bytes_of_all row.ops) (rows_under (r + 1) width row.pen row.flag xs ys) _
+          (below_leads width r l.pen pen row.pen l.on row.flag link xs ys l.above x y (text l.sink) mid
+          (mid ++ bytes_of_all row.ops) (omega arith) c.requires.size.height l.invariant.above c.row-cells.ensures.value
+          (c.row-over.ensures.value ∙ ap (λ n. row_or n ys (r + 1)) (sym c.requires.size.width))
+          c.in_ok-link.ensures.links (wrote_all mid row))
+          (grown _ _ _ c.in_ok-link.ensures.links.bytes) c.in_err-on-2.ensures.some));
+    }
 
 pub loop-row-preserved : goal.loop-row-preserved
 loop-row-preserved g c =
@@ -126,8 +139,8 @@ loop-row-preserved g c =
       some = c.row-cells.ensures.some;
     }
 
-pub returns-clause-text : goal.returns-clause-text
-returns-clause-text g c =
+pub returns-clause-ops : goal.returns-clause-ops
+returns-clause-ops g c =
     let l = c.loop-row in
     let text = g.S.Sink.text in
     let xs = c.args.view.now.rows in
@@ -135,9 +148,13 @@ returns-clause-text g c =
     let width = c.args.view.now.width in
     let size = c.rows-last.ensures.value in
     let past = c.loop-row-test.false in
-    leads_text (text l.sink) (text c.args.sink.now) (rows_under l.row width l.pen l.on xs ys)
-    (rows_written c.args.pen.now xs ys) l.pen l.on (rows_end width l.row l.pen l.on xs ys (omega arith))
-    l.invariant.leads
+    record {
+      text =
+          leads_text (text l.sink) (text c.args.sink.now) (rows_under l.row width l.pen l.on xs ys)
+          (rows_written c.args.pen.now xs ys) l.pen l.on (rows_end width l.row l.pen l.on xs ys (omega arith))
+          l.invariant.leads;
+      some = search rules;
+    }
 
 pub returns-clause-pen : goal.returns-clause-pen
 returns-clause-pen g c =

@@ -1,5 +1,5 @@
 use Rattle.vt_cells.proofs.Sinks.{on_err, stopped_first}
-use Rattle.vt_cells.proofs.piece.Piece.add.Goals as goal
+use Rattle.vt_cells.proofs.buffer.Buffer.add.Goals as goal
 
 pub returns-in_err-flush-clause-err : goal.returns-in_err-flush-clause-err
 returns-in_err-flush-clause-err g c =

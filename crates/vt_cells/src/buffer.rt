@@ -1,7 +1,7 @@
 //! Small texts, gathered before they are written.
 
 ghost use Rattle.std.specs.Prelude.{◌≡◌, ◌+◌, ◌++◌, ◌<◌, ◌≤◌, [], length, IsErr, OnErr, OnOk};
-ghost use Rattle.vt_cells.specs.PieceInternals.{gathered};
+ghost use Rattle.vt_cells.specs.BufferInternals.{gathered};
 ghost use Rattle.vt_cells.specs.Sinks.{IsStopped};
 
 use crate::sink::Sink;
@@ -13,31 +13,31 @@ const ROOM: usize = 128;
 
 /// A text of at most 128 bytes that is not yet written: small texts are added to
 /// it, and written together. What was added reaches the sink with
-/// [`Piece::flush`] at the latest.
+/// [`Buffer::flush`] at the latest.
 #[derive(Drop)]
-pub struct Piece {
+pub struct Buffer {
     bytes: [u8; ROOM],
     len: usize,
 }
 
-impl Model for Piece {
+impl Model for Buffer {
     ghost use Rattle.std.specs.Prelude.{ℕ, List, take};
-    ghost use Rattle.vt_cells.specs.PieceInternals.{IsPiece};
+    ghost use Rattle.vt_cells.specs.BufferInternals.{IsBuffer};
 
     ghost Value = { List ℕ };
 
-    ghost view = { λ p. take p.len p.bytes };
+    ghost view = { λ b. take b.len b.bytes };
 
-    ghost invariant = { λ p. IsPiece p.len (take p.len p.bytes) };
+    ghost invariant = { λ b. IsBuffer b.len (take b.len b.bytes) };
 }
 
-impl Piece {
+impl Buffer {
     /// The empty text.
     #[inline]
     pub fn new() -> Self
         ensures { result ≡ [] }
     {
-        Piece {
+        Buffer {
             bytes: [0; ROOM],
             len: 0,
         }
@@ -48,7 +48,7 @@ impl Piece {
     ///
     /// An error is the sink's own; then part of the text may have been written.
     #[inline(always)]
-    #[tactic(auto, unfolding(crate::specs::PieceInternals::gathered))]
+    #[tactic(auto, unfolding(crate::specs::BufferInternals::gathered))]
     pub fn add<S: Sink>(&mut self, sink: &mut S, text: &str) -> Result<(), S::Error>
         ensures text { OnOk result (gathered (S.text sink.new) self.new
             ≡ gathered (S.text sink.old) self.old ++ text.now) }
@@ -75,7 +75,7 @@ impl Piece {
     ///
     /// An error is the sink's own; then part of the text may have been written.
     #[inline(never)]
-    #[tactic(auto, unfolding(crate::specs::PieceInternals::gathered))]
+    #[tactic(auto, unfolding(crate::specs::BufferInternals::gathered))]
     pub fn flush<S: Sink>(&mut self, sink: &mut S) -> Result<(), S::Error>
         ensures text { OnOk result (S.text sink.new ≡ gathered (S.text sink.old) self.old) }
         ensures empty { OnOk result (self.new ≡ []) }
@@ -141,7 +141,7 @@ impl Piece {
 
 /// Copies the one byte that there is.
 #[inline(always)]
-#[tactic(auto, using(crate::proofs::Pieces::one_set))]
+#[tactic(auto, using(crate::proofs::Buffers::one_set))]
 fn copy_one(to: &mut [u8], from: &[u8])
     requires room { length to.old ≡ length from.now }
     requires one { length from.now ≡ 1 }
@@ -153,7 +153,7 @@ fn copy_one(to: &mut [u8], from: &[u8])
 /// Copies bytes; where they are two or three, as of most glyphs with more than
 /// one, without a call.
 #[inline(always)]
-#[tactic(auto, using(crate::proofs::Pieces::two_set, crate::proofs::Pieces::three_set))]
+#[tactic(auto, using(crate::proofs::Buffers::two_set, crate::proofs::Buffers::three_set))]
 fn copy(to: &mut [u8], from: &[u8])
     requires { length to.old ≡ length from.now }
     ensures { to.new ≡ from.now }

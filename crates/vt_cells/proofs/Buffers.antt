@@ -3,7 +3,7 @@ use Rattle.std.proofs.Common.{◌≡◌, ℕ, ◌+◌, ◌≤◌, List, [], ◌�
 use Rattle.std.proofs.Common.{IsUtf8, refl, sym, subst, ap, ◌∙◌, arith, length-append, append-nil}
 use Rattle.std.proofs.lemmas.Slice.{take-put_mid}
 use Rattle.std.proofs.lemmas.Str.{IsUtf8-append}
-use Rattle.vt_cells.specs.PieceInternals.{IsPiece, gathered}
+use Rattle.vt_cells.specs.BufferInternals.{IsBuffer, gathered}
 use borrow.Rule.Slice.PartMut.{put_mid}
 
 -- the only byte is set
@@ -38,26 +38,26 @@ three_set (x ∷ (z ∷ (v ∷ []))) (y ∷ []) e f = let none : ⊥ = omega (ar
 three_set (x ∷ (z ∷ (v ∷ []))) (y ∷ (w ∷ [])) e f = let none : ⊥ = omega (arith, f) in absurd none
 three_set (x ∷ (z ∷ (v ∷ []))) (y ∷ (w ∷ (u ∷ (t ∷ ys)))) e f = let none : ⊥ = omega (arith, f) in absurd none
 
-longer : (old text : List ℕ) (n : ℕ) → IsPiece (length old) old →
-    n ≡ length old + length text → n ≤ 128 → IsUtf8 text → IsPiece n (old ++ text)
-longer old text n piece e fits utf8 = record {
+longer : (old text : List ℕ) (n : ℕ) → IsBuffer (length old) old →
+    n ≡ length old + length text → n ≤ 128 → IsUtf8 text → IsBuffer n (old ++ text)
+longer old text n buffer e fits utf8 = record {
   bounded = fits;
   measured = length-append old text ∙ sym e;
-  utf8 = IsUtf8-append old text piece.utf8 utf8;
+  utf8 = IsUtf8-append old text buffer.utf8 utf8;
 }
 
 -- a text is put behind another one
-pub pushed : (len k : ℕ) (bytes copied text : List ℕ) → IsPiece len (take len bytes)
+pub pushed : (len k : ℕ) (bytes copied text : List ℕ) → IsBuffer len (take len bytes)
     → len ≤ length bytes → length (take len bytes) + length text ≤ 128 → copied ≡ text → IsUtf8 text
-    → IsPiece (len + length text) (take (len + length text) (put_mid len k bytes copied))
-pushed len k bytes copied text piece inside fits same utf8 =
-    subst (λ (whole : List ℕ). IsPiece (len + length text) whole)
+    → IsBuffer (len + length text) (take (len + length text) (put_mid len k bytes copied))
+pushed len k bytes copied text buffer inside fits same utf8 =
+    subst (λ (whole : List ℕ). IsBuffer (len + length text) whole)
     (sym (take-put_mid len k bytes copied (len + length text) (ap (λ (xs : List ℕ). len + length xs) (sym same)) inside
     ∙ ap (λ (xs : List ℕ). take len bytes ++ xs) same))
     (longer (take len bytes) text (len + length text)
-    (subst (λ (n : ℕ). IsPiece n (take len bytes)) (sym piece.measured) piece)
-    (ap (λ (n : ℕ). n + length text) (sym piece.measured))
-    (subst (λ (n : ℕ). n + length text ≤ 128) piece.measured fits) utf8)
+    (subst (λ (n : ℕ). IsBuffer n (take len bytes)) (sym buffer.measured) buffer)
+    (ap (λ (n : ℕ). n + length text) (sym buffer.measured))
+    (subst (λ (n : ℕ). n + length text ≤ 128) buffer.measured fits) utf8)
 
 pub nothing_gathered : (text : List ℕ) → gathered text [] ≡ text
 unfolding gathered

@@ -1,6 +1,6 @@
 use Rattle.std.proofs.Common.{◌+◌, ◌-◌, ◌∙◌, ap, length, arith}
-use Rattle.vt_cells.proofs.Pieces.{pushed}
-use Rattle.vt_cells.proofs.piece.Piece.push.Goals as goal
+use Rattle.vt_cells.proofs.Buffers.{pushed}
+use Rattle.vt_cells.proofs.buffer.Buffer.push.Goals as goal
 
 pub invariant_of-self : goal.invariant_of-self
 invariant_of-self c =

@@ -1,14 +1,14 @@
 use Rattle.std.proofs.Common.{ℕ, ◌+◌, ◌-◌, ◌∙◌, ap, length, take, subst, arith}
-use Rattle.vt_cells.specs.PieceInternals.{IsPiece}
-use Rattle.vt_cells.proofs.Pieces.{pushed}
+use Rattle.vt_cells.specs.BufferInternals.{IsBuffer}
+use Rattle.vt_cells.proofs.Buffers.{pushed}
 use borrow.Rule.Slice.PartMut.{put_mid}
-use Rattle.vt_cells.proofs.piece.Piece.push_one.Goals as goal
+use Rattle.vt_cells.proofs.buffer.Buffer.push_one.Goals as goal
 
 pub invariant_of-self : goal.invariant_of-self
 invariant_of-self c =
     let len = c.self.inside.len in
     subst
-    (λ (n : ℕ). IsPiece (len + n) (take (len + n) (put_mid len (len + n - len) c.self.inside.bytes c.copy_one.new.to)))
+    (λ (n : ℕ). IsBuffer (len + n) (take (len + n) (put_mid len (len + n - len) c.self.inside.bytes c.copy_one.new.to)))
     c.requires.one
     (pushed len (len + length c.args.text.now - len) c.self.inside.bytes c.copy_one.new.to c.args.text.now
     c.self.invariant (omega (arith, c.self.told, c.self.invariant.bounded))

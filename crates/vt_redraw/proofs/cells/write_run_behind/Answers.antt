@@ -1,7 +1,0 @@
-use Rattle.std.proofs.lemmas.Result.{on_ok_weaker}
-use Rattle.vt_redraw.proofs.Refusals.{grown_behind}
-use Rattle.vt_redraw.proofs.cells.write_run_behind.Goals as goal
-
-pub returns-clause-grows : goal.returns-clause-grows
-returns-clause-grows g c =
-    on_ok_weaker c.write_run.result (grown_behind _ _ _ _ _ c.in_ok-flush.ensures.text) c.write_run.ensures.text
