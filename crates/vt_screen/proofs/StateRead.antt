@@ -8,9 +8,9 @@ use Rattle.vt_scan.specs.Automaton.{start}
 use Rattle.vt_screen.specs.InputTexts.{input_change, input_text}
 use Rattle.vt_screen.specs.Reading.{Terminal, terminal}
 use Rattle.vt_screen.specs.Screen.{Modes, ScreenValue, IsScreen, IsColored}
-use Rattle.vt_screen.specs.Shown.{IsReader, Makes, ReadsTo, Redraws, ShowsPlainly, HasRows}
+use Rattle.vt_screen.specs.Shown.{IsReader, ReadsTo, Redraws, ShowsPlainly, HasRows}
 use Rattle.vt_screen.specs.Shown.{HasCursor, KeepsRestButModes, shown, showing}
-use Rattle.vt_screen.specs.States.{HasDefaultMouseAndStyle, HasModes, IsStateReader}
+use Rattle.vt_screen.specs.States.{GivesState, HasDefaultMouseAndStyle, HasModes, IsStateReader}
 use Rattle.vt_screen.specs.States.{IsStateReaderOf, SetsModes, state_change, state_text}
 use Rattle.vt_screen.proofs.Became.{shows_plainly}
 use Rattle.vt_screen.proofs.InputRead.{change_none, change_tells, modes_changed, modes_set}
@@ -74,11 +74,6 @@ plain_again screen saved last reader is r =
     let (plain, shows) = shows_plainly (shown screen) reader (showing (shown screen) saved last reader)
     (shown_is screen is) r (record { saved = saved; last = last; is = refl }) in
     (record { page = plain.page; offset = plain.offset }, shows)
-
--- all that such a text makes of its readers
-pub record GivesState (Reader : ScreenValue → Type 0) (screen : ScreenValue) (text : List ℕ) : Type 0 where
-  pub redraws : Redraws (shown screen) Reader KeepsRestButModes text
-  pub modes : IsSteady (shown screen) → Makes Reader text (HasModes screen.modes)
 
 redraws : (Reader : ScreenValue → Type 0) (screen : ScreenValue) (text : List ℕ) → IsScreen screen
     → ((reader : ScreenValue) → Reader reader → IsReader (shown screen) reader)

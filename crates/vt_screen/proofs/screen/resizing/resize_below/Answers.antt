@@ -15,7 +15,7 @@ pub invariant_of-screen-2 : goal.invariant_of-screen-2
 invariant_of-screen-2 g c =
     kept_by_steps c.args.size.rows c.args.size.cols c.screen.inside.grid c.set_size.new.self c.screen.inside.last
     _ c.in_ok-fresh.fresh c.resize_alternate.new.page c.set_size.new.above c.resize_alternate.new.nothing
-    (c.in_ok-fresh.ensures).ok c.requires.rows (search rules) c.requires.cols (search rules)
+    (c.in_ok-fresh.ensures).ok c.requires.size.rows (search rules) c.requires.size.cols (search rules)
     (ap (λ (x : ScreenValue). x.is_alternate) c.screen.view_is ∙ c.requires.main)
     (c.in_ok-set_size.ensures).page (c.in_ok-set_size.ensures).above
     c.resize_alternate.ensures.page c.resize_alternate.ensures.nothing c.screen.invariant
