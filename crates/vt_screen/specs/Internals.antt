@@ -1,4 +1,4 @@
--- What the fields of a screen are together; for its model only.
+-- What the fields of a screen are together, and what its private functions do; for its model and their contracts only.
 use Rattle.std.specs.Prelude.{◌≡◌, ℕ, ◌<◌, ◌≤◌, Bool, true, false, List, [], ◌++◌, Option, Some, None}
 use Rattle.std.specs.Prelude.{IfSome, IsSome, OnErr, OnOk, Result, option_map, not, if◌then◌else◌}
 use Rattle.vt_rows.specs.Basic.{Written}
@@ -88,7 +88,7 @@ abbrev pub reports_of_pages : (rows : ℕ) → ScreenValue → List CallValue
 reports_of_pages rows screen =
     reports_of false rows (Some screen.page) screen.scrollback ++ reports_of true rows screen.other (no_scrollback 0)
 
--- a page has a row and a column
+-- a size that a page may have: a row and a column, at least
 pub record IsPageSize (height width : ℕ) : Type 0 where
   pub rows : 0 < height
   pub cols : 0 < width

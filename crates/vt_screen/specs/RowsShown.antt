@@ -96,7 +96,7 @@ pub record HasLinked (r : ℕ) (shows : RowValue) (reader after : ScreenValue) :
   pub others : (k : ℕ) → k ≢ r → k ≢ r + 1 → row_at after.page k ≡ row_at reader.page k
   pub height : length after.page.rows ≡ length reader.page.rows
 
--- by the text a terminal that has this row as its row r gets that of a screen there, in `width` columns from `start` on
+-- a text that turns this row, as row r of a terminal, into that of a screen, in `width` columns from `start` on
 abbrev pub DrawsRow : (start width : ℕ) → ScreenValue → (r : ℕ) → (stood : RowValue) → List ℕ → Type 0
 DrawsRow start width screen r stood text =
     Turns (IsRowReader (shown screen) r start stood) text
@@ -118,6 +118,6 @@ EachUncut start width screen P =
 abbrev pub EachLinked : ScreenValue → (ℕ → Type 0) → Type 0
 EachLinked screen P = (r : ℕ) → r + 1 < length (shown screen).rows → (shown_row screen r).wrapped ≡ true → P r
 
--- of each row that does not
+-- of each row that does not go on below
 abbrev pub EachOff : ScreenValue → (ℕ → Type 0) → Type 0
 EachOff screen P = (r : ℕ) → r < length screen.page.rows → (shown_row screen r).wrapped ≡ false → P r

@@ -127,7 +127,7 @@ pub record Redraws (picture : Picture) (Reader : ScreenValue → Type 0)
   pub cursor : IsSteady picture → Makes Reader text (HasCursor picture)
   pub rest : IsSteady picture → Makes Reader text Kept
 
--- one that redraws a screen on every plain terminal that shows what another one shows
+-- one that redraws what a screen shows, on every plain terminal that shows what another one shows
 abbrev pub RedrawsFrom : (was new : ScreenValue) → List ℕ → Type 0
 RedrawsFrom was new text = Redraws (shown new) (IsReaderOf (shown new) (shown was)) KeepsRest text
 
