@@ -8,7 +8,7 @@ use Rattle.vt_scan.specs.Table.{class_of, turn_of}
 use Rattle.vt_scan.specs.declared.table.Kind.TheVariants.{OscString}
 use Rattle.vt_scan.specs.declared.table.Turn.TheVariants.{Collect}
 use Rattle.vt_screen.specs.Calls.{CallValue}
-use Rattle.vt_screen.specs.Screen.{ScreenValue}
+use Rattle.vt_screen.specs.Screen.{ScreenValue, fresh_screen}
 use Rattle.vt_screen.specs.Run as screen
 use Rattle.vt_screen.specs.Run.{CallRelation, Performs, Breaks, StopsIn}
 
@@ -23,6 +23,11 @@ pub record Parsing (S : Type 0) : Type 0 where
 abbrev pub parsing : {S : Type 0} → Held → ScreenValue → S → Parsing S
 parsing scanner screen callbacks =
     record { scanner = scanner; screen = screen; callbacks = callbacks; is_failed = false }
+
+-- such a parser with a fresh screen and these callbacks
+abbrev pub HasFreshScreen : {S : Type 0} → (rows cols capacity : ℕ) → S → Parsing S → Type 0
+HasFreshScreen rows cols capacity callbacks parser =
+    parser ≡ parsing parser.scanner (fresh_screen rows cols capacity) callbacks
 
 -- what the steps of events act on
 abbrev pub stage : {S : Type 0} → Parsing S → screen.State S

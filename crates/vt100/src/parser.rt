@@ -1,17 +1,15 @@
 //! The parser: bytes in, a screen and callbacks out.
 
 ghost use Rattle.std.specs.Borrow.{sem, Lends, LendsBoth};
-ghost use Rattle.std.specs.List.{FoldsTo};
 ghost use Rattle.std.specs.Prelude.{◌≡◌, IfOk, IsErr, OnErr, OnOk, false};
 ghost use Rattle.vt_cells.specs.Refusals.{OnlyOutOfMemory};
 ghost use Rattle.vt100.specs.Calls.{ParserProcesses};
-ghost use Rattle.vt100.specs.Parser.{parsing};
+ghost use Rattle.vt100.specs.Parser.{HasFreshScreen};
 ghost use Rattle.vt100.specs.contracts.parser.Parser.{the_row as parser_row};
 ghost use Rattle.vt_scan.specs.Automaton.{State, start};
 ghost use Rattle.vt_scan.specs.Scanner.{StandsFor};
 ghost use Rattle.vt_screen.specs.Pages.{calls_resized, has_size, resized};
-ghost use Rattle.vt_screen.specs.Run.{CalledOnAnyScreen};
-ghost use Rattle.vt_screen.specs.Screen.{fresh_screen};
+ghost use Rattle.vt_screen.specs.Telling.{Hears};
 ghost use Rattle.vt_screen.specs.contracts.screen.Screen.{the_row as screen_row};
 
 use crate::processing;
@@ -69,8 +67,8 @@ impl Parser {
     ) -> Result<Parser, Error>
         ensures begun { IfOk result (λ parser. StandsFor parser.scanner start) }
         ensures memory { OnlyOutOfMemory result }
-        ensures shown { IfOk result (λ parser. parser
-            ≡ parsing parser.scanner (fresh_screen rows.value cols.value scrollback_capacity) parser.callbacks) }
+        ensures shown { IfOk result
+            (λ parser. HasFreshScreen rows.value cols.value scrollback_capacity parser.callbacks parser) }
     {
         Parser::new_with_callbacks(alloc, rows, cols, scrollback_capacity, ())
     }
@@ -81,8 +79,7 @@ impl Parser {
     pub fn default(alloc: Global) -> Result<Parser, Error>
         ensures begun { IfOk result (λ parser. StandsFor parser.scanner start) }
         ensures memory { OnlyOutOfMemory result }
-        ensures shown { IfOk result
-            (λ parser. parser ≡ parsing parser.scanner (fresh_screen 24 80 0) parser.callbacks) }
+        ensures shown { IfOk result (λ parser. HasFreshScreen 24 80 0 parser.callbacks parser) }
     {
         let rows = NonZeroU16::new(Parser::DEFAULT_ROWS).unwrap();
         let cols = NonZeroU16::new(Parser::DEFAULT_COLS).unwrap();
@@ -108,8 +105,7 @@ impl<CB: Callbacks> Parser<CB> {
         CB: Drop,
         ensures begun { IfOk result (λ parser. StandsFor parser.scanner start) }
         ensures memory { OnlyOutOfMemory result }
-        ensures shown { IfOk result (λ parser. parser
-            ≡ parsing parser.scanner (fresh_screen rows.value cols.value scrollback_capacity) callbacks) }
+        ensures shown { IfOk result (HasFreshScreen rows.value cols.value scrollback_capacity callbacks) }
     {
         let scanner = Scanner::new(alloc);
         let screen = new_screen(alloc, rows, cols, scrollback_capacity)?;
@@ -174,7 +170,7 @@ impl<CB: Callbacks> Parser<CB> {
         ensures ok { OnOk result (self.new
             ≡ record self.old
             { screen = resized rows.value cols.value self.old.screen; callbacks = self.new.callbacks }) }
-        ensures told { OnOk result (FoldsTo (CalledOnAnyScreen CB.does) self.old.callbacks
+        ensures told { OnOk result (Hears CB.does self.old.callbacks
             (calls_resized rows.value cols.value self.old.screen) self.new.callbacks) }
         ensures err { OnErr result (self.new ≡ self.old) }
         ensures grows { IsErr result → has_size rows.value cols.value self.old.screen ≡ false }

@@ -1,16 +1,14 @@
 -- What a reader has become that shows a picture, part by part; and that texts tell pictures apart.
 use Rattle.std.proofs.Common.{◌≡◌, ℕ, List, Option, refl, sym, ap, subst, ◌∙◌, arith}
 use Rattle.std.proofs.lemmas.List.Elements.{recursion_from_All}
-use Rattle.vt_cells.specs.Op.{bytes_of_all}
 use Rattle.vt_rows.specs.Row.{RowValue, IsRow}
 use Rattle.vt_redraw.specs.Picture.{Picture, IsPicture, SamePictureSize, Saved, cut_rows}
-use Rattle.vt_redraw.specs.Redraw.{redraw, difference}
 use Rattle.vt_redraw.specs.Steady.{IsSteady}
 use Rattle.vt_redraw.proofs.Cuts.{cut_same}
 use Rattle.vt_redraw.proofs.Difference.{flags_end_of}
 use Rattle.vt_screen.specs.Screen.{ScreenValue, IsScreen, IsColored, above_page}
 use Rattle.vt_screen.specs.Shown.{IsPlain, IsReader, IsReaderOf, ShowsPlainly, HasRows}
-use Rattle.vt_screen.specs.Shown.{HasCursor, KeepsRest, Redraws, shown, showing}
+use Rattle.vt_screen.specs.Shown.{HasCursor, KeepsRest, Redraws, RedrawsFrom, shown, showing, shown_change, shown_text}
 use Rattle.vt_screen.proofs.Redrawing.{Became, Becomes, became, redraw_read, difference_read}
 use Rattle.vt_screen.proofs.Shown.{none_above, shown_height, shown_is}
 
@@ -90,7 +88,7 @@ redraws Reader picture text is readers reads = record {
       (became picture text reader after (reads steady reader r) e);
 }
 
-pub redraw_redraws : (self : ScreenValue) (text : List ℕ) → text ≡ bytes_of_all (redraw (shown self)) →
+pub redraw_redraws : (self : ScreenValue) (text : List ℕ) → text ≡ shown_text self →
     IsScreen self → IsColored self → Redraws (shown self) (IsReader (shown self)) KeepsRest text
 redraw_redraws self text told is colored =
     let picture = shown self in
@@ -99,9 +97,9 @@ redraw_redraws self text told is colored =
     (sym told) (redraw_read self reader is colored steady r))
 
 pub difference_redraws : (self prev : ScreenValue) (text : List ℕ)
-    → text ≡ bytes_of_all (difference (shown self) (shown prev)) → IsScreen self → IsColored self
+    → text ≡ shown_change prev self → IsScreen self → IsColored self
     → IsScreen prev → IsColored prev → SamePictureSize (shown self) (shown prev)
-    → Redraws (shown self) (IsReaderOf (shown self) (shown prev)) KeepsRest text
+    → RedrawsFrom prev self text
 difference_redraws self prev text told is colored other colored_other size =
     let picture = shown self in
     redraws (IsReaderOf picture (shown prev)) picture text (shown_is self is) (λ reader r. r.is)

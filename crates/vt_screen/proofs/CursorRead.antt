@@ -9,8 +9,7 @@ use Rattle.vt_redraw.proofs.Fitting.{cursor_state_fits}
 use Rattle.vt_scan.specs.Automaton.{start}
 use Rattle.vt_screen.specs.Reading.{Terminal, terminal}
 use Rattle.vt_screen.specs.Screen.{ScreenValue, IsScreen, IsColored, canvas_of, with_canvas}
-use Rattle.vt_screen.specs.Shown.{IsPlain, IsReaderOfRows, IsReadBy, Makes, ReadsTo}
-use Rattle.vt_screen.specs.Shown.{KeepsRest, StaysPlain, TakesCursor, shown}
+use Rattle.vt_screen.specs.Shown.{IsPlain, IsReaderOfRows, KeepsRest, ReadsTo, TakesCursor, Turns, shown}
 use Rattle.vt_screen.proofs.Readback.{reads_all}
 use Rattle.vt_screen.proofs.Shown.{plain_shown, shown_colored, shown_is}
 
@@ -45,18 +44,12 @@ after_is picture text reader after p e =
     ap (λ (t : Terminal). t.screen)
     (same_some (terminal start (placed picture p.saved p.last reader)) (terminal start after) (sym p.reads ∙ e))
 
--- all that the text makes of its readers
-pub record Sets (picture : Picture) (text : List ℕ) : Type 0 where
-  pub quiet : IsReadBy (IsReaderOfRows picture) text
-  pub takes : Makes (IsReaderOfRows picture) text (TakesCursor picture)
-  pub plain : Makes (IsReaderOfRows picture) text StaysPlain
-  pub rest : Makes (IsReaderOfRows picture) text KeepsRest
-
-sets : (picture : Picture) (text : List ℕ) →
-    ((reader : ScreenValue) → IsReaderOfRows picture reader → Places picture text reader) → Sets picture text
-sets picture text reads = record {
+turns : (picture : Picture) (text : List ℕ) →
+    ((reader : ScreenValue) → IsReaderOfRows picture reader → Places picture text reader) →
+    Turns (IsReaderOfRows picture) text (TakesCursor picture)
+turns picture text reads = record {
   quiet = λ reader r. let p = reads reader r in (placed picture p.saved p.last reader, p.reads);
-  takes =
+  made =
       λ reader after r e. subst (TakesCursor picture reader) (after_is picture text reader after (reads reader r) e)
       (record { rows = refl; attrs = refl; row = refl; column = refl; hidden = refl });
   plain =
@@ -80,8 +73,9 @@ sets picture text reads = record {
       });
 }
 
-pub cursor_sets : (self : ScreenValue) (text : List ℕ) → text ≡ bytes_of_all (cursor_state (shown self)) →
-    IsScreen self → IsColored self → IsSteady (shown self) → Sets (shown self) text
-cursor_sets self text told is colored steady =
-    sets (shown self) text (λ reader r. subst (λ (t : List ℕ). Places (shown self) t reader)
+pub cursor_turns : (self : ScreenValue) (text : List ℕ) → text ≡ bytes_of_all (cursor_state (shown self)) →
+    IsScreen self → IsColored self → IsSteady (shown self) →
+    Turns (IsReaderOfRows (shown self)) text (TakesCursor (shown self))
+cursor_turns self text told is colored steady =
+    turns (shown self) text (λ reader r. subst (λ (t : List ℕ). Places (shown self) t reader)
     (sym told) (cursor_read self reader is colored steady r))

@@ -25,9 +25,9 @@ use Rattle.vt_redraw.proofs.WholeItems.{range_all}
 use Rattle.vt_scan.specs.Automaton.{start}
 use Rattle.vt_screen.specs.Reading.{Terminal, terminal}
 use Rattle.vt_screen.specs.RowsShown.{changed_text, formatted_text, HasLinked, HasRange}
-use Rattle.vt_screen.specs.RowsShown.{IsBlankReader, IsOff, IsRowReader, IsWrapReader, Turns}
+use Rattle.vt_screen.specs.RowsShown.{IsBlankReader, IsOff, IsRowReader, IsWrapReader}
 use Rattle.vt_screen.specs.Screen.{ScreenValue, canvas_of, with_canvas}
-use Rattle.vt_screen.specs.Shown.{IsPlain, IsReader, KeepsRest, Makes, ReadsTo}
+use Rattle.vt_screen.specs.Shown.{IsPlain, IsReader, KeepsRest, Makes, ReadsTo, Turns}
 use Rattle.vt_screen.proofs.Readback.{Reads, reads_all}
 use Rattle.vt_screen.proofs.Shown.{plain_shown, shown_height}
 

@@ -1,16 +1,17 @@
 -- What the texts of rows that a screen gives make of the terminals that read them.
-use Rattle.std.proofs.Common.{◌≡◌, ℕ, ◌+◌, ◌<◌, ◌↔◌, false, List}
+use Rattle.std.proofs.Common.{◌≡◌, ℕ, ◌+◌, ◌<◌, ◌↔◌, List}
 use Rattle.std.proofs.Common.{[], length, sym, ap, subst, ◌∙◌, arith}
+use Rattle.vt_cells.specs.Attrs.{default_attrs}
+use Rattle.vt_rows.specs.Row.{blank_row}
 use Rattle.vt_grid.specs.Page.{SameSize}
 use Rattle.vt_redraw.specs.Items.{CutsNone}
-use Rattle.vt_redraw.specs.Locality.{row_of_picture}
 use Rattle.vt_redraw.specs.Steady.{IsSteady}
 use Rattle.vt_redraw.proofs.ItemEmpty.{difference_item_empty}
-use Rattle.vt_screen.specs.RowsShown.{EachLinked, EachUncut, HasLinked, HasRange, IsBlankReader}
-use Rattle.vt_screen.specs.RowsShown.{IsOff, IsRowReader, IsWholeRow, IsWrapReader, Turns, changed_text}
-use Rattle.vt_screen.specs.RowsShown.{formatted_text, range_end, text_at, texts_from}
+use Rattle.vt_screen.specs.RowsShown.{DrawsRow, EachLinked, EachOff, EachUncut, HasLinked, IsBlankReader, IsOff}
+use Rattle.vt_screen.specs.RowsShown.{IsRowReader, IsWholeRow, IsWrapReader, changed_rows, changed_text}
+use Rattle.vt_screen.specs.RowsShown.{formatted_rows, formatted_text, range_end, shown_row, text_at, texts_from}
 use Rattle.vt_screen.specs.Screen.{ScreenValue, IsColored, IsScreen}
-use Rattle.vt_screen.specs.Shown.{Makes, shown}
+use Rattle.vt_screen.specs.Shown.{Makes, Turns, shown}
 use Rattle.vt_screen.proofs.RowItemsRead.{changed_off, changed_shows, formatted_shows, linked_shows}
 use Rattle.vt_screen.proofs.RowTexts.{texts_at}
 use Rattle.vt_screen.proofs.Shown.{shown_colored, shown_height, shown_is}
@@ -24,26 +25,20 @@ told_at texts text s r told low =
     ap (λ (t : List (List ℕ)). text_at t r) told ∙ texts_at text r (length s.page.rows) (omega arith)
 
 -- those for blank rows
-abbrev AreFormatted : (s : ScreenValue) (start width : ℕ) → List (List ℕ) → Type 0
-AreFormatted s start width texts =
-    texts ≡ texts_from (formatted_text start (range_end start width s.page.width) (shown s)) 0 (length s.page.rows)
-
 pub formatted_turns : (s : ScreenValue) (start width : ℕ) (texts : List (List ℕ)) →
-    AreFormatted s start width texts → IsScreen s → IsColored s → start < s.page.width → IsSteady (shown s) →
-    EachUncut start (range_end start width s.page.width) (shown s) (λ r. Turns (IsBlankReader (shown s) r start)
-    (text_at texts r) (HasRange start (range_end start width s.page.width) r (row_of_picture (shown s) r)))
+    texts ≡ formatted_rows start width s → IsScreen s → IsColored s → start < s.page.width → IsSteady (shown s) →
+    EachUncut start width s
+    (λ r. DrawsRow start width s r (blank_row default_attrs s.page.width) (text_at texts r))
 formatted_turns s start width texts told is colored some steady r low cuts =
     let stop = range_end start width s.page.width in
     let shows = formatted_shows (shown s) r start stop (shown_is s is)
     (shown_colored s is colored) steady low (omega arith) (omega arith) cuts in
-    subst
-    (λ (t : List ℕ). Turns (IsBlankReader (shown s) r start) t (HasRange start stop r (row_of_picture (shown s) r)))
+    subst (λ (t : List ℕ). DrawsRow start width s r (blank_row default_attrs s.page.width) t)
     (sym (told_at texts (formatted_text start stop (shown s)) s r told low)) shows.row
 
 pub formatted_off : (s : ScreenValue) (start width : ℕ) (texts : List (List ℕ)) →
-    AreFormatted s start width texts → IsScreen s → IsColored s → start < s.page.width → IsSteady (shown s) →
-    EachUncut start (range_end start width s.page.width) (shown s)
-    (λ r. Makes (IsBlankReader (shown s) r start) (text_at texts r) (IsOff r))
+    texts ≡ formatted_rows start width s → IsScreen s → IsColored s → start < s.page.width → IsSteady (shown s) →
+    EachUncut start width s (λ r. Makes (IsBlankReader (shown s) r start) (text_at texts r) (IsOff r))
 formatted_off s start width texts told is colored some steady r low cuts =
     let stop = range_end start width s.page.width in
     let shows = formatted_shows (shown s) r start stop (shown_is s is)
@@ -56,7 +51,7 @@ whole_end : (start width columns : ℕ) → IsWholeRow start width columns → r
 whole_end start width columns whole = let a = whole.0 in let b = whole.1 in omega arith
 
 whole_formatted : (s : ScreenValue) (start width : ℕ) (texts : List (List ℕ)) →
-    AreFormatted s start width texts → IsWholeRow start width s.page.width →
+    texts ≡ formatted_rows start width s → IsWholeRow start width s.page.width →
     texts ≡ texts_from (formatted_text 0 s.page.width (shown s)) 0 (length s.page.rows)
 whole_formatted s start width texts told whole =
     told
@@ -64,38 +59,30 @@ whole_formatted s start width texts told whole =
     (whole_end start width s.page.width whole)
     ∙ ap (λ (begin : ℕ). texts_from (formatted_text begin s.page.width (shown s)) 0 (length s.page.rows)) whole.0)
 
-pub formatted_linked : (s : ScreenValue) (start width : ℕ) (texts : List (List ℕ)) → AreFormatted s start width texts →
+pub formatted_linked : (s : ScreenValue) (start width : ℕ) (texts : List (List ℕ)) →
+    texts ≡ formatted_rows start width s →
     IsScreen s → IsColored s → IsWholeRow start width s.page.width → IsSteady (shown s) →
-    EachLinked (shown s)
-    (λ r. Turns (IsWrapReader (shown s) r) (text_at texts (r + 1)) (HasLinked r (row_of_picture (shown s) (r + 1))))
+    EachLinked s (λ r. Turns (IsWrapReader (shown s) r) (text_at texts (r + 1)) (HasLinked r (shown_row s (r + 1))))
 formatted_linked s start width texts told is colored whole steady r low on =
-    subst (λ (t : List ℕ). Turns (IsWrapReader (shown s) r) t (HasLinked r (row_of_picture (shown s) (r + 1))))
+    subst (λ (t : List ℕ). Turns (IsWrapReader (shown s) r) t (HasLinked r (shown_row s (r + 1))))
     (sym (told_at texts (formatted_text 0 s.page.width (shown s)) s
     (r + 1) (whole_formatted s start width texts told whole) low))
     (linked_shows (shown s) r (shown_is s is) (shown_colored s is colored) steady low on)
 
 -- those for rows of another screen
-abbrev AreChanged : (s prev : ScreenValue) (start width : ℕ) → List (List ℕ) → Type 0
-AreChanged s prev start width texts =
-    texts
-    ≡ texts_from (changed_text start (range_end start width s.page.width) (shown s) (shown prev)) 0 (length s.page.rows)
-
 pub changed_turns : (s prev : ScreenValue) (start width : ℕ) (texts : List (List ℕ)) →
-    AreChanged s prev start width texts → IsScreen s → IsColored s → start < s.page.width → IsSteady (shown s) →
-    EachUncut start (range_end start width s.page.width) (shown s)
-    (λ r. CutsNone start (range_end start width s.page.width) (row_of_picture (shown prev) r).cells →
-    Turns (IsRowReader (shown s) r start (row_of_picture (shown prev) r)) (text_at texts r)
-    (HasRange start (range_end start width s.page.width) r (row_of_picture (shown s) r)))
+    texts ≡ changed_rows start width s prev → IsScreen s → IsColored s → start < s.page.width → IsSteady (shown s) →
+    EachUncut start width s (λ r. CutsNone start (range_end start width s.page.width) (shown_row prev r).cells →
+    DrawsRow start width s r (shown_row prev r) (text_at texts r))
 changed_turns s prev start width texts told is colored some steady r low cuts other =
     let stop = range_end start width s.page.width in
-    subst (λ (t : List ℕ). Turns (IsRowReader (shown s) r start (row_of_picture (shown prev) r))
-    t (HasRange start stop r (row_of_picture (shown s) r)))
+    subst (λ (t : List ℕ). DrawsRow start width s r (shown_row prev r) t)
     (sym (told_at texts (changed_text start stop (shown s) (shown prev)) s r told low))
     (changed_shows (shown s) (shown prev) r start stop (shown_is s is)
     (shown_colored s is colored) steady low (omega arith) (omega arith) cuts other)
 
 whole_changed : (s prev : ScreenValue) (start width : ℕ) (texts : List (List ℕ)) →
-    AreChanged s prev start width texts → IsWholeRow start width s.page.width →
+    texts ≡ changed_rows start width s prev → IsWholeRow start width s.page.width →
     texts ≡ texts_from (changed_text 0 s.page.width (shown s) (shown prev)) 0 (length s.page.rows)
 whole_changed s prev start width texts told whole =
     told
@@ -105,28 +92,26 @@ whole_changed s prev start width texts told whole =
     whole.0)
 
 pub changed_leaves : (s prev : ScreenValue) (start width : ℕ) (texts : List (List ℕ)) →
-    AreChanged s prev start width texts → IsScreen s → IsColored s → IsScreen prev →
-    SameSize s.page prev.page → IsWholeRow start width s.page.width →
-    IsSteady (shown s) → (r : ℕ) → r < length s.page.rows → (row_of_picture (shown s) r).wrapped ≡ false →
-    Makes (IsRowReader (shown s) r 0 (row_of_picture (shown prev) r)) (text_at texts r) (IsOff r)
+    texts ≡ changed_rows start width s prev → IsScreen s → IsColored s → IsScreen prev →
+    SameSize s.page prev.page → IsWholeRow start width s.page.width → IsSteady (shown s) →
+    EachOff s (λ r. Makes (IsRowReader (shown s) r 0 (shown_row prev r)) (text_at texts r) (IsOff r))
 changed_leaves s prev start width texts told is colored other size whole steady r low off =
     let height = shown_height s in
     let inside : r < length (shown s).rows = omega arith in
-    subst (λ (t : List ℕ). Makes (IsRowReader (shown s) r 0 (row_of_picture (shown prev) r)) t (IsOff r))
+    subst (λ (t : List ℕ). Makes (IsRowReader (shown s) r 0 (shown_row prev r)) t (IsOff r))
     (sym (told_at texts (changed_text 0 s.page.width (shown s) (shown prev))
     s r (whole_changed s prev start width texts told whole) inside))
     (changed_off (shown s) (shown prev) r (shown_is s is) (shown_colored s is colored)
     steady (shown_is prev other) (same_shown s prev size) inside off)
 
 pub changed_empty : (s prev : ScreenValue) (start width : ℕ) (texts : List (List ℕ)) →
-    AreChanged s prev start width texts → IsScreen s → IsScreen prev →
+    texts ≡ changed_rows start width s prev → IsScreen s → IsScreen prev →
     SameSize s.page prev.page → IsWholeRow start width s.page.width →
-    (r : ℕ) → r < length s.page.rows →
-    (text_at texts r ≡ []) ↔ (row_of_picture (shown s) r ≡ row_of_picture (shown prev) r)
+    (r : ℕ) → r < length s.page.rows → (text_at texts r ≡ []) ↔ (shown_row s r ≡ shown_row prev r)
 changed_empty s prev start width texts told is other size whole r low =
     let height = shown_height s in
     let inside : r < length (shown s).rows = omega arith in
-    subst (λ (t : List ℕ). (t ≡ []) ↔ (row_of_picture (shown s) r ≡ row_of_picture (shown prev) r))
+    subst (λ (t : List ℕ). (t ≡ []) ↔ (shown_row s r ≡ shown_row prev r))
     (sym (told_at texts (changed_text 0 s.page.width (shown s) (shown prev))
     s r (whole_changed s prev start width texts told whole) inside))
     (difference_item_empty (shown s) (shown prev) r (shown_is s is)

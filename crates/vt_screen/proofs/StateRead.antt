@@ -1,16 +1,14 @@
 -- The text of a state, read by a terminal, makes it show the screen and have its input modes.
 use Rattle.std.proofs.Common.{◌≡◌, ℕ, List, [], ◌∷◌, ◌++◌, Option, Some, sym, refl, ap, subst, ◌∙◌}
-use Rattle.vt_cells.specs.Op.{bytes_of_all}
 use Rattle.vt_redraw.specs.Picture.{SamePictureSize, Saved}
-use Rattle.vt_redraw.specs.Redraw.{redraw, difference}
 use Rattle.vt_redraw.specs.Steady.{IsSteady}
 use Rattle.vt_scan.specs.Automaton.{start}
 use Rattle.vt_screen.specs.InputTexts.{input_change, input_text}
 use Rattle.vt_screen.specs.Reading.{Terminal, terminal}
 use Rattle.vt_screen.specs.Screen.{Modes, ScreenValue, IsScreen, IsColored}
-use Rattle.vt_screen.specs.Shown.{IsReader, Makes, ReadsTo, Redraws, ShowsPlainly, HasRows}
-use Rattle.vt_screen.specs.Shown.{HasCursor, KeepsRestButModes, shown, showing}
-use Rattle.vt_screen.specs.States.{HasDefaultMouseAndStyle, HasModes, IsStateReader}
+use Rattle.vt_screen.specs.Shown.{IsReader, ReadsTo, Redraws, ShowsPlainly, HasRows}
+use Rattle.vt_screen.specs.Shown.{HasCursor, KeepsRestButModes, shown, showing, shown_change, shown_text}
+use Rattle.vt_screen.specs.States.{GivesState, HasDefaultMouseAndStyle, HasModes, IsStateReader}
 use Rattle.vt_screen.specs.States.{IsStateReaderOf, SetsModes, state_change, state_text}
 use Rattle.vt_screen.proofs.Became.{shows_plainly}
 use Rattle.vt_screen.proofs.InputRead.{change_none, change_tells, modes_changed, modes_set}
@@ -44,7 +42,7 @@ restores Had screen reader picture modes b sets had =
 state_read : (screen reader : ScreenValue) → IsScreen screen → IsColored screen →
     IsSteady (shown screen) → IsStateReader screen reader → Restores screen (state_text screen) reader
 state_read screen reader is colored steady r =
-    restores HasDefaultMouseAndStyle screen reader (bytes_of_all (redraw (shown screen))) (input_text screen.modes)
+    restores HasDefaultMouseAndStyle screen reader (shown_text screen) (input_text screen.modes)
     (redraw_read screen reader is colored steady r.is) (modes_set screen.modes (input_text screen.modes) refl) r.modes
 
 change_read : (screen prev reader : ScreenValue) → IsScreen screen → IsColored screen → IsSteady (shown screen)
@@ -52,7 +50,7 @@ change_read : (screen prev reader : ScreenValue) → IsScreen screen → IsColor
     → Restores screen (state_change prev screen) reader
 change_read screen prev reader is colored steady other colored_other size r =
     restores (λ had. had ≡ prev.modes) screen reader
-    (bytes_of_all (difference (shown screen) (shown prev))) (input_change prev.modes screen.modes)
+    (shown_change prev screen) (input_change prev.modes screen.modes)
     (difference_read screen prev reader is colored steady other colored_other size r.is)
     (modes_changed prev.modes screen.modes (input_change prev.modes screen.modes) refl) r.modes
 
@@ -74,11 +72,6 @@ plain_again screen saved last reader is r =
     let (plain, shows) = shows_plainly (shown screen) reader (showing (shown screen) saved last reader)
     (shown_is screen is) r (record { saved = saved; last = last; is = refl }) in
     (record { page = plain.page; offset = plain.offset }, shows)
-
--- all that such a text makes of its readers
-pub record GivesState (Reader : ScreenValue → Type 0) (screen : ScreenValue) (text : List ℕ) : Type 0 where
-  pub redraws : Redraws (shown screen) Reader KeepsRestButModes text
-  pub modes : IsSteady (shown screen) → Makes Reader text (HasModes screen.modes)
 
 redraws : (Reader : ScreenValue → Type 0) (screen : ScreenValue) (text : List ℕ) → IsScreen screen
     → ((reader : ScreenValue) → Reader reader → IsReader (shown screen) reader)
@@ -150,7 +143,7 @@ pub state_tells : (screen prev : ScreenValue) → IsScreen screen → IsColored 
     → (shown screen ≡ shown prev) × (screen.modes ≡ prev.modes)
 state_tells screen prev is colored steady other colored_other size empty =
     let (picture, modes) =
-    both_empty (bytes_of_all (difference (shown screen) (shown prev))) (input_change prev.modes screen.modes) empty in (
+    both_empty (shown_change prev screen) (input_change prev.modes screen.modes) empty in (
       difference_tells screen prev is colored steady other colored_other size picture,
       change_tells prev.modes screen.modes modes,
     )

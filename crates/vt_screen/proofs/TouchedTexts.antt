@@ -9,13 +9,13 @@ use Rattle.vt_redraw.proofs.CursorAlone.{cursor_state_draws, cursor_state_local}
 use Rattle.vt_redraw.proofs.Difference.{difference_draws, difference_local}
 use Rattle.vt_redraw.proofs.Fitting.{cursor_state_fits, difference_fits}
 use Rattle.vt_screen.specs.Screen.{ScreenValue, IsScreen, IsColored, canvas_of}
-use Rattle.vt_screen.specs.Shown.{IsReaderOf, IsReaderOfRows, shown}
+use Rattle.vt_screen.specs.Shown.{IsReaderOf, IsReaderOfRows, shown, shown_change}
 use Rattle.vt_screen.specs.Touched.{ReadTouches, TouchesOnly}
 use Rattle.vt_screen.proofs.Shown.{plain_shown, shown_colored, shown_is}
 use Rattle.vt_screen.proofs.TouchedReads.{all_touches}
 
 pub difference_touches : (self prev : ScreenValue) (text : List ℕ) →
-    text ≡ bytes_of_all (difference (shown self) (shown prev)) → IsScreen self →
+    text ≡ shown_change prev self → IsScreen self →
     IsColored self → IsSteady (shown self) → IsScreen prev → IsColored prev →
     SamePictureSize (shown self) (shown prev) →
     TouchesOnly (IsReaderOf (shown self) (shown prev)) text (IsLocal (shown self) (shown prev))

@@ -32,6 +32,10 @@ abbrev pub given_state : BasicFormattedCaptureRange → Written
 given_state (Full state) = state.now
 given_state Visible = unwritten
 
+-- its text behind that
+abbrev pub captured_text : BasicFormattedCaptureRange → ScreenValue → List ℕ
+captured_text range screen = basic_texts (given_state range) (captured_rows range screen)
+
 -- a range when the call has returned: the state that it lent, or nothing
 abbrev pub RangeLeft : Type 0
 RangeLeft = (MutBor Written × ⊤) ⊎ (⊤ ⊎ ⊥)

@@ -1,11 +1,9 @@
 -- A redraw, and behind it differences, each against the screen before it.
 use Rattle.std.specs.Prelude.{ℕ, List, [], ◌∷◌, ◌++◌}
-use Rattle.vt_cells.specs.Op.{bytes_of_all}
 use Rattle.vt_redraw.specs.Picture.{SamePictureSize}
-use Rattle.vt_redraw.specs.Redraw.{difference, redraw}
 use Rattle.vt_redraw.specs.Steady.{IsSteady}
 use Rattle.vt_screen.specs.Screen.{ScreenValue, IsScreen, IsColored}
-use Rattle.vt_screen.specs.Shown.{shown}
+use Rattle.vt_screen.specs.Shown.{shown, shown_change, shown_text}
 
 -- a screen that can be redrawn on a terminal: what it shows is steady and of that terminal's size
 pub record CanShowOn (reader self : ScreenValue) : Type 0 where
@@ -17,10 +15,10 @@ pub record CanShowOn (reader self : ScreenValue) : Type 0 where
 -- the differences, one after the other
 abbrev pub texts_behind : ScreenValue → List ScreenValue → List ℕ
 texts_behind prev [] = []
-texts_behind prev (x ∷ xs) = bytes_of_all (difference (shown x) (shown prev)) ++ texts_behind x xs
+texts_behind prev (x ∷ xs) = shown_change prev x ++ texts_behind x xs
 
 abbrev pub chain_text : ScreenValue → List ScreenValue → List ℕ
-chain_text self nexts = bytes_of_all (redraw (shown self)) ++ texts_behind self nexts
+chain_text self nexts = shown_text self ++ texts_behind self nexts
 
 abbrev pub last_screen : ScreenValue → List ScreenValue → ScreenValue
 last_screen self [] = self

@@ -1,11 +1,15 @@
--- What the fields of a screen are together; for its model only.
-use Rattle.std.specs.Prelude.{◌≡◌, ℕ, ◌≤◌, Bool, true, [], Option, Some, None}
-use Rattle.std.specs.Prelude.{IfSome, IsSome, option_map, not, if◌then◌else◌}
+-- What the fields of a screen are together, and what its private functions do; for its model and their contracts only.
+use Rattle.std.specs.Prelude.{◌≡◌, ℕ, ◌<◌, ◌≤◌, Bool, true, false, List, [], ◌++◌, Option, Some, None}
+use Rattle.std.specs.Prelude.{IfSome, IsSome, OnErr, OnOk, Result, option_map, not, if◌then◌else◌}
+use Rattle.vt_rows.specs.Basic.{Written}
+use Rattle.vt_rows.specs.Row.{RowValue}
 use Rattle.vt_grid.specs.Page.{Page, IsPage}
 use Rattle.vt_grid.specs.Scrollback.{Scrollback, IsScrollback, no_scrollback}
 use Rattle.vt_grid.specs.Resize.{page_resized, scrollback_resized}
 use Rattle.vt_grid.specs.Page.{SameSize}
-use Rattle.vt_screen.specs.Pages.{fresh_page, page_aside}
+use Rattle.vt_screen.specs.Calls.{CallValue}
+use Rattle.vt_screen.specs.Capture.{StopsBehind, basic_texts, written_after_all}
+use Rattle.vt_screen.specs.Pages.{fresh_page, page_aside, reports_of}
 use Rattle.vt_screen.specs.Screen.{ScreenValue, IsPrintable}
 pub use Rattle.vt_screen.specs.Screen.{IsColoredCell, IsColoredRow, AreColored}
 
@@ -79,7 +83,26 @@ pages_resized rows cols screen = record screen {
   scrollback = scrollback_resized rows screen.page screen.scrollback;
 }
 
+-- the calls on the way
+abbrev pub reports_of_pages : (rows : ℕ) → ScreenValue → List CallValue
+reports_of_pages rows screen =
+    reports_of false rows (Some screen.page) screen.scrollback ++ reports_of true rows screen.other (no_scrollback 0)
+
+-- a size that a page may have: a row and a column, at least
+pub record IsPageSize (height width : ℕ) : Type 0 where
+  pub rows : 0 < height
+  pub cols : 0 < width
+
+-- ---- parts of texts
+
 -- columns of a screen from `start` up to `stop`
 pub record IsColumns (start stop : ℕ) (screen : ScreenValue) : Type 0 where
   pub order : start ≤ stop
   pub inside : stop ≤ screen.page.width
+
+-- rows were written behind a state, which is now that behind them; or the sink stopped in one
+pub record WritesRows {A E : Type 0} (refuses : List ℕ → List ℕ → List ℕ → Type 0) (start : List ℕ) (before : Written)
+    (rows : List RowValue) (result : Result A E) (bytes : List ℕ) (after : Written) : Type 0 where
+  pub text : OnOk result (bytes ≡ start ++ basic_texts before rows)
+  pub state : OnOk result (after ≡ written_after_all before rows)
+  pub err : OnErr result (StopsBehind refuses start before rows bytes after)

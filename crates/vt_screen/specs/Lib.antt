@@ -2,6 +2,7 @@ pub mod Calls
 pub mod Meanings
 pub mod Sgr
 pub mod Screen
+pub mod TextResults
 pub mod Pages
 pub mod ModeStep
 pub mod Steps

@@ -11,7 +11,11 @@ use Rattle.vt_redraw.specs.Items.{CutsNone, is_linked, item_of_difference, item_
 use Rattle.vt_redraw.specs.Locality.{row_of_picture}
 use Rattle.vt_redraw.specs.Picture.{Picture}
 use Rattle.vt_screen.specs.Screen.{ScreenValue}
-use Rattle.vt_screen.specs.Shown.{IsReadBy, IsReader, KeepsRest, Makes, StaysPlain}
+use Rattle.vt_screen.specs.Shown.{IsReader, Turns, shown}
+
+-- row r of what a screen shows
+abbrev pub shown_row : ScreenValue → ℕ → RowValue
+shown_row screen r = row_of_picture (shown screen) r
 
 -- ---- the texts
 
@@ -32,6 +36,18 @@ changed_text start stop picture prev r =
 -- the texts of the rows from row r on
 abbrev pub texts_from : (ℕ → List ℕ) → (r height : ℕ) → List (List ℕ)
 texts_from text r height = map text (range_with_len r (height - r))
+
+-- the texts of all rows of a screen, in `width` columns from `start` on, where its rows are blank
+abbrev pub formatted_rows : (start width : ℕ) → ScreenValue → List (List ℕ)
+formatted_rows start width screen =
+    texts_from (formatted_text start (range_end start width screen.page.width) (shown screen)) 0
+    (length screen.page.rows)
+
+-- the same, where the rows of another screen stand
+abbrev pub changed_rows : (start width : ℕ) → (screen prev : ScreenValue) → List (List ℕ)
+changed_rows start width screen prev =
+    texts_from (changed_text start (range_end start width screen.page.width) (shown screen) (shown prev)) 0
+    (length screen.page.rows)
 
 -- the text of row r
 abbrev pub text_at : List (List ℕ) → ℕ → List ℕ
@@ -80,14 +96,11 @@ pub record HasLinked (r : ℕ) (shows : RowValue) (reader after : ScreenValue) :
   pub others : (k : ℕ) → k ≢ r → k ≢ r + 1 → row_at after.page k ≡ row_at reader.page k
   pub height : length after.page.rows ≡ length reader.page.rows
 
--- every such terminal reads the text to its end, calling nobody and taking no memory, and then is so; it is plain
--- again, and as before in all that is no part of its page
-pub record Turns (Reader : ScreenValue → Type 0) (text : List ℕ)
-    (Made : (reader after : ScreenValue) → Type 0) : Type 0 where
-  pub quiet : IsReadBy Reader text
-  pub made : Makes Reader text Made
-  pub plain : Makes Reader text StaysPlain
-  pub rest : Makes Reader text KeepsRest
+-- a text that turns this row, as row r of a terminal, into that of a screen, in `width` columns from `start` on
+abbrev pub DrawsRow : (start width : ℕ) → ScreenValue → (r : ℕ) → (stood : RowValue) → List ℕ → Type 0
+DrawsRow start width screen r stood text =
+    Turns (IsRowReader (shown screen) r start stood) text
+    (HasRange start (range_end start width screen.page.width) r (shown_row screen r))
 
 -- ---- of which rows this holds
 
@@ -95,11 +108,16 @@ pub record Turns (Reader : ScreenValue → Type 0) (text : List ℕ)
 abbrev pub IsWholeRow : (start width columns : ℕ) → Type 0
 IsWholeRow start width columns = (start ≡ 0) × (columns ≤ width)
 
--- of each row of a picture of which the range cuts no wide glyph in two
-abbrev pub EachUncut : (start stop : ℕ) → Picture → (ℕ → Type 0) → Type 0
-EachUncut start stop picture P =
-    (r : ℕ) → r < length picture.rows → CutsNone start stop (row_of_picture picture r).cells → P r
+-- of each row that a screen shows of which the range cuts no wide glyph in two
+abbrev pub EachUncut : (start width : ℕ) → ScreenValue → (ℕ → Type 0) → Type 0
+EachUncut start width screen P =
+    (r : ℕ) → r < length (shown screen).rows
+    → CutsNone start (range_end start width screen.page.width) (shown_row screen r).cells → P r
 
--- of each row below one that goes on
-abbrev pub EachLinked : Picture → (ℕ → Type 0) → Type 0
-EachLinked picture P = (r : ℕ) → r + 1 < length picture.rows → (row_of_picture picture r).wrapped ≡ true → P r
+-- of each row that goes on below
+abbrev pub EachLinked : ScreenValue → (ℕ → Type 0) → Type 0
+EachLinked screen P = (r : ℕ) → r + 1 < length (shown screen).rows → (shown_row screen r).wrapped ≡ true → P r
+
+-- of each row that does not go on below
+abbrev pub EachOff : ScreenValue → (ℕ → Type 0) → Type 0
+EachOff screen P = (r : ℕ) → r < length screen.page.rows → (shown_row screen r).wrapped ≡ false → P r

@@ -8,6 +8,7 @@ use Rattle.vt_cells.specs.Op.{ClearAttrs, ChangeAttrs, bytes_of_all}
 use Rattle.vt_rows.specs.Cells.{at}
 use Rattle.vt_grid.specs.Page.{IsPlainPage}
 use Rattle.vt_redraw.specs.Picture.{Picture, SamePictureSize, Saved, picture_over, with_picture, with_saved}
+use Rattle.vt_redraw.specs.Redraw.{difference, redraw}
 use Rattle.vt_redraw.specs.Steady.{IsSteady}
 use Rattle.vt_scan.specs.Automaton.{start}
 use Rattle.vt_screen.specs.Reading.{read, terminal}
@@ -16,6 +17,14 @@ use Rattle.vt_screen.specs.Screen.{ScreenValue, IsScreen, above_page, canvas_of,
 -- the rows in view, cut to the screen's width, with its cursor, its attributes and whether the cursor is hidden
 abbrev pub shown : ScreenValue → Picture
 shown screen = picture_over (visible_rows screen) (canvas_of screen)
+
+-- the redraw of what a screen shows
+abbrev pub shown_text : ScreenValue → List ℕ
+shown_text screen = bytes_of_all (redraw (shown screen))
+
+-- the difference between what two screens show
+abbrev pub shown_change : (was new : ScreenValue) → List ℕ
+shown_change was new = bytes_of_all (difference (shown new) (shown was))
 
 -- no scrollback is in view, so that the rows that are shown are those of the active page
 abbrev pub ShowsOwnPage : ScreenValue → Type 0
@@ -118,6 +127,10 @@ pub record Redraws (picture : Picture) (Reader : ScreenValue → Type 0)
   pub cursor : IsSteady picture → Makes Reader text (HasCursor picture)
   pub rest : IsSteady picture → Makes Reader text Kept
 
+-- one that redraws what a screen shows, on every plain terminal that shows what another one shows
+abbrev pub RedrawsFrom : (was new : ScreenValue) → List ℕ → Type 0
+RedrawsFrom was new text = Redraws (shown new) (IsReaderOf (shown new) (shown was)) KeepsRest text
+
 -- its cursor goes to the picture's and is hidden where that is; its cells, flags and attributes stay
 pub record TakesCursor (picture : Picture) (reader after : ScreenValue) : Type 0 where
   pub rows : after.page.rows ≡ reader.page.rows
@@ -129,6 +142,15 @@ pub record TakesCursor (picture : Picture) (reader after : ScreenValue) : Type 0
 -- it is plain again
 abbrev pub StaysPlain : (reader after : ScreenValue) → Type 0
 StaysPlain reader after = IsPlain after
+
+-- every such terminal reads the text to its end, calling nobody and taking no memory, and then is so; it is plain
+-- again, and as before in all that is no part of its page
+pub record Turns (Reader : ScreenValue → Type 0) (text : List ℕ)
+    (Made : (reader after : ScreenValue) → Type 0) : Type 0 where
+  pub quiet : IsReadBy Reader text
+  pub made : Makes Reader text Made
+  pub plain : Makes Reader text StaysPlain
+  pub rest : Makes Reader text KeepsRest
 
 -- SGR without a number, and the change from the defaults to these attributes
 abbrev pub attributes_text : Attrs → List ℕ

@@ -1,13 +1,18 @@
 -- What a run tells callbacks that leave the screen alone: a function of where the scanner stands, the screen and the
 -- bytes.
 use Rattle.std.specs.Prelude.{◌≡◌, ℕ, List, [], ◌∷◌, ◌++◌, map}
+use Rattle.std.specs.List.{FoldsTo}
 use Rattle.vt_scan.specs.Automaton.{State, Event}
 use Rattle.vt_scan.specs.Run.{run}
 use Rattle.vt_screen.specs.Calls.{CallValue, OnScroll}
 use Rattle.vt_screen.specs.Screen.{ScreenValue}
 use Rattle.vt_screen.specs.Controls.{seen_of, steps_of}
 use Rattle.vt_screen.specs.Steps.{Step, CallBack, reports, screen_after}
-use Rattle.vt_screen.specs.Run.{CallRelation}
+use Rattle.vt_screen.specs.Run.{CallRelation, CalledOnAnyScreen}
+
+-- callbacks hear of calls that are lent no screen, one after the other
+abbrev pub Hears : {S : Type 0} → CallRelation S → S → List CallValue → S → Type 0
+Hears does old calls new = FoldsTo (CalledOnAnyScreen does) old calls new
 
 -- callbacks that leave the screen alone
 abbrev pub LeavesScreen : {S : Type 0} → CallRelation S → Type 0

@@ -1,15 +1,16 @@
 //! Captures: texts of rows with SGR alone.
 
-ghost use Rattle.std.specs.Prelude.{◌≡◌, ◌+◌, ◌<◌, ◌≤◌, ◌↔◌, ◌++◌, IfOk, IfSome, IsSome};
-ghost use Rattle.std.specs.Prelude.{OnErr, OnOk, length, slice_index_or, string_bytes};
+ghost use Rattle.std.specs.Prelude.{◌≡◌, ◌≤◌, ◌++◌, OnErr, OnOk, length};
 ghost use Rattle.std.specs.List.{slice_range};
 ghost use Rattle.vt_cells.specs.Refusals.{OnlyOutOfMemory};
 ghost use Rattle.vt_rows.specs.Basic.{Written, unwritten};
-ghost use Rattle.vt_rows.specs.Row.{RowValue, IsRow};
+ghost use Rattle.vt_redraw.specs.Refusals.{RefusedOnlyIfSome};
 ghost use Rattle.vt_screen.specs.Capture.{IfGiven, StopsBehind, all_rows, basic_texts};
-ghost use Rattle.vt_screen.specs.Capture.{captured_rows, given_state, written_after_all};
+ghost use Rattle.vt_screen.specs.Capture.{captured_rows, captured_text, given_state, written_after_all};
 ghost use Rattle.vt_screen.specs.CaptureText.{IsCaptureText};
+ghost use Rattle.vt_screen.specs.Internals.{WritesRows};
 ghost use Rattle.vt_screen.specs.Screen.{visible_rows};
+ghost use Rattle.vt_screen.specs.TextResults.{IfText};
 
 use super::Screen;
 use vt_cells::{Error, Sink};
@@ -29,10 +30,10 @@ impl Screen {
     ///
     /// Fails where memory for the text is refused; an empty text needs none.
     pub fn contents_formatted_basic(&self) -> Result<String, Error>
-        ensures text { IfOk result (λ text. string_bytes text ≡ basic_texts unwritten (visible_rows self.now)) }
-        ensures controls { IfOk result (λ text. IsCaptureText (string_bytes text)) }
+        ensures text { IfText result (λ text. text ≡ basic_texts unwritten (visible_rows self.now)) }
+        ensures controls { IfText result IsCaptureText }
         ensures memory { OnlyOutOfMemory result }
-        ensures some { OnErr result (0 < length (basic_texts unwritten (visible_rows self.now))) }
+        ensures some { RefusedOnlyIfSome result (basic_texts unwritten (visible_rows self.now)) }
     {
         let mut text = String::new(self.alloc);
         match self.write_contents_formatted_basic(&mut text, BasicFormattedCaptureRange::Visible) {
@@ -53,15 +54,13 @@ impl Screen {
         sink: &mut S,
         range: BasicFormattedCaptureRange<'_>,
     ) -> Result<(), S::Error>
-        ensures text { OnOk result (S.text sink.new
-            ≡ S.text sink.old ++ basic_texts (given_state range.entry) (captured_rows range.entry self.now)) }
+        ensures text { OnOk result (S.text sink.new ≡ S.text sink.old ++ captured_text range.entry self.now) }
         ensures state { OnOk result (IfGiven range.exit
             (λ state. state ≡ written_after_all (given_state range.entry) (captured_rows range.entry self.now))) }
         ensures err { OnErr result ((state : Written)
             × (StopsBehind S.refuses (S.text sink.old) (given_state range.entry) (captured_rows range.entry self.now)
             (S.text sink.new) state × IfGiven range.exit (λ given. given ≡ state))) }
-        ensures some { OnErr result
-            (0 < length (basic_texts (given_state range.entry) (captured_rows range.entry self.now))) }
+        ensures some { RefusedOnlyIfSome result (captured_text range.entry self.now) }
     {
         match range {
             BasicFormattedCaptureRange::Full(state) => self.write_all_rows(sink, state),
@@ -78,10 +77,8 @@ impl Screen {
         sink: &mut S,
         state: &mut BasicFormattedCaptureState,
     ) -> Result<(), S::Error>
-        ensures text { OnOk result (S.text sink.new ≡ S.text sink.old ++ basic_texts state.old (all_rows self.now)) }
-        ensures state { OnOk result (state.new ≡ written_after_all state.old (all_rows self.now)) }
-        ensures err { OnErr result
-            (StopsBehind S.refuses (S.text sink.old) state.old (all_rows self.now) (S.text sink.new) state.new) }
+        ensures { WritesRows S.refuses (S.text sink.old) state.old (all_rows self.now)
+            result (S.text sink.new) state.new }
     {
         let end = self.scrollback.stacked_len(self.grid.rows());
         self.write_rows(sink, state, 0, end)
@@ -93,11 +90,8 @@ impl Screen {
         sink: &mut S,
         state: &mut BasicFormattedCaptureState,
     ) -> Result<(), S::Error>
-        ensures text { OnOk result
-            (S.text sink.new ≡ S.text sink.old ++ basic_texts state.old (visible_rows self.now)) }
-        ensures state { OnOk result (state.new ≡ written_after_all state.old (visible_rows self.now)) }
-        ensures err { OnErr result
-            (StopsBehind S.refuses (S.text sink.old) state.old (visible_rows self.now) (S.text sink.new) state.new) }
+        ensures { WritesRows S.refuses (S.text sink.old) state.old (visible_rows self.now)
+            result (S.text sink.new) state.new }
     {
         let rows = self.grid.rows();
         let end = self.scrollback.stacked_len(rows) - self.scrollback.offset();
@@ -114,12 +108,8 @@ impl Screen {
     ) -> Result<(), S::Error>
         requires forward { start ≤ end }
         requires inside { end ≤ length (all_rows self.now) }
-        ensures text { OnOk result
-            (S.text sink.new ≡ S.text sink.old ++ basic_texts state.old (slice_range (all_rows self.now) start end)) }
-        ensures state { OnOk result
-            (state.new ≡ written_after_all state.old (slice_range (all_rows self.now) start end)) }
-        ensures err { OnErr result (StopsBehind S.refuses (S.text sink.old) state.old
-            (slice_range (all_rows self.now) start end) (S.text sink.new) state.new) }
+        ensures { WritesRows S.refuses (S.text sink.old) state.old (slice_range (all_rows self.now) start end)
+            result (S.text sink.new) state.new }
     {
         for index in start..end {
             let row = self.scrollback.stacked_row(self.grid.rows(), index);

@@ -1,6 +1,6 @@
 //! The text of a screen without attributes.
 
-ghost use Rattle.std.specs.Prelude.{◌≡◌, ◌≤◌, ◌<◌, ◌+◌, ◌-◌, ◌++◌, ◌↔◌, IfErr, IfOk, IfSome};
+ghost use Rattle.std.specs.Prelude.{◌≡◌, ◌≤◌, ◌<◌, ◌+◌, ◌-◌, ◌++◌, ◌↔◌, IfErr, IfSome};
 ghost use Rattle.std.specs.Prelude.{IsSome, OnOk, false, length, min, string_bytes, if◌then◌else◌};
 ghost use Rattle.std.specs.Prelude.{[], IsTrue, IsFalse, slice_index, string_len};
 ghost use Rattle.std.specs.List.{flat_map, range_with_len};
@@ -10,6 +10,7 @@ ghost use Rattle.vt_redraw.specs.Refusals.{RefusedOnlyIfSome};
 ghost use Rattle.vt_screen.specs.Contents.{between_of, contents_of, gap_line, line_end, lines_of};
 ghost use Rattle.vt_screen.specs.Contents.{part_of, row_texts, rows_left, without_line_ends};
 ghost use Rattle.vt_screen.specs.Screen.{visible_row, visible_rows};
+ghost use Rattle.vt_screen.specs.TextResults.{AnswersText, IfText};
 
 use crate::rows::Rows;
 use crate::screen::Screen;
@@ -28,7 +29,7 @@ impl Screen {
     ///
     /// Fails where memory for the text is refused.
     pub fn contents(&self) -> Result<String, Error>
-        ensures text { IfOk result (λ text. string_bytes text ≡ contents_of self.now) }
+        ensures text { IfText result (λ text. text ≡ contents_of self.now) }
         ensures memory { OnlyOutOfMemory result }
     {
         let mut text = String::new(self.alloc);
@@ -61,8 +62,7 @@ impl Screen {
         end_col: u16,
     ) -> Result<String, Error>
         requires { start_row < end_row → start_col ≤ self.now.page.width }
-        ensures text { IfOk result
-            (λ text. string_bytes text ≡ between_of start_row start_col end_row end_col self.now) }
+        ensures text { IfText result (λ text. text ≡ between_of start_row start_col end_row end_col self.now) }
         ensures memory { OnlyOutOfMemory result }
         ensures some { RefusedOnlyIfSome result (between_of start_row start_col end_row end_col self.now) }
     {
@@ -113,7 +113,7 @@ impl Screen {
     ) -> Option<Result<String, Error>>
         ensures inside { IsSome result ↔ (row < length self.now.page.rows) }
         ensures text { IfSome result
-            (λ item. IfOk item (λ text. string_bytes text ≡ plain_text start stop (visible_row self.now row).cells)) }
+            (λ item. IfText item (λ text. text ≡ plain_text start stop (visible_row self.now row).cells)) }
         ensures memory { IfSome result (λ item. IfErr item (λ error. error ≡ Error.OutOfMemory)) }
         ensures some { IfSome result
             (λ item. RefusedOnlyIfSome item (plain_text start stop (visible_row self.now row).cells)) }
@@ -197,9 +197,7 @@ fn past_row(row: u16, rows: u16) -> u16
 
 /// The text of a row, in the columns from `start` up to `stop`.
 fn text_of(alloc: Global, row: &RowContents<'_>, start: usize, stop: usize) -> Result<String, Error>
-    ensures text { IfOk result (λ text. string_bytes text ≡ plain_text start stop row.now.cells) }
-    ensures memory { OnlyOutOfMemory result }
-    ensures some { RefusedOnlyIfSome result (plain_text start stop row.now.cells) }
+    ensures { AnswersText result (plain_text start stop row.now.cells) }
 {
     let mut text = String::new(alloc);
     match plain::write_contents(&mut text, row.cells(), start, stop) {

@@ -1,11 +1,12 @@
 //! Texts that set a terminal's input modes.
 
-ghost use Rattle.std.specs.Prelude.{◌≡◌, ◌++◌, [], IfOk, IsOk, OnOk, string_bytes};
+ghost use Rattle.std.specs.Prelude.{◌≡◌, ◌++◌, [], IsOk, OnOk};
 ghost use Rattle.vt_cells.specs.InputModes.{application_cursor_text, bracketed_paste_text, keypad_text};
 ghost use Rattle.vt_cells.specs.Refusals.{OnlyOutOfMemory};
 ghost use Rattle.vt_redraw.specs.Refusals.{RefusedOnlyIfSome};
 ghost use Rattle.vt_screen.specs.InputTexts.{input_change, input_text, mouse_and_style_text, where_changed};
 ghost use Rattle.vt_screen.specs.States.{HasDefaultMouseAndStyle, SetsModes};
+ghost use Rattle.vt_screen.specs.TextResults.{IfText};
 
 use crate::modes::Modes;
 use crate::screen::Screen;
@@ -32,8 +33,8 @@ impl Screen {
     /// assert_eq!(screen.input_mode_formatted()?, "\x1b>\x1b[?1l\x1b[?2004l");
     /// ```
     pub fn input_mode_formatted(&self) -> Result<String, Error>
-        ensures text { IfOk result (λ text. string_bytes text ≡ input_text self.now.modes) }
-        ensures sets { IfOk result (λ text. SetsModes HasDefaultMouseAndStyle self.now.modes (string_bytes text)) }
+        ensures text { IfText result (λ text. text ≡ input_text self.now.modes) }
+        ensures sets { IfText result (SetsModes HasDefaultMouseAndStyle self.now.modes) }
         ensures memory { OnlyOutOfMemory result }
     {
         let mut text = String::new(self.alloc);
@@ -53,11 +54,10 @@ impl Screen {
     /// text is empty exactly where both screens have the same modes. Fails
     /// where memory for the text is refused, and by `never` not there.
     pub fn input_mode_diff(&self, prev: &Screen) -> Result<String, Error>
-        ensures text { IfOk result (λ text. string_bytes text ≡ input_change prev.now.modes self.now.modes) }
-        ensures sets { IfOk result
-            (λ text. SetsModes (λ had. had ≡ prev.now.modes) self.now.modes (string_bytes text)) }
-        ensures empty { IfOk result (λ text. string_bytes text ≡ [] → self.now.modes ≡ prev.now.modes) }
-        ensures none { IfOk result (λ text. self.now.modes ≡ prev.now.modes → string_bytes text ≡ []) }
+        ensures text { IfText result (λ text. text ≡ input_change prev.now.modes self.now.modes) }
+        ensures sets { IfText result (SetsModes (λ had. had ≡ prev.now.modes) self.now.modes) }
+        ensures empty { IfText result (λ text. text ≡ [] → self.now.modes ≡ prev.now.modes) }
+        ensures none { IfText result (λ text. self.now.modes ≡ prev.now.modes → text ≡ []) }
         ensures memory { OnlyOutOfMemory result }
         ensures some { RefusedOnlyIfSome result (input_change prev.now.modes self.now.modes) }
         ensures never { self.now.modes ≡ prev.now.modes → IsOk result }

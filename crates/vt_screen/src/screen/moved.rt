@@ -3,16 +3,15 @@
 //! What is shown, which terminals are plain and which pictures are steady, is
 //! said beside the texts that redraw a screen.
 
-ghost use Rattle.std.specs.Prelude.{◌≡◌, ◌≤◌, ◌++◌, [], IfOk, IsOk, OnOk, length, string_bytes};
-ghost use Rattle.vt_cells.specs.Op.{bytes_of_all};
+ghost use Rattle.std.specs.Prelude.{◌≡◌, ◌≤◌, ◌++◌, [], IsOk, OnOk, length, string_bytes};
 ghost use Rattle.vt_cells.specs.Refusals.{OnlyOutOfMemory};
 ghost use Rattle.vt_grid.specs.Page.{SameSize};
 ghost use Rattle.vt_redraw.specs.Moved.{IsBand, IsScrolling, moved, scrolling_text};
-ghost use Rattle.vt_redraw.specs.Redraw.{difference};
 ghost use Rattle.vt_redraw.specs.Refusals.{RefusedOnlyIfSome};
 ghost use Rattle.vt_redraw.specs.Steady.{IsSteady};
 ghost use Rattle.vt_screen.specs.Screen.{IsColored, IsScreen};
-ghost use Rattle.vt_screen.specs.Shown.{IsReaderOf, KeepsRest, Redraws, shown};
+ghost use Rattle.vt_screen.specs.Shown.{RedrawsFrom, shown, shown_change};
+ghost use Rattle.vt_screen.specs.TextResults.{IfText};
 
 use crate::screen::Screen;
 use vt_cells::{Error, Sink};
@@ -42,16 +41,14 @@ impl Screen {
     /// ```
     pub fn contents_diff_scrolling(&self, prev: &Screen) -> Result<String, Error>
         requires { SameSize self.now.page prev.now.page }
-        ensures text { IfOk result (λ text. IsScrolling (shown self.now) (shown prev.now) (string_bytes text)) }
-        ensures shorter { IfOk result (λ text.
-            length (string_bytes text) ≤ length (bytes_of_all (difference (shown self.now) (shown prev.now)))) }
-        ensures redraws { IfOk result (λ text.
-            Redraws (shown self.now) (IsReaderOf (shown self.now) (shown prev.now)) KeepsRest (string_bytes text)) }
-        ensures empty { IfOk result
-            (λ text. IsSteady (shown self.now) → string_bytes text ≡ [] → shown self.now ≡ shown prev.now) }
-        ensures none { IfOk result (λ text. shown self.now ≡ shown prev.now → string_bytes text ≡ []) }
+        ensures text { IfText result (IsScrolling (shown self.now) (shown prev.now)) }
+        ensures shorter { IfText result (λ text. length text ≤ length (shown_change prev.now self.now)) }
+        ensures redraws { IfText result (RedrawsFrom prev.now self.now) }
+        ensures empty { IfText result
+            (λ text. IsSteady (shown self.now) → text ≡ [] → shown self.now ≡ shown prev.now) }
+        ensures none { IfText result (λ text. shown self.now ≡ shown prev.now → text ≡ []) }
         ensures memory { OnlyOutOfMemory result }
-        ensures some { RefusedOnlyIfSome result (bytes_of_all (difference (shown self.now) (shown prev.now))) }
+        ensures some { RefusedOnlyIfSome result (shown_change prev.now self.now) }
         ensures never { shown self.now ≡ shown prev.now → IsOk result }
     {
         let text = self.contents_diff(prev)?;
@@ -63,16 +60,15 @@ impl Screen {
     /// The difference, or a shorter text that moves rows first.
     fn shortened(&self, prev: &Screen, text: String) -> Result<String, Error>
         requires size { SameSize self.now.page prev.now.page }
-        requires text { string_bytes text ≡ bytes_of_all (difference (shown self.now) (shown prev.now)) }
+        requires text { string_bytes text ≡ shown_change prev.now self.now }
         ensures whole { IsScreen self.now }
         ensures colored { IsColored self.now }
         ensures other { IsScreen prev.now }
         ensures other_colored { IsColored prev.now }
-        ensures text { IfOk result (λ new. IsScrolling (shown self.now) (shown prev.now) (string_bytes new)) }
-        ensures shorter { IfOk result (λ new.
-            length (string_bytes new) ≤ length (bytes_of_all (difference (shown self.now) (shown prev.now)))) }
+        ensures text { IfText result (IsScrolling (shown self.now) (shown prev.now)) }
+        ensures shorter { IfText result (λ text. length text ≤ length (shown_change prev.now self.now)) }
         ensures memory { OnlyOutOfMemory result }
-        ensures some { RefusedOnlyIfSome result (bytes_of_all (difference (shown self.now) (shown prev.now))) }
+        ensures some { RefusedOnlyIfSome result (shown_change prev.now self.now) }
     {
         match likely_band(&self.view(), &prev.view(), text.as_str()) {
             None => Ok(text),
@@ -85,10 +81,9 @@ impl Screen {
     fn shorter_of(&self, prev: &Screen, band: Band, text: String) -> Result<String, Error>
         requires size { SameSize self.now.page prev.now.page }
         requires band { IsBand (length (shown prev.now).rows) band }
-        requires text { string_bytes text ≡ bytes_of_all (difference (shown self.now) (shown prev.now)) }
-        ensures text { IfOk result (λ new. IsScrolling (shown self.now) (shown prev.now) (string_bytes new)) }
-        ensures shorter { IfOk result (λ new.
-            length (string_bytes new) ≤ length (bytes_of_all (difference (shown self.now) (shown prev.now)))) }
+        requires text { string_bytes text ≡ shown_change prev.now self.now }
+        ensures text { IfText result (IsScrolling (shown self.now) (shown prev.now)) }
+        ensures shorter { IfText result (λ text. length text ≤ length (shown_change prev.now self.now)) }
         ensures memory { OnlyOutOfMemory result }
     {
         let mut moved = String::new(self.alloc);

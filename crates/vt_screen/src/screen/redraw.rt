@@ -11,20 +11,22 @@
 //! just itself. All without U+FE0F are, and U+2764 U+FE0F on two columns or
 //! more.
 
-ghost use Rattle.std.specs.Prelude.{◌≡◌, ◌++◌, [], IfOk, IsOk, OnOk, string_bytes};
+ghost use Rattle.std.specs.Prelude.{◌≡◌, ◌++◌, [], IsOk, OnOk};
 ghost use Rattle.vt_cells.specs.Op.{bytes_of_all};
 ghost use Rattle.vt_cells.specs.Refusals.{OnlyOutOfMemory};
 ghost use Rattle.vt_grid.specs.Page.{SameSize};
 ghost use Rattle.vt_redraw.specs.Locality.{IsLocal, MayPlace};
 ghost use Rattle.vt_redraw.specs.Picture.{SamePictureSize};
-ghost use Rattle.vt_redraw.specs.Redraw.{cursor_state, difference, redraw};
+ghost use Rattle.vt_redraw.specs.Redraw.{cursor_state};
 ghost use Rattle.vt_redraw.specs.Refusals.{RefusedOnlyIfSome};
 ghost use Rattle.vt_redraw.specs.Steady.{IsSteady};
 ghost use Rattle.vt_screen.specs.AnyRegion.{IsReaderInAnyRegion, KeepsRestButRegion, reset_text};
 ghost use Rattle.vt_screen.specs.Screen.{IsColored, IsScreen, ScreenValue};
 ghost use Rattle.vt_screen.specs.Touched.{TouchesOnly};
-ghost use Rattle.vt_screen.specs.Shown.{IsReadBy, IsReader, IsReaderOf, IsReaderOfRows, KeepsRest};
-ghost use Rattle.vt_screen.specs.Shown.{Makes, Redraws, SetsAttrs, StaysPlain, TakesCursor, attributes_text, shown};
+ghost use Rattle.vt_screen.specs.Shown.{IsReader, IsReaderOf, IsReaderOfRows, KeepsRest, Redraws, RedrawsFrom};
+ghost use Rattle.vt_screen.specs.Shown.{SetsAttrs, TakesCursor, Turns, attributes_text, shown};
+ghost use Rattle.vt_screen.specs.Shown.{shown_change, shown_text};
+ghost use Rattle.vt_screen.specs.TextResults.{IfText};
 
 use crate::screen::Screen;
 use vt_cells::term::{BufWrite, ChangeAttrs, ClearAttrs};
@@ -58,12 +60,11 @@ impl Screen {
     /// ```
     pub fn contents_formatted(&self) -> Result<String, Error>
         ensures colored { IsColored self.now }
-        ensures text { IfOk result (λ text. string_bytes text ≡ bytes_of_all (redraw (shown self.now))) }
-        ensures redraws { IfOk result
-            (λ text. Redraws (shown self.now) (IsReader (shown self.now)) KeepsRest (string_bytes text)) }
-        ensures same { IfOk result (λ text. (other : ScreenValue) → IsScreen other → IsColored other →
+        ensures text { IfText result (λ text. text ≡ shown_text self.now) }
+        ensures redraws { IfText result (Redraws (shown self.now) (IsReader (shown self.now)) KeepsRest) }
+        ensures same { IfText result (λ text. (other : ScreenValue) → IsScreen other → IsColored other →
             SamePictureSize (shown self.now) (shown other) → IsSteady (shown self.now) → IsSteady (shown other) →
-            string_bytes text ≡ bytes_of_all (redraw (shown other)) → shown self.now ≡ shown other) }
+            text ≡ shown_text other → shown self.now ≡ shown other) }
         ensures memory { OnlyOutOfMemory result }
     {
         let mut text = String::new(self.alloc);
@@ -99,12 +100,12 @@ impl Screen {
     /// ```
     pub fn contents_formatted_reset(&self) -> Result<String, Error>
         ensures colored { IsColored self.now }
-        ensures text { IfOk result (λ text. string_bytes text ≡ reset_text (shown self.now)) }
-        ensures redraws { IfOk result (λ text.
-            Redraws (shown self.now) (IsReaderInAnyRegion (shown self.now)) KeepsRestButRegion (string_bytes text)) }
-        ensures same { IfOk result (λ text. (other : ScreenValue) → IsScreen other → IsColored other →
+        ensures text { IfText result (λ text. text ≡ reset_text (shown self.now)) }
+        ensures redraws { IfText result
+            (Redraws (shown self.now) (IsReaderInAnyRegion (shown self.now)) KeepsRestButRegion) }
+        ensures same { IfText result (λ text. (other : ScreenValue) → IsScreen other → IsColored other →
             SamePictureSize (shown self.now) (shown other) → IsSteady (shown self.now) → IsSteady (shown other) →
-            string_bytes text ≡ reset_text (shown other) → shown self.now ≡ shown other) }
+            text ≡ reset_text (shown other) → shown self.now ≡ shown other) }
         ensures memory { OnlyOutOfMemory result }
     {
         let mut text = String::new(self.alloc);
@@ -134,18 +135,15 @@ impl Screen {
     /// ```
     pub fn contents_diff(&self, prev: &Screen) -> Result<String, Error>
         requires { SameSize self.now.page prev.now.page }
-        ensures text { IfOk result
-            (λ text. string_bytes text ≡ bytes_of_all (difference (shown self.now) (shown prev.now))) }
-        ensures redraws { IfOk result (λ text.
-            Redraws (shown self.now) (IsReaderOf (shown self.now) (shown prev.now)) KeepsRest (string_bytes text)) }
-        ensures empty { IfOk result
-            (λ text. IsSteady (shown self.now) → string_bytes text ≡ [] → shown self.now ≡ shown prev.now) }
-        ensures none { IfOk result (λ text. shown self.now ≡ shown prev.now → string_bytes text ≡ []) }
-        ensures touches { IfOk result (λ text. IsSteady (shown self.now) →
-            TouchesOnly (IsReaderOf (shown self.now) (shown prev.now))
-            (string_bytes text) (IsLocal (shown self.now) (shown prev.now))) }
+        ensures text { IfText result (λ text. text ≡ shown_change prev.now self.now) }
+        ensures redraws { IfText result (RedrawsFrom prev.now self.now) }
+        ensures empty { IfText result
+            (λ text. IsSteady (shown self.now) → text ≡ [] → shown self.now ≡ shown prev.now) }
+        ensures none { IfText result (λ text. shown self.now ≡ shown prev.now → text ≡ []) }
+        ensures touches { IfText result (λ text. IsSteady (shown self.now) → TouchesOnly
+            (IsReaderOf (shown self.now) (shown prev.now)) text (IsLocal (shown self.now) (shown prev.now))) }
         ensures memory { OnlyOutOfMemory result }
-        ensures some { RefusedOnlyIfSome result (bytes_of_all (difference (shown self.now) (shown prev.now))) }
+        ensures some { RefusedOnlyIfSome result (shown_change prev.now self.now) }
         ensures never { shown self.now ≡ shown prev.now → IsOk result }
     {
         let mut text = String::new(self.alloc);
@@ -159,24 +157,17 @@ impl Screen {
     /// and flags of this screen and draws with default attributes, its cursor
     /// and whether that is hidden.
     ///
-    /// By the clauses `quiet` to `rest`, for a screen whose picture is steady,
-    /// such a terminal reads the text without calling anybody and without
-    /// taking memory. Its cells, its flags and its attributes are as before,
-    /// and it is plain again. By `touches` it touches nothing, but the end of
-    /// one row where a wrap is pending. Fails where memory for the text is
-    /// refused.
+    /// By `turns`, for a screen whose picture is steady, such a terminal reads
+    /// the text without calling anybody and without taking memory. Its cells,
+    /// its flags and its attributes are as before, and it is plain again. By
+    /// `touches` it touches nothing, but the end of one row where a wrap is
+    /// pending. Fails where memory for the text is refused.
     pub fn cursor_state_formatted(&self) -> Result<String, Error>
-        ensures text { IfOk result (λ text. string_bytes text ≡ bytes_of_all (cursor_state (shown self.now))) }
-        ensures quiet { IfOk result
-            (λ text. IsSteady (shown self.now) → IsReadBy (IsReaderOfRows (shown self.now)) (string_bytes text)) }
-        ensures takes { IfOk result (λ text. IsSteady (shown self.now) →
-            Makes (IsReaderOfRows (shown self.now)) (string_bytes text) (TakesCursor (shown self.now))) }
-        ensures plain { IfOk result (λ text. IsSteady (shown self.now) →
-            Makes (IsReaderOfRows (shown self.now)) (string_bytes text) StaysPlain) }
-        ensures rest { IfOk result (λ text. IsSteady (shown self.now) →
-            Makes (IsReaderOfRows (shown self.now)) (string_bytes text) KeepsRest) }
-        ensures touches { IfOk result (λ text. IsSteady (shown self.now) →
-            TouchesOnly (IsReaderOfRows (shown self.now)) (string_bytes text) (MayPlace (shown self.now))) }
+        ensures text { IfText result (λ text. text ≡ bytes_of_all (cursor_state (shown self.now))) }
+        ensures turns { IfText result (λ text. IsSteady (shown self.now) →
+            Turns (IsReaderOfRows (shown self.now)) text (TakesCursor (shown self.now))) }
+        ensures touches { IfText result (λ text. IsSteady (shown self.now) →
+            TouchesOnly (IsReaderOfRows (shown self.now)) text (MayPlace (shown self.now))) }
         ensures memory { OnlyOutOfMemory result }
     {
         let mut text = String::new(self.alloc);
@@ -193,8 +184,8 @@ impl Screen {
     /// these attributes and changes nothing else. Fails where memory for the
     /// text is refused.
     pub fn attributes_formatted(&self) -> Result<String, Error>
-        ensures text { IfOk result (λ text. string_bytes text ≡ attributes_text self.now.attrs) }
-        ensures sets { IfOk result (λ text. SetsAttrs self.now.attrs (string_bytes text)) }
+        ensures text { IfText result (λ text. text ≡ attributes_text self.now.attrs) }
+        ensures sets { IfText result (SetsAttrs self.now.attrs) }
         ensures memory { OnlyOutOfMemory result }
     {
         let mut text = String::new(self.alloc);
@@ -208,7 +199,7 @@ impl Screen {
     pub(super) fn write_contents_formatted<S: Sink>(&self, sink: &mut S) -> Result<(), S::Error>
         ensures whole { IsScreen self.now }
         ensures colored { IsColored self.now }
-        ensures text { OnOk result (S.text sink.new ≡ S.text sink.old ++ bytes_of_all (redraw (shown self.now))) }
+        ensures text { OnOk result (S.text sink.new ≡ S.text sink.old ++ shown_text self.now) }
     {
         write_contents_formatted(sink, &self.view())
     }
@@ -235,9 +226,8 @@ impl Screen {
         ensures colored { IsColored self.now }
         ensures other { IsScreen prev.now }
         ensures other_colored { IsColored prev.now }
-        ensures text { OnOk result
-            (S.text sink.new ≡ S.text sink.old ++ bytes_of_all (difference (shown self.now) (shown prev.now))) }
-        ensures some { RefusedOnlyIfSome result (bytes_of_all (difference (shown self.now) (shown prev.now))) }
+        ensures text { OnOk result (S.text sink.new ≡ S.text sink.old ++ shown_change prev.now self.now) }
+        ensures some { RefusedOnlyIfSome result (shown_change prev.now self.now) }
     {
         write_contents_diff(sink, &self.view(), &prev.view())
     }

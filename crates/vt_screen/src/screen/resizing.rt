@@ -1,16 +1,14 @@
 //! Another size of the screen.
 
-ghost use Rattle.std.specs.List.{FoldsTo};
-ghost use Rattle.std.specs.Prelude.{◌≡◌, ◌<◌, ◌++◌, IfOk, IsErr, OnErr, OnOk, Some, false, option_map, true};
+ghost use Rattle.std.specs.Prelude.{◌≡◌, IfOk, IsErr, OnErr, OnOk, false, option_map, true};
 ghost use Rattle.vt_cells.specs.Refusals.{OnlyOutOfMemory};
 ghost use Rattle.vt_grid.specs.Page.{blank_page};
 ghost use Rattle.vt_grid.specs.Resize.{page_resized};
 ghost use Rattle.vt_grid.specs.Scrollback.{no_scrollback};
-ghost use Rattle.vt_screen.specs.Internals.{IsNothing, pages_resized};
+ghost use Rattle.vt_screen.specs.Internals.{IsNothing, IsPageSize, pages_resized, reports_of_pages};
 ghost use Rattle.vt_screen.specs.Pages as pages;
 ghost use Rattle.vt_screen.specs.Pages.{calls_resized, reports_of, resized};
-ghost use Rattle.vt_screen.specs.Run.{CalledOnAnyScreen};
-ghost use Rattle.vt_screen.specs.Screen.{IsScreen};
+ghost use Rattle.vt_screen.specs.Telling.{Hears};
 
 use super::Screen;
 use super::pages::exchange;
@@ -60,7 +58,7 @@ pub fn set_size_with_cb<CB: Callbacks>(
 ) -> Result<(), Error>
     ensures ok { OnOk result (screen.new ≡ resized rows.value cols.value screen.old) }
     ensures told { OnOk result
-        (FoldsTo (CalledOnAnyScreen CB.does) callbacks.old (calls_resized rows.value cols.value screen.old) callbacks.new) }
+        (Hears CB.does callbacks.old (calls_resized rows.value cols.value screen.old) callbacks.new) }
     ensures err { OnErr result ((screen.new ≡ screen.old) × (callbacks.new ≡ callbacks.old)) }
     ensures grows { IsErr result → pages.has_size rows.value cols.value screen.old ≡ false }
     ensures memory { OnlyOutOfMemory result }
@@ -78,8 +76,7 @@ pub fn set_size_with_cb<CB: Callbacks>(
 
 /// Whether this is the size of the screen.
 fn has_size(screen: &Screen, size: Size) -> bool
-    ensures value { result ≡ pages.has_size size.rows size.cols screen.now }
-    ensures whole { IsScreen screen.now }
+    ensures { result ≡ pages.has_size size.rows size.cols screen.now }
 {
     let now = screen.grid.size();
     size.rows == now.rows && size.cols == now.cols
@@ -91,17 +88,15 @@ fn resize_pages<CB: Callbacks>(
     size: Size,
     callbacks: &mut CB,
 ) -> Result<(), Error>
-    requires rows { 0 < size.rows }
-    requires cols { 0 < size.cols }
+    requires size { IsPageSize size.rows size.cols }
     requires other { pages.has_size size.rows size.cols screen.old ≡ false }
-    requires whole { IsScreen screen.old }
     ensures ok { OnOk result (screen.new ≡ resized size.rows size.cols screen.old) }
     ensures told { OnOk result
-        (FoldsTo (CalledOnAnyScreen CB.does) callbacks.old (calls_resized size.rows size.cols screen.old) callbacks.new) }
+        (Hears CB.does callbacks.old (calls_resized size.rows size.cols screen.old) callbacks.new) }
     ensures err { OnErr result ((screen.new ≡ screen.old) × (callbacks.new ≡ callbacks.old)) }
     ensures memory { OnlyOutOfMemory result }
 {
-    if !screen.alternate_screen() {
+    if !screen.is_alternate {
         return resize_below(screen, size, callbacks);
     }
     exchange(screen);
@@ -116,14 +111,10 @@ fn resize_below<CB: Callbacks>(
     size: Size,
     callbacks: &mut CB,
 ) -> Result<(), Error>
-    requires rows { 0 < size.rows }
-    requires cols { 0 < size.cols }
+    requires size { IsPageSize size.rows size.cols }
     requires main { screen.old.is_alternate ≡ false }
     ensures ok { OnOk result (screen.new ≡ pages_resized size.rows size.cols screen.old) }
-    ensures told { OnOk result (FoldsTo (CalledOnAnyScreen CB.does) callbacks.old
-        (reports_of false size.rows (Some screen.old.page) screen.old.scrollback
-        ++ reports_of true size.rows screen.old.other (no_scrollback 0))
-        callbacks.new) }
+    ensures told { OnOk result (Hears CB.does callbacks.old (reports_of_pages size.rows screen.old) callbacks.new) }
     ensures err { OnErr result ((screen.new ≡ screen.old) × (callbacks.new ≡ callbacks.old)) }
     ensures memory { OnlyOutOfMemory result }
 {
@@ -149,8 +140,7 @@ fn resize_below<CB: Callbacks>(
 
 /// A fresh page to take over another one, if there is one.
 fn fresh_page(page: &Option<Grid>, alloc: Global, size: Size) -> Result<Option<Grid>, Error>
-    requires rows { 0 < size.rows }
-    requires cols { 0 < size.cols }
+    requires size { IsPageSize size.rows size.cols }
     ensures ok { IfOk result (λ fresh. fresh ≡ option_map (λ _. blank_page size.rows size.cols) page.now) }
     ensures memory { OnlyOutOfMemory result }
 {
@@ -169,13 +159,10 @@ fn resize_alternate<CB: Callbacks>(
     nothing: &mut Scrollback,
     callbacks: &mut CB,
 )
-    requires rows { 0 < size.rows }
-    requires cols { 0 < size.cols }
     requires fresh { fresh ≡ option_map (λ _. blank_page size.rows size.cols) page.old }
     requires nothing { nothing.old ≡ no_scrollback 0 }
     ensures page { page.new ≡ option_map (page_resized size.rows size.cols (no_scrollback 0)) page.old }
-    ensures told { FoldsTo (CalledOnAnyScreen CB.does) callbacks.old
-        (reports_of true size.rows page.old (no_scrollback 0)) callbacks.new }
+    ensures told { Hears CB.does callbacks.old (reports_of true size.rows page.old (no_scrollback 0)) callbacks.new }
     ensures nothing { IsNothing nothing.new }
 {
     let Some(fresh) = fresh else {

@@ -1,21 +1,22 @@
 //! Texts that redraw the rows of the screen, one by one.
 
-ghost use Rattle.std.specs.Prelude.{◌≡◌, ◌+◌, ◌≤◌, ◌<◌, ◌↔◌, ◌++◌, ℕ, [], IfOk, OnOk, false, length, string_bytes};
-ghost use Rattle.vt_cells.specs.Refusals.{OnlyOutOfMemory};
+ghost use Rattle.std.specs.Prelude.{◌≡◌, ◌+◌, ◌≤◌, ◌<◌, ◌↔◌, ℕ, [], length};
+ghost use Rattle.vt_cells.specs.Attrs.{default_attrs};
+ghost use Rattle.vt_rows.specs.Row.{blank_row};
 ghost use Rattle.vt_grid.specs.Page.{SameSize};
 ghost use Rattle.vt_redraw.specs.Items.{CutsNone};
-ghost use Rattle.vt_redraw.specs.Locality.{row_of_picture};
-ghost use Rattle.vt_redraw.specs.Refusals.{RefusedOnlyIfSome};
 ghost use Rattle.vt_redraw.specs.Steady.{IsSteady};
-ghost use Rattle.vt_screen.specs.RowsShown.{EachLinked, EachUncut, HasLinked, HasRange, IsBlankReader};
-ghost use Rattle.vt_screen.specs.RowsShown.{IsOff, IsRowReader, IsWholeRow, IsWrapReader, Turns, changed_text};
-ghost use Rattle.vt_screen.specs.RowsShown.{formatted_text, range_end, text_at, texts_from};
+ghost use Rattle.vt_screen.specs.Internals.{IsColumns};
+ghost use Rattle.vt_screen.specs.RowsShown.{DrawsRow, EachLinked, EachOff, EachUncut, HasLinked, IsBlankReader};
+ghost use Rattle.vt_screen.specs.RowsShown.{IsOff, IsRowReader, IsWholeRow, IsWrapReader, changed_rows};
+ghost use Rattle.vt_screen.specs.RowsShown.{changed_text, formatted_rows, formatted_text, range_end, shown_row, text_at};
 ghost use Rattle.vt_screen.specs.Screen.{IsColored, IsScreen};
-ghost use Rattle.vt_screen.specs.Shown.{Makes, shown};
+ghost use Rattle.vt_screen.specs.Shown.{Makes, Turns, shown};
+ghost use Rattle.vt_screen.specs.TextResults.{AnswersText};
 
 use crate::rows::{RowsDiff, RowsFormatted};
 use crate::screen::Screen;
-use vt_cells::{Error, Sink};
+use vt_cells::Error;
 use vt_redraw::{write_row_diff, write_row_formatted};
 
 impl Screen {
@@ -42,20 +43,15 @@ impl Screen {
     /// ```
     pub fn rows_formatted(&self, start: u16, width: u16) -> RowsFormatted<'_>
         requires { start < self.now.page.width }
-        ensures texts { result
-            ≡ texts_from (formatted_text start (range_end start width self.now.page.width) (shown self.now))
-            0 (length self.now.page.rows) }
+        ensures texts { result ≡ formatted_rows start width self.now }
         ensures count { length result ≡ length self.now.page.rows }
-        ensures draws { IsSteady (shown self.now) →
-            EachUncut start (range_end start width self.now.page.width) (shown self.now) (λ r. Turns
-            (IsBlankReader (shown self.now) r start) (text_at result r)
-            (HasRange start (range_end start width self.now.page.width) r (row_of_picture (shown self.now) r))) }
-        ensures off { IsSteady (shown self.now) →
-            EachUncut start (range_end start width self.now.page.width) (shown self.now)
+        ensures draws { IsSteady (shown self.now) → EachUncut start width self.now
+            (λ r. DrawsRow start width self.now r (blank_row default_attrs self.now.page.width) (text_at result r)) }
+        ensures off { IsSteady (shown self.now) → EachUncut start width self.now
             (λ r. Makes (IsBlankReader (shown self.now) r start) (text_at result r) (IsOff r)) }
         ensures linked { IsWholeRow start width self.now.page.width → IsSteady (shown self.now) →
-            EachLinked (shown self.now) (λ r. Turns (IsWrapReader (shown self.now) r)
-            (text_at result (r + 1)) (HasLinked r (row_of_picture (shown self.now) (r + 1)))) }
+            EachLinked self.now (λ r. Turns (IsWrapReader (shown self.now) r) (text_at result (r + 1))
+            (HasLinked r (shown_row self.now (r + 1)))) }
     {
         // For the proof: every screen is whole.
         self.sound();
@@ -88,21 +84,15 @@ impl Screen {
     pub fn rows_diff<'a>(&'a self, prev: &'a Screen, start: u16, width: u16) -> RowsDiff<'a>
         requires start { start < self.now.page.width }
         requires size { SameSize self.now.page prev.now.page }
-        ensures texts { result
-            ≡ texts_from
-            (changed_text start (range_end start width self.now.page.width) (shown self.now) (shown prev.now))
-            0 (length self.now.page.rows) }
+        ensures texts { result ≡ changed_rows start width self.now prev.now }
         ensures count { length result ≡ length self.now.page.rows }
-        ensures draws { IsSteady (shown self.now) →
-            EachUncut start (range_end start width self.now.page.width) (shown self.now) (λ r. CutsNone
-            start (range_end start width self.now.page.width) (row_of_picture (shown prev.now) r).cells →
-            Turns (IsRowReader (shown self.now) r start (row_of_picture (shown prev.now) r)) (text_at result r)
-            (HasRange start (range_end start width self.now.page.width) r (row_of_picture (shown self.now) r))) }
-        ensures off { IsWholeRow start width self.now.page.width → IsSteady (shown self.now) → (r : ℕ) →
-            r < length self.now.page.rows → (row_of_picture (shown self.now) r).wrapped ≡ false →
-            Makes (IsRowReader (shown self.now) r 0 (row_of_picture (shown prev.now) r)) (text_at result r) (IsOff r) }
+        ensures draws { IsSteady (shown self.now) → EachUncut start width self.now
+            (λ r. CutsNone start (range_end start width self.now.page.width) (shown_row prev.now r).cells →
+            DrawsRow start width self.now r (shown_row prev.now r) (text_at result r)) }
+        ensures off { IsWholeRow start width self.now.page.width → IsSteady (shown self.now) → EachOff self.now
+            (λ r. Makes (IsRowReader (shown self.now) r 0 (shown_row prev.now r)) (text_at result r) (IsOff r)) }
         ensures empty { IsWholeRow start width self.now.page.width → (r : ℕ) → r < length self.now.page.rows →
-            (text_at result r ≡ []) ↔ (row_of_picture (shown self.now) r ≡ row_of_picture (shown prev.now) r) }
+            (text_at result r ≡ []) ↔ (shown_row self.now r ≡ shown_row prev.now r) }
     {
         // For the proof: every screen is whole.
         self.sound();
@@ -137,14 +127,11 @@ impl Screen {
     /// to `stop`.
     pub(crate) fn row_formatted(&self, row: u16, start: u16, stop: u16) -> Result<String, Error>
         requires inside { row < length self.now.page.rows }
-        requires order { start ≤ stop }
-        requires stop { stop ≤ self.now.page.width }
-        ensures text { IfOk result (λ text. string_bytes text ≡ formatted_text start stop (shown self.now) row) }
-        ensures memory { OnlyOutOfMemory result }
-        ensures some { RefusedOnlyIfSome result (formatted_text start stop (shown self.now) row) }
+        requires columns { IsColumns start stop self.now }
+        ensures { AnswersText result (formatted_text start stop (shown self.now) row) }
     {
         let mut text = String::new(self.alloc);
-        match self.write_row_formatted(&mut text, row, start, stop) {
+        match write_row_formatted(&mut text, &self.view(), row, start, stop) {
             Ok(()) => Ok(text),
             Err(_) => Err(Error::OutOfMemory),
         }
@@ -161,55 +148,13 @@ impl Screen {
     ) -> Result<String, Error>
         requires size { SameSize self.now.page prev.now.page }
         requires inside { row < length self.now.page.rows }
-        requires order { start ≤ stop }
-        requires stop { stop ≤ self.now.page.width }
-        ensures text { IfOk result
-            (λ text. string_bytes text ≡ changed_text start stop (shown self.now) (shown prev.now) row) }
-        ensures memory { OnlyOutOfMemory result }
-        ensures some { RefusedOnlyIfSome result (changed_text start stop (shown self.now) (shown prev.now) row) }
+        requires columns { IsColumns start stop self.now }
+        ensures { AnswersText result (changed_text start stop (shown self.now) (shown prev.now) row) }
     {
         let mut text = String::new(self.alloc);
-        match self.write_row_diff(&mut text, prev, row, start, stop) {
+        match write_row_diff(&mut text, &self.view(), &prev.view(), row, start, stop) {
             Ok(()) => Ok(text),
             Err(_) => Err(Error::OutOfMemory),
         }
-    }
-
-    /// Writes the text of a row for [`Screen::rows_formatted`].
-    fn write_row_formatted<S: Sink>(
-        &self,
-        sink: &mut S,
-        row: u16,
-        start: u16,
-        stop: u16,
-    ) -> Result<(), S::Error>
-        requires inside { row < length self.now.page.rows }
-        requires order { start ≤ stop }
-        requires stop { stop ≤ self.now.page.width }
-        ensures text { OnOk result
-            (S.text sink.new ≡ S.text sink.old ++ formatted_text start stop (shown self.now) row) }
-        ensures some { RefusedOnlyIfSome result (formatted_text start stop (shown self.now) row) }
-    {
-        write_row_formatted(sink, &self.view(), row, start, stop)
-    }
-
-    /// Writes the text of a row for [`Screen::rows_diff`].
-    fn write_row_diff<S: Sink>(
-        &self,
-        sink: &mut S,
-        prev: &Screen,
-        row: u16,
-        start: u16,
-        stop: u16,
-    ) -> Result<(), S::Error>
-        requires size { SameSize self.now.page prev.now.page }
-        requires inside { row < length self.now.page.rows }
-        requires order { start ≤ stop }
-        requires stop { stop ≤ self.now.page.width }
-        ensures text { OnOk result
-            (S.text sink.new ≡ S.text sink.old ++ changed_text start stop (shown self.now) (shown prev.now) row) }
-        ensures some { RefusedOnlyIfSome result (changed_text start stop (shown self.now) (shown prev.now) row) }
-    {
-        write_row_diff(sink, &self.view(), &prev.view(), row, start, stop)
     }
 }

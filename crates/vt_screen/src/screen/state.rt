@@ -3,14 +3,15 @@
 //! What is shown, which terminals are plain and which pictures are steady, is
 //! said beside the texts that redraw a screen.
 
-ghost use Rattle.std.specs.Prelude.{◌≡◌, ◌++◌, [], IfOk, IsOk, OnOk, string_bytes};
+ghost use Rattle.std.specs.Prelude.{◌≡◌, ◌++◌, [], IsOk, OnOk};
 ghost use Rattle.vt_cells.specs.Refusals.{OnlyOutOfMemory};
 ghost use Rattle.vt_grid.specs.Page.{SameSize};
 ghost use Rattle.vt_redraw.specs.Refusals.{RefusedOnlyIfSome};
 ghost use Rattle.vt_redraw.specs.Steady.{IsSteady};
 ghost use Rattle.vt_screen.specs.Screen.{IsColored, IsScreen};
-ghost use Rattle.vt_screen.specs.Shown.{KeepsRestButModes, Makes, Redraws, shown};
-ghost use Rattle.vt_screen.specs.States.{HasModes, IsStateReader, IsStateReaderOf, state_change, state_text};
+ghost use Rattle.vt_screen.specs.Shown.{shown};
+ghost use Rattle.vt_screen.specs.States.{GivesState, IsStateReader, IsStateReaderOf, state_change, state_text};
+ghost use Rattle.vt_screen.specs.TextResults.{IfText};
 
 use crate::screen::Screen;
 use vt_cells::{Error, Sink};
@@ -22,12 +23,11 @@ impl Screen {
     /// [`Screen::contents_formatted`], and behind it that of
     /// [`Screen::input_mode_formatted`].
     ///
-    /// By `redraws` and `modes`, for a screen whose picture is steady, such a
-    /// terminal reads the text without calling anybody and without taking
-    /// memory. Then it is plain, shows what this screen shows and has its
-    /// modes; its scrollback and its other page are as before. Only its saved
-    /// cursor, saved origin mode, saved attributes and last character may be
-    /// others.
+    /// By `gives`, for a screen whose picture is steady, such a terminal reads
+    /// the text without calling anybody and without taking memory. Then it is
+    /// plain, shows what this screen shows and has its modes; its scrollback
+    /// and its other page are as before. Only its saved cursor, saved origin
+    /// mode, saved attributes and last character may be others.
     ///
     /// Fails where memory for the text is refused.
     ///
@@ -39,11 +39,8 @@ impl Screen {
     /// );
     /// ```
     pub fn state_formatted(&self) -> Result<String, Error>
-        ensures text { IfOk result (λ text. string_bytes text ≡ state_text self.now) }
-        ensures redraws { IfOk result
-            (λ text. Redraws (shown self.now) (IsStateReader self.now) KeepsRestButModes (string_bytes text)) }
-        ensures modes { IfOk result (λ text. IsSteady (shown self.now) →
-            Makes (IsStateReader self.now) (string_bytes text) (HasModes self.now.modes)) }
+        ensures text { IfText result (λ text. text ≡ state_text self.now) }
+        ensures gives { IfText result (GivesState (IsStateReader self.now) self.now) }
         ensures memory { OnlyOutOfMemory result }
     {
         let mut text = String::new(self.alloc);
@@ -58,10 +55,10 @@ impl Screen {
     /// that of [`Screen::contents_diff`], and behind it that of
     /// [`Screen::input_mode_diff`]. Both screens are to be of one size.
     ///
-    /// By `redraws` and `modes`, for a screen whose picture is steady, such a
-    /// terminal reads the text as that of [`Screen::state_formatted`], to the
-    /// same end. The text is empty where both show the same and have the same
-    /// modes, and by `empty` only there.
+    /// By `gives`, for a screen whose picture is steady, such a terminal reads
+    /// the text as that of [`Screen::state_formatted`], to the same end. The
+    /// text is empty where both show the same and have the same modes, and by
+    /// `empty` only there.
     ///
     /// Fails where memory for the text is refused. An empty text needs none: by
     /// `never` this does not fail where the text is empty so.
@@ -72,15 +69,12 @@ impl Screen {
     /// ```
     pub fn state_diff(&self, prev: &Screen) -> Result<String, Error>
         requires { SameSize self.now.page prev.now.page }
-        ensures text { IfOk result (λ text. string_bytes text ≡ state_change prev.now self.now) }
-        ensures redraws { IfOk result (λ text.
-            Redraws (shown self.now) (IsStateReaderOf self.now prev.now) KeepsRestButModes (string_bytes text)) }
-        ensures modes { IfOk result (λ text. IsSteady (shown self.now) →
-            Makes (IsStateReaderOf self.now prev.now) (string_bytes text) (HasModes self.now.modes)) }
-        ensures empty { IfOk result (λ text. IsSteady (shown self.now) → string_bytes text ≡ [] →
+        ensures text { IfText result (λ text. text ≡ state_change prev.now self.now) }
+        ensures gives { IfText result (GivesState (IsStateReaderOf self.now prev.now) self.now) }
+        ensures empty { IfText result (λ text. IsSteady (shown self.now) → text ≡ [] →
             (shown self.now ≡ shown prev.now) × (self.now.modes ≡ prev.now.modes)) }
-        ensures none { IfOk result
-            (λ text. shown self.now ≡ shown prev.now → self.now.modes ≡ prev.now.modes → string_bytes text ≡ []) }
+        ensures none { IfText result
+            (λ text. shown self.now ≡ shown prev.now → self.now.modes ≡ prev.now.modes → text ≡ []) }
         ensures memory { OnlyOutOfMemory result }
         ensures some { RefusedOnlyIfSome result (state_change prev.now self.now) }
         ensures never { shown self.now ≡ shown prev.now → self.now.modes ≡ prev.now.modes → IsOk result }

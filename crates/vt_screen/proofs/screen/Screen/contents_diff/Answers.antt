@@ -1,7 +1,5 @@
 use Rattle.std.proofs.Common.{◌≡◌, ℕ, List, ◌++◌, string_bytes, ap, sym, ◌∙◌}
-use Rattle.vt_cells.specs.Op.{bytes_of_all}
-use Rattle.vt_redraw.specs.Redraw.{difference}
-use Rattle.vt_screen.specs.Shown.{shown}
+use Rattle.vt_screen.specs.Shown.{shown, shown_change}
 use Rattle.vt_screen.proofs.Became.{difference_redraws}
 use Rattle.vt_screen.proofs.Telling.{difference_none, difference_tells}
 use Rattle.vt_screen.proofs.TouchedTexts.{difference_touches}
@@ -11,7 +9,7 @@ use Rattle.vt_screen.proofs.screen.Screen.contents_diff.Goals as goal
 
 pub returns-in-Ok-clause-redraws : goal.returns-in-Ok-clause-redraws
 returns-in-Ok-clause-redraws c =
-    let bytes = bytes_of_all (difference (shown c.args.self.now) (shown c.args.prev.now)) in
+    let bytes = shown_change c.args.prev.now c.args.self.now in
     let told : string_bytes c.write_contents_diff.new.sink ≡ bytes =
     c.in-Ok.ensures.text ∙ ap (λ (before : List ℕ). before ++ bytes) c.new-text.ensures.bytes in
     let size = same_shown c.args.self.now c.args.prev.now c.requires in
@@ -20,7 +18,7 @@ returns-in-Ok-clause-redraws c =
 
 pub returns-in-Ok-clause-empty : goal.returns-in-Ok-clause-empty
 returns-in-Ok-clause-empty c steady empty =
-    let bytes = bytes_of_all (difference (shown c.args.self.now) (shown c.args.prev.now)) in
+    let bytes = shown_change c.args.prev.now c.args.self.now in
     let told : string_bytes c.write_contents_diff.new.sink ≡ bytes =
     c.in-Ok.ensures.text ∙ ap (λ (before : List ℕ). before ++ bytes) c.new-text.ensures.bytes in
     let size = same_shown c.args.self.now c.args.prev.now c.requires in
@@ -29,14 +27,14 @@ returns-in-Ok-clause-empty c steady empty =
 
 pub returns-in-Ok-clause-none : goal.returns-in-Ok-clause-none
 returns-in-Ok-clause-none c same =
-    let bytes = bytes_of_all (difference (shown c.args.self.now) (shown c.args.prev.now)) in
+    let bytes = shown_change c.args.prev.now c.args.self.now in
     let told : string_bytes c.write_contents_diff.new.sink ≡ bytes =
     c.in-Ok.ensures.text ∙ ap (λ (before : List ℕ). before ++ bytes) c.new-text.ensures.bytes in
     told ∙ difference_none (shown c.args.self.now) (shown c.args.prev.now) same
 
 pub returns-in-Ok-clause-touches : goal.returns-in-Ok-clause-touches
 returns-in-Ok-clause-touches c steady =
-    let bytes = bytes_of_all (difference (shown c.args.self.now) (shown c.args.prev.now)) in
+    let bytes = shown_change c.args.prev.now c.args.self.now in
     let told : string_bytes c.write_contents_diff.new.sink ≡ bytes =
     c.in-Ok.ensures.text ∙ ap (λ (before : List ℕ). before ++ bytes) c.new-text.ensures.bytes in
     let size = same_shown c.args.self.now c.args.prev.now c.requires in

@@ -1,14 +1,12 @@
 use Rattle.std.proofs.Common.{◌≡◌, ℕ, List, ◌++◌, string_bytes, ap, sym, ◌∙◌}
-use Rattle.vt_cells.specs.Op.{bytes_of_all}
-use Rattle.vt_redraw.specs.Redraw.{redraw}
-use Rattle.vt_screen.specs.Shown.{shown}
+use Rattle.vt_screen.specs.Shown.{shown_text}
 use Rattle.vt_screen.proofs.Became.{redraw_redraws}
 use Rattle.vt_screen.proofs.Telling.{redraws_tell}
 use Rattle.vt_screen.proofs.screen.Screen.contents_formatted.Goals as goal
 
 pub returns-in-Ok-clause-redraws : goal.returns-in-Ok-clause-redraws
 returns-in-Ok-clause-redraws c =
-    let bytes = bytes_of_all (redraw (shown c.args.self.now)) in
+    let bytes = shown_text c.args.self.now in
     let told : string_bytes c.write_contents_formatted.new.sink ≡ bytes =
     c.in-Ok.ensures.text ∙ ap (λ (before : List ℕ). before ++ bytes) c.new-text.ensures.bytes in
     redraw_redraws c.args.self.now (string_bytes c.write_contents_formatted.new.sink)
@@ -16,7 +14,7 @@ returns-in-Ok-clause-redraws c =
 
 pub returns-in-Ok-clause-same : goal.returns-in-Ok-clause-same
 returns-in-Ok-clause-same c other is colored size steady steady_other equal =
-    let bytes = bytes_of_all (redraw (shown c.args.self.now)) in
+    let bytes = shown_text c.args.self.now in
     let told : string_bytes c.write_contents_formatted.new.sink ≡ bytes =
     c.in-Ok.ensures.text ∙ ap (λ (before : List ℕ). before ++ bytes) c.new-text.ensures.bytes in
     redraws_tell c.args.self.now other c.in-Ok.ensures.whole

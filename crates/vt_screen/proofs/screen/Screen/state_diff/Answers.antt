@@ -5,23 +5,14 @@ use Rattle.vt_screen.proofs.Viewing.{same_shown}
 use Rattle.vt_screen.proofs.ContentTexts.{none_refused}
 use Rattle.vt_screen.proofs.screen.Screen.state_diff.Goals as goal
 
-pub returns-in-Ok-clause-redraws : goal.returns-in-Ok-clause-redraws
-returns-in-Ok-clause-redraws c =
+pub returns-in-Ok-clause-gives : goal.returns-in-Ok-clause-gives
+returns-in-Ok-clause-gives c =
     let bytes = state_change c.args.prev.now c.args.self.now in
     let told : string_bytes c.write_state_diff.new.sink ≡ bytes =
     c.in-Ok.ensures.text ∙ ap (λ (before : List ℕ). before ++ bytes) c.new-text.ensures.bytes in
     let size = same_shown c.args.self.now c.args.prev.now c.requires in
-    (change_gives c.args.self.now c.args.prev.now (string_bytes c.write_state_diff.new.sink) told c.in-Ok.ensures.whole
-    c.in-Ok.ensures.colored c.in-Ok.ensures.other c.in-Ok.ensures.other_colored size).redraws
-
-pub returns-in-Ok-clause-modes : goal.returns-in-Ok-clause-modes
-returns-in-Ok-clause-modes c =
-    let bytes = state_change c.args.prev.now c.args.self.now in
-    let told : string_bytes c.write_state_diff.new.sink ≡ bytes =
-    c.in-Ok.ensures.text ∙ ap (λ (before : List ℕ). before ++ bytes) c.new-text.ensures.bytes in
-    let size = same_shown c.args.self.now c.args.prev.now c.requires in
-    (change_gives c.args.self.now c.args.prev.now (string_bytes c.write_state_diff.new.sink) told c.in-Ok.ensures.whole
-    c.in-Ok.ensures.colored c.in-Ok.ensures.other c.in-Ok.ensures.other_colored size).modes
+    change_gives c.args.self.now c.args.prev.now (string_bytes c.write_state_diff.new.sink) told c.in-Ok.ensures.whole
+    c.in-Ok.ensures.colored c.in-Ok.ensures.other c.in-Ok.ensures.other_colored size
 
 pub returns-in-Ok-clause-empty : goal.returns-in-Ok-clause-empty
 returns-in-Ok-clause-empty c steady empty =

@@ -1,4 +1,4 @@
-use Rattle.std.proofs.Common.{◌≡◌, ◌+◌, ◌++◌, ◌∷◌, [], List, get_or, ap, ◌∙◌, sym, arith}
+use Rattle.std.proofs.Common.{rules, ◌≡◌, ◌+◌, ◌++◌, ◌∷◌, [], List, get_or, ap, ◌∙◌, sym, arith}
 use Rattle.std.specs.List.{slice_range}
 use Rattle.vt_rows.specs.Row.{RowValue}
 use Rattle.vt_screen.specs.Capture.{all_rows}
@@ -9,8 +9,8 @@ use Rattle.vt_screen.proofs.screen.Screen.write_rows.Goals as goal
 pub stacked_row-row-requires-clause-sound : goal.stacked_row-row-requires-clause-sound
 stacked_row-row-requires-clause-sound g c = rw (c.rows.ensures.rows, c.rows.ensures.width) c.self.invariant.sound.rows
 
-pub returns-in_err-write_formatted_basic-clause-err : goal.returns-in_err-write_formatted_basic-clause-err
-returns-in_err-write_formatted_basic-clause-err g c =
+pub returns-in_err-write_formatted_basic : goal.returns-in_err-write_formatted_basic
+returns-in_err-write_formatted_basic g c =
     let inv = c.loop-index.invariant in
     let row = c.stacked_row-row.result in
     let above = above_rows c.self.inside.is_alternate c.self.inside.scrollback
@@ -20,13 +20,18 @@ returns-in_err-write_formatted_basic-clause-err g c =
     ∙ ap (λ (rows : List RowValue). c.self.inside.scrollback.rows ++ rows) (sym c.rows.ensures.rows) in
     let same : get_or (all_rows c.args.self.now) c.loop-index.index row ≡ row =
     ap (λ rows. get_or rows c.loop-index.index row) all ∙ sym (c.stacked_row-row.ensures row) in
-    on_err c.from_residual.result
-    (stopped_behind g.S.Sink.refuses (g.S.Sink.text c.args.sink.now) (g.S.Sink.text c.loop-index.sink)
-    (g.S.Sink.text c.write_formatted_basic.new.sink) c.args.state.now c.loop-index.state
-    c.write_formatted_basic.new.state (all_rows c.args.self.now) c.args.start c.loop-index.index c.args.end
-    row inv.low c.loop-index-test.true inv.inside same inv.bytes inv.written
-    c.in_err-write_formatted_basic.ensures.err c.in_err-write_formatted_basic.ensures.some
-    c.in_err-write_formatted_basic.ensures.stopped)
+    record {
+      text = search rules;
+      state = search rules;
+      err =
+          on_err c.from_residual.result
+          (stopped_behind g.S.Sink.refuses (g.S.Sink.text c.args.sink.now) (g.S.Sink.text c.loop-index.sink)
+          (g.S.Sink.text c.write_formatted_basic.new.sink) c.args.state.now c.loop-index.state
+          c.write_formatted_basic.new.state (all_rows c.args.self.now) c.args.start c.loop-index.index c.args.end
+          row inv.low c.loop-index-test.true inv.inside same inv.bytes inv.written
+          c.in_err-write_formatted_basic.ensures.err c.in_err-write_formatted_basic.ensures.some
+          c.in_err-write_formatted_basic.ensures.stopped);
+    }
 
 pub loop-index-preserved : goal.loop-index-preserved
 loop-index-preserved g c =

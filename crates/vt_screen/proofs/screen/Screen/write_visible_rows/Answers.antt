@@ -1,15 +1,14 @@
 use Rattle.std.proofs.Common.{◌≡◌, ◌-◌, ◌++◌, List, length, ap, ◌∙◌, sym, subst, arith, if◌then◌else◌}
-use Rattle.std.specs.Result.{OnErr}
 use Rattle.vt_rows.specs.Row.{RowValue}
 use Rattle.vt_grid.specs.Scrollback.{no_scrollback, visible}
-use Rattle.vt_screen.specs.Capture.{StopsBehind, all_rows}
-use Rattle.vt_screen.specs.Internals.{main_scrollback}
+use Rattle.vt_screen.specs.Capture.{all_rows}
+use Rattle.vt_screen.specs.Internals.{WritesRows, main_scrollback}
 use Rattle.vt_screen.specs.Screen.{visible_rows}
 use Rattle.vt_screen.proofs.Captures.{above_rows, above_offset, active_in_view, same_visible, visible_part}
 use Rattle.vt_screen.proofs.screen.Screen.write_visible_rows.Goals as goal
 
-pub returns-clause-err : goal.returns-clause-err
-returns-clause-err g c =
+pub returns : goal.returns
+returns g c =
     let s = c.self.inside in
     let kept = c.self.invariant in
     let above = above_rows s.is_alternate s.scrollback s.other_scrollback kept.nothing in
@@ -26,7 +25,6 @@ returns-clause-err g c =
     (c.stacked_len.result - c.offset.result - c.len.result) (c.stacked_len.result - c.offset.result)
     (active_in_view s.is_alternate s.scrollback s.other_scrollback kept.nothing kept.above) all
     shown (omega (arith, c.stacked_len.ensures, c.offset.ensures, rows)) (omega (arith, rows)) in
-    subst
-    (λ (rows : List RowValue). OnErr c.write_rows.result (StopsBehind g.S.Sink.refuses (g.S.Sink.text c.args.sink.now)
-    c.args.state.now rows (g.S.Sink.text c.write_rows.new.sink) c.write_rows.new.state))
-    part c.write_rows.ensures.err
+    subst (λ (rows : List RowValue). WritesRows g.S.Sink.refuses (g.S.Sink.text c.args.sink.now)
+    c.args.state.now rows c.write_rows.result (g.S.Sink.text c.write_rows.new.sink) c.write_rows.new.state)
+    part c.write_rows.ensures
