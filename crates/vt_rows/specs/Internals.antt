@@ -37,8 +37,8 @@ turn_source from to n k =
     if nat_le from k && nat_lt k to then (if nat_lt (k + n) to then k + n else k + n - (to - from)) else k
 
 -- a text was added behind what was gathered, and nothing that was written is gone
-pub record Gathers (before piece text after left : List ℕ) : Type 0 where
-  pub bytes : gathered after left ≡ gathered before piece ++ text
+pub record Gathers (before buffer text after left : List ℕ) : Type 0 where
+  pub bytes : gathered after left ≡ gathered before buffer ++ text
   pub grows : length before ≤ length after
 
 -- the text of a cell behind a text in `attrs`, with the change to its attributes
