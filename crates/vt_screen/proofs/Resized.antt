@@ -16,7 +16,7 @@ use Rattle.vt_screen.specs.Internals.{Aside, IsKept, IsNothing, main_scrollback,
 use Rattle.vt_screen.specs.Pages.{reports_of}
 use Rattle.vt_screen.specs.Run.{CallRelation, CalledOnScroll, CalledOnAnyScreen}
 use Rattle.vt_screen.specs.Screen.{ScreenValue}
-use Rattle.vt_screen.specs.Telling.{Hears}
+use Rattle.vt_screen.specs.Telling.{TakesCalls}
 use Rattle.vt_screen.proofs.Asides.{kept_resized, nothing_pushed}
 use Rattle.vt_screen.proofs.Reporting.{told_rows}
 
@@ -49,7 +49,7 @@ fresh_is o p f s b e h k =
 pub record AlternateDone {S : Type 0} (does : CallRelation S)
     (rows cols : ℕ) (o : Option Page) (new : Page) (after : Scrollback) (s t : S) : Type 0 where
   pub page : Some new ≡ option_map (page_resized rows cols (no_scrollback 0)) o
-  pub told : Hears does s (reports_of true rows o (no_scrollback 0)) t
+  pub told : TakesCalls does s (reports_of true rows o (no_scrollback 0)) t
   pub nothing : IsNothing after
 
 pub alternate_done : {S : Type 0} (does : CallRelation S) (rows cols : ℕ)
@@ -84,7 +84,7 @@ pub main_done : {S : Type 0} (does : CallRelation S)
     (rows cols : ℕ) (p : Page) (page_rows : Page) (above : Scrollback) (s t : S)
     → page_rows ≡ blank_page rows cols
     → FoldsTo (CalledOnScroll does false) s (resize_reports (length page_rows.rows) p above) t
-    → Hears does s (reports_of false rows (Some p) above) t
+    → TakesCalls does s (reports_of false rows (Some p) above) t
 main_done {S} does rows cols p page_rows above s t fresh heard =
     told_rows does false (resize_reports rows p above) s t
     (subst (λ (all : List RowValue). FoldsTo (CalledOnScroll does false) s all t)
@@ -120,14 +120,14 @@ pub told_by_steps : {S : Type 0} (does : CallRelation S)
     → v ≡ now → v.scrollback ≡ main_scrollback v.is_alternate active idle
     → now.is_alternate ≡ false → page_rows ≡ blank_page rows cols
     → FoldsTo (CalledOnScroll does false) s (resize_reports (length page_rows.rows) v.page active) m
-    → Hears does m (reports_of true rows v.other (no_scrollback 0)) t
-    → Hears does s (reports_of_pages rows now) t
+    → TakesCalls does m (reports_of true rows v.other (no_scrollback 0)) t
+    → TakesCalls does s (reports_of_pages rows now) t
 told_by_steps {S} does rows cols v now active idle page_rows s m t same w main fresh heard told =
     let whole : active ≡ v.scrollback =
     above_main v.is_alternate active idle v.scrollback w (ap (λ (x : ScreenValue). x.is_alternate) same ∙ main) in
-    subst (λ (x : ScreenValue). Hears does s (reports_of_pages rows x) t) same
+    subst (λ (x : ScreenValue). TakesCalls does s (reports_of_pages rows x) t) same
     (folds_then (CalledOnAnyScreen does) (reports_of false rows (Some v.page) v.scrollback)
     (reports_of true rows v.other (no_scrollback 0)) s m t
-    (subst (λ (z : Scrollback). Hears does s (reports_of false rows (Some v.page) z) m)
+    (subst (λ (z : Scrollback). TakesCalls does s (reports_of false rows (Some v.page) z) m)
     whole (main_done does rows cols v.page page_rows active s m fresh heard))
     told)

@@ -10,9 +10,9 @@ use Rattle.vt_screen.specs.Controls.{seen_of, steps_of}
 use Rattle.vt_screen.specs.Steps.{Step, CallBack, reports, screen_after}
 use Rattle.vt_screen.specs.Run.{CallRelation, CalledOnAnyScreen}
 
--- callbacks hear of calls that are lent no screen, one after the other
-abbrev pub Hears : {S : Type 0} → CallRelation S → S → List CallValue → S → Type 0
-Hears does old calls new = FoldsTo (CalledOnAnyScreen does) old calls new
+-- callbacks take calls that are lent no screen, one after the other
+abbrev pub TakesCalls : {S : Type 0} → CallRelation S → S → List CallValue → S → Type 0
+TakesCalls does old calls new = FoldsTo (CalledOnAnyScreen does) old calls new
 
 -- callbacks that leave the screen alone
 abbrev pub LeavesScreen : {S : Type 0} → CallRelation S → Type 0

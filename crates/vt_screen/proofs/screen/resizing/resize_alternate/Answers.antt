@@ -4,7 +4,7 @@ use Rattle.std.specs.Prelude.{is_ok}
 use Rattle.vt_grid.specs.Resize.{resize_reports}
 use Rattle.vt_grid.specs.Scrollback.{no_scrollback}
 use Rattle.vt_screen.specs.Pages.{reports_of}
-use Rattle.vt_screen.specs.Telling.{Hears}
+use Rattle.vt_screen.specs.Telling.{TakesCalls}
 use Rattle.vt_screen.proofs.Reporting.{same_callbacks, reported_to}
 use Rattle.vt_screen.proofs.Resized.{AlternateDone, alternate_done, if_ok}
 use Rattle.vt_screen.proofs.screen.resizing.resize_alternate.Given as given
@@ -32,7 +32,7 @@ returns-clause-told g c =
     let rows = resize_reports _ c.in-Some-page.page c.args.nothing.now in
     let same = same_callbacks g.CB.Callbacks.does rows _ c.set_size-done.new.leaving
     (if_ok c.set_size-done.result _ done c.set_size-done.ensures.reported) in
-    subst (λ z. Hears g.CB.Callbacks.does c.args.callbacks.now
+    subst (λ z. TakesCalls g.CB.Callbacks.does c.args.callbacks.now
     (reports_of true c.args.size.rows c.args.page.now (no_scrollback 0)) z)
     (search rules) (whole g c).told
 

@@ -3,7 +3,7 @@ use Rattle.std.proofs.Common.{false, true, refl, rules, subst, ap, ◌∙◌}
 use Rattle.vt_grid.specs.Resize.{resize_reports}
 use Rattle.vt_grid.specs.Scrollback.{no_scrollback}
 use Rattle.vt_screen.specs.Pages.{reports_of}
-use Rattle.vt_screen.specs.Telling.{Hears}
+use Rattle.vt_screen.specs.Telling.{TakesCalls}
 use Rattle.vt_screen.specs.Screen.{ScreenValue}
 use Rattle.vt_screen.specs.contracts.screen.Screen.{the_view}
 use Rattle.vt_screen.proofs.Reporting.{same_callbacks, reported_to}
@@ -29,6 +29,6 @@ returns-clause-told g c =
     c.args.screen.now c.screen.inside.scrollback c.screen.inside.other_scrollback c.in_ok-fresh.fresh
     c.args.callbacks.now c.set_size.new.leaving.callbacks.now c.resize_alternate.new.callbacks
     c.screen.view_is refl c.requires.main (c.in_ok-fresh.ensures).ok all
-    (subst (λ z. Hears g.CB.Callbacks.does z
+    (subst (λ z. TakesCalls g.CB.Callbacks.does z
     (reports_of true c.args.size.rows c.screen.inside.other (no_scrollback 0)) c.resize_alternate.new.callbacks)
     (search rules) c.resize_alternate.ensures.told)
