@@ -6,7 +6,7 @@ pub mod Calls
 pub mod Life
 pub mod Reading
 pub mod Due
-pub mod Keeping
+pub mod KeptText
 pub mod Shown
 pub mod Texts
 pub mod Log

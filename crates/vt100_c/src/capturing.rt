@@ -9,7 +9,7 @@ ghost use Rattle.vt100_c.specs.Capturing.{HaveText, HoldAtCapture, HoldsCapture,
 ghost use Rattle.vt100_c.specs.Capturing.{any_screen_is_due, due_at_capture, due_behind, due_beside_capture};
 ghost use Rattle.vt100_c.specs.Capturing.{has_reported, state_in};
 ghost use Rattle.vt100_c.specs.Due.{AnswersOrStays, IsAnswer, status_in};
-ghost use Rattle.vt100_c.specs.Keeping.{KeepsBoth, KeepsText};
+ghost use Rattle.vt100_c.specs.KeptText.{KeepsBoth, KeepsText};
 ghost use Rattle.vt100_c.specs.Log.{log_in};
 ghost use Rattle.vt100_c.specs.Sources.{screen_in};
 ghost use Rattle.vt100_c.specs.Status.{ok, out_of_memory};

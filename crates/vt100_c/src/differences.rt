@@ -2,7 +2,7 @@
 
 ghost use Rattle.std.specs.Prelude.{◌≡◌, Some, string_bytes};
 ghost use Rattle.vt100_c.specs.Due.{IsAnswer, OnBoth, any_screens, due_at_both, due_beside, due_on_both, of_one_size};
-ghost use Rattle.vt100_c.specs.Keeping.{KeepsBoth, KeepsText};
+ghost use Rattle.vt100_c.specs.KeptText.{KeepsBoth, KeepsText};
 ghost use Rattle.vt100_c.specs.Sources.{screen_in};
 ghost use Rattle.vt100_c.specs.Status.{ok, out_of_memory};
 ghost use Rattle.vt100_c.specs.Texts.{HasDifference, IsDifference, MakesDifference, due_for_both};

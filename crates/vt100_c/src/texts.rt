@@ -2,7 +2,7 @@
 
 ghost use Rattle.std.specs.Prelude.{Some};
 ghost use Rattle.vt100_c.specs.Due.{IsAnswer, any_screen, due_at, due_on, has_start};
-ghost use Rattle.vt100_c.specs.Keeping.{KeepsText};
+ghost use Rattle.vt100_c.specs.KeptText.{KeepsText};
 ghost use Rattle.vt100_c.specs.Sources.{screen_in};
 ghost use Rattle.vt100_c.specs.Texts.{MakesText, due_for};
 ghost use Rattle.vt100_c.specs.declared.making.Text.TheVariants as text;

@@ -74,7 +74,7 @@ WritesSome first every left rest written grown =
 
 -- the input is read to its end, or up to a fault, and the updates are written that were due. `error` is how a fault is
 -- answered
-pub record WritesOrFails {E : Type 0} (error : Fault → E) (first : ScreenValue) (every : ℕ)
+pub record UpdatesOrFails {E : Type 0} (error : Fault → E) (first : ScreenValue) (every : ℕ)
     (left rest written grown : Option (List ℕ)) (result : Result (Unit {0}) E) : Type 0 where
   pub end : OnOk result (IsAtEnd rest)
   pub text : OnOk result (WritesToEnd first every left rest written grown)

@@ -4,7 +4,7 @@ ghost use Rattle.std.specs.Io.KnownBytes.{Keeps};
 ghost use Rattle.std.specs.Prelude.{◌≡◌, ◌≢◌, ◌<◌, ◌↔◌, Err, IfErr, IfOk, None, OnOk, Some, map, string_bytes, true};
 ghost use Rattle.vt_mirror.specs.Arguments.{AskFor, AskForNothing};
 ghost use Rattle.vt_mirror.specs.Internals.{IsBegun, ReadsAtMost, ReadsFewer, ReadsStretch, WritesUpdate};
-ghost use Rattle.vt_mirror.specs.Runs.{WritesOrFails};
+ghost use Rattle.vt_mirror.specs.Runs.{UpdatesOrFails};
 ghost use Rattle.vt_mirror.specs.Viewers.{is_viewer};
 ghost use Rattle.vt_screen.specs.Screen.{fresh_screen};
 ghost use Rattle.vt_show.specs.declared.faults.Fault.{Fault};
@@ -39,7 +39,7 @@ pub fn run<R: Read, W: Write>(
     cols: NonZeroU16,
     every: NonZeroU16,
 ) -> Result<(), Fault>
-    ensures { WritesOrFails (λ fault. fault) (fresh_screen rows.value cols.value 0) every.value
+    ensures { UpdatesOrFails (λ fault. fault) (fresh_screen rows.value cols.value 0) every.value
         (R.remaining reader.old) (R.remaining reader.new) (W.contents writer.old) (W.contents writer.new) result }
 {
     let Ok(mut mirror) = Mirror::new(alloc, rows, cols, 0) else {
@@ -65,7 +65,7 @@ pub fn run_words<R: Read, W: Write>(
     ensures nothing { result ≡ Err None → Keeps (R.remaining reader.old) (R.remaining reader.new)
         × Keeps (W.contents writer.old) (W.contents writer.new) }
     ensures asked { result ≢ Err None → AskFor (map (λ word. string_bytes word) words.now)
-        (λ rows cols every. WritesOrFails Some (fresh_screen rows cols 0) every
+        (λ rows cols every. UpdatesOrFails Some (fresh_screen rows cols 0) every
         (R.remaining reader.old) (R.remaining reader.new) (W.contents writer.old) (W.contents writer.new) result) }
 {
     let Some((rows, cols, every)) = asked(words) else {
@@ -87,7 +87,7 @@ fn run_viewer<R: Read, W: Write>(
 ) -> Result<(), Fault>
     requires some { 0 < every }
     requires begun { IsBegun mirror.old viewer }
-    ensures { WritesOrFails (λ fault. fault) mirror.old.parser.screen every
+    ensures { UpdatesOrFails (λ fault. fault) mirror.old.parser.screen every
         (R.remaining reader.old) (R.remaining reader.new) (W.contents writer.old) (W.contents writer.new) result }
 {
     let mut buffer = [0; BUFFER_SIZE];

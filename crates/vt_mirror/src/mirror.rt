@@ -4,7 +4,7 @@ ghost use Rattle.std.specs.Prelude.{◌≡◌, IfOk, None, OnErr, OnOk, Some, []
 ghost use Rattle.vt_cells.specs.Refusals.{OnlyOutOfMemory};
 ghost use Rattle.vt_mirror.specs.Calls.{Asks, Drawn, IsFullUpdate, IsUpdate, JoinsMirror, Leaves};
 ghost use Rattle.vt_mirror.specs.Calls.{MirrorProcesses, Resizes, Scrolling};
-ghost use Rattle.vt_mirror.specs.Mirror.{HasFreshScreen};
+ghost use Rattle.vt_mirror.specs.Mirror.{ShowsFreshScreen};
 ghost use Rattle.vt_mirror.specs.Viewers.{Puts, is_viewer, note_of};
 ghost use Rattle.vt_scan.specs.Automaton.{start};
 ghost use Rattle.vt_scan.specs.Scanner.{StandsFor};
@@ -70,7 +70,7 @@ impl Mirror {
         scrollback_capacity: usize,
     ) -> Result<Mirror, Error>
         ensures begun { IfOk result (λ mirror. StandsFor mirror.parser.scanner start) }
-        ensures shown { IfOk result (λ mirror. HasFreshScreen rows.value cols.value scrollback_capacity mirror.parser) }
+        ensures shown { IfOk result (ShowsFreshScreen rows.value cols.value scrollback_capacity) }
         ensures last { IfOk result (λ mirror. mirror.viewers.last ≡ None) }
         ensures nobody { IfOk result (λ mirror. mirror.viewers.numbers ≡ []) }
         ensures nothing { IfOk result (λ mirror. mirror.viewers.notes ≡ []) }

@@ -38,7 +38,7 @@ pub record Writes (mode : Mode) (rows cols : ℕ) (input : List ℕ) (old new : 
 
 -- the input is read to its end, and the text for it is written where it is known; after another fault than that of
 -- writing nothing was written, and after that one all was read. `error` is how a fault is answered
-pub record WritesOrFails {E : Type 0} (error : Fault → E) (mode : Mode) (rows cols : ℕ)
+pub record ShowsOrFails {E : Type 0} (error : Fault → E) (mode : Mode) (rows cols : ℕ)
     (left rest written grown : Option (List ℕ)) (result : Result (Unit {0}) E) : Type 0 where
   pub end : OnOk result (IsAtEnd rest)
   pub text : OnOk result (IfSome left (λ input. Writes mode rows cols input written grown))

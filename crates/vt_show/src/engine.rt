@@ -6,7 +6,7 @@ ghost use Rattle.std.specs.Prelude.{◌≡◌, ◌≢◌, ◌↔◌, map, true, 
 ghost use Rattle.std.specs.Prelude.{string_bytes};
 ghost use Rattle.vt100.specs.Parser.{Ran, quietly};
 ghost use Rattle.vt_show.specs.Arguments.{AskFor, AskForNothing};
-ghost use Rattle.vt_show.specs.Shown.{WritesOrFails, screen_text};
+ghost use Rattle.vt_show.specs.Shown.{ShowsOrFails, screen_text};
 ghost use Rattle.vt_show.specs.declared.faults.Fault.{Fault};
 
 use crate::faults::Fault;
@@ -36,7 +36,7 @@ pub fn run<R: Read, W: Write>(
     cols: NonZeroU16,
     mode: Mode,
 ) -> Result<(), Fault>
-    ensures { WritesOrFails (λ fault. fault) mode (non_zero_u16_get rows) (non_zero_u16_get cols)
+    ensures { ShowsOrFails (λ fault. fault) mode (non_zero_u16_get rows) (non_zero_u16_get cols)
         (R.remaining reader.old) (R.remaining reader.new) (W.contents writer.old) (W.contents writer.new) result }
 {
     let Ok(mut parser) = Parser::new(alloc, rows, cols, 0) else {
@@ -60,7 +60,7 @@ pub fn run_words<R: Read, W: Write>(
     ensures nothing { result ≡ Err None → Keeps (R.remaining reader.old) (R.remaining reader.new)
         × Keeps (W.contents writer.old) (W.contents writer.new) }
     ensures asked { result ≢ Err None → AskFor (map (λ word. string_bytes word) words.now)
-        (λ rows cols mode. WritesOrFails Some mode rows cols
+        (λ rows cols mode. ShowsOrFails Some mode rows cols
         (R.remaining reader.old) (R.remaining reader.new) (W.contents writer.old) (W.contents writer.new) result) }
 {
     let Some((rows, cols, mode)) = asked(words) else {
