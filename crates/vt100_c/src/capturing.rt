@@ -20,7 +20,6 @@ use crate::handle::Handle;
 use crate::life::hold;
 use crate::making::keep;
 use crate::object::{Object, Source, screen_of};
-use crate::parts::Parts;
 use crate::status::{BAD_ARGUMENT, IN_USE, NO_OBJECT, OUT_OF_MEMORY, WRONG_KIND};
 use std::alloc::Global;
 use vt100::Screen;
@@ -60,9 +59,9 @@ pub extern "C" fn vt100_capture_screen(
     if !handle.is_full() || !capture.is_full() {
         return NO_OBJECT;
     }
-    let mut object = capture.take(alloc).into_box();
+    let mut object = capture.take_out(alloc);
     let status = screen_beside(alloc, &mut object, handle, len);
-    capture.put(Parts::of(object));
+    capture.put_back(object);
     status
 }
 
@@ -81,9 +80,9 @@ fn screen_beside(alloc: Global, object: &mut Object, handle: &mut Handle, len: &
     if !handle.is_full() {
         return BAD_ARGUMENT;
     }
-    let other = handle.take(alloc).into_box();
+    let other = handle.take_out(alloc);
     let status = write_screen(alloc, object, &other.source, len);
-    handle.put(Parts::of(other));
+    handle.put_back(other);
     status
 }
 
@@ -167,9 +166,9 @@ pub extern "C" fn vt100_capture_row(
     if !parser.is_full() || !capture.is_full() {
         return NO_OBJECT;
     }
-    let mut object = capture.take(alloc).into_box();
+    let mut object = capture.take_out(alloc);
     let status = row_beside(alloc, &mut object, parser, index, len);
-    capture.put(Parts::of(object));
+    capture.put_back(object);
     status
 }
 
@@ -189,9 +188,9 @@ fn row_beside(
     if !parser.is_full() {
         return BAD_ARGUMENT;
     }
-    let other = parser.take(alloc).into_box();
+    let other = parser.take_out(alloc);
     let status = write_row(alloc, object, &other.source, index, len);
-    parser.put(Parts::of(other));
+    parser.put_back(other);
     status
 }
 

@@ -4,7 +4,6 @@ ghost use Rattle.std.specs.Prelude.{◌≡◌, drop, length, min, take};
 ghost use Rattle.vt100_c.specs.Due.{text_at};
 
 use crate::handle::Handle;
-use crate::parts::Parts;
 use std::alloc::Global;
 
 /// Copies the text that was made last of what a handle holds, as far as there
@@ -19,9 +18,9 @@ pub extern "C" fn vt100_copy(alloc: Global, handle: &mut Handle, out: &mut [u8])
     if !handle.is_full() {
         return 0;
     }
-    let object = handle.take(alloc).into_box();
+    let object = handle.take_out(alloc);
     let count = copy(object.text.as_bytes(), out);
-    handle.put(Parts::of(object));
+    handle.put_back(object);
     count
 }
 

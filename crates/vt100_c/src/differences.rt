@@ -11,7 +11,6 @@ ghost use Rattle.vt100_c.specs.declared.making.Difference.TheVariants as between
 use crate::handle::Handle;
 use crate::making::{Difference, difference_in, keep};
 use crate::object::{Object, Source};
-use crate::parts::Parts;
 use crate::status::{BAD_ARGUMENT, NO_OBJECT};
 use std::alloc::Global;
 
@@ -94,9 +93,9 @@ fn make(
     if !handle.is_full() || !prev.is_full() {
         return NO_OBJECT;
     }
-    let mut object = handle.take(alloc).into_box();
+    let mut object = handle.take_out(alloc);
     let status = make_beside(alloc, &mut object, prev, difference, len);
-    handle.put(Parts::of(object));
+    handle.put_back(object);
     status
 }
 
@@ -118,9 +117,9 @@ fn make_beside(
     if !prev.is_full() {
         return BAD_ARGUMENT;
     }
-    let other = prev.take(alloc).into_box();
+    let other = prev.take_out(alloc);
     let status = renew(object, &other.source, difference, len);
-    prev.put(Parts::of(other));
+    prev.put_back(other);
     status
 }
 

@@ -10,7 +10,6 @@ use crate::copying::copy;
 use crate::events::Events;
 use crate::handle::Handle;
 use crate::object::Source;
-use crate::parts::Parts;
 use crate::status::{NO_OBJECT, OK, WRONG_KIND};
 use std::alloc::Global;
 use vt100::Parser;
@@ -35,9 +34,9 @@ pub extern "C" fn vt100_events(
     if !handle.is_full() {
         return NO_OBJECT;
     }
-    let object = handle.take(alloc).into_box();
+    let object = handle.take_out(alloc);
     let status = tell(&object.source, len, is_whole);
-    handle.put(Parts::of(object));
+    handle.put_back(object);
     status
 }
 
@@ -53,9 +52,9 @@ pub extern "C" fn vt100_copy_events(alloc: Global, handle: &mut Handle, out: &mu
     if !handle.is_full() {
         return 0;
     }
-    let object = handle.take(alloc).into_box();
+    let object = handle.take_out(alloc);
     let count = copy_records(&object.source, out);
-    handle.put(Parts::of(object));
+    handle.put_back(object);
     count
 }
 
@@ -68,9 +67,9 @@ pub extern "C" fn vt100_clear_events(alloc: Global, handle: &mut Handle) -> u8
     if !handle.is_full() {
         return NO_OBJECT;
     }
-    let mut object = handle.take(alloc).into_box();
+    let mut object = handle.take_out(alloc);
     let status = clear(&mut object.source);
-    handle.put(Parts::of(object));
+    handle.put_back(object);
     status
 }
 

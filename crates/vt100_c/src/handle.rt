@@ -34,7 +34,23 @@ impl Handle {
     }
 
     /// Takes the object out; the handle is empty until it is put back.
-    pub(crate) fn take(&mut self, alloc: Global) -> Parts<Object, Global>
+    pub(crate) fn take_out(&mut self, alloc: Global) -> Box<Object>
+        requires { IsSome self.old.held }
+        ensures { (self.old.held ≡ Some result.value) × (self.new.held ≡ None) }
+    {
+        self.take(alloc).into_box()
+    }
+
+    /// Puts an object behind it. What it held before is no more reached, so it
+    /// is to be empty.
+    pub(crate) fn put_back(&mut self, object: Box<Object>)
+        ensures { self.new.held ≡ Some object.value }
+    {
+        self.put(Parts::of(object));
+    }
+
+    /// Takes out the parts of the object's box.
+    fn take(&mut self, alloc: Global) -> Parts<Object, Global>
         requires { IsSome self.old.held }
         ensures { (self.old.held ≡ Some result.value) × (self.new.held ≡ None) }
     {
@@ -43,9 +59,8 @@ impl Handle {
         Parts { at, alloc }
     }
 
-    /// Puts an object behind it. What it held before is no more reached, so it
-    /// is to be empty.
-    pub(crate) fn put(&mut self, parts: Parts<Object, Global>)
+    /// Puts the parts of an object's box behind it.
+    fn put(&mut self, parts: Parts<Object, Global>)
         ensures { self.new.held ≡ Some parts.value }
     {
         let Parts { at, alloc: _ } = parts;

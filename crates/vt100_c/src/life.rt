@@ -11,7 +11,6 @@ ghost use Rattle.vt100_c.specs.declared.object.Source.TheVariants as source;
 use crate::events::Events;
 use crate::handle::Handle;
 use crate::object::{Object, Source, kind_of};
-use crate::parts::Parts;
 use crate::status::{BAD_ARGUMENT, IN_USE, NO_OBJECT, OK, OUT_OF_MEMORY, WRONG_KIND};
 use std::alloc::Global;
 use std::mem;
@@ -57,9 +56,9 @@ pub extern "C" fn vt100_save(alloc: Global, handle: &mut Handle, out: &mut Handl
     if out.is_full() {
         return IN_USE;
     }
-    let object = handle.take(alloc).into_box();
+    let object = handle.take_out(alloc);
     let copy = copy_of(&object.source);
-    handle.put(Parts::of(object));
+    handle.put_back(object);
     match copy {
         Ok(copy) => hold(alloc, copy, out),
         Err(status) => status,
@@ -75,16 +74,16 @@ pub extern "C" fn vt100_swap(alloc: Global, handle: &mut Handle, other: &mut Han
     if !handle.is_full() || !other.is_full() {
         return NO_OBJECT;
     }
-    let mut first = handle.take(alloc).into_box();
+    let mut first = handle.take_out(alloc);
     if !other.is_full() {
         // It was full before: this is the same handle twice.
-        handle.put(Parts::of(first));
+        handle.put_back(first);
         return BAD_ARGUMENT;
     }
-    let mut second = other.take(alloc).into_box();
+    let mut second = other.take_out(alloc);
     let status = swap(&mut first.source, &mut second.source);
-    other.put(Parts::of(second));
-    handle.put(Parts::of(first));
+    other.put_back(second);
+    handle.put_back(first);
     status
 }
 
@@ -94,7 +93,7 @@ pub extern "C" fn vt100_free(alloc: Global, handle: &mut Handle)
     ensures { handle.new.held ≡ None }
 {
     if handle.is_full() {
-        drop(handle.take(alloc).into_box());
+        drop(handle.take_out(alloc));
     }
 }
 
@@ -107,9 +106,9 @@ pub extern "C" fn vt100_kind(alloc: Global, handle: &mut Handle) -> u8
     if !handle.is_full() {
         return 0;
     }
-    let object = handle.take(alloc).into_box();
+    let object = handle.take_out(alloc);
     let kind = kind_of(&object.source);
-    handle.put(Parts::of(object));
+    handle.put_back(object);
     kind
 }
 
@@ -139,7 +138,7 @@ pub(crate) fn hold(alloc: Global, source: Source, out: &mut Handle) -> u8
     };
     match Box::new(alloc, object) {
         Ok(object) => {
-            out.put(Parts::of(object));
+            out.put_back(object);
             OK
         }
         Err(_) => OUT_OF_MEMORY,

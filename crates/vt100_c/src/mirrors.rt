@@ -11,7 +11,6 @@ ghost use Rattle.vt_mirror.specs.Calls.{Drawn, Scrolling};
 use crate::handle::Handle;
 use crate::life::{hold, size_of};
 use crate::object::{Object, Source};
-use crate::parts::Parts;
 use crate::status::{BAD_ARGUMENT, IN_USE, NO_OBJECT, OUT_OF_MEMORY, WRONG_KIND};
 use crate::viewers;
 use std::alloc::Global;
@@ -49,9 +48,9 @@ pub extern "C" fn vt100_join(alloc: Global, handle: &mut Handle, viewer: &mut u6
     if !handle.is_full() {
         return NO_OBJECT;
     }
-    let mut object = handle.take(alloc).into_box();
+    let mut object = handle.take_out(alloc);
     let status = join(&mut object.source, viewer);
-    handle.put(Parts::of(object));
+    handle.put_back(object);
     status
 }
 
@@ -63,9 +62,9 @@ pub extern "C" fn vt100_leave(alloc: Global, handle: &mut Handle, viewer: u64) -
     if !handle.is_full() {
         return NO_OBJECT;
     }
-    let mut object = handle.take(alloc).into_box();
+    let mut object = handle.take_out(alloc);
     let status = leave(&mut object.source, viewer);
-    handle.put(Parts::of(object));
+    handle.put_back(object);
     status
 }
 
@@ -88,9 +87,9 @@ pub extern "C" fn vt100_update(
     if !handle.is_full() {
         return NO_OBJECT;
     }
-    let mut object = handle.take(alloc).into_box();
+    let mut object = handle.take_out(alloc);
     let status = update(&mut object, viewer, rows, cols, len);
-    handle.put(Parts::of(object));
+    handle.put_back(object);
     status
 }
 
@@ -111,9 +110,9 @@ pub extern "C" fn vt100_update_scrolling(
     if !handle.is_full() {
         return NO_OBJECT;
     }
-    let mut object = handle.take(alloc).into_box();
+    let mut object = handle.take_out(alloc);
     let status = update_scrolling(&mut object, viewer, rows, cols, len);
-    handle.put(Parts::of(object));
+    handle.put_back(object);
     status
 }
 

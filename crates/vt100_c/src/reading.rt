@@ -8,7 +8,6 @@ ghost use Rattle.vt100_c.specs.Reading.{ReadsFrom, is_quiet};
 use crate::events::Events;
 use crate::handle::Handle;
 use crate::object::Source;
-use crate::parts::Parts;
 use crate::status::{NO_OBJECT, OK, WRONG_KIND, answered};
 use std::alloc::Global;
 use vt_mirror::Mirror;
@@ -22,9 +21,9 @@ pub extern "C" fn vt100_process(alloc: Global, handle: &mut Handle, bytes: &[u8]
     if !handle.is_full() {
         return NO_OBJECT;
     }
-    let mut object = handle.take(alloc).into_box();
+    let mut object = handle.take_out(alloc);
     let status = process(&mut object.source, bytes);
-    handle.put(Parts::of(object));
+    handle.put_back(object);
     status
 }
 
@@ -44,9 +43,9 @@ pub extern "C" fn vt100_process_until(
         *used = 0;
         return NO_OBJECT;
     }
-    let mut object = handle.take(alloc).into_box();
+    let mut object = handle.take_out(alloc);
     let (status, count) = process_until(&mut object.source, bytes);
-    handle.put(Parts::of(object));
+    handle.put_back(object);
     *used = count;
     status
 }

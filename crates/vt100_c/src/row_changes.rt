@@ -9,7 +9,6 @@ ghost use Rattle.vt100_c.specs.Sources.{screen_in};
 use crate::handle::Handle;
 use crate::making::{is_sized_as, keep, or_status};
 use crate::object::{Source, screen_of};
-use crate::parts::Parts;
 use crate::row_texts;
 use crate::rows::{has_range, places_for, write_ends};
 use crate::status::{BAD_ARGUMENT, NO_OBJECT, OTHER_SIZE, WRONG_KIND};
@@ -38,10 +37,10 @@ pub extern "C" fn vt100_rows_diff(
     if !handle.is_full() || !prev.is_full() {
         return NO_OBJECT;
     }
-    let mut object = handle.take(alloc).into_box();
+    let mut object = handle.take_out(alloc);
     let made = beside(alloc, &object.source, prev, (start, width), ends);
     let status = keep(&mut object.text, made, len);
-    handle.put(Parts::of(object));
+    handle.put_back(object);
     status
 }
 
@@ -65,9 +64,9 @@ fn beside(
     if !prev.is_full() {
         return Err(BAD_ARGUMENT);
     }
-    let other = prev.take(alloc).into_box();
+    let other = prev.take_out(alloc);
     let made = changed_in(alloc, source, &other.source, range, ends);
-    prev.put(Parts::of(other));
+    prev.put_back(other);
     made
 }
 

@@ -11,7 +11,6 @@ ghost use Rattle.vt100_c.specs.Status.{bad_argument, ok, out_of_memory};
 use crate::handle::Handle;
 use crate::making::{keep, or_status};
 use crate::object::{Source, screen_of};
-use crate::parts::Parts;
 use crate::row_texts;
 use crate::status::{BAD_ARGUMENT, NO_OBJECT, OUT_OF_MEMORY, WRONG_KIND};
 use std::alloc::Global;
@@ -37,10 +36,10 @@ pub extern "C" fn vt100_rows(
     if !handle.is_full() {
         return NO_OBJECT;
     }
-    let mut object = handle.take(alloc).into_box();
+    let mut object = handle.take_out(alloc);
     let made = plain_in(alloc, &object.source, start, width, ends);
     let status = keep(&mut object.text, made, len);
-    handle.put(Parts::of(object));
+    handle.put_back(object);
     status
 }
 
@@ -62,10 +61,10 @@ pub extern "C" fn vt100_rows_formatted(
     if !handle.is_full() {
         return NO_OBJECT;
     }
-    let mut object = handle.take(alloc).into_box();
+    let mut object = handle.take_out(alloc);
     let made = formatted_in(alloc, &object.source, start, width, ends);
     let status = keep(&mut object.text, made, len);
-    handle.put(Parts::of(object));
+    handle.put_back(object);
     status
 }
 

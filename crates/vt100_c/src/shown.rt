@@ -11,7 +11,6 @@ use crate::cells::VtCell;
 use crate::convert::{bit, cell_for_c};
 use crate::handle::Handle;
 use crate::object::{Source, screen_of};
-use crate::parts::Parts;
 use crate::status::{BAD_ARGUMENT, NO_OBJECT, OK, WRONG_KIND};
 use std::alloc::Global;
 use vt_cells::cell;
@@ -35,9 +34,9 @@ pub extern "C" fn vt100_get_cell(
     if !handle.is_full() {
         return NO_OBJECT;
     }
-    let object = handle.take(alloc).into_box();
+    let object = handle.take_out(alloc);
     let status = write_cell(&object.source, row, col, out);
-    handle.put(Parts::of(object));
+    handle.put_back(object);
     status
 }
 
@@ -60,9 +59,9 @@ pub extern "C" fn vt100_get_cells(
     if !handle.is_full() {
         return NO_OBJECT;
     }
-    let object = handle.take(alloc).into_box();
+    let object = handle.take_out(alloc);
     let status = write_cells(&object.source, row, out);
-    handle.put(Parts::of(object));
+    handle.put_back(object);
     status
 }
 
@@ -84,9 +83,9 @@ pub extern "C" fn vt100_row_wrapped(
     if !handle.is_full() {
         return NO_OBJECT;
     }
-    let object = handle.take(alloc).into_box();
+    let object = handle.take_out(alloc);
     let status = write_wrapped(&object.source, row, out);
-    handle.put(Parts::of(object));
+    handle.put_back(object);
     status
 }
 

@@ -9,7 +9,6 @@ use crate::events::Events;
 use crate::handle::Handle;
 use crate::life::size_of;
 use crate::object::Source;
-use crate::parts::Parts;
 use crate::status::{BAD_ARGUMENT, NO_OBJECT, OK, OUT_OF_MEMORY, WRONG_KIND, answered};
 use std::alloc::Global;
 use std::num::NonZeroU16;
@@ -25,9 +24,9 @@ pub extern "C" fn vt100_set_size(alloc: Global, handle: &mut Handle, rows: u16, 
     if !handle.is_full() {
         return NO_OBJECT;
     }
-    let mut object = handle.take(alloc).into_box();
+    let mut object = handle.take_out(alloc);
     let status = set_size(&mut object.source, rows, cols);
-    handle.put(Parts::of(object));
+    handle.put_back(object);
     status
 }
 
@@ -44,9 +43,9 @@ pub extern "C" fn vt100_screen_set_size(
     if !handle.is_full() {
         return NO_OBJECT;
     }
-    let mut object = handle.take(alloc).into_box();
+    let mut object = handle.take_out(alloc);
     let status = set_screen_size(&mut object.source, rows, cols);
-    handle.put(Parts::of(object));
+    handle.put_back(object);
     status
 }
 
@@ -58,9 +57,9 @@ pub extern "C" fn vt100_set_scrollback(alloc: Global, handle: &mut Handle, rows:
     if !handle.is_full() {
         return NO_OBJECT;
     }
-    let mut object = handle.take(alloc).into_box();
+    let mut object = handle.take_out(alloc);
     let status = set_scrollback(&mut object.source, rows);
-    handle.put(Parts::of(object));
+    handle.put_back(object);
     status
 }
 
@@ -72,9 +71,9 @@ pub extern "C" fn vt100_clear_scrollback(alloc: Global, handle: &mut Handle) -> 
     if !handle.is_full() {
         return NO_OBJECT;
     }
-    let mut object = handle.take(alloc).into_box();
+    let mut object = handle.take_out(alloc);
     let status = clear_scrollback(&mut object.source);
-    handle.put(Parts::of(object));
+    handle.put_back(object);
     status
 }
 

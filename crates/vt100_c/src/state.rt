@@ -10,7 +10,6 @@ use crate::cells::VtState;
 use crate::convert::state_for_c;
 use crate::handle::Handle;
 use crate::object::{Source, screen_of};
-use crate::parts::Parts;
 use crate::status::{NO_OBJECT, OK, WRONG_KIND};
 use std::alloc::Global;
 
@@ -26,9 +25,9 @@ pub extern "C" fn vt100_get_state(alloc: Global, handle: &mut Handle, out: &mut 
     if !handle.is_full() {
         return NO_OBJECT;
     }
-    let object = handle.take(alloc).into_box();
+    let object = handle.take_out(alloc);
     let status = write_state(&object.source, out);
-    handle.put(Parts::of(object));
+    handle.put_back(object);
     status
 }
 

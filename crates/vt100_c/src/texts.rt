@@ -10,7 +10,6 @@ ghost use Rattle.vt100_c.specs.declared.making.Text.TheVariants as text;
 use crate::handle::Handle;
 use crate::making::{Text, keep, text_in};
 use crate::object::Object;
-use crate::parts::Parts;
 use crate::status::NO_OBJECT;
 use std::alloc::Global;
 
@@ -153,9 +152,9 @@ fn make(alloc: Global, handle: &mut Handle, text: Text, len: &mut usize) -> u8
     if !handle.is_full() {
         return NO_OBJECT;
     }
-    let mut object = handle.take(alloc).into_box();
+    let mut object = handle.take_out(alloc);
     let status = renew(&mut object, text, len);
-    handle.put(Parts::of(object));
+    handle.put_back(object);
     status
 }
 
