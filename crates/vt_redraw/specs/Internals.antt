@@ -58,7 +58,7 @@ pub record IsRowOver (cells over : List CellValue) : Type 0 where
   pub same : length cells ≡ length over
   pub paired : IsPaired cells
 
--- what is asked of the row under row r, with the cells of that one
+-- what is asked of the cells of row r + 1, of those above them, and of those that the reader shows there
 pub record IsRowUnder (r : ℕ) (upper cells over : List CellValue) : Type 0 where
   pub short : r + 1 < 65536
   pub above : 0 < length upper
@@ -160,7 +160,7 @@ range_over pos pen flag x y =
 pub record Passes (c next : ℕ) (xs ys : List CellValue) : Type 0 where
   pub same : (r : ℕ) (pen : Pen) (flag : Bool) → cells_from r c pen flag xs ys ≡ cells_from r next pen flag xs ys
 
--- a writer that appends the text of these operations, or stops where a sink refuses that it is appended
+-- a writer that appends the text of these operations, or stops where it is refused, which no empty text is
 pub record AppendsOrStops {A E : Type 0} (result : Result A E) (start end : List ℕ) (ops : List Op) : Type 0 where
   pub text : OnOk result (end ≡ start ++ bytes_of_all ops)
   pub some : RefusedOnlyIfSome result (bytes_of_all ops)
@@ -172,7 +172,7 @@ pub record GathersOrStops {A E : Type 0} (result : Result A E) (start before end
   pub grows : OnOk result (length start ≤ length end)
   pub some : RefusedOnlyIfSome result (before ++ bytes_of_all ops)
 
--- a writer of the cells at a position, as many as it answers, or one that stops where a sink refuses a text of theirs
+-- a writer of what the cells at a position need, of so many columns as it answers, or one that stops in the same way
 pub record SettlesOrStops {E : Type 0} (result : Result ℕ E) (start before end behind : List ℕ)
     (pen : Pen) (flag : Bool) (pos : Pos) (x y : RowValue) (whole : Scripted) : Type 0 where
   pub leads : IfOk result (λ n. Leads (gathered end behind)
@@ -189,7 +189,7 @@ pub record Links (start text : List ℕ) (pen : Pen) (link : Link) (whole : Link
   pub goes_on : link.flag ≡ whole.flag
   pub done : link.settled ≡ whole.settled
 
--- a writer of a link, or one that stops where a sink refuses its text
+-- a writer of a link, or one that stops in the same way
 pub record LinksOrStops {E : Type 0} (result : Result Link E)
     (start text : List ℕ) (pen : Pen) (whole : Linked) : Type 0 where
   pub links : IfOk result (λ link. Links start text pen link whole)
