@@ -3,9 +3,8 @@ use Rattle.std.specs.Prelude.{◌≡◌, ◌+◌, ◌<◌, ◌≤◌, ℕ, List,
 use Rattle.std.specs.Prelude.{Option, Some, None, if◌then◌else◌}
 use Rattle.std.specs.List.{concat}
 use Rattle.vt_screen.specs.Contents.{row_texts}
-use Rattle.vt_screen.specs.RowsShown.{changed_text, formatted_text, range_end, texts_from}
+use Rattle.vt_screen.specs.RowsShown.{changed_rows}
 use Rattle.vt_screen.specs.Screen.{ScreenValue, visible_rows}
-use Rattle.vt_screen.specs.Shown.{shown}
 use Rattle.vt100_c.specs.Due.{HoldBoth, HoldsScreen, OnBoth, same_size, source_at, text_at}
 use Rattle.vt100_c.specs.Sources.{screen_in}
 use Rattle.vt100_c.specs.Status.{ok, bad_argument, other_size}
@@ -39,18 +38,6 @@ have_range start room screen prev = if same_size screen.page prev.page then has_
 -- the texts of a screen's rows, in `width` columns from `start` on
 abbrev pub plain_rows : (start width : ℕ) → ScreenValue → List (List ℕ)
 plain_rows start width screen = row_texts start (start + width) (visible_rows screen)
-
--- those that show them where rows are blank
-abbrev pub formatted_rows : (start width : ℕ) → ScreenValue → List (List ℕ)
-formatted_rows start width screen =
-    texts_from (formatted_text start (range_end start width screen.page.width) (shown screen)) 0
-    (length screen.page.rows)
-
--- those that show them where the rows of another screen stand
-abbrev pub changed_rows : (start width : ℕ) → (screen prev : ScreenValue) → List (List ℕ)
-changed_rows start width screen prev =
-    texts_from (changed_text start (range_end start width screen.page.width) (shown screen) (shown prev)) 0
-    (length screen.page.rows)
 
 -- the first of these numbers are where the texts end, one behind the other
 abbrev pub AreEnds : (count : ℕ) → List ℕ → List (List ℕ) → Type 0

@@ -3,8 +3,9 @@
 ghost use Rattle.std.specs.Prelude.{◌≡◌, IfOk, Some, length, string_bytes};
 ghost use Rattle.vt100_c.specs.Due.{AnswersOrStays, IsAnswer, OnBoth, due_at_both, due_beside, due_on_both};
 ghost use Rattle.vt100_c.specs.KeptText.{KeepsBoth};
-ghost use Rattle.vt100_c.specs.Rows.{ChangesRows, HoldBeside, TellsRows, changed_rows, have_range};
+ghost use Rattle.vt100_c.specs.Rows.{ChangesRows, HoldBeside, TellsRows, have_range};
 ghost use Rattle.vt100_c.specs.Sources.{screen_in};
+ghost use Rattle.vt_screen.specs.RowsShown.{changed_rows};
 
 use crate::handle::Handle;
 use crate::making::{is_sized_as, keep, or_status};

@@ -3,7 +3,8 @@
 ghost use Rattle.std.specs.Prelude.{◌≡◌, ◌<◌, ◌≤◌, ◌++◌, IfOk, OnOk, length, slice_set, string_bytes};
 ghost use Rattle.vt_cells.specs.Refusals.{OnlyOutOfMemory};
 ghost use Rattle.vt_grid.specs.Page.{SameSize};
-ghost use Rattle.vt100_c.specs.Rows.{FitRows, JoinsTexts, changed_rows, formatted_rows, plain_rows};
+ghost use Rattle.vt100_c.specs.Rows.{FitRows, JoinsTexts, plain_rows};
+ghost use Rattle.vt_screen.specs.RowsShown.{changed_rows, formatted_rows};
 
 use std::alloc::Global;
 use vt100::{Error, Screen};

@@ -4,9 +4,10 @@ ghost use Rattle.std.specs.Prelude.{◌≡◌, ◌<◌, ◌≤◌, IfErr, IfOk, 
 ghost use Rattle.std.specs.Prelude.{drop, if◌then◌else◌, take, true};
 ghost use Rattle.vt100_c.specs.Due.{AnswersOrStays, IsAnswer, OnScreen, due_at, due_on};
 ghost use Rattle.vt100_c.specs.KeptText.{KeepsText};
-ghost use Rattle.vt100_c.specs.Rows.{MakesRows, TellsRows, formatted_rows, has_places, has_range, plain_rows};
+ghost use Rattle.vt100_c.specs.Rows.{MakesRows, TellsRows, has_places, has_range, plain_rows};
 ghost use Rattle.vt100_c.specs.Sources.{screen_in};
 ghost use Rattle.vt100_c.specs.Status.{bad_argument, ok, out_of_memory};
+ghost use Rattle.vt_screen.specs.RowsShown.{formatted_rows};
 
 use crate::handle::Handle;
 use crate::making::{keep, or_status};
