@@ -93,7 +93,7 @@ fn plain_by_table<CB: Callbacks>(
 
 /// One that may scroll rows off the page, or another one.
 #[inline(always)]
-#[tactic(auto, using(crate::proofs::Stepping::tested_growth), unfolding(vt_screen::specs::Controls::scrolling_steps))]
+#[tactic(auto, using(crate::proofs::Stepping::tested_refusal), unfolding(vt_screen::specs::Controls::scrolling_steps))]
 fn scrolling<CB: Callbacks>(
     screen: &mut Screen,
     callbacks: &mut CB,

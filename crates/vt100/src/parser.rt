@@ -9,7 +9,7 @@ ghost use Rattle.vt100.specs.contracts.parser.Parser.{the_row as parser_row};
 ghost use Rattle.vt_scan.specs.Automaton.{State, start};
 ghost use Rattle.vt_scan.specs.Scanner.{StandsFor};
 ghost use Rattle.vt_screen.specs.Pages.{calls_resized, has_size, resized};
-ghost use Rattle.vt_screen.specs.Telling.{TakesCalls};
+ghost use Rattle.vt_screen.specs.CallsOfRun.{TakesCalls};
 ghost use Rattle.vt_screen.specs.contracts.screen.Screen.{the_row as screen_row};
 
 use crate::processing;
@@ -170,7 +170,7 @@ impl<CB: Callbacks> Parser<CB> {
         ensures ok { OnOk result (self.new
             ≡ record self.old
             { screen = resized rows.value cols.value self.old.screen; callbacks = self.new.callbacks }) }
-        ensures told { OnOk result (TakesCalls CB.does self.old.callbacks
+        ensures called { OnOk result (TakesCalls CB.does self.old.callbacks
             (calls_resized rows.value cols.value self.old.screen) self.new.callbacks) }
         ensures err { OnErr result (self.new ≡ self.old) }
         ensures grows { IsErr result → has_size rows.value cols.value self.old.screen ≡ false }

@@ -26,7 +26,7 @@ Outcome (suc (suc status)) Done Refused = ⊥
 -- a parser's screen gets another size, and the events tell of the rows that leave, the others as they were
 pub record HasResized (rows cols : ℕ) (old new : Parsing Logged) : Type 0 where
   pub screen : new ≡ record old { screen = resized rows cols old.screen; callbacks = new.callbacks }
-  pub told : FoldsTo (CalledOnAnyScreen Logs) old.callbacks (calls_resized rows cols old.screen) new.callbacks
+  pub called : FoldsTo (CalledOnAnyScreen Logs) old.callbacks (calls_resized rows cols old.screen) new.callbacks
 
 abbrev pub ResizesParser : (rows cols : ℕ) → Parsing Logged → ℕ → Parsing Logged → Type 0
 ResizesParser rows cols old status new =

@@ -26,7 +26,7 @@ use Rattle.vt_screen.specs.Screen.{IsPrintable, IsScreen, ScreenValue, above_pag
 use Rattle.vt_screen.specs.Screen.{fresh_screen, scrolled_back, visible_row}
 use Rattle.vt_screen.specs.Selectors.{CellHasNoSelector, HasNoSelectors, RowsHaveNoSelector}
 use Rattle.vt_screen.specs.Shown.{ShowsNoSelector}
-use Rattle.vt_screen.specs.Telling.{screen_in, screen_after_all, steps_in, steps_of_all}
+use Rattle.vt_screen.specs.CallsOfRun.{screen_in, screen_after_all, steps_in, steps_of_all}
 use Rattle.vt_screen.proofs.EventSteps.{AllAmong, Allows, all_then, none, stream_event}
 use Rattle.vt_screen.proofs.Selectors.{ArePlain, IsPlainCell, IsPlainCharacter, StaysPlain}
 use Rattle.vt_screen.proofs.Selectors.{plain_aside, selecting, steps_plain}

@@ -22,7 +22,7 @@ use Rattle.vt_screen.specs.Screen.{ScreenValue, with_page}
 use Rattle.vt_screen.specs.Steps.{Step, Print, LineFeed, ScrollUp, OnPage, SaveCursor, RestoreCursor, EnterAlternate}
 use Rattle.vt_screen.specs.Steps.{EnterFresh, LeaveAlternate, LeaveRestoring, Reset, EraseScrollback, Render}
 use Rattle.vt_screen.specs.Steps.{HideCursor, SetMode, CallBack, becomes_last, screen_after, display_after}
-use Rattle.vt_screen.specs.Telling.{screen_after_all}
+use Rattle.vt_screen.specs.CallsOfRun.{screen_after_all}
 use Rattle.vt_screen.proofs.Stable.{EachCell, EachRow, IsStable, stable_blank, stable_line_feed, stable_printed}
 use Rattle.vt_screen.proofs.Stable.{stable_scrolled_up}
 use Rattle.vt_screen.proofs.PageSteps.{stable_page_after}

@@ -23,8 +23,8 @@ use Rattle.vt_screen.specs.Screen.{IsPrintable, IsScreen, ScreenValue, fresh_scr
 use Rattle.vt_screen.specs.Steps.{Step, Print, LineFeed, ScrollUp, OnPage, SaveCursor, RestoreCursor, EnterAlternate}
 use Rattle.vt_screen.specs.Steps.{EnterFresh, LeaveAlternate, LeaveRestoring, Reset, EraseScrollback, Render}
 use Rattle.vt_screen.specs.Steps.{HideCursor, SetMode, CallBack, becomes_last, screen_after, display_after}
-use Rattle.vt_screen.specs.Streamed.{AreSameTrimmed, HasWideFlags, row_told, rows_told, sent_off, sent_off_all}
-use Rattle.vt_screen.specs.Telling.{calls_of, calls_of_all, screen_after_all}
+use Rattle.vt_screen.specs.Streamed.{AreSameTrimmed, HasWideFlags, row_of_call, rows_of_calls, sent_off, sent_off_all}
+use Rattle.vt_screen.specs.CallsOfRun.{calls_of, calls_of_all, screen_after_all}
 use Rattle.vt_screen.proofs.TrailingBlanks.{IsWide}
 use Rattle.vt_screen.proofs.TrailingBlanksScrollback.{AreSound, alike_pushed, alike_then, alike_viewed, sound_pushed}
 use Rattle.vt_screen.proofs.TrailingBlanksScrollback.{sound_viewed, wide_pushed, wide_viewed}
@@ -38,7 +38,7 @@ use Rattle.vt_screen.proofs.Sizes.{same_line_feed, same_printed, same_scrolled_u
 abbrev pub IsAmong : (ℕ → Type 0) → Type 0 → Step → Type 0
 IsAmong Q R (Print c) = Q c
 IsAmong Q R Reset = R
-IsAmong Q R (CallBack call) = row_told call ≡ []
+IsAmong Q R (CallBack call) = row_of_call call ≡ []
 IsAmong Q R _ = Unit {0}
 
 -- all but RIS
@@ -64,7 +64,7 @@ Held s = IsHeld s.page s.other s.scrollback s.last
 -- from one screen to another, what was told and what left
 pub record Streamed (calls : List CallValue) (gone : List RowValue) (s t : ScreenValue) : Type 0 where
   pub held : Held t
-  pub alike : AreSameTrimmed (rows_told calls ++ t.scrollback.rows) (s.scrollback.rows ++ gone)
+  pub alike : AreSameTrimmed (rows_of_calls calls ++ t.scrollback.rows) (s.scrollback.rows ++ gone)
 
 -- nothing was told, and nothing left
 quietly : (s t : ScreenValue) → Held t → t.scrollback.rows ≡ s.scrollback.rows →
@@ -98,17 +98,17 @@ on_page page s sound same k =
 
 -- ---- rows that leave
 
-told_none : (rows : List RowValue) → rows_told (map (λ row. OnScroll row true) rows) ≡ []
+told_none : (rows : List RowValue) → rows_of_calls (map (λ row. OnScroll row true) rows) ≡ []
 told_none [] = refl
 told_none (row ∷ rows) = told_none rows
 
-pub told_append : (xs ys : List CallValue) → rows_told (xs ++ ys) ≡ rows_told xs ++ rows_told ys
-told_append [] ys = refl
-told_append (x ∷ xs) ys =
-    ap (λ (rows : List RowValue). row_told x ++ rows) (told_append xs ys)
-    ∙ sym (append_assoc (row_told x) (rows_told xs) (rows_told ys))
+pub rows_of_append : (xs ys : List CallValue) → rows_of_calls (xs ++ ys) ≡ rows_of_calls xs ++ rows_of_calls ys
+rows_of_append [] ys = refl
+rows_of_append (x ∷ xs) ys =
+    ap (λ (rows : List RowValue). row_of_call x ++ rows) (rows_of_append xs ys)
+    ∙ sym (append_assoc (row_of_call x) (rows_of_calls xs) (rows_of_calls ys))
 
-told_all : (rows : List RowValue) → rows_told (map (λ row. OnScroll row false) rows) ≡ rows
+told_all : (rows : List RowValue) → rows_of_calls (map (λ row. OnScroll row false) rows) ≡ rows
 told_all [] = refl
 told_all (row ∷ rows) = ap (λ (xs : List RowValue). row ∷ xs) (told_all rows)
 
@@ -324,12 +324,12 @@ pub streamed_then : (calls more : List CallValue) (gone later : List RowValue) (
 streamed_then calls more gone later s t u a b = record {
   held = b.held;
   alike =
-      ap (map trimmed_row) (ap (λ (xs : List RowValue). xs ++ u.scrollback.rows) (told_append calls more)
-      ∙ append_assoc (rows_told calls) (rows_told more) u.scrollback.rows)
-      ∙ alike_then (rows_told calls) (rows_told calls)
-      (rows_told more ++ u.scrollback.rows) (t.scrollback.rows ++ later) refl b.alike
-      ∙ ap (map trimmed_row) (sym (append_assoc (rows_told calls) t.scrollback.rows later))
-      ∙ alike_then (rows_told calls ++ t.scrollback.rows) (s.scrollback.rows ++ gone) later later a.alike refl
+      ap (map trimmed_row) (ap (λ (xs : List RowValue). xs ++ u.scrollback.rows) (rows_of_append calls more)
+      ∙ append_assoc (rows_of_calls calls) (rows_of_calls more) u.scrollback.rows)
+      ∙ alike_then (rows_of_calls calls) (rows_of_calls calls)
+      (rows_of_calls more ++ u.scrollback.rows) (t.scrollback.rows ++ later) refl b.alike
+      ∙ ap (map trimmed_row) (sym (append_assoc (rows_of_calls calls) t.scrollback.rows later))
+      ∙ alike_then (rows_of_calls calls ++ t.scrollback.rows) (s.scrollback.rows ++ gone) later later a.alike refl
       ∙ ap (map trimmed_row) (append_assoc s.scrollback.rows gone later);
 }
 

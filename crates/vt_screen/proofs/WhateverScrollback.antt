@@ -13,7 +13,7 @@ use Rattle.vt_screen.specs.Steps.{Step, Print, LineFeed, ScrollUp, OnPage, SaveC
 use Rattle.vt_screen.specs.Steps.{EnterFresh, LeaveAlternate, LeaveRestoring, Reset, EraseScrollback, Render}
 use Rattle.vt_screen.specs.Steps.{HideCursor, SetMode, CallBack, screen_after, display_after}
 use Rattle.vt_screen.specs.Streamed.{without_scrollback, sent_off, sent_off_all, sent_off_in}
-use Rattle.vt_screen.specs.Telling.{screen_in, screen_after_all, steps_in, steps_of_all}
+use Rattle.vt_screen.specs.CallsOfRun.{screen_in, screen_after_all, steps_in, steps_of_all}
 
 -- screens that are the same but for scrollback
 abbrev pub SameBare : ScreenValue → ScreenValue → Type 0

@@ -17,8 +17,8 @@ ghost use Rattle.vt_screen.specs.Screen.{IsScreen, ScreenValue, fresh_screen, sc
 ghost use Rattle.vt_screen.specs.Selectors.{HasNoSelectors};
 ghost use Rattle.vt_screen.specs.Shown.{ShowSamePage, ShowsNoSelector, ShowsOwnPage, shown};
 ghost use Rattle.vt_screen.specs.Steps.{EraseScrollback, screen_after};
-ghost use Rattle.vt_screen.specs.Streamed.{AreSameTrimmed, HasNoRis, HasWideFlags, without_scrollback, rows_told, sent_off_in};
-ghost use Rattle.vt_screen.specs.Telling.{calls_in, screen_in};
+ghost use Rattle.vt_screen.specs.Streamed.{AreSameTrimmed, HasNoRis, HasWideFlags, without_scrollback, rows_of_calls, sent_off_in};
+ghost use Rattle.vt_screen.specs.CallsOfRun.{calls_in, screen_in};
 
 /// What a screen shows is a picture of the screen's size, and screens are of one
 /// size exactly where their pictures are (`sizes`).
@@ -103,7 +103,7 @@ pub fn fresh_capture()
 pub fn streams()
     ensures kept { (scan : State) (screen : ScreenValue) (bytes : List ℕ) → IsScreen screen → HasWideFlags screen →
         HasNoRis scan bytes →
-        AreSameTrimmed (rows_told (calls_in scan screen bytes) ++ (screen_in scan screen bytes).scrollback.rows)
+        AreSameTrimmed (rows_of_calls (calls_in scan screen bytes) ++ (screen_in scan screen bytes).scrollback.rows)
         (screen.scrollback.rows ++ sent_off_in scan screen bytes) }
     ensures sent { (scan : State) (screen other : ScreenValue) (bytes : List ℕ) →
         without_scrollback screen ≡ without_scrollback other → sent_off_in scan screen bytes ≡ sent_off_in scan other bytes }

@@ -4,7 +4,7 @@ use Rattle.std.specs.Prelude.{is_ok}
 use Rattle.vt_grid.specs.Resize.{resize_reports}
 use Rattle.vt_grid.specs.Scrollback.{no_scrollback}
 use Rattle.vt_screen.specs.Pages.{reports_of}
-use Rattle.vt_screen.specs.Telling.{TakesCalls}
+use Rattle.vt_screen.specs.CallsOfRun.{TakesCalls}
 use Rattle.vt_screen.proofs.Reporting.{same_callbacks, reported_to}
 use Rattle.vt_screen.proofs.Resized.{AlternateDone, alternate_done, if_ok}
 use Rattle.vt_screen.proofs.screen.resizing.resize_alternate.Given as given
@@ -34,7 +34,7 @@ returns-clause-told g c =
     (if_ok c.set_size-done.result _ done c.set_size-done.ensures.reported) in
     subst (λ z. TakesCalls g.CB.Callbacks.does c.args.callbacks.now
     (reports_of true c.args.size.rows c.args.page.now (no_scrollback 0)) z)
-    (search rules) (whole g c).told
+    (search rules) (whole g c).called
 
 pub returns-clause-nothing : goal.returns-clause-nothing
 returns-clause-nothing g c = (whole g c).nothing
