@@ -171,7 +171,7 @@ pub one_text : {S : Type 0} (does : CallRelation S) → LeavesScreen does
 one_text does leaves rows cols capacity p q calls fresh none makes main =
     let s = fresh_screen rows cols capacity in
     let there : q.screen ≡ screen_by start s calls =
-    (calls_made does leaves calls p q start fresh.begun makes).shown
+    (calls_made does leaves calls p q start fresh.ground makes).shown
     ∙ ap (λ (t : ScreenValue). screen_by start t calls) fresh.shown in
     let held = held_fresh rows cols capacity
     (page_blank rows cols fresh.has_rows fresh.few_rows fresh.has_columns fresh.few_columns) in
@@ -229,7 +229,7 @@ pub recorded_text : {S : Type 0} (does : CallRelation S)
     ≡ whole_text rows cols (bytes_of_calls calls)
 recorded_text does text_of state_of is_whole r rows cols capacity p q calls fresh empty begun none makes main w =
     let told = calls_by start p.screen calls in
-    let called = (calls_made does r.leaves calls p q start fresh.begun makes).called in
+    let called = (calls_made does r.leaves calls p q start fresh.ground makes).called in
     let done = has_recorded does text_of state_of is_whole r told p.callbacks q.callbacks called w in
     ap₂ (λ (xs : List ℕ) (v : Written). xs ++ basic_texts v (all_rows q.screen)) done.text done.state
     ∙ (ap₂ (λ (xs : List ℕ) (v : Written). (xs ++ basic_texts v (rows_of_calls told))

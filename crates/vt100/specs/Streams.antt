@@ -47,7 +47,7 @@ pub record IsFreshParser {S : Type 0} (rows cols capacity : ℕ) (parser : Parsi
   pub few_rows : rows < 2 ^ 16
   pub has_columns : 0 < cols
   pub few_columns : cols < 2 ^ 16
-  pub begun : StandsFor parser.scanner start
+  pub ground : StandsFor parser.scanner start
   pub shown : parser.screen ≡ fresh_screen rows cols capacity
 
 -- the text of all that bytes write on a main page of this size: the rows that leave it, and then those of the page

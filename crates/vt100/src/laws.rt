@@ -65,7 +65,7 @@ pub fn sizes<CB: Callbacks>()
 ///
 /// The premises of `fresh` and `plain` hold of each parser that `Parser::new`,
 /// `Parser::default` and `Parser::new_with_callbacks` give, by their clauses
-/// `begun` and `shown` and the clause `whole` of `Screen::size`.
+/// `ground` and `shown` and the clause `whole` of `Screen::size`.
 pub fn fresh_parsers<CB: Callbacks>()
     ensures fresh { (rows cols capacity : ℕ) (p : Parsing CB) → IsScreen p.screen → StandsFor p.scanner start
         → p ≡ parsing p.scanner (fresh_screen rows cols capacity) p.callbacks

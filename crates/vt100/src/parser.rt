@@ -65,7 +65,7 @@ impl Parser {
         cols: NonZeroU16,
         scrollback_capacity: usize,
     ) -> Result<Parser, Error>
-        ensures begun { IfOk result (λ parser. StandsFor parser.scanner start) }
+        ensures ground { IfOk result (λ parser. StandsFor parser.scanner start) }
         ensures memory { OnlyOutOfMemory result }
         ensures shown { IfOk result
             (λ parser. HasFreshScreen rows.value cols.value scrollback_capacity parser.callbacks parser) }
@@ -77,7 +77,7 @@ impl Parser {
     ///
     /// Fails where memory for the screen is refused.
     pub fn default(alloc: Global) -> Result<Parser, Error>
-        ensures begun { IfOk result (λ parser. StandsFor parser.scanner start) }
+        ensures ground { IfOk result (λ parser. StandsFor parser.scanner start) }
         ensures memory { OnlyOutOfMemory result }
         ensures shown { IfOk result (λ parser. HasFreshScreen 24 80 0 parser.callbacks parser) }
     {
@@ -103,7 +103,7 @@ impl<CB: Callbacks> Parser<CB> {
     ) -> Result<Parser<CB>, Error>
     where
         CB: Drop,
-        ensures begun { IfOk result (λ parser. StandsFor parser.scanner start) }
+        ensures ground { IfOk result (λ parser. StandsFor parser.scanner start) }
         ensures memory { OnlyOutOfMemory result }
         ensures shown { IfOk result (HasFreshScreen rows.value cols.value scrollback_capacity callbacks) }
     {

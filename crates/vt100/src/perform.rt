@@ -167,7 +167,7 @@ fn escape<CB: Callbacks>(screen: &mut Screen, callbacks: &mut CB, intermediates:
     ensures { Does CB.does callbacks.old screen.old (escape_steps intermediates.now byte) callbacks.new screen.new }
 {
     if intermediates.is_empty() {
-        plain_escape(screen, callbacks, byte);
+        lone_escape(screen, callbacks, byte);
         return;
     }
     let first = numbers::intermediate_at(intermediates, 0);
@@ -177,7 +177,7 @@ fn escape<CB: Callbacks>(screen: &mut Screen, callbacks: &mut CB, intermediates:
 
 /// An escape sequence without intermediates.
 #[tactic(auto, using(crate::proofs::Stepping::tested_steps), unfolding(vt_screen::specs::Controls::escape_steps))]
-fn plain_escape<CB: Callbacks>(screen: &mut Screen, callbacks: &mut CB, byte: u8)
+fn lone_escape<CB: Callbacks>(screen: &mut Screen, callbacks: &mut CB, byte: u8)
     ensures { Does CB.does callbacks.old screen.old (escape_steps [] byte) callbacks.new screen.new }
 {
     match byte {

@@ -117,4 +117,4 @@ status_in (Err status) = status
 pub record AnswersOrStays {A : Type 0} (due : ℕ) (result : Result A ℕ) (Stays : Type 0) : Type 0 where
   pub answer : IsAnswer due (status_in result)
   pub refused : IfErr result (λ status. ¬ (status ≡ ok))
-  pub left : OnErr result Stays
+  pub stays : OnErr result Stays

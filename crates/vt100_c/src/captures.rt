@@ -18,7 +18,7 @@ const NO_PLACE: usize = usize::MAX;
 pub extern "C" fn vt100_next_plain(text: &[u8], at: usize, start: &mut usize, end: &mut usize) -> u8
     ensures status { result ≡ OK ↔ IsPlace text.now at }
     ensures other { ¬ (result ≡ OK) → result ≡ BAD_ARGUMENT }
-    ensures left { ¬ (result ≡ OK) → (start.new ≡ start.old) × (end.new ≡ end.old) }
+    ensures refused { ¬ (result ≡ OK) → (start.new ≡ start.old) × (end.new ≡ end.old) }
     ensures piece { result ≡ OK → (pieces : List Piece) × ArePiecesOf (drop at text.now) pieces
         × IsFirstPiece (length text.now) at pieces start.new end.new }
 {
@@ -44,7 +44,7 @@ pub extern "C" fn vt100_next_row(
 ) -> u8
     ensures status { result ≡ OK ↔ IsPlace text.now at }
     ensures other { ¬ (result ≡ OK) → result ≡ BAD_ARGUMENT }
-    ensures left { ¬ (result ≡ OK) → (end.new ≡ end.old) × (next.new ≡ next.old) }
+    ensures refused { ¬ (result ≡ OK) → (end.new ≡ end.old) × (next.new ≡ next.old) }
     ensures row { result ≡ OK → (rows : List Piece) × AreRowsOf width (drop at text.now) rows
         × IsFirstRow at rows end.new next.new }
 {

@@ -156,9 +156,9 @@ fresh_broken held b answer is none high broken e =
     (subst (λ (a : Events). Follows held a (gives Ground [] (automaton.Character 0xFFFD ∷ []))) (sym e) known)
 
 -- a printable character in plain text leaves all as it is
-pub plain_feeds : (held : Held) (b : ℕ) → held.kind ≡ Ground → held.unfinished ≡ [] →
+pub text_feeds : (held : Held) (b : ℕ) → held.kind ≡ Ground → held.unfinished ≡ [] →
     0x20 ≤ b → b < 0x80 → Feeds held b held (one_event (given.Character b))
-plain_feeds held b is none low high = λ s stands.
+text_feeds held b is none low high = λ s stands.
     let kind : s.kind ≡ Ground = sym stands.kind ∙ is in
     let read : Reads held Ground s.collected = subst (λ (k : Kind). Reads held k s.collected) is stands.reads in
     let collected : s.collected ≡ [] = sym read ∙ none in

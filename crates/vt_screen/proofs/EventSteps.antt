@@ -18,7 +18,7 @@ use Rattle.vt_screen.specs.CallsOfRun.{calls_in, screen_in, screen_after_all, st
 use Rattle.vt_screen.specs.Controls.{alternate_step, character_steps, clipboard_steps, control_steps, counted_step}
 use Rattle.vt_screen.specs.Controls.{csi_steps, escape_steps, fresh_alternate_step, intermediate_steps}
 use Rattle.vt_screen.specs.Controls.{intermediate_at, mode_step, mode_steps, named_steps, number_or, one_or}
-use Rattle.vt_screen.specs.Controls.{osc_steps, other_steps, page_erasing, plain_steps, private_steps, reading_steps}
+use Rattle.vt_screen.specs.Controls.{osc_steps, other_steps, page_erasing, unmarked_steps, private_steps, reading_steps}
 use Rattle.vt_screen.specs.Controls.{repeated, row_erasing, scrolling_steps, Seen, seen_of, sgr_from, space_steps}
 use Rattle.vt_screen.specs.Controls.{steps_of, style_steps, window_steps}
 use Rattle.vt_screen.specs.Steps.{Step, Print, OnPage, Reset, CallBack}
@@ -140,7 +140,7 @@ stream_one_or (Some step) others q = own (OnPage step) tt
 stream_one_or None others q = q
 
 stream_plain : {Q : ℕ → Type 0} {R : Type 0} → (groups : List (List ℕ)) (b : ℕ) (seen : Seen) → IfSome seen.last Q
-    → AllAmong Q R (plain_steps groups b seen)
+    → AllAmong Q R (unmarked_steps groups b seen)
 stream_plain groups b seen k =
     stream_one_or (counted_step b (number_or 1 0 groups)) (scrolling_steps groups b seen)
     (stream_scrolling groups b seen k)

@@ -17,7 +17,7 @@ use Rattle.vt_scan.specs.declared.table.Class.TheVariants.{Bell, Cancel, Introdu
 use Rattle.vt_scan.proofs.Running.{behind}
 use Rattle.vt_scan.proofs.Sequences.{read_csi}
 use Rattle.vt_screen.specs.Screen.{ScreenValue}
-use Rattle.vt_screen.specs.Controls.{plain_steps, seen_of, steps_of}
+use Rattle.vt_screen.specs.Controls.{unmarked_steps, seen_of, steps_of}
 use Rattle.vt_screen.specs.Reading.{quiet_steps, quiet_events, grows, Terminal, terminal, read_byte, read}
 
 -- ---- texts one after the other
@@ -138,7 +138,7 @@ IsFinal b = (0x40 ≤ b) × (b ≤ 0x7E)
 -- a control sequence of parameters alone
 pub csi_read : (text : List ℕ) (final : ℕ) (groups : List (List ℕ)) (screen after : ScreenValue)
     → IsParameterText text → IsFinal final → (table_of text).groups ≡ groups
-    → quiet_steps (plain_steps groups final (seen_of screen)) screen ≡ Some after
+    → quiet_steps (unmarked_steps groups final (seen_of screen)) screen ≡ Some after
     → read (terminal start screen) (csi text final) ≡ Some (terminal start after)
 csi_read text final groups screen after is is_final table quiet =
     event_read (csi text final) (CsiDispatch groups [] final) screen after

@@ -90,8 +90,8 @@ cut_rows_inner width (x ∷ y ∷ rows) (suc r) col are lt = cut_rows_inner widt
 -- ---- what is shown
 
 -- without U+FE0F it is steady
-pub plain_steady : (s : ScreenValue) → IsScreen s → ShowsNoSelector s → IsSteady (shown s)
-plain_steady s is none =
+pub steady_without : (s : ScreenValue) → IsScreen s → ShowsNoSelector s → IsSteady (shown s)
+steady_without s is none =
     let tall = length_visible (above_page s) s.page.rows in
     picture_steady (shown s) (shown_is s is) (cut_rows_none s.page.width (visible_rows s) (λ r col inside lt.
     none_in_cell (at (visible_row s r).cells col) (none r col (omega (arith, inside, tall)) lt)))

@@ -18,7 +18,7 @@ use Rattle.vt_grid.specs.Scrollback.{Scrollback, cleared, no_scrollback, pushed,
 use Rattle.vt_grid.proofs.Printed.{page_printed}
 use Rattle.vt_grid.proofs.Pages.{page_blank, page_cursor_saved, page_cursor_restored, page_line_feed, page_scrolled_up}
 use Rattle.vt_screen.specs.Calls.{CallValue, OnScroll}
-use Rattle.vt_screen.specs.Pages.{fresh_page, page_aside, entered, entered_fresh, left, left_restored, saved, restored}
+use Rattle.vt_screen.specs.Pages.{fresh_page, page_aside, entered, entered_fresh, left_alternate, left_restored, saved, restored}
 use Rattle.vt_screen.specs.Screen.{IsPrintable, IsScreen, ScreenValue, fresh_screen, scrolled_back, with_page}
 use Rattle.vt_screen.specs.Steps.{Step, Print, LineFeed, ScrollUp, OnPage, SaveCursor, RestoreCursor, EnterAlternate}
 use Rattle.vt_screen.specs.Steps.{EnterFresh, LeaveAlternate, LeaveRestoring, Reset, EraseScrollback, Render}
@@ -209,7 +209,7 @@ turned_entered s k = by s.is_alternate where
         rows = refl;
       }
 
-turned_left : (s : ScreenValue) → Held s → Turned s (left s)
+turned_left : (s : ScreenValue) → Held s → Turned s (left_alternate s)
 turned_left s k = by s.is_alternate where
   by : (b : Bool) →
       Turned s (if b then record s { page = page_aside s; other = Some s.page; is_alternate = false } else s)
@@ -304,10 +304,10 @@ step_streams EnterFresh s i k =
     let saves = turned_saved s k in
     by_turn s (entered_fresh s) (turned_fresh s (entered (saved s)) k
     (turned_then s (saved s) (entered (saved s)) saves (turned_entered (saved s) saves.held)))
-step_streams LeaveAlternate s i k = by_turn s (left s) (turned_left s k)
+step_streams LeaveAlternate s i k = by_turn s (left_alternate s) (turned_left s k)
 step_streams LeaveRestoring s i k =
     let leaves = turned_left s k in
-    by_turn s (left_restored s) (turned_then s (left s) (left_restored s) leaves (turned_restored (left s) leaves.held))
+    by_turn s (left_restored s) (turned_then s (left_alternate s) (left_restored s) leaves (turned_restored (left_alternate s) leaves.held))
 step_streams (OnPage x) s i k =
     on_page (page_after s.attrs x s.page) s (page_page_after s.attrs x s.page k.sound)
     (same_page_after s.attrs x s.page (inside_page s.page k.sound)) k

@@ -32,10 +32,10 @@ impl Scanner {
     /// character is unfinished. Reading it leaves the scanner as it is, so
     /// that it need not be fed.
     #[inline(always)]
-    pub fn is_plain(&self, byte: u8) -> bool
+    pub fn is_text(&self, byte: u8) -> bool
         ensures feeds { IsTrue result
             → Feeds self.now byte self.now (record { first = Some (Event.Character byte); second = None }) }
-        ensures plain { IsTrue result ↔ ReadsItself self.now byte }
+        ensures itself { IsTrue result ↔ ReadsItself self.now byte }
     {
         is_printable(byte) && self.is_fresh()
     }
@@ -45,9 +45,9 @@ impl Scanner {
     /// none where a sequence or another character is unfinished. Reading them
     /// leaves the scanner as it is, so that they need not be fed.
     #[inline]
-    pub fn plain_len(&self, bytes: &[u8]) -> usize
+    pub fn text_len(&self, bytes: &[u8]) -> usize
         ensures inside { result ≤ length bytes.now }
-        ensures plain { All (ReadsItself self.now) (take result bytes.now) }
+        ensures itself { All (ReadsItself self.now) (take result bytes.now) }
         ensures longest { result < length bytes.now → ReadsItself self.now (slice_index_or bytes.now result 0) → ⊥ }
     {
         if self.is_fresh() {

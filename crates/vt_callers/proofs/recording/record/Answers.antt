@@ -20,7 +20,7 @@ returns-clause-text c = λ none main.
     let q = c.process.new.self in
     let calls : List ParserCall = Process output ∷ [] in
     let makes : FoldsTo (MakesCall Records) p calls q = (q, c.in_ok-process.ensures.call.ran, refl) in
-    let begun = c.in_ok-parser.ensures.begun in
+    let begun = c.in_ok-parser.ensures.ground in
     let shown : p.screen ≡ fresh_screen rows cols c.args.capacity =
     ap (λ (r : Parsing Recorded). r.screen) c.in_ok-parser.ensures.shown in
     let sound : IsScreen p.screen =

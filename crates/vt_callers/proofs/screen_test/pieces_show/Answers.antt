@@ -16,7 +16,7 @@ returns-clause-shows c =
     let shown : p.screen ≡ fresh_screen c.args.rows.value c.args.cols.value 0 =
     ap (λ (r : Parsing (Unit {0})). r.screen) c.in_ok-parser.ensures.shown in
     let called = c.one_text.ensures.called p q calls start (λ call old new before after t. t.1)
-    c.in_ok-parser.ensures.begun (q, c.in_ok-read_pieces.ensures.ran, refl) in
+    c.in_ok-parser.ensures.ground (q, c.in_ok-read_pieces.ensures.ran, refl) in
     let same : c.screen.result.now ≡ screen_in start (fresh_screen c.args.rows.value c.args.cols.value 0) bytes
     = c.screen.ensures.value ∙ (called.0 ∙ ap (λ (s : ScreenValue). screen_in start s bytes) shown) in
     subst (λ (s : ScreenValue). (c.in_ok-holds.holds ≡ true) ↔ (contents_of s ≡ c.args.text.now))

@@ -26,8 +26,8 @@ whole g c =
     (if_ok c.set_size-done.result _ done c.set_size-done.ensures.above)
     all
 
-pub returns-clause-told : goal.returns-clause-told
-returns-clause-told g c =
+pub returns-clause-called : goal.returns-clause-told
+returns-clause-called g c =
     let done : is_ok c.set_size-done.result ≡ true = sym (c.is_ok.ensures.value) ∙ c.if-prove.false in
     let rows = resize_reports _ c.in-Some-page.page c.args.nothing.now in
     let same = same_callbacks g.CB.Callbacks.does rows _ c.set_size-done.new.leaving

@@ -19,8 +19,8 @@ invariant_of-screen-2 g c =
     (c.in_ok-set_size.ensures).page (c.in_ok-set_size.ensures).above
     c.resize_alternate.ensures.page c.resize_alternate.ensures.nothing c.screen.invariant
 
-pub returns-clause-told : goal.returns-clause-told
-returns-clause-told g c =
+pub returns-clause-called : goal.returns-clause-told
+returns-clause-called g c =
     let rows = resize_reports _ c.screen.inside.grid c.screen.inside.scrollback in
     let told = (c.in_ok-set_size.ensures).reported in
     let same = same_callbacks g.CB.Callbacks.does rows _ c.set_size.new.leaving told in

@@ -2,7 +2,7 @@
 use Rattle.vt_screen.specs.Calls.{VisualBell}
 use Rattle.vt_screen.specs.Controls.{escape_steps}
 use Rattle.vt100.proofs.Stepping.{called}
-use Rattle.vt100.proofs.perform.plain_escape.Goals as goal
+use Rattle.vt100.proofs.perform.lone_escape.Goals as goal
 
 pub returns-in-103 : goal.returns-in-103
 unfolding escape_steps
