@@ -1,5 +1,5 @@
--- Calls of a parser between which its screen is scrolled back and forth: what they tell the callbacks,
--- and the one text of what is told and captured.
+-- Calls of a parser between which its screen is scrolled back and forth: what they call the callbacks for,
+-- and the one text of what is reported and captured.
 use Rattle.std.specs.Prelude.{◌≡◌, ℕ, ◌<◌, ◌^◌, Bool, true, List, [], ◌∷◌, ◌++◌}
 use Rattle.vt_rows.specs.Basic.{Written, unwritten}
 use Rattle.vt_scan.specs.Automaton.{State, start}
@@ -29,7 +29,7 @@ bytes_of_calls [] = []
 bytes_of_calls (Process bytes ∷ calls) = bytes ++ bytes_of_calls calls
 bytes_of_calls (SetScrollback rows ∷ calls) = bytes_of_calls calls
 
--- what they tell callbacks that leave the screen alone, and the screen after them
+-- the calls of callbacks that leave the screen alone, and the screen after them
 abbrev pub calls_by : State → ScreenValue → List ParserCall → List CallValue
 calls_by scan screen [] = []
 calls_by scan screen (Process bytes ∷ calls) =

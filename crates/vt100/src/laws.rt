@@ -95,7 +95,7 @@ pub fn resized_parsers<CB: Callbacks>()
 /// What is read quietly as one text is so in every run over its bytes, whatever
 /// the callbacks: a parser that then has not failed has become what reading
 /// made of it (`ran`). So it has after calls of `process` whose slices joined
-/// are the text, where these are told as what they make (`made`). And no such
+/// are the text, where these are given as what they make (`made`). And no such
 /// run can be refused memory (`harmless`), so that `process` answers Ok.
 pub fn quiet_runs<CB: Callbacks>()
     ensures ran { (p q : Parsing CB) (bytes : List ℕ) (state : State) (after : Terminal)

@@ -160,12 +160,12 @@ impl<CB: Callbacks> Parser<CB> {
     }
 
     /// Gives the screen another number of rows and columns, on both pages, as
-    /// [`Screen::set_size`] does. The callbacks are told of the rows that leave
+    /// [`Screen::set_size`] does. The callbacks are called for the rows that leave
     /// a page at its top and aren't kept: first those of the main page, then
     /// those of the alternate one, each older ones first.
     ///
-    /// Fails where memory is refused; then nothing has changed, and nothing was
-    /// told. A parser that ran out of memory can be resized, too.
+    /// Fails where memory is refused; then nothing has changed, and nobody was
+    /// called. A parser that ran out of memory can be resized, too.
     pub fn set_size(&mut self, rows: NonZeroU16, cols: NonZeroU16) -> Result<(), Error>
         ensures ok { OnOk result (self.new
             ≡ record self.old

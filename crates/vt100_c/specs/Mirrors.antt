@@ -1,4 +1,4 @@
--- What C is told of a mirror's answers.
+-- What C gets of a mirror's answers.
 use Rattle.std.specs.Prelude.{◌≡◌, ℕ, Bool, List, Option, Some, None, Result, Ok, Err, string_bytes, string_len}
 use Rattle.std.specs.Prelude.{if◌then◌else◌}
 use Rattle.vt_cells.specs.declared.error.Error.{Error}
@@ -10,7 +10,7 @@ use Rattle.vt100_c.specs.Status.{ok, bad_argument, status_of}
 
 -- ---- viewers come and go
 
--- a number is handed over, or an error is told and the place for the number stays
+-- a number is handed over, or an error is answered and the place for the number stays
 abbrev pub GivesNumber : Result ℕ Error → (status before after : ℕ) → Type 0
 GivesNumber (Ok number) status before after = (status ≡ ok) × (after ≡ number)
 GivesNumber (Err error) status before after = (status ≡ status_of error) × (after ≡ before)
@@ -59,7 +59,7 @@ status_after (Ok (Some update)) = ok
 status_after (Ok None) = bad_argument
 status_after (Err error) = status_of error
 
--- an update is asked for and handed over: its text is kept, and its numbers are told
+-- an update is asked for and handed over: its text is kept, and its numbers are given
 pub record Updates (kind : Kind) (viewer status : ℕ) (text text' : List ℕ) (before after : UpdateNumbers)
     (old new : MirrorValue) : Type 0 where
   pub answer : Result (Option Update) Error

@@ -48,7 +48,7 @@ pub record JoinsTexts (count : ℕ) (texts : List (List ℕ)) (joined ends : Lis
   pub text : joined ≡ concat texts
   pub ends_are : AreEnds count ends texts
 
--- so are those of a screen's rows, and their ends are told; the numbers behind those stay
+-- so are those of a screen's rows, and their ends are given; the numbers behind those stay
 pub record GivesRows (screen : ScreenValue) (texts : List (List ℕ)) (joined before after : List ℕ) : Type 0 where
   pub rows : JoinsTexts (length screen.page.rows) texts joined after
   pub rest : drop (length screen.page.rows) after ≡ drop (length screen.page.rows) before
@@ -65,7 +65,7 @@ HoldBeside screen (Some prev) Holds = OnBoth screen (screen_in prev.source) Hold
 
 -- ---- what a call makes of what handles hold
 
--- these texts of the rows of the screen that is held, and tells their ends; the screen stays, and so do the numbers
+-- these texts of the rows of the screen that is held, and gives their ends; the screen stays, and so do the numbers
 -- where the call is refused
 pub record MakesRows (texts : ScreenValue → List (List ℕ)) (old : Option Object) (status : ℕ) (new : Option Object)
     (before after : List ℕ) : Type 0 where

@@ -1,4 +1,4 @@
--- What viewers of what a handle holds are told, where that is a mirror.
+-- What viewers of what a handle holds get, where that is a mirror.
 use Rattle.std.specs.Prelude.{◌≡◌, ℕ, List, string_bytes}
 use Rattle.vt_mirror.specs.Calls.{Kind}
 use Rattle.vt_mirror.specs.Watching.{IsFresh}

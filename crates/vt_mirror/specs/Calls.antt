@@ -110,7 +110,7 @@ IsUpdate kind self (Some prev) (Diff text) = IsOfKind kind self prev (string_byt
 IsUpdate kind self (Some prev) (Full rows cols text) = ⊥
 IsUpdate kind self None update = IsFullUpdate self update
 
--- a viewer is told, and the mirror's screen, which is a screen, is noted for it
+-- a viewer gets an update, and the mirror's screen, which is a screen, is noted for it
 pub record GivesUpdate (kind : Kind) (old : MirrorValue) (viewer : ℕ) (update : Update) (new : MirrorValue) : Type 0 where
   pub is : is_viewer old.viewers viewer ≡ true
   pub whole : IsScreen old.parser.screen

@@ -20,7 +20,7 @@ abbrev pub text_of_update : Update → List ℕ
 text_of_update (Diff text) = string_bytes text
 text_of_update (Full rows cols text) = string_bytes text
 
--- a viewer was told, and the text was written
+-- a viewer got an update, and the text was written
 pub record WritesUpdate (old : MirrorValue) (viewer : ℕ) (new : MirrorValue)
     (written grown : Option (List ℕ)) : Type 0 where
   pub update : Update
@@ -43,7 +43,7 @@ pub record ReadsStretch (every : ℕ) (is_whole : Bool)
   pub fewer : is_whole ≡ false → length bytes < every
   pub end : is_whole ≡ false → IsAtEnd rest
 
--- in the midst of them, with so many left to read
+-- among them, with so many left to read
 pub record InStretch (every still : ℕ) (old new : MirrorValue) (left rest : Option (List ℕ)) : Type 0 where
   pub bytes : List ℕ
   pub reads : ReadsBytes bytes old new left rest

@@ -13,7 +13,7 @@ use Rattle.vt_screen.specs.CallsOfRun.{screen_in}
 use Rattle.vt_show.specs.declared.faults.Fault.{Fault}
 use Rattle.vt_show.specs.declared.faults.Fault.TheVariants.{Memory, Read}
 
--- ---- which screens the viewer is told of, after the first one
+-- ---- of which screens the viewer gets an update, after the first one
 
 -- a number, twice that, and so on: so many multiples
 abbrev pub multiples : (number count : ℕ) → List ℕ

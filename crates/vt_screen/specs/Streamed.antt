@@ -1,4 +1,4 @@
--- What streams out of the main page: the rows that leave it, the rows that are told, and the text of all of them.
+-- What streams out of the main page: the rows that leave it, the rows of calls, and the text of all of them.
 use Rattle.std.specs.Prelude.{◌≡◌, ◌≢◌, ℕ, ◌≤◌, true, false, List, [], ◌∷◌, ◌++◌, length, All, map, if◌then◌else◌}
 use Rattle.std.specs.List.{AllByRecursion}
 use Rattle.vt_rows.specs.Basic.{unwritten}
@@ -16,7 +16,7 @@ use Rattle.vt_screen.specs.CallsOfRun.{steps_in}
 abbrev pub AreSameTrimmed : List RowValue → List RowValue → Type 0
 AreSameTrimmed rows others = map trimmed_row rows ≡ map trimmed_row others
 
--- ---- what is told
+-- ---- what is called for
 
 -- the rows of the main page that are reported
 abbrev pub row_of_call : CallValue → List RowValue
@@ -63,8 +63,8 @@ without_scrollback screen = record screen { scrollback = no_scrollback 0 }
 
 -- ---- captures
 
--- the rows that were told one by one, and with the same state behind them a full capture of the screen
+-- the rows that were reported one by one, and with the same state behind them a full capture of the screen
 abbrev pub streamed_text : List CallValue → ScreenValue → List ℕ
 streamed_text calls screen =
-    let told = rows_of_calls calls in
-    basic_texts unwritten told ++ basic_texts (written_after_all unwritten told) (all_rows screen)
+    let gone = rows_of_calls calls in
+    basic_texts unwritten gone ++ basic_texts (written_after_all unwritten gone) (all_rows screen)

@@ -22,8 +22,8 @@ use vt_grid::{Grid, Scrollback, Size};
 impl Screen {
     /// Gives the screen another number of rows and columns, as xterm's resize
     /// does, on both pages. On each the scroll region becomes the whole page
-    /// and a pending wrap ends, and scrollback leaves view. Nobody is told of
-    /// the rows that leave. An equal size changes nothing and takes no memory.
+    /// and a pending wrap ends, and scrollback leaves view. Nobody is called
+    /// for the rows that leave. An equal size changes nothing and takes no memory.
     ///
     /// Fewer rows: those below the cursor go first, and where that is not
     /// enough, rows leave at the top, to scrollback. More rows: those that left
@@ -43,13 +43,13 @@ impl Screen {
     }
 }
 
-/// Gives the screen another size, as [`Screen::set_size`] does, and tells
-/// the callbacks of the rows that aren't kept (see
+/// Gives the screen another size, as [`Screen::set_size`] does, and calls
+/// the callbacks for the rows that aren't kept (see
 /// [`Callbacks::on_scroll`]): first those of scrollback and the main page,
 /// then those of the alternate one, each older ones first.
 ///
-/// Fails where memory is refused; then nothing has changed, and nothing was
-/// told.
+/// Fails where memory is refused; then nothing has changed, and nobody was
+/// called.
 pub fn set_size_with_cb<CB: Callbacks>(
     screen: &mut Screen,
     rows: NonZeroU16,
