@@ -3,7 +3,7 @@
 ghost use Rattle.std.specs.Prelude.{◌≡◌, ◌+◌, ◌<◌, ◌≤◌, ◌↔◌, List, IfSome, IsSome, drop, length};
 ghost use Rattle.vt_rows.specs.CaptureRows.{AreRowsOf};
 ghost use Rattle.vt_rows.specs.Pieces.{ArePiecesOf, Piece};
-ghost use Rattle.vt100_c.specs.Captures.{IsFirstPiece, IsFirstRow, IsPlace, behind};
+ghost use Rattle.vt100_c.specs.Captures.{IsFirstPiece, IsFirstRow, IsPlace, behind_line_end};
 
 use crate::status::{BAD_ARGUMENT, OK};
 use std::str;
@@ -98,14 +98,17 @@ fn next_row(text: &str, width: u16, at: usize) -> (usize, usize)
         return (at, NO_PLACE);
     };
     match rows.next() {
-        Some(_) => (at + row.len(), at + behind(text.as_bytes(), row.len())),
+        Some(_) => (
+            at + row.len(),
+            at + behind_line_end(text.as_bytes(), row.len()),
+        ),
         None => (at + row.len(), NO_PLACE),
     }
 }
 
 /// The place behind a line feed there, or this one.
-fn behind(text: &[u8], end: usize) -> usize
-    ensures value { result ≡ behind text.now end }
+fn behind_line_end(text: &[u8], end: usize) -> usize
+    ensures value { result ≡ behind_line_end text.now end }
     ensures inside { end ≤ length text.now → result ≤ length text.now }
 {
     if end < text.len() && text[end] == b'\n' {

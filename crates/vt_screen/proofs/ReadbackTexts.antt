@@ -5,7 +5,7 @@ use Rattle.std.specs.List.{AllByRecursion}
 use Rattle.vt_cells.specs.Op.{csi}
 use Rattle.vt_grid.specs.Canvas.{and_then}
 use Rattle.vt_grid.proofs.Drawing.{and_then-assoc, and_then-same}
-use Rattle.vt_scan.specs.Automaton.{State, Step, Event, CsiDispatch, OscDispatch, after, step_in, start}
+use Rattle.vt_scan.specs.Automaton.{State, Step, Event, CsiDispatch, OscDispatch, step_after, step_in, start}
 use Rattle.vt_scan.specs.Parameters.{table_of}
 use Rattle.vt_scan.specs.Run.{run}
 use Rattle.vt_scan.specs.Table.{class_of, turn_of}
@@ -70,7 +70,7 @@ run_after step bytes = behind step.events (run step.state bytes)
 -- a command that is begun is read, or goes on
 unended_by : (c : Class) (text : List ℕ) (b : ℕ) (bytes : List ℕ)
     → ((more : List ℕ) → IsCalm (run (in_command more) bytes) → ⊥)
-    → IsCalm (run_after (after OscString text b (turn_of OscString c)) bytes) → ⊥
+    → IsCalm (run_after (step_after OscString text b (turn_of OscString c)) bytes) → ⊥
 unended_by Bell text b bytes rest calm = let met : true ≡ false = calm.events.0 in cc
 unended_by Cancel text b bytes rest calm = let met : true ≡ false = calm.events.0 in cc
 unended_by Introducer text b bytes rest calm = let met : true ≡ false = calm.events.0 in cc
