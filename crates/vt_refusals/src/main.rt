@@ -129,7 +129,7 @@ fn new_pair(alloc: Global) -> Result<Pair, &'static str> {
 }
 
 /// Prints what stands.
-fn tell<R: Print>(rt: &R, standing: Result<Standing, Error>) -> io::Result<()> {
+fn print<R: Print>(rt: &R, standing: Result<Standing, Error>) -> io::Result<()> {
     match standing {
         Ok(standing) => print!(rt; "; {standing}"),
         Err(_) => print!(rt; "; refused once more"),

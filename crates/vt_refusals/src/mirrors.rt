@@ -137,14 +137,14 @@ impl Call {
                 Err(error) => Answer::Refused(error),
             },
             Call::Leave(viewer) => Answer::Was(mirror.leave(viewer)),
-            Call::Update(viewer) => answer(mirror.update(viewer)),
-            Call::UpdateScrolling(viewer) => answer(mirror.update_scrolling(viewer)),
+            Call::Update(viewer) => answer_of(mirror.update(viewer)),
+            Call::UpdateScrolling(viewer) => answer_of(mirror.update_scrolling(viewer)),
         }
     }
 }
 
 /// The answer of a call that gives an update.
-fn answer(made: Result<Option<Update>, Error>) -> Answer {
+fn answer_of(made: Result<Option<Update>, Error>) -> Answer {
     match made {
         Ok(Some(update)) => Answer::Update(update),
         Ok(None) => Answer::Nobody,
