@@ -20,7 +20,7 @@ use Rattle.vt_screen.specs.CallsOfRun.{screen_in}
 use Rattle.vt100.specs.Parser.{Parsing, Ran, quietly}
 use Rattle.vt100.proofs.Running.{ran_then}
 use Rattle.vt100.proofs.Sizes.{quiet_leaves}
-use Rattle.vt100.proofs.Streams.{ran_heard}
+use Rattle.vt100.proofs.Streams.{ran_called}
 use Rattle.vt_mirror.specs.Calls.{Drawn, IsUpdate, MirrorProcesses, GivesUpdate}
 use Rattle.vt_mirror.specs.Internals.{InStretch, IsBegun, IsWritten, ReadsAtMost, ReadsBytes, ReadsFewer, ReadsStretch}
 use Rattle.vt_mirror.specs.Internals.{WritesUpdate, text_of_update}
@@ -155,7 +155,7 @@ diff_text self prev None update e is = absurd (no_some prev (sym e))
 
 ran_shows : (p q : Parsing (Unit {0})) (bytes : List ℕ) → StandsFor p.scanner start → Ran quietly p bytes q →
     q.screen ≡ screen_in start p.screen bytes
-ran_shows p q bytes stands ran = (ran_heard quietly quiet_leaves p q bytes start stands ran).shown
+ran_shows p q bytes stands ran = (ran_called quietly quiet_leaves p q bytes start stands ran).shown
 
 pub begun_written : (every viewer : ℕ) (old new : MirrorValue) (left written grown : Option (List ℕ)) → 0 < every →
     IsBegun old viewer → WritesUpdate old viewer new written grown →

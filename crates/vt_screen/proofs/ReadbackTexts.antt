@@ -14,7 +14,7 @@ use Rattle.vt_scan.specs.declared.table.Kind.{Kind}
 use Rattle.vt_scan.specs.declared.table.Kind.TheVariants.{Ground, OscString}
 use Rattle.vt_scan.specs.declared.table.Class.{Class}
 use Rattle.vt_scan.specs.declared.table.Class.TheVariants.{Bell, Cancel, Introducer, Control}
-use Rattle.vt_scan.proofs.Running.{behind}
+use Rattle.vt_scan.proofs.Running.{events_then}
 use Rattle.vt_scan.proofs.Sequences.{read_csi}
 use Rattle.vt_screen.specs.Screen.{ScreenValue}
 use Rattle.vt_screen.specs.Controls.{unmarked_steps, seen_of, steps_of}
@@ -65,7 +65,7 @@ abbrev in_command : List ℕ → State
 in_command text = record { kind = OscString; collected = text }
 
 abbrev run_after : Step → List ℕ → Step
-run_after step bytes = behind step.events (run step.state bytes)
+run_after step bytes = events_then step.events (run step.state bytes)
 
 -- a command that is begun is read, or goes on
 unended_by : (c : Class) (text : List ℕ) (b : ℕ) (bytes : List ℕ)
