@@ -18,7 +18,7 @@ use Rattle.vt_redraw.specs.Locality.{row_of_picture}
 use Rattle.vt_redraw.specs.Picture.{Picture, SamePictureSize, cut_rows}
 use Rattle.vt_redraw.specs.Steady.{IsSteady, has_selector}
 use Rattle.vt_redraw.proofs.Cuts.{IsAnyRow}
-use Rattle.vt_redraw.proofs.PlainSteady.{picture_steady}
+use Rattle.vt_redraw.proofs.SteadyWithout.{picture_steady}
 use Rattle.vt_screen.specs.Contents.{between_of, contents_of, line_end, lines_of, without_line_ends}
 use Rattle.vt_screen.specs.Screen.{IsScreen, ScreenValue, above_page, visible_row, visible_rows}
 use Rattle.vt_screen.specs.Shown.{ShowSamePage, ShowsNoSelector, ShowsOwnPage, shown}

@@ -26,7 +26,7 @@ whole g c =
     (if_ok c.set_size-done.result _ done c.set_size-done.ensures.above)
     all
 
-pub returns-clause-called : goal.returns-clause-told
+pub returns-clause-called : goal.returns-clause-called
 returns-clause-called g c =
     let done : is_ok c.set_size-done.result ≡ true = sym (c.is_ok.ensures.value) ∙ c.if-prove.false in
     let rows = resize_reports _ c.in-Some-page.page c.args.nothing.now in

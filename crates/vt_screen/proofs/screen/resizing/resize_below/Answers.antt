@@ -19,7 +19,7 @@ invariant_of-screen-2 g c =
     (c.in_ok-set_size.ensures).page (c.in_ok-set_size.ensures).above
     c.resize_alternate.ensures.page c.resize_alternate.ensures.nothing c.screen.invariant
 
-pub returns-clause-called : goal.returns-clause-told
+pub returns-clause-called : goal.returns-clause-called
 returns-clause-called g c =
     let rows = resize_reports _ c.screen.inside.grid c.screen.inside.scrollback in
     let told = (c.in_ok-set_size.ensures).reported in
