@@ -17,7 +17,7 @@ returns-in_err-print_apart-clause-read g c =
     let before = parsing held c.args.screen.now c.args.callbacks.now in
     let byte = get_or c.args.bytes.now 0 0 in
     let code = c.from-then-count-eq0.result in
-    let itself = c.requires.plain in
+    let itself = c.requires.itself in
     let feeds = text_feeds held byte itself.0 itself.1 itself.2 (omega (arith, itself.3)) in
     let now = parsing held c.print_apart.new.screen c.print_apart.new.callbacks in
     stopped_in g.CB.Callbacks.does before now c.args.bytes.now c.from_residual.result (inr (stopped_within g.CB.Callbacks.does before before now
@@ -32,7 +32,7 @@ returns-then-count-eq0-clause-read g c =
     let now = parsing held c.print_apart.new.screen c.print_apart.new.callbacks in
     let byte = get_or c.args.bytes.now 0 0 in
     let code = c.from-then-count-eq0.result in
-    let itself = c.requires.plain in
+    let itself = c.requires.itself in
     let feeds = text_feeds held byte itself.0 itself.1 itself.2 (omega (arith, itself.3)) in
     some_read g.CB.Callbacks.does before now c.args.bytes.now 1 c.requires.some
     (subst (λ (bytes : List ℕ). Ran g.CB.Callbacks.does before bytes now)
