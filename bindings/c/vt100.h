@@ -219,7 +219,7 @@ vt100_status vt100_process_until(vt100_handle *handle, const uint8_t *bytes, siz
 
 /*
  * Another size. Of a parser, rows that leave and are not kept are events; of a saved screen and a
- * mirror nobody is told.
+ * mirror none.
  * VT100_NO_OBJECT. VT100_WRONG_KIND: a capture. VT100_BAD_ARGUMENT: rows or cols is 0.
  * VT100_OUT_OF_MEMORY.
  */

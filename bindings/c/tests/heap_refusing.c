@@ -1,4 +1,4 @@
-/* A heap in the place of ../heap.c that counts its growths, and refuses some. */
+/* A heap in the place of ../heap.c that counts its allocations, and refuses some. */
 #include "heap_refusing.h"
 
 #include <stdbool.h>
@@ -8,7 +8,7 @@
 struct block { bool is_granted; void *at; };
 static char nowhere;
 
-long heap_growths, heap_live, heap_refused = -1;
+long heap_allocations, heap_live, heap_refused = -1;
 int heap_refuses_all_behind;
 
 struct block rattle_alloc(size_t size, size_t align);
@@ -16,9 +16,9 @@ struct block rattle_realloc(void *at, size_t old_size, size_t size, size_t align
 void rattle_dealloc(void *at);
 
 static bool is_refused(void) {
-    long growth = heap_growths++;
-    return growth == heap_refused || (heap_refuses_all_behind && heap_refused >= 0
-                                      && growth > heap_refused);
+    long allocation = heap_allocations++;
+    return allocation == heap_refused || (heap_refuses_all_behind && heap_refused >= 0
+                                      && allocation > heap_refused);
 }
 
 struct block rattle_alloc(size_t size, size_t align) {

@@ -1,10 +1,10 @@
 /*
- * refused [FIRST]: a run of calls, once with all memory, and then once for each of its growths
- * with that growth refused, and once more with all behind it refused too. A refused call answers
+ * refused [FIRST]: a run of calls, once with all memory, and then once for each of its allocations
+ * with that allocation refused, and once more with all behind it refused too. A refused call answers
  * VT100_OUT_OF_MEMORY and has changed nothing that is shown; made again, it gives what it gave in
  * the first run. A parser or mirror that was refused memory while it read answers VT100_FAILED from
  * then on, and shows what it read before. A record that was refused has none behind it. In the end
- * all memory is given back. FIRST is how many growths are tried, all without it.
+ * all memory is given back. FIRST is how many allocations are tried, all without it.
  */
 #include "heap_refusing.h"
 #include "lines.h"
@@ -194,7 +194,7 @@ static void look_at_log(void) {
 }
 
 static void run(void) {
-    heap_growths = 0;
+    heap_allocations = 0;
     parser_failed = mirror_failed = 0;
     long gaps_before = gaps;
     gaps = 0;
@@ -215,19 +215,19 @@ int main(int argc, char **argv) {
     is_first = 1;
     run();
     is_first = 0;
-    long growths = heap_growths;
-    long count = argc > 1 ? strtol(argv[1], NULL, 10) : growths;
-    if (count > growths) count = growths;
-    for (long growth = 0; growth < count; growth++) {
+    long allocations = heap_allocations;
+    long count = argc > 1 ? strtol(argv[1], NULL, 10) : allocations;
+    if (count > allocations) count = allocations;
+    for (long allocation = 0; allocation < count; allocation++) {
         for (int all = 0; all < 2; all++) {
-            heap_refused = growth;
+            heap_refused = allocation;
             heap_refuses_all_behind = all;
             run();
         }
     }
-    must(refusals > 0 && (count < growths || (failures > 0 && gaps > 0)));
-    printf("%ld of %ld growths refused: %ld calls, %ld while reading, %ld records\n", count,
-           growths, refusals, failures, gaps);
+    must(refusals > 0 && (count < allocations || (failures > 0 && gaps > 0)));
+    printf("%ld of %ld allocations refused: %ld calls, %ld while reading, %ld records\n", count,
+           allocations, refusals, failures, gaps);
     for (int step = 0; step < STEPS; step++) free(texts[step].bytes);
     return 0;
 }

@@ -3,7 +3,7 @@ use Rattle.std.proofs.Common.{◌≡◌, ℕ, ◌-◌, true, false, List, [], �
 use Rattle.vt_grid.specs.PageStep.{PageStep, MoveTo}
 use Rattle.vt_screen.specs.Screen.{ScreenValue}
 use Rattle.vt_screen.specs.Controls.{counted_step, csi_steps, intermediate_at, intermediate_steps, number_or}
-use Rattle.vt_screen.specs.Controls.{Seen, one_or, other_steps, plain_steps, scrolling_steps, seen_of, sgr_steps}
+use Rattle.vt_screen.specs.Controls.{Seen, one_or, other_steps, unmarked_steps, scrolling_steps, seen_of, sgr_steps}
 use Rattle.vt_screen.specs.Run.{CallRelation}
 use Rattle.vt_screen.specs.Steps.{Step, OnPage}
 use Rattle.vt100.specs.Internals.{Does, MadeIf, Stops}
@@ -29,39 +29,39 @@ made_none_stops does None others s t d e f (h, same) k =
     subst (λ (x : ScreenValue). Stops does s x (others x) t f) same k
 
 -- the sequences with one count, and the others
-pub plain_counted : {S : Type 0} (does : CallRelation S) (groups : List (List ℕ)) (b : ℕ) (s : S) (d e : ScreenValue) →
-    MadeIf (counted_step b (number_or 1 0 groups)) true d e → Does does s d (plain_steps groups b (seen_of d)) s e
-plain_counted does groups b s d e h =
+pub unmarked_counted : {S : Type 0} (does : CallRelation S) (groups : List (List ℕ)) (b : ℕ) (s : S) (d e : ScreenValue) →
+    MadeIf (counted_step b (number_or 1 0 groups)) true d e → Does does s d (unmarked_steps groups b (seen_of d)) s e
+unmarked_counted does groups b s d e h =
     made_one does (counted_step b (number_or 1 0 groups)) (scrolling_steps groups b (seen_of d)) s d e h
 
-pub plain_other : {S : Type 0} (does : CallRelation S)
+pub unmarked_other : {S : Type 0} (does : CallRelation S)
     (groups : List (List ℕ)) (b : ℕ) (s t : S) (d e f : ScreenValue) →
     MadeIf (counted_step b (number_or 1 0 groups)) false d e →
-    Does does s e (scrolling_steps groups b (seen_of e)) t f → Does does s d (plain_steps groups b (seen_of d)) t f
-plain_other does groups b s t d e f h k =
+    Does does s e (scrolling_steps groups b (seen_of e)) t f → Does does s d (unmarked_steps groups b (seen_of d)) t f
+unmarked_other does groups b s t d e f h k =
     made_none does (counted_step b (number_or 1 0 groups)) (λ x. scrolling_steps groups b (seen_of x)) s t d e f h k
 
-pub plain_other_stops : {S : Type 0} (does : CallRelation S)
+pub unmarked_other_stops : {S : Type 0} (does : CallRelation S)
     (groups : List (List ℕ)) (b : ℕ) (s t : S) (d e f : ScreenValue) →
     MadeIf (counted_step b (number_or 1 0 groups)) false d e →
-    Stops does s e (scrolling_steps groups b (seen_of e)) t f → Stops does s d (plain_steps groups b (seen_of d)) t f
-plain_other_stops does groups b s t d e f h k =
+    Stops does s e (scrolling_steps groups b (seen_of e)) t f → Stops does s d (unmarked_steps groups b (seen_of d)) t f
+unmarked_other_stops does groups b s t d e f h k =
     made_none_stops does (counted_step b (number_or 1 0 groups))
     (λ x. scrolling_steps groups b (seen_of x)) s t d e f h k
 
-pub plain_stops : {S : Type 0} (does : CallRelation S)
+pub unmarked_stops : {S : Type 0} (does : CallRelation S)
     (groups : List (List ℕ)) (intermediates : List ℕ) (b : ℕ) (s t : S) (d e : ScreenValue) →
-    intermediate_at 0 intermediates ≡ None → Stops does s d (plain_steps groups b (seen_of d)) t e →
+    intermediate_at 0 intermediates ≡ None → Stops does s d (unmarked_steps groups b (seen_of d)) t e →
     Stops does s d (csi_steps groups intermediates b (seen_of d)) t e
-plain_stops does groups [] b s t d e h k = k
-plain_stops does groups (m ∷ intermediates) b s t d e h k = search rules
+unmarked_stops does groups [] b s t d e h k = k
+unmarked_stops does groups (m ∷ intermediates) b s t d e h k = search rules
 
-pub plain_does : {S : Type 0} (does : CallRelation S)
+pub unmarked_does : {S : Type 0} (does : CallRelation S)
     (groups : List (List ℕ)) (intermediates : List ℕ) (b : ℕ) (s t : S) (d e : ScreenValue) →
-    intermediate_at 0 intermediates ≡ None → Does does s d (plain_steps groups b (seen_of d)) t e →
+    intermediate_at 0 intermediates ≡ None → Does does s d (unmarked_steps groups b (seen_of d)) t e →
     Does does s d (csi_steps groups intermediates b (seen_of d)) t e
-plain_does does groups [] b s t d e h k = k
-plain_does does groups (m ∷ intermediates) b s t d e h k = search rules
+unmarked_does does groups [] b s t d e h k = k
+unmarked_does does groups (m ∷ intermediates) b s t d e h k = search rules
 
 pub intermediate_does : {S : Type 0} (does : CallRelation S)
     (groups : List (List ℕ)) (intermediates : List ℕ) (intermediate b : ℕ) (s t : S) (d e : ScreenValue) →
@@ -78,16 +78,16 @@ intermediate_stops does groups [] intermediate b s t d e h k = search rules
 intermediate_stops does groups (m ∷ intermediates) intermediate b s t d e h k = search rules
 
 -- SGR and CUP
-pub plain_sgr : (groups : List (List ℕ)) (b : ℕ) (seen : Seen) → b ≡ 0x6D → plain_steps groups b seen ≡ sgr_steps groups
+pub unmarked_sgr : (groups : List (List ℕ)) (b : ℕ) (seen : Seen) → b ≡ 0x6D → unmarked_steps groups b seen ≡ sgr_steps groups
 unfolding counted_step scrolling_steps other_steps
-plain_sgr groups b seen is = rw is refl
+unmarked_sgr groups b seen is = rw is refl
 
-pub plain_place : (groups : List (List ℕ)) (b : ℕ) (seen : Seen) → b ≡ 0x48 →
-    plain_steps groups b seen ≡ OnPage (MoveTo (number_or 1 0 groups - 1) (number_or 1 1 groups - 1)) ∷ []
+pub unmarked_place : (groups : List (List ℕ)) (b : ℕ) (seen : Seen) → b ≡ 0x48 →
+    unmarked_steps groups b seen ≡ OnPage (MoveTo (number_or 1 0 groups - 1) (number_or 1 1 groups - 1)) ∷ []
 unfolding counted_step scrolling_steps other_steps
-plain_place groups b seen is = rw is refl
+unmarked_place groups b seen is = rw is refl
 
 -- sequences by their intermediates, and those without an intermediate by what they count
-pub ruleset by_intermediates = (plain_does, plain_stops, intermediate_does, intermediate_stops)
+pub ruleset by_intermediates = (unmarked_does, unmarked_stops, intermediate_does, intermediate_stops)
 
-pub ruleset by_counts = (plain_counted, plain_other, plain_other_stops)
+pub ruleset by_counts = (unmarked_counted, unmarked_other, unmarked_other_stops)

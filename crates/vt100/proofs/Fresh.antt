@@ -46,7 +46,7 @@ fresh_parser rows cols capacity p is stands begun =
       few_rows = subst (λ (n : ℕ). n < 2 ^ 16) (height_is rows cols capacity) page.height;
       has_columns = page.has_columns;
       few_columns = page.columns;
-      begun = stands;
+      ground = stands;
       shown = shown;
     }
 

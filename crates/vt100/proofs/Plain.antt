@@ -9,7 +9,7 @@ use Rattle.vt_rows.specs.Texts.{IsPrintableAscii}
 use Rattle.vt_grid.specs.Page.{Page}
 use Rattle.vt_grid.proofs.Texts.{printed_put}
 use Rattle.vt_scan.specs.Scanner.{Held, ReadsItself}
-use Rattle.vt_scan.proofs.Feeding.{plain_feeds}
+use Rattle.vt_scan.proofs.Feeding.{text_feeds}
 use Rattle.vt_screen.specs.Run.{CallRelation, Takes, state}
 use Rattle.vt_screen.specs.Screen.{ScreenValue}
 use Rattle.vt_screen.specs.Controls.{character_steps}
@@ -36,7 +36,7 @@ character_ran : {S : Type 0} (does : CallRelation S) (c : ℕ) (held : Held) (s 
 character_ran does c held s screen itself room =
     let now = parsing held (display_after (Print c) screen) s in
     byte_ran does (parsing held screen s) now c (one_character c)
-    (plain_feeds held c itself.0 itself.1 itself.2 (omega (arith, itself.3)))
+    (text_feeds held c itself.0 itself.1 itself.2 (omega (arith, itself.3)))
     (stage now, print_done does c s screen itself.2 itself.3 room, refl)
 
 -- a plain character moves the cursor on by one column

@@ -62,7 +62,7 @@ unsent : {S : Type 0} (does : CallRelation S)
     else record after { scrollback = pushed (length screen.page.rows) screen.page.width gone screen.scrollback })
     → FoldsTo (CalledOnScroll does screen.is_alternate) held (reported gone (above_page screen)) b.callbacks
     → b ≡ state held after
-unsent {S} does held screen after gone b none kept is heard =
+unsent {S} does held screen after gone b none kept is called =
     let shown : b.screen ≡ after = is ∙ same_screen screen.is_alternate after after _ refl
     (ap (λ (rows : List RowValue). record after
     { scrollback = pushed (length screen.page.rows) screen.page.width rows screen.scrollback })
@@ -71,7 +71,7 @@ unsent {S} does held screen after gone b none kept is heard =
     let told : held ≡ b.callbacks =
     subst (λ (rows : List RowValue). FoldsTo (CalledOnScroll does screen.is_alternate)
     held (reported rows (above_page screen)) b.callbacks)
-    none heard in
+    none called in
     ap (λ (s : S). act.state s b.screen) (sym told) ∙ ap (act.state held) shown
 
 quiet_takes : {S : Type 0} (does : CallRelation S)
@@ -82,13 +82,13 @@ quiet_takes does (Print c) held screen after b e t =
     let none : outgoing (Print c) screen ≡ [] =
     ap (λ (pushed : Bool). if pushed then take 1 (left_by (columns_of c) screen.attrs screen.page).rows else [])
     calm.0 in
-    unsent does held screen (display_after (Print c) screen) (outgoing (Print c) screen) b none refl t.screen t.heard
+    unsent does held screen (display_after (Print c) screen) (outgoing (Print c) screen) b none refl t.screen t.called
     ∙ ap (state held) (same_some (display_after (Print c) screen) after calm.1)
 quiet_takes does LineFeed held screen after b e t =
     let calm = calm_of (feeds_out screen.page) (Some (display_after LineFeed screen)) after e in
     let none : outgoing LineFeed screen ≡ [] =
     ap (λ (fed : Bool). if fed then take 1 screen.page.rows else []) calm.0 in
-    unsent does held screen (display_after LineFeed screen) (outgoing LineFeed screen) b none refl t.screen t.heard
+    unsent does held screen (display_after LineFeed screen) (outgoing LineFeed screen) b none refl t.screen t.called
     ∙ ap (state held) (same_some (display_after LineFeed screen) after calm.1)
 quiet_takes does (CallBack call) held screen after b e t = absurd (subst IsNone e tt)
 quiet_takes does (OnPage x) held screen after b e t =
@@ -98,7 +98,7 @@ quiet_takes does (ScrollUp count) held screen after b e t =
     let none : outgoing (ScrollUp count) screen ≡ [] =
     ap (λ (whole : Bool). if whole then take (min count (screen.page.bottom + 1)) screen.page.rows else []) calm.0 in
     unsent does held screen (display_after (ScrollUp count) screen)
-    (outgoing (ScrollUp count) screen) b none refl t.screen t.heard
+    (outgoing (ScrollUp count) screen) b none refl t.screen t.called
     ∙ ap (state held) (same_some (display_after (ScrollUp count) screen) after calm.1)
 quiet_takes does EraseScrollback held screen after b e t = absurd (subst IsNone e tt)
 quiet_takes does (Render setting) held screen after b e t =

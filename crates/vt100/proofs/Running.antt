@@ -105,9 +105,9 @@ abbrev pub one_character : ℕ → Events
 one_character code = record { first = Some (Character code); second = None }
 
 -- a byte that is read as its character
-pub plain_answer : (held : Held) (b code : ℕ) → Feeds held b held (one_character b) →
+pub text_answer : (held : Held) (b code : ℕ) → Feeds held b held (one_character b) →
     code ≡ b → Feeds held b held (one_character code)
-plain_answer held b code feeds same = subst (λ (k : ℕ). Feeds held b held (one_character k)) (sym same) feeds
+text_answer held b code feeds same = subst (λ (k : ℕ). Feeds held b held (one_character k)) (sym same) feeds
 
 -- ---- a run, and then one that ends for want of memory
 

@@ -14,7 +14,7 @@ use Rattle.vt_screen.specs.Run.{CallRelation, Breaks, Performs, Refuses, StopsIn
 use Rattle.vt_screen.specs.Screen.{ScreenValue, IsScreen}
 use Rattle.vt_screen.specs.Controls.{seen_of, steps_of}
 use Rattle.vt_screen.specs.Steps.{Step}
-use Rattle.vt_screen.specs.Telling.{LeavesScreen}
+use Rattle.vt_screen.specs.CallsOfRun.{LeavesScreen}
 use Rattle.vt_screen.proofs.Sized.{IsSized, sized_screen}
 use Rattle.vt_screen.proofs.SizedRuns.{sized_taken}
 use Rattle.vt100.specs.Parser.{Parsing, Ran, Stopped, quietly, stage}

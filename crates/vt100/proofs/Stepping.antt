@@ -24,13 +24,13 @@ pub refused : {S : Type 0} (does : CallRelation S) (x : Step) (s t : S) (d e : S
     Refuses (state s d) x (state t e) → Stops does s d (x ∷ []) t e
 refused does x s t d e h = inl h
 
-pub told : {S : Type 0} (does : CallRelation S) (call : CallValue) (s t : S) (d e : ScreenValue) →
+pub called : {S : Type 0} (does : CallRelation S) (call : CallValue) (s t : S) (d e : ScreenValue) →
     does call s d t e → Does does s d (CallBack call ∷ []) t e
-told does call s t d e h = (state t e, h, refl)
+called does call s t d e h = (state t e, h, refl)
 
-pub told_two : {S : Type 0} (does : CallRelation S) (one two : CallValue) (s t u : S) (d e f : ScreenValue) →
+pub called_twice : {S : Type 0} (does : CallRelation S) (one two : CallValue) (s t u : S) (d e f : ScreenValue) →
     does one s d t e → does two t e u f → Does does s d (CallBack one ∷ CallBack two ∷ []) u f
-told_two does one two s t u d e f h k = (state t e, h, (state u f, k, refl))
+called_twice does one two s t u d e f h k = (state t e, h, (state u f, k, refl))
 
 takes_own : {S : Type 0} (does : CallRelation S) (x : Step) (s : S) (d e : ScreenValue) →
     is_own x ≡ true → e ≡ display_after x d → Takes does (state s d) x (state s e)
@@ -170,14 +170,14 @@ prints_stop {S} does s t u d e f all c n k h left refusal =
 
 -- ---- what the code's functions use of these, with the tests of numbers
 
-pub ruleset steps_told = (told, told_two, stepping)
+pub ruleset steps_called = (called, called_twice, stepping)
 
-pub ruleset tested_steps = (nat_tests, steps_told)
+pub ruleset tested_steps = (nat_tests, steps_called)
 
 pub ruleset steps_taken = (tested_steps, taken)
 
-pub ruleset tested_growth = (nat_tests, taken, refused)
+pub ruleset tested_refusal = (nat_tests, taken, refused)
 
-pub ruleset told_or_grown = (told, tested_growth)
+pub ruleset called_or_refused = (called, tested_refusal)
 
 pub ruleset pages_exchanged = (nat_tests, alternating, alternating_stops, freshening, freshening_stops)

@@ -15,55 +15,55 @@ use Rattle.vt_screen.specs.Calls.{CallValue}
 use Rattle.vt_screen.specs.Capture.{all_rows, basic_texts, written_after_all}
 use Rattle.vt_screen.specs.Screen.{ScreenValue, IsScreen, fresh_screen, scrolled_back}
 use Rattle.vt_screen.specs.Streamed.{AreSameTrimmed, HasNoRis, HasWideFlags, without_scrollback, ris}
-use Rattle.vt_screen.specs.Streamed.{row_told, rows_told, sent_off_in, streamed_text}
-use Rattle.vt_screen.specs.Telling.{CalledOnSomeScreen, LeavesScreen, calls_in, screen_in}
+use Rattle.vt_screen.specs.Streamed.{row_of_call, rows_of_calls, sent_off_in, streamed_text}
+use Rattle.vt_screen.specs.CallsOfRun.{CalledOnSomeScreen, LeavesScreen, calls_in, screen_in}
 use Rattle.vt_screen.specs.Run.{CallRelation}
 use Rattle.vt_screen.proofs.WhateverScrollback.{SameBare, bare_scrolled_back, both_screen_in, both_sent_in}
 use Rattle.vt_screen.proofs.EventSteps.{run_streams}
-use Rattle.vt_screen.proofs.CallsOfRun.{Hearing, heard_events}
+use Rattle.vt_screen.proofs.CallsOfRun.{Calling, called_events}
 use Rattle.vt_screen.proofs.StepLists.{screen_in_then, sent_in_then}
 use Rattle.vt_screen.proofs.StreamedTexts.{after_then, streamed_is, texts_then}
 use Rattle.vt_screen.proofs.Streaming.{Held, Streamed, held_fresh, held_screen, streamed_then, view_streams}
 use Rattle.vt100.specs.Parser.{Parsing, Ran, stage}
 use Rattle.vt100.specs.Streams.{ParserCall, Process, SetScrollback, IsFreshParser, IsRecorder}
-use Rattle.vt100.specs.Streams.{MakesCall, bytes_of_calls, screen_by, told_by, whole_text}
+use Rattle.vt100.specs.Streams.{MakesCall, bytes_of_calls, screen_by, calls_by, whole_text}
 
 -- ---- what callbacks hear
 
-pub ran_heard : {S : Type 0} (does : CallRelation S) → LeavesScreen does
+pub ran_called : {S : Type 0} (does : CallRelation S) → LeavesScreen does
     → (p q : Parsing S) (bytes : List ℕ) (scan : State) → StandsFor p.scanner scan → Ran does p bytes q
-    → Hearing does (stage p) (calls_in scan p.screen bytes) (screen_in scan p.screen bytes) (stage q)
-ran_heard does leaves p q bytes scan stands ran =
-    heard_events does leaves (run scan bytes).events (stage p) (stage q) (ran scan stands).1
+    → Calling does (stage p) (calls_in scan p.screen bytes) (screen_in scan p.screen bytes) (stage q)
+ran_called does leaves p q bytes scan stands ran =
+    called_events does leaves (run scan bytes).events (stage p) (stage q) (ran scan stands).1
 
 -- a list of calls was made
-pub record HasHeard {S : Type 0} (does : CallRelation S)
+pub record HasCalled {S : Type 0} (does : CallRelation S)
     (scan : State) (screen : ScreenValue) (calls : List ParserCall) (p q : Parsing S) : Type 0 where
   pub shown : q.screen ≡ screen_by scan screen calls
-  pub heard : FoldsTo (CalledOnSomeScreen does) p.callbacks (told_by scan screen calls) q.callbacks
+  pub called : FoldsTo (CalledOnSomeScreen does) p.callbacks (calls_by scan screen calls) q.callbacks
 
-pub calls_heard : {S : Type 0} (does : CallRelation S)
+pub calls_made : {S : Type 0} (does : CallRelation S)
     → LeavesScreen does → (calls : List ParserCall) (p q : Parsing S) (scan : State)
     → StandsFor p.scanner scan → FoldsTo (MakesCall does) p calls q
-    → HasHeard does scan p.screen calls p q
-calls_heard {S} does leaves [] p q scan stands e =
-    record { shown = sym (ap (λ (r : Parsing S). r.screen) e); heard = ap (λ (r : Parsing S). r.callbacks) e }
-calls_heard does leaves (Process bytes ∷ calls) p q scan stands t =
-    let one = ran_heard does leaves p t.0 bytes scan stands t.1 in
-    let rest = subst (λ (screen : ScreenValue). HasHeard does (run scan bytes).state screen calls t.0 q)
-    one.shown (calls_heard does leaves calls t.0 q (run scan bytes).state (t.1 scan stands).0 t.2) in
+    → HasCalled does scan p.screen calls p q
+calls_made {S} does leaves [] p q scan stands e =
+    record { shown = sym (ap (λ (r : Parsing S). r.screen) e); called = ap (λ (r : Parsing S). r.callbacks) e }
+calls_made does leaves (Process bytes ∷ calls) p q scan stands t =
+    let one = ran_called does leaves p t.0 bytes scan stands t.1 in
+    let rest = subst (λ (screen : ScreenValue). HasCalled does (run scan bytes).state screen calls t.0 q)
+    one.shown (calls_made does leaves calls t.0 q (run scan bytes).state (t.1 scan stands).0 t.2) in
     record {
       shown = rest.shown;
-      heard =
+      called =
           folds_then (CalledOnSomeScreen does) (calls_in scan p.screen bytes)
-          (told_by (run scan bytes).state (screen_in scan p.screen bytes) calls)
-          p.callbacks t.0.callbacks q.callbacks one.heard rest.heard;
+          (calls_by (run scan bytes).state (screen_in scan p.screen bytes) calls)
+          p.callbacks t.0.callbacks q.callbacks one.called rest.called;
     }
-calls_heard {S} does leaves (SetScrollback rows ∷ calls) p q scan stands t =
+calls_made {S} does leaves (SetScrollback rows ∷ calls) p q scan stands t =
     let now : Parsing S = record p { screen = scrolled_back rows p.screen } in
-    let rest = calls_heard does leaves calls now q scan stands
+    let rest = calls_made does leaves calls now q scan stands
     (subst (λ (r : Parsing S). FoldsTo (MakesCall does) r calls q) t.1 t.2) in
-    record { shown = rest.shown; heard = rest.heard }
+    record { shown = rest.shown; called = rest.called }
 
 -- ---- what is told and kept
 
@@ -84,7 +84,7 @@ record Follows (told : List CallValue) (scan : State) (s r after : ScreenValue) 
 
 calls_stream : (calls : List ParserCall) (scan : State) (s r : ScreenValue) →
     SameBare s r → HasNoRis scan (bytes_of_calls calls) → Held s →
-    Follows (told_by scan s calls) scan s r (screen_by scan s calls) (bytes_of_calls calls)
+    Follows (calls_by scan s calls) scan s r (screen_by scan s calls) (bytes_of_calls calls)
 calls_stream [] scan s r e none k = record {
   streams = record { held = k; alike = ap (map trimmed_row) (sym (append-nil s.scrollback.rows)) };
   same = e;
@@ -95,7 +95,7 @@ calls_stream (SetScrollback rows ∷ calls) scan s r e none k =
     let rest = calls_stream calls scan now r (bare_scrolled_back rows s ∙ e) none view.held in
     record {
       streams =
-          streamed_then [] (told_by scan now calls) [] (sent_off_in scan r (bytes_of_calls calls))
+          streamed_then [] (calls_by scan now calls) [] (sent_off_in scan r (bytes_of_calls calls))
           s now (screen_by scan now calls) view rest.streams;
       same = rest.same;
     }
@@ -107,7 +107,7 @@ calls_stream (Process bytes ∷ calls) scan s r e none k =
     let there = screen_in scan r bytes in
     let next = (run scan bytes).state in
     let rest = calls_stream calls next now there (both_screen_in scan s r bytes e) parts.1 one.held in
-    let both = streamed_then (calls_in scan s bytes) (told_by next now calls) (sent_off_in scan s bytes)
+    let both = streamed_then (calls_in scan s bytes) (calls_by next now calls) (sent_off_in scan s bytes)
     (sent_off_in next there more) s now (screen_by next now calls) one rest.streams in
     let gone : sent_off_in scan s bytes ++ sent_off_in next there more ≡ sent_off_in scan r (bytes ++ more)
     = ap (λ (rows : List RowValue). rows ++ sent_off_in next there more) (both_sent_in scan s r bytes e)
@@ -115,7 +115,7 @@ calls_stream (Process bytes ∷ calls) scan s r e none k =
     record {
       streams =
           subst (λ (rows : List RowValue). Streamed
-          (calls_in scan s bytes ++ told_by next now calls) rows s (screen_by next now calls))
+          (calls_in scan s bytes ++ calls_by next now calls) rows s (screen_by next now calls))
           gone both;
       same = rest.same ∙ ap without_scrollback (sym (screen_in_then scan r bytes more));
     }
@@ -127,24 +127,24 @@ pub ran_apart : {S : Type 0} (does : CallRelation S) → LeavesScreen does
     → (sent_off_in scan p.screen bytes ≡ sent_off_in scan r.screen bytes) × (without_scrollback q.screen ≡ without_scrollback s.screen)
 ran_apart does leaves p q r s bytes scan stands others same ran runs = (
   both_sent_in scan p.screen r.screen bytes same,
-  ap without_scrollback (ran_heard does leaves p q bytes scan stands ran).shown
+  ap without_scrollback (ran_called does leaves p q bytes scan stands ran).shown
       ∙ (both_screen_in scan p.screen r.screen bytes same
-      ∙ ap without_scrollback (sym (ran_heard does leaves r s bytes scan others runs).shown)),
+      ∙ ap without_scrollback (sym (ran_called does leaves r s bytes scan others runs).shown)),
 )
 
 pub ran_keeps : {S : Type 0} (does : CallRelation S) → LeavesScreen does
     → (p q : Parsing S) (bytes : List ℕ) (scan : State) → StandsFor p.scanner scan → Ran does p bytes q
     → IsScreen p.screen → HasWideFlags p.screen → HasNoRis scan bytes
     → FoldsTo (CalledOnSomeScreen does) p.callbacks (calls_in scan p.screen bytes) q.callbacks
-    × AreSameTrimmed (rows_told (calls_in scan p.screen bytes) ++ q.screen.scrollback.rows)
+    × AreSameTrimmed (rows_of_calls (calls_in scan p.screen bytes) ++ q.screen.scrollback.rows)
     (p.screen.scrollback.rows ++ sent_off_in scan p.screen bytes)
 ran_keeps does leaves p q bytes scan stands ran is wide none =
-    let hears = ran_heard does leaves p q bytes scan stands ran in
+    let ran_calls = ran_called does leaves p q bytes scan stands ran in
     let calls = calls_in scan p.screen bytes in (
-      hears.heard,
-      subst (λ (t : ScreenValue). AreSameTrimmed (rows_told calls ++ t.scrollback.rows)
+      ran_calls.called,
+      subst (λ (t : ScreenValue). AreSameTrimmed (rows_of_calls calls ++ t.scrollback.rows)
           (p.screen.scrollback.rows ++ sent_off_in scan p.screen bytes))
-          (sym hears.shown)
+          (sym ran_calls.shown)
           (run_streams scan p.screen bytes none (held_screen p.screen is wide)).alike,
     )
 
@@ -153,7 +153,7 @@ ran_keeps does leaves p q bytes scan stands ran is wide none =
 pub text_by : (rows cols capacity : ℕ) (calls : List ParserCall)
     → Held (fresh_screen rows cols capacity) → HasNoRis start (bytes_of_calls calls)
     → (screen_by start (fresh_screen rows cols capacity) calls).is_alternate ≡ false
-    → streamed_text (told_by start (fresh_screen rows cols capacity) calls)
+    → streamed_text (calls_by start (fresh_screen rows cols capacity) calls)
     (screen_by start (fresh_screen rows cols capacity) calls)
     ≡ whole_text rows cols (bytes_of_calls calls)
 text_by rows cols capacity calls held none main =
@@ -161,22 +161,22 @@ text_by rows cols capacity calls held none main =
     let r = fresh_screen rows cols 0 in
     let bytes = bytes_of_calls calls in
     let k = calls_stream calls start s r refl none held in
-    streamed_is (told_by start s calls) (sent_off_in start r bytes) s (screen_by start s calls) k.streams refl main
+    streamed_is (calls_by start s calls) (sent_off_in start r bytes) s (screen_by start s calls) k.streams refl main
     ∙ ap (λ (t : ScreenValue). basic_texts unwritten (sent_off_in start r bytes ++ t.page.rows)) k.same
 
 pub one_text : {S : Type 0} (does : CallRelation S) → LeavesScreen does
     → (rows cols capacity : ℕ) (p q : Parsing S) (calls : List ParserCall) → IsFreshParser rows cols capacity p
     → HasNoRis start (bytes_of_calls calls) → FoldsTo (MakesCall does) p calls q → q.screen.is_alternate ≡ false
-    → streamed_text (told_by start p.screen calls) q.screen ≡ whole_text rows cols (bytes_of_calls calls)
+    → streamed_text (calls_by start p.screen calls) q.screen ≡ whole_text rows cols (bytes_of_calls calls)
 one_text does leaves rows cols capacity p q calls fresh none makes main =
     let s = fresh_screen rows cols capacity in
     let there : q.screen ≡ screen_by start s calls =
-    (calls_heard does leaves calls p q start fresh.begun makes).shown
+    (calls_made does leaves calls p q start fresh.ground makes).shown
     ∙ ap (λ (t : ScreenValue). screen_by start t calls) fresh.shown in
     let held = held_fresh rows cols capacity
     (page_blank rows cols fresh.has_rows fresh.few_rows fresh.has_columns fresh.few_columns) in
-    ap (λ (t : ScreenValue). streamed_text (told_by start t calls) q.screen) fresh.shown
-    ∙ (ap (streamed_text (told_by start s calls)) there
+    ap (λ (t : ScreenValue). streamed_text (calls_by start t calls) q.screen) fresh.shown
+    ∙ (ap (streamed_text (calls_by start s calls)) there
     ∙ text_by rows cols capacity calls held none (sym (ap (λ (t : ScreenValue). t.is_alternate) there) ∙ main))
 
 -- ---- recorders
@@ -185,8 +185,8 @@ one_text does leaves rows cols capacity p q calls fresh none makes main =
 record HasRecorded {S : Type 0} (text_of : S → List ℕ) (state_of : S → Written)
     (is_whole : S → Bool) (calls : List CallValue) (old new : S) : Type 0 where
   whole : is_whole old ≡ true
-  text : text_of new ≡ text_of old ++ basic_texts (state_of old) (rows_told calls)
-  state : state_of new ≡ written_after_all (state_of old) (rows_told calls)
+  text : text_of new ≡ text_of old ++ basic_texts (state_of old) (rows_of_calls calls)
+  state : state_of new ≡ written_after_all (state_of old) (rows_of_calls calls)
 
 has_recorded : {S : Type 0} (does : CallRelation S)
     (text_of : S → List ℕ) (state_of : S → Written) (is_whole : S → Bool)
@@ -205,8 +205,8 @@ has_recorded does text_of state_of is_whole r (call ∷ calls) old new t w =
     let rest = has_recorded does text_of state_of is_whole r calls mid new t.2 w in
     let text = r.text call old mid t.1.0 t.1.0 does_it rest.whole in
     let state = r.state call old mid t.1.0 t.1.0 does_it rest.whole in
-    let here = row_told call in
-    let told = rows_told calls in
+    let here = row_of_call call in
+    let told = rows_of_calls calls in
     record {
       whole = r.whole call old mid t.1.0 t.1.0 does_it rest.whole;
       text = rest.text
@@ -228,11 +228,11 @@ pub recorded_text : {S : Type 0} (does : CallRelation S)
     → text_of q.callbacks ++ basic_texts (state_of q.callbacks) (all_rows q.screen)
     ≡ whole_text rows cols (bytes_of_calls calls)
 recorded_text does text_of state_of is_whole r rows cols capacity p q calls fresh empty begun none makes main w =
-    let told = told_by start p.screen calls in
-    let heard = (calls_heard does r.leaves calls p q start fresh.begun makes).heard in
-    let done = has_recorded does text_of state_of is_whole r told p.callbacks q.callbacks heard w in
+    let told = calls_by start p.screen calls in
+    let called = (calls_made does r.leaves calls p q start fresh.ground makes).called in
+    let done = has_recorded does text_of state_of is_whole r told p.callbacks q.callbacks called w in
     ap₂ (λ (xs : List ℕ) (v : Written). xs ++ basic_texts v (all_rows q.screen)) done.text done.state
-    ∙ (ap₂ (λ (xs : List ℕ) (v : Written). (xs ++ basic_texts v (rows_told told))
-    ++ basic_texts (written_after_all v (rows_told told)) (all_rows q.screen))
+    ∙ (ap₂ (λ (xs : List ℕ) (v : Written). (xs ++ basic_texts v (rows_of_calls told))
+    ++ basic_texts (written_after_all v (rows_of_calls told)) (all_rows q.screen))
     empty begun
     ∙ one_text does r.leaves rows cols capacity p q calls fresh none makes main)

@@ -1,5 +1,5 @@
--- Calls of a parser between which its screen is scrolled back and forth: what they tell the callbacks,
--- and the one text of what is told and captured.
+-- Calls of a parser between which its screen is scrolled back and forth: what they call the callbacks for,
+-- and the one text of what is reported and captured.
 use Rattle.std.specs.Prelude.{◌≡◌, ℕ, ◌<◌, ◌^◌, Bool, true, List, [], ◌∷◌, ◌++◌}
 use Rattle.vt_rows.specs.Basic.{Written, unwritten}
 use Rattle.vt_scan.specs.Automaton.{State, start}
@@ -8,8 +8,8 @@ use Rattle.vt_scan.specs.Scanner.{StandsFor}
 use Rattle.vt_screen.specs.Calls.{CallValue}
 use Rattle.vt_screen.specs.Capture.{basic_texts, written_after_all}
 use Rattle.vt_screen.specs.Screen.{ScreenValue, fresh_screen, scrolled_back}
-use Rattle.vt_screen.specs.Streamed.{row_told, sent_off_in}
-use Rattle.vt_screen.specs.Telling.{LeavesScreen, calls_in, screen_in}
+use Rattle.vt_screen.specs.Streamed.{row_of_call, sent_off_in}
+use Rattle.vt_screen.specs.CallsOfRun.{LeavesScreen, calls_in, screen_in}
 use Rattle.vt_screen.specs.Run.{CallRelation}
 use Rattle.vt100.specs.Parser.{Parsing, Ran}
 
@@ -29,12 +29,12 @@ bytes_of_calls [] = []
 bytes_of_calls (Process bytes ∷ calls) = bytes ++ bytes_of_calls calls
 bytes_of_calls (SetScrollback rows ∷ calls) = bytes_of_calls calls
 
--- what they tell callbacks that leave the screen alone, and the screen after them
-abbrev pub told_by : State → ScreenValue → List ParserCall → List CallValue
-told_by scan screen [] = []
-told_by scan screen (Process bytes ∷ calls) =
-    calls_in scan screen bytes ++ told_by (run scan bytes).state (screen_in scan screen bytes) calls
-told_by scan screen (SetScrollback rows ∷ calls) = told_by scan (scrolled_back rows screen) calls
+-- the calls of callbacks that leave the screen alone, and the screen after them
+abbrev pub calls_by : State → ScreenValue → List ParserCall → List CallValue
+calls_by scan screen [] = []
+calls_by scan screen (Process bytes ∷ calls) =
+    calls_in scan screen bytes ++ calls_by (run scan bytes).state (screen_in scan screen bytes) calls
+calls_by scan screen (SetScrollback rows ∷ calls) = calls_by scan (scrolled_back rows screen) calls
 
 abbrev pub screen_by : State → ScreenValue → List ParserCall → ScreenValue
 screen_by scan screen [] = screen
@@ -47,7 +47,7 @@ pub record IsFreshParser {S : Type 0} (rows cols capacity : ℕ) (parser : Parsi
   pub few_rows : rows < 2 ^ 16
   pub has_columns : 0 < cols
   pub few_columns : cols < 2 ^ 16
-  pub begun : StandsFor parser.scanner start
+  pub ground : StandsFor parser.scanner start
   pub shown : parser.screen ≡ fresh_screen rows cols capacity
 
 -- the text of all that bytes write on a main page of this size: the rows that leave it, and then those of the page
@@ -64,6 +64,6 @@ pub record IsRecorder {S : Type 0} (does : CallRelation S)
   pub whole : (call : CallValue) (old new : S) (before after : ScreenValue) →
       does call old before new after → is_whole new ≡ true → is_whole old ≡ true
   pub text : (call : CallValue) (old new : S) (before after : ScreenValue) → does call old before new after →
-      is_whole new ≡ true → text_of new ≡ text_of old ++ basic_texts (state_of old) (row_told call)
+      is_whole new ≡ true → text_of new ≡ text_of old ++ basic_texts (state_of old) (row_of_call call)
   pub state : (call : CallValue) (old new : S) (before after : ScreenValue) → does call old before new after →
-      is_whole new ≡ true → state_of new ≡ written_after_all (state_of old) (row_told call)
+      is_whole new ≡ true → state_of new ≡ written_after_all (state_of old) (row_of_call call)

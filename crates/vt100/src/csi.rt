@@ -4,7 +4,7 @@ ghost use Rattle.std.specs.Prelude.{◌≡◌, ◌-◌, ◌<◌, None, Some, len
 ghost use Rattle.vt100.specs.Internals.{Does, DoesOrStops, MadeIf, report_of};
 ghost use Rattle.vt_screen.specs.Calls.{UnhandledCsi};
 ghost use Rattle.vt_screen.specs.Controls.{counted_step, csi_steps, intermediate_steps, number_at, number_or, other_steps};
-ghost use Rattle.vt_screen.specs.Controls.{scrolling_steps, page_erasing, plain_steps, private_steps};
+ghost use Rattle.vt_screen.specs.Controls.{scrolling_steps, page_erasing, unmarked_steps, private_steps};
 ghost use Rattle.vt_screen.specs.Controls.{row_erasing, size_or, space_steps, style_of, window_steps, seen_of};
 ghost use Rattle.vt_grid.specs.PageStep as page;
 ghost use Rattle.vt_screen.specs.Steps.{display_after};
@@ -33,7 +33,7 @@ pub fn perform<CB: Callbacks>(
         callbacks.new screen.new result }
 {
     let Some(intermediate) = numbers::intermediate_at(intermediates, 0) else {
-        return plain(screen, callbacks, parameters, byte);
+        return unmarked(screen, callbacks, parameters, byte);
     };
     let sequence = Sequence {
         first: Some(intermediate),
@@ -47,14 +47,14 @@ pub fn perform<CB: Callbacks>(
 /// A control sequence without a marker or an intermediate. The two that are
 /// most frequent come first.
 #[inline(always)]
-fn plain<CB: Callbacks>(
+fn unmarked<CB: Callbacks>(
     screen: &mut Screen,
     callbacks: &mut CB,
     parameters: &Parameters,
     byte: u8,
 ) -> Result<(), Error>
     ensures { DoesOrStops CB.does callbacks.old screen.old
-        (plain_steps parameters.now.groups byte (seen_of screen.old)) callbacks.new screen.new result }
+        (unmarked_steps parameters.now.groups byte (seen_of screen.old)) callbacks.new screen.new result }
 {
     if byte == b'm' {
         sgr::perform(screen, callbacks, parameters);
@@ -64,20 +64,20 @@ fn plain<CB: Callbacks>(
         move_to(screen, parameters);
         return Ok(());
     }
-    plain_by_table(screen, callbacks, parameters, byte)
+    unmarked_by_table(screen, callbacks, parameters, byte)
 }
 
 /// The same by a table of all final bytes.
 #[inline(never)]
 #[tactic(auto, using(crate::proofs::Dispatching::by_counts))]
-fn plain_by_table<CB: Callbacks>(
+fn unmarked_by_table<CB: Callbacks>(
     screen: &mut Screen,
     callbacks: &mut CB,
     parameters: &Parameters,
     byte: u8,
 ) -> Result<(), Error>
     ensures { DoesOrStops CB.does callbacks.old screen.old
-        (plain_steps parameters.now.groups byte (seen_of screen.old)) callbacks.new screen.new result }
+        (unmarked_steps parameters.now.groups byte (seen_of screen.old)) callbacks.new screen.new result }
 {
     if counted(screen, byte, numbers::number_or(1, parameters, 0)) {
         return Ok(());
@@ -93,7 +93,7 @@ fn plain_by_table<CB: Callbacks>(
 
 /// One that may scroll rows off the page, or another one.
 #[inline(always)]
-#[tactic(auto, using(crate::proofs::Stepping::tested_growth), unfolding(vt_screen::specs::Controls::scrolling_steps))]
+#[tactic(auto, using(crate::proofs::Stepping::tested_refusal), unfolding(vt_screen::specs::Controls::scrolling_steps))]
 fn scrolling<CB: Callbacks>(
     screen: &mut Screen,
     callbacks: &mut CB,

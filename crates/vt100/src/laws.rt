@@ -6,7 +6,7 @@ ghost use Rattle.std.specs.Prelude.{◌≡◌, ◌<◌, ℕ, Bool, false, true, 
 ghost use Rattle.vt100.specs.Parser.{IsHarmless, Parsing, Ran, Stopped, parsing, pieces_joined, quietly};
 ghost use Rattle.vt100.specs.Pieces.{HasRead, IsFine, IsPlainParser, Processes, Processing, ShowsLast, bytes_in};
 ghost use Rattle.vt100.specs.Streams.{IsFreshParser, IsRecorder, MakesCall, ParserCall, Process, bytes_of_calls};
-ghost use Rattle.vt100.specs.Streams.{screen_by, told_by, whole_text};
+ghost use Rattle.vt100.specs.Streams.{screen_by, calls_by, whole_text};
 ghost use Rattle.vt_grid.specs.Page.{SameSize};
 ghost use Rattle.vt_rows.specs.Basic.{Written, unwritten};
 ghost use Rattle.vt_scan.specs.Automaton.{State, start};
@@ -16,9 +16,9 @@ ghost use Rattle.vt_screen.specs.Chain.{CanShowOn, chain_text, last_screen};
 ghost use Rattle.vt_screen.specs.Pages.{resized};
 ghost use Rattle.vt_screen.specs.Reading.{Terminal, read, terminal};
 ghost use Rattle.vt_screen.specs.Screen.{IsScreen, ScreenValue, fresh_screen};
-ghost use Rattle.vt_screen.specs.Streamed.{AreSameTrimmed, HasNoRis, HasWideFlags, without_scrollback, rows_told, sent_off_in};
+ghost use Rattle.vt_screen.specs.Streamed.{AreSameTrimmed, HasNoRis, HasWideFlags, without_scrollback, rows_of_calls, sent_off_in};
 ghost use Rattle.vt_screen.specs.Streamed.{streamed_text};
-ghost use Rattle.vt_screen.specs.Telling.{CalledOnSomeScreen, LeavesScreen, calls_in};
+ghost use Rattle.vt_screen.specs.CallsOfRun.{CalledOnSomeScreen, LeavesScreen, calls_in};
 
 use vt_screen::Callbacks;
 
@@ -65,7 +65,7 @@ pub fn sizes<CB: Callbacks>()
 ///
 /// The premises of `fresh` and `plain` hold of each parser that `Parser::new`,
 /// `Parser::default` and `Parser::new_with_callbacks` give, by their clauses
-/// `begun` and `shown` and the clause `whole` of `Screen::size`.
+/// `ground` and `shown` and the clause `whole` of `Screen::size`.
 pub fn fresh_parsers<CB: Callbacks>()
     ensures fresh { (rows cols capacity : ℕ) (p : Parsing CB) → IsScreen p.screen → StandsFor p.scanner start
         → p ≡ parsing p.scanner (fresh_screen rows cols capacity) p.callbacks
@@ -95,7 +95,7 @@ pub fn resized_parsers<CB: Callbacks>()
 /// What is read quietly as one text is so in every run over its bytes, whatever
 /// the callbacks: a parser that then has not failed has become what reading
 /// made of it (`ran`). So it has after calls of `process` whose slices joined
-/// are the text, where these are told as what they make (`made`). And no such
+/// are the text, where these are given as what they make (`made`). And no such
 /// run can be refused memory (`harmless`), so that `process` answers Ok.
 pub fn quiet_runs<CB: Callbacks>()
     ensures ran { (p q : Parsing CB) (bytes : List ℕ) (state : State) (after : Terminal)
@@ -142,7 +142,7 @@ pub fn chain<CB: Callbacks>()
 /// rows that `on_scroll` was called for with `false`, and behind them, with the
 /// same state, those of `BasicFormattedCaptureRange::Full`.
 ///
-/// `heard` says what callbacks hear that leave the screen alone: the calls of
+/// `called` says what callbacks that leave the screen alone are called for: the calls of
 /// the model, each once and in order. `text` says which text it is: that of all
 /// rows that the bytes send off the main page at its top, and then of the page.
 /// So it is one text (`one`) for every capacity, in whatever pieces the bytes
@@ -162,15 +162,15 @@ pub fn chain<CB: Callbacks>()
 /// Premises are that each call answered Ok, that no RIS is among the bytes, and
 /// that the callbacks leave the screen alone.
 pub fn one_text<CB: Callbacks>()
-    ensures heard { (p q : Parsing CB) (calls : List ParserCall) (scan : State) → LeavesScreen CB.does →
+    ensures called { (p q : Parsing CB) (calls : List ParserCall) (scan : State) → LeavesScreen CB.does →
         StandsFor p.scanner scan → FoldsTo (MakesCall CB.does) p calls q →
         (q.screen ≡ screen_by scan p.screen calls)
-        × FoldsTo (CalledOnSomeScreen CB.does) p.callbacks (told_by scan p.screen calls) q.callbacks }
+        × FoldsTo (CalledOnSomeScreen CB.does) p.callbacks (calls_by scan p.screen calls) q.callbacks }
     ensures kept { (p q : Parsing CB) (bytes : List ℕ) (scan : State) → LeavesScreen CB.does →
         StandsFor p.scanner scan → Ran CB.does p bytes q → IsScreen p.screen → HasWideFlags p.screen →
         HasNoRis scan bytes →
         FoldsTo (CalledOnSomeScreen CB.does) p.callbacks (calls_in scan p.screen bytes) q.callbacks
-        × AreSameTrimmed (rows_told (calls_in scan p.screen bytes) ++ q.screen.scrollback.rows)
+        × AreSameTrimmed (rows_of_calls (calls_in scan p.screen bytes) ++ q.screen.scrollback.rows)
         (p.screen.scrollback.rows ++ sent_off_in scan p.screen bytes) }
     ensures apart { (p q r s : Parsing CB) (bytes : List ℕ) (scan : State) → LeavesScreen CB.does →
         StandsFor p.scanner scan → StandsFor r.scanner scan → without_scrollback p.screen ≡ without_scrollback r.screen →
@@ -179,7 +179,7 @@ pub fn one_text<CB: Callbacks>()
     ensures text { (rows cols capacity : ℕ) (p q : Parsing CB) (calls : List ParserCall) →
         LeavesScreen CB.does → IsFreshParser rows cols capacity p → HasNoRis start (bytes_of_calls calls) →
         FoldsTo (MakesCall CB.does) p calls q → q.screen.is_alternate ≡ false →
-        streamed_text (told_by start p.screen calls) q.screen ≡ whole_text rows cols (bytes_of_calls calls) }
+        streamed_text (calls_by start p.screen calls) q.screen ≡ whole_text rows cols (bytes_of_calls calls) }
     ensures recorded { (text_of : CB → List ℕ) (state_of : CB → Written) (is_whole : CB → Bool)
         (rows cols capacity : ℕ) (p q : Parsing CB) (calls : List ParserCall) →
         IsRecorder CB.does text_of state_of is_whole → IsFreshParser rows cols capacity p → text_of p.callbacks ≡ [] →
@@ -192,5 +192,5 @@ pub fn one_text<CB: Callbacks>()
         bytes_of_calls calls ≡ bytes_of_calls others → HasNoRis start (bytes_of_calls calls) →
         FoldsTo (MakesCall CB.does) p calls q → FoldsTo (MakesCall CB.does) r others s →
         q.screen.is_alternate ≡ false → s.screen.is_alternate ≡ false →
-        streamed_text (told_by start p.screen calls) q.screen ≡ streamed_text (told_by start r.screen others) s.screen }
+        streamed_text (calls_by start p.screen calls) q.screen ≡ streamed_text (calls_by start r.screen others) s.screen }
 {}

@@ -8,7 +8,7 @@ ghost use Rattle.vt_screen.specs.Controls.{clipboard_steps, is_base64, is_clipbo
 use vt_screen::{Callbacks, Screen};
 
 /// Calls what an operating system command says.
-#[tactic(auto, using(crate::proofs::Stepping::told, crate::proofs::Remaining::parts_counted))]
+#[tactic(auto, using(crate::proofs::Stepping::called, crate::proofs::Remaining::parts_counted))]
 pub fn perform<CB: Callbacks>(screen: &mut Screen, callbacks: &mut CB, parts: &[&[u8]])
     ensures { Does CB.does callbacks.old screen.old
         (osc_steps (map (λ part. part.now) parts.now)) callbacks.new screen.new }
@@ -25,7 +25,7 @@ pub fn perform<CB: Callbacks>(screen: &mut Screen, callbacks: &mut CB, parts: &[
 }
 
 /// A command of two parts: a title.
-#[tactic(auto, using(crate::proofs::Stepping::steps_told), unfolding(vt_screen::specs::Controls::named_steps))]
+#[tactic(auto, using(crate::proofs::Stepping::steps_called), unfolding(vt_screen::specs::Controls::named_steps))]
 fn title<CB: Callbacks>(
     screen: &mut Screen,
     callbacks: &mut CB,
@@ -53,7 +53,7 @@ fn title<CB: Callbacks>(
 }
 
 /// A command of three parts: a clipboard, and what it should hold.
-#[tactic(auto, using(crate::proofs::Stepping::steps_told), unfolding(vt_screen::specs::Controls::clipboard_steps))]
+#[tactic(auto, using(crate::proofs::Stepping::steps_called), unfolding(vt_screen::specs::Controls::clipboard_steps))]
 fn clipboard<CB: Callbacks>(
     screen: &mut Screen,
     callbacks: &mut CB,

@@ -9,7 +9,7 @@ ghost use Rattle.vt100.specs.contracts.parser.Parser.{the_row as parser_row};
 ghost use Rattle.vt_scan.specs.Automaton.{State, start};
 ghost use Rattle.vt_scan.specs.Scanner.{StandsFor};
 ghost use Rattle.vt_screen.specs.Pages.{calls_resized, has_size, resized};
-ghost use Rattle.vt_screen.specs.Telling.{TakesCalls};
+ghost use Rattle.vt_screen.specs.CallsOfRun.{TakesCalls};
 ghost use Rattle.vt_screen.specs.contracts.screen.Screen.{the_row as screen_row};
 
 use crate::processing;
@@ -65,7 +65,7 @@ impl Parser {
         cols: NonZeroU16,
         scrollback_capacity: usize,
     ) -> Result<Parser, Error>
-        ensures begun { IfOk result (λ parser. StandsFor parser.scanner start) }
+        ensures ground { IfOk result (λ parser. StandsFor parser.scanner start) }
         ensures memory { OnlyOutOfMemory result }
         ensures shown { IfOk result
             (λ parser. HasFreshScreen rows.value cols.value scrollback_capacity parser.callbacks parser) }
@@ -77,7 +77,7 @@ impl Parser {
     ///
     /// Fails where memory for the screen is refused.
     pub fn default(alloc: Global) -> Result<Parser, Error>
-        ensures begun { IfOk result (λ parser. StandsFor parser.scanner start) }
+        ensures ground { IfOk result (λ parser. StandsFor parser.scanner start) }
         ensures memory { OnlyOutOfMemory result }
         ensures shown { IfOk result (λ parser. HasFreshScreen 24 80 0 parser.callbacks parser) }
     {
@@ -103,7 +103,7 @@ impl<CB: Callbacks> Parser<CB> {
     ) -> Result<Parser<CB>, Error>
     where
         CB: Drop,
-        ensures begun { IfOk result (λ parser. StandsFor parser.scanner start) }
+        ensures ground { IfOk result (λ parser. StandsFor parser.scanner start) }
         ensures memory { OnlyOutOfMemory result }
         ensures shown { IfOk result (HasFreshScreen rows.value cols.value scrollback_capacity callbacks) }
     {
@@ -160,17 +160,17 @@ impl<CB: Callbacks> Parser<CB> {
     }
 
     /// Gives the screen another number of rows and columns, on both pages, as
-    /// [`Screen::set_size`] does. The callbacks are told of the rows that leave
+    /// [`Screen::set_size`] does. The callbacks are called for the rows that leave
     /// a page at its top and aren't kept: first those of the main page, then
     /// those of the alternate one, each older ones first.
     ///
-    /// Fails where memory is refused; then nothing has changed, and nothing was
-    /// told. A parser that ran out of memory can be resized, too.
+    /// Fails where memory is refused; then nothing has changed, and nobody was
+    /// called. A parser that ran out of memory can be resized, too.
     pub fn set_size(&mut self, rows: NonZeroU16, cols: NonZeroU16) -> Result<(), Error>
         ensures ok { OnOk result (self.new
             ≡ record self.old
             { screen = resized rows.value cols.value self.old.screen; callbacks = self.new.callbacks }) }
-        ensures told { OnOk result (TakesCalls CB.does self.old.callbacks
+        ensures called { OnOk result (TakesCalls CB.does self.old.callbacks
             (calls_resized rows.value cols.value self.old.screen) self.new.callbacks) }
         ensures err { OnErr result (self.new ≡ self.old) }
         ensures grows { IsErr result → has_size rows.value cols.value self.old.screen ≡ false }

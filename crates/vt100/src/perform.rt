@@ -86,7 +86,7 @@ fn command<CB: Callbacks>(screen: &mut Screen, callbacks: &mut CB, scanner: &Sca
 
 /// A character: printed, or reported where it stands for bytes that are none.
 #[inline(always)]
-#[tactic(auto, using(crate::proofs::Stepping::told_or_grown), unfolding(vt_screen::specs::Controls::character_steps))]
+#[tactic(auto, using(crate::proofs::Stepping::called_or_refused), unfolding(vt_screen::specs::Controls::character_steps))]
 pub fn print<CB: Callbacks>(
     screen: &mut Screen,
     callbacks: &mut CB,
@@ -128,7 +128,7 @@ fn is_reported(character: char) -> bool
 
 /// A control function of one byte.
 #[inline]
-#[tactic(auto, using(crate::proofs::Stepping::tested_growth, crate::proofs::Deciding::control_feeds))]
+#[tactic(auto, using(crate::proofs::Stepping::tested_refusal, crate::proofs::Deciding::control_feeds))]
 pub fn execute<CB: Callbacks>(
     screen: &mut Screen,
     callbacks: &mut CB,
@@ -162,12 +162,12 @@ fn execute_other<CB: Callbacks>(screen: &mut Screen, callbacks: &mut CB, byte: u
 }
 
 /// An escape sequence with these intermediates.
-#[tactic(auto, using(crate::proofs::Stepping::steps_told), unfolding(vt_screen::specs::Controls::escape_steps))]
+#[tactic(auto, using(crate::proofs::Stepping::steps_called), unfolding(vt_screen::specs::Controls::escape_steps))]
 fn escape<CB: Callbacks>(screen: &mut Screen, callbacks: &mut CB, intermediates: &[u8], byte: u8)
     ensures { Does CB.does callbacks.old screen.old (escape_steps intermediates.now byte) callbacks.new screen.new }
 {
     if intermediates.is_empty() {
-        plain_escape(screen, callbacks, byte);
+        lone_escape(screen, callbacks, byte);
         return;
     }
     let first = numbers::intermediate_at(intermediates, 0);
@@ -177,7 +177,7 @@ fn escape<CB: Callbacks>(screen: &mut Screen, callbacks: &mut CB, intermediates:
 
 /// An escape sequence without intermediates.
 #[tactic(auto, using(crate::proofs::Stepping::tested_steps), unfolding(vt_screen::specs::Controls::escape_steps))]
-fn plain_escape<CB: Callbacks>(screen: &mut Screen, callbacks: &mut CB, byte: u8)
+fn lone_escape<CB: Callbacks>(screen: &mut Screen, callbacks: &mut CB, byte: u8)
     ensures { Does CB.does callbacks.old screen.old (escape_steps [] byte) callbacks.new screen.new }
 {
     match byte {

@@ -37,7 +37,7 @@ pub fn perform<CB: Callbacks>(
 }
 
 /// One group: a mode if it is one number.
-#[tactic(auto, using(crate::proofs::Stepping::told, crate::proofs::Remaining::groups_met))]
+#[tactic(auto, using(crate::proofs::Stepping::called, crate::proofs::Remaining::groups_met))]
 fn perform_group<CB: Callbacks>(
     screen: &mut Screen,
     callbacks: &mut CB,

@@ -51,7 +51,7 @@ fn process_some<CB: Callbacks>(
     ensures read { ReadsOrStops CB.does (parsing scanner.old screen.old callbacks.old) bytes.now
         (parsing scanner.new screen.new callbacks.new) result }
 {
-    if scanner.is_plain(bytes[0]) {
+    if scanner.is_text(bytes[0]) {
         return print_some(scanner, screen, callbacks, bytes);
     }
     if bytes[0] >= 0x80 {
@@ -158,13 +158,13 @@ fn print_some<CB: Callbacks>(
     bytes: &[u8],
 ) -> Result<usize, Error>
     requires some { 0 < length bytes.now }
-    requires plain { ReadsItself scanner.now (slice_index_or bytes.now 0 0) }
+    requires itself { ReadsItself scanner.now (slice_index_or bytes.now 0 0) }
     ensures some { IfOk result (λ count. 0 < count) }
     ensures read { ReadsOrStops CB.does (parsing scanner.now screen.old callbacks.old) bytes.now
         (parsing scanner.now screen.new callbacks.new) result }
 {
     let fitting = bytes.len().min(usize::from(printing::room(screen)));
-    let count = scanner.plain_len(&bytes[..fitting]);
+    let count = scanner.text_len(&bytes[..fitting]);
     if count == 0 {
         print_apart(screen, callbacks, char::from(bytes[0]))?;
         return Ok(1);

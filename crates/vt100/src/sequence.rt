@@ -1,11 +1,11 @@
-//! A control sequence as callbacks are told of it.
+//! A control sequence as callbacks are lent it.
 
 ghost use Rattle.vt100.specs.Internals.{report_of};
 
 use vt_scan::Parameters;
 use vt_screen::{Callbacks, Screen};
 
-/// A control sequence: the kept marker and intermediates that are told, all
+/// A control sequence: the kept marker and intermediates that are lent, all
 /// groups of numbers, and the final byte.
 #[derive(Clone, Copy)]
 pub struct Sequence<'a> {

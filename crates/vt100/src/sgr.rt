@@ -61,7 +61,7 @@ fn set_by_groups<CB: Callbacks>(screen: &mut Screen, callbacks: &mut CB, paramet
 
 /// What one group gives.
 #[inline(always)]
-#[tactic(auto, using(crate::proofs::Stepping::told, crate::proofs::Stepping::stepping))]
+#[tactic(auto, using(crate::proofs::Stepping::called, crate::proofs::Stepping::stepping))]
 fn apply<CB: Callbacks>(
     screen: &mut Screen,
     callbacks: &mut CB,

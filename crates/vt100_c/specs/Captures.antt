@@ -8,8 +8,8 @@ abbrev pub IsPlace : List ℕ → ℕ → Type 0
 IsPlace text at = IsUtf8 text × IsCharBoundary text at
 
 -- the place behind a line feed there, or this one
-abbrev pub behind : List ℕ → ℕ → ℕ
-behind text end = if get_or text end 0 == 10 then end + 1 else end
+abbrev pub behind_line_end : List ℕ → ℕ → ℕ
+behind_line_end text end = if get_or text end 0 == 10 then end + 1 else end
 
 -- the first piece of the text from byte `at` on; at the end where there is none
 abbrev pub IsFirstPiece : (stop at : ℕ) → List Piece → (start end : ℕ) → Type 0

@@ -113,8 +113,8 @@ abbrev pub status_in : {A : Type 0} → Result A ℕ → ℕ
 status_in (Ok value) = ok
 status_in (Err status) = status
 
--- a result is what is due, an error never told as `ok`; and behind an error this stays as it was
+-- a result is what is due, an error never answered as `ok`; and behind an error this stays as it was
 pub record AnswersOrStays {A : Type 0} (due : ℕ) (result : Result A ℕ) (Stays : Type 0) : Type 0 where
   pub answer : IsAnswer due (status_in result)
   pub refused : IfErr result (λ status. ¬ (status ≡ ok))
-  pub left : OnErr result Stays
+  pub stays : OnErr result Stays

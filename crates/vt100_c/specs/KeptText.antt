@@ -4,7 +4,7 @@ use Rattle.vt100_c.specs.Due.{text_at}
 use Rattle.vt100_c.specs.Status.{ok}
 use Rattle.vt100_c.specs.declared.object.Object.{Object}
 
--- the text that was made is kept with what a handle holds, and its length is told; where the call is refused, both stay
+-- the text that was made is kept with what a handle holds, and its length is given; where the call is refused, both stay
 pub record KeepsText (old : Option Object) (status : ℕ) (new : Option Object) (before after : ℕ) : Type 0 where
   pub len : status ≡ ok → after ≡ length (text_at new)
   pub refused : ¬ (status ≡ ok) → new ≡ old

@@ -1,4 +1,4 @@
--- What C is told of a mirror's answers.
+-- What C gets of a mirror's answers.
 use Rattle.std.specs.Prelude.{◌≡◌, ℕ, Bool, List, Option, Some, None, Result, Ok, Err, string_bytes, string_len}
 use Rattle.std.specs.Prelude.{if◌then◌else◌}
 use Rattle.vt_cells.specs.declared.error.Error.{Error}
@@ -10,7 +10,7 @@ use Rattle.vt100_c.specs.Status.{ok, bad_argument, status_of}
 
 -- ---- viewers come and go
 
--- a number is handed over, or an error is told and the place for the number stays
+-- a number is handed over, or an error is answered and the place for the number stays
 abbrev pub GivesNumber : Result ℕ Error → (status before after : ℕ) → Type 0
 GivesNumber (Ok number) status before after = (status ≡ ok) × (after ≡ number)
 GivesNumber (Err error) status before after = (status ≡ status_of error) × (after ≡ before)
@@ -32,20 +32,20 @@ pub record LeavesIt (viewer status : ℕ) (old new : MirrorValue) : Type 0 where
 -- ---- updates
 
 -- what stands where the numbers of an update go: the size of a full one, and the length of the text
-pub record Told : Type 0 where
+pub record UpdateNumbers : Type 0 where
   pub rows : ℕ
   pub cols : ℕ
   pub len : ℕ
 
-abbrev pub told : (rows cols len : ℕ) → Told
-told rows cols len = record { rows = rows; cols = cols; len = len }
+abbrev pub numbers : (rows cols len : ℕ) → UpdateNumbers
+numbers rows cols len = record { rows = rows; cols = cols; len = len }
 
 -- a difference has no size; where there is no update, all is as before
-abbrev pub told_after : Result (Option Update) Error → Told → Told
-told_after (Ok (Some (Full rows cols text))) before = told rows cols (string_len text)
-told_after (Ok (Some (Diff text))) before = told 0 0 (string_len text)
-told_after (Ok None) before = before
-told_after (Err error) before = before
+abbrev pub numbers_after : Result (Option Update) Error → UpdateNumbers → UpdateNumbers
+numbers_after (Ok (Some (Full rows cols text))) before = numbers rows cols (string_len text)
+numbers_after (Ok (Some (Diff text))) before = numbers 0 0 (string_len text)
+numbers_after (Ok None) before = before
+numbers_after (Err error) before = before
 
 -- the text that is kept
 abbrev pub text_after : Result (Option Update) Error → List ℕ → List ℕ
@@ -59,11 +59,11 @@ status_after (Ok (Some update)) = ok
 status_after (Ok None) = bad_argument
 status_after (Err error) = status_of error
 
--- an update is asked for and handed over: its text is kept, and its numbers are told
-pub record Updates (kind : Kind) (viewer status : ℕ) (text text' : List ℕ) (before after : Told)
+-- an update is asked for and handed over: its text is kept, and its numbers are given
+pub record Updates (kind : Kind) (viewer status : ℕ) (text text' : List ℕ) (before after : UpdateNumbers)
     (old new : MirrorValue) : Type 0 where
   pub answer : Result (Option Update) Error
   pub call : Asks kind old viewer answer new
   pub answers : status ≡ status_after answer
   pub keeps : text' ≡ text_after answer text
-  pub tells : after ≡ told_after answer before
+  pub gives : after ≡ numbers_after answer before

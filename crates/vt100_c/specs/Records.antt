@@ -150,7 +150,7 @@ nothing_logged wanted = record { wanted = wanted; records = []; rows = []; is_wh
 -- and nothing is added until it is emptied; any other call leaves the log
 pub record LogsIt (call : CallValue) (old new : Logged) : Type 0 where
   pub kept : is_kept call old ≡ true → (new ≡ with_record call old) ⊎ (new ≡ with_loss old)
-  pub left : is_kept call old ≡ false → new ≡ old
+  pub stays : is_kept call old ≡ false → new ≡ old
 
 -- the screen stays
 abbrev pub Logs : CallValue → Logged → ScreenValue → Logged → ScreenValue → Type 0

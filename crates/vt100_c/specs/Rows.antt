@@ -48,8 +48,8 @@ pub record JoinsTexts (count : ℕ) (texts : List (List ℕ)) (joined ends : Lis
   pub text : joined ≡ concat texts
   pub ends_are : AreEnds count ends texts
 
--- so are those of a screen's rows, and their ends are told; the numbers behind those stay
-pub record TellsRows (screen : ScreenValue) (texts : List (List ℕ)) (joined before after : List ℕ) : Type 0 where
+-- so are those of a screen's rows, and their ends are given; the numbers behind those stay
+pub record GivesRows (screen : ScreenValue) (texts : List (List ℕ)) (joined before after : List ℕ) : Type 0 where
   pub rows : JoinsTexts (length screen.page.rows) texts joined after
   pub rest : drop (length screen.page.rows) after ≡ drop (length screen.page.rows) before
 
@@ -65,12 +65,12 @@ HoldBeside screen (Some prev) Holds = OnBoth screen (screen_in prev.source) Hold
 
 -- ---- what a call makes of what handles hold
 
--- these texts of the rows of the screen that is held, and tells their ends; the screen stays, and so do the numbers
+-- these texts of the rows of the screen that is held, and gives their ends; the screen stays, and so do the numbers
 -- where the call is refused
 pub record MakesRows (texts : ScreenValue → List (List ℕ)) (old : Option Object) (status : ℕ) (new : Option Object)
     (before after : List ℕ) : Type 0 where
   pub source : source_at new ≡ source_at old
-  pub made : status ≡ ok → HoldsScreen old (λ screen. TellsRows screen (texts screen) (text_at new) before after)
+  pub made : status ≡ ok → HoldsScreen old (λ screen. GivesRows screen (texts screen) (text_at new) before after)
   pub refused : ¬ (status ≡ ok) → after ≡ before
 
 -- those that show its rows where the rows of the screen stand that another handle holds
@@ -78,5 +78,5 @@ pub record ChangesRows (start width : ℕ) (old prev : Option Object) (status : 
     (before after : List ℕ) : Type 0 where
   pub source : source_at new ≡ source_at old
   pub made : status ≡ ok → HoldBoth old prev
-      (λ screen other. TellsRows screen (changed_rows start width screen other) (text_at new) before after)
+      (λ screen other. GivesRows screen (changed_rows start width screen other) (text_at new) before after)
   pub refused : ¬ (status ≡ ok) → after ≡ before

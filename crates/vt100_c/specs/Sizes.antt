@@ -23,10 +23,10 @@ Outcome zero Done Refused = Done
 Outcome (suc zero) Done Refused = Refused
 Outcome (suc (suc status)) Done Refused = ⊥
 
--- a parser's screen gets another size, and the events tell of the rows that leave, the others as they were
+-- a parser's screen gets another size, and events are kept for the rows that leave, the others as they were
 pub record HasResized (rows cols : ℕ) (old new : Parsing Logged) : Type 0 where
   pub screen : new ≡ record old { screen = resized rows cols old.screen; callbacks = new.callbacks }
-  pub told : FoldsTo (CalledOnAnyScreen Logs) old.callbacks (calls_resized rows cols old.screen) new.callbacks
+  pub called : FoldsTo (CalledOnAnyScreen Logs) old.callbacks (calls_resized rows cols old.screen) new.callbacks
 
 abbrev pub ResizesParser : (rows cols : ℕ) → Parsing Logged → ℕ → Parsing Logged → Type 0
 ResizesParser rows cols old status new =

@@ -1,4 +1,4 @@
--- What viewers of what a handle holds are told, where that is a mirror.
+-- What viewers of what a handle holds get, where that is a mirror.
 use Rattle.std.specs.Prelude.{◌≡◌, ℕ, List, string_bytes}
 use Rattle.vt_mirror.specs.Calls.{Kind}
 use Rattle.vt_mirror.specs.Watching.{IsFresh}
@@ -7,7 +7,7 @@ use Rattle.vt_scan.specs.Scanner.{StandsFor}
 use Rattle.vt_screen.specs.Screen.{fresh_screen}
 use Rattle.vt100.specs.Parser.{parsing}
 use Rattle.vt100_c.specs.Calls.{Refuses}
-use Rattle.vt100_c.specs.Mirrors.{Joins, LeavesIt, Told, Updates}
+use Rattle.vt100_c.specs.Mirrors.{Joins, LeavesIt, UpdateNumbers, Updates}
 use Rattle.vt100_c.specs.Status.{wrong_kind}
 use Rattle.vt100_c.specs.declared.object.Object.{Object}
 use Rattle.vt100_c.specs.declared.object.Source.{Source}
@@ -44,7 +44,7 @@ LeavesSource viewer (Screen old) status new = Refuses wrong_kind (Screen old) st
 LeavesSource viewer (Capture old) status new = Refuses wrong_kind (Capture old) status new
 
 -- one is updated: the text that was kept becomes another
-abbrev pub UpdatesSource : Kind → (viewer : ℕ) → (before after : Told) → (text text' : List ℕ) →
+abbrev pub UpdatesSource : Kind → (viewer : ℕ) → (before after : UpdateNumbers) → (text text' : List ℕ) →
     Source → ℕ → Source → Type 0
 UpdatesSource kind viewer before after text text' (Mirror old) status (Mirror new) =
     Updates kind viewer status text text' before after old new
@@ -58,6 +58,6 @@ UpdatesSource kind viewer before after text text' (Screen old) status new =
 UpdatesSource kind viewer before after text text' (Capture old) status new =
     Refuses wrong_kind (Capture old) status new × (text' ≡ text) × (after ≡ before)
 
-abbrev pub UpdatesObject : Kind → (viewer : ℕ) → (before after : Told) → Object → ℕ → Object → Type 0
+abbrev pub UpdatesObject : Kind → (viewer : ℕ) → (before after : UpdateNumbers) → Object → ℕ → Object → Type 0
 UpdatesObject kind viewer before after old status new =
     UpdatesSource kind viewer before after (string_bytes old.text) (string_bytes new.text) old.source status new.source

@@ -3,7 +3,7 @@
 ghost use Rattle.std.specs.Prelude.{◌≡◌, ◌+◌, ◌<◌, ◌≤◌, ◌↔◌, List, IfSome, IsSome, drop, length};
 ghost use Rattle.vt_rows.specs.CaptureRows.{AreRowsOf};
 ghost use Rattle.vt_rows.specs.Pieces.{ArePiecesOf, Piece};
-ghost use Rattle.vt100_c.specs.Captures.{IsFirstPiece, IsFirstRow, IsPlace, behind};
+ghost use Rattle.vt100_c.specs.Captures.{IsFirstPiece, IsFirstRow, IsPlace, behind_line_end};
 
 use crate::status::{BAD_ARGUMENT, OK};
 use std::str;
@@ -18,7 +18,7 @@ const NO_PLACE: usize = usize::MAX;
 pub extern "C" fn vt100_next_plain(text: &[u8], at: usize, start: &mut usize, end: &mut usize) -> u8
     ensures status { result ≡ OK ↔ IsPlace text.now at }
     ensures other { ¬ (result ≡ OK) → result ≡ BAD_ARGUMENT }
-    ensures left { ¬ (result ≡ OK) → (start.new ≡ start.old) × (end.new ≡ end.old) }
+    ensures refused { ¬ (result ≡ OK) → (start.new ≡ start.old) × (end.new ≡ end.old) }
     ensures piece { result ≡ OK → (pieces : List Piece) × ArePiecesOf (drop at text.now) pieces
         × IsFirstPiece (length text.now) at pieces start.new end.new }
 {
@@ -44,7 +44,7 @@ pub extern "C" fn vt100_next_row(
 ) -> u8
     ensures status { result ≡ OK ↔ IsPlace text.now at }
     ensures other { ¬ (result ≡ OK) → result ≡ BAD_ARGUMENT }
-    ensures left { ¬ (result ≡ OK) → (end.new ≡ end.old) × (next.new ≡ next.old) }
+    ensures refused { ¬ (result ≡ OK) → (end.new ≡ end.old) × (next.new ≡ next.old) }
     ensures row { result ≡ OK → (rows : List Piece) × AreRowsOf width (drop at text.now) rows
         × IsFirstRow at rows end.new next.new }
 {
@@ -98,14 +98,17 @@ fn next_row(text: &str, width: u16, at: usize) -> (usize, usize)
         return (at, NO_PLACE);
     };
     match rows.next() {
-        Some(_) => (at + row.len(), at + behind(text.as_bytes(), row.len())),
+        Some(_) => (
+            at + row.len(),
+            at + behind_line_end(text.as_bytes(), row.len()),
+        ),
         None => (at + row.len(), NO_PLACE),
     }
 }
 
 /// The place behind a line feed there, or this one.
-fn behind(text: &[u8], end: usize) -> usize
-    ensures value { result ≡ behind text.now end }
+fn behind_line_end(text: &[u8], end: usize) -> usize
+    ensures value { result ≡ behind_line_end text.now end }
     ensures inside { end ≤ length text.now → result ≤ length text.now }
 {
     if end < text.len() && text[end] == b'\n' {

@@ -3,7 +3,7 @@
 ghost use Rattle.std.specs.Prelude.{◌≡◌};
 ghost use Rattle.vt100_c.specs.Calls.{OnObject, OnSource};
 ghost use Rattle.vt100_c.specs.Life.{Makes};
-ghost use Rattle.vt100_c.specs.Mirrors.{told};
+ghost use Rattle.vt100_c.specs.Mirrors.{numbers};
 ghost use Rattle.vt100_c.specs.Status.{ok};
 ghost use Rattle.vt100_c.specs.Viewing.{IsNewMirror, JoinsSource, LeavesSource, UpdatesObject};
 ghost use Rattle.vt_mirror.specs.Calls.{Drawn, Scrolling};
@@ -81,8 +81,8 @@ pub extern "C" fn vt100_update(
     len: &mut usize,
 ) -> u8
     ensures call { OnObject (UpdatesObject Drawn viewer
-        (told rows.old cols.old len.old) (told rows.new cols.new len.new)) handle.old.held result handle.new.held }
-    ensures refused { ¬ (result ≡ ok) → told rows.new cols.new len.new ≡ told rows.old cols.old len.old }
+        (numbers rows.old cols.old len.old) (numbers rows.new cols.new len.new)) handle.old.held result handle.new.held }
+    ensures refused { ¬ (result ≡ ok) → numbers rows.new cols.new len.new ≡ numbers rows.old cols.old len.old }
 {
     if !handle.is_full() {
         return NO_OBJECT;
@@ -104,8 +104,8 @@ pub extern "C" fn vt100_update_scrolling(
     len: &mut usize,
 ) -> u8
     ensures call { OnObject (UpdatesObject Scrolling viewer
-        (told rows.old cols.old len.old) (told rows.new cols.new len.new)) handle.old.held result handle.new.held }
-    ensures refused { ¬ (result ≡ ok) → told rows.new cols.new len.new ≡ told rows.old cols.old len.old }
+        (numbers rows.old cols.old len.old) (numbers rows.new cols.new len.new)) handle.old.held result handle.new.held }
+    ensures refused { ¬ (result ≡ ok) → numbers rows.new cols.new len.new ≡ numbers rows.old cols.old len.old }
 {
     if !handle.is_full() {
         return NO_OBJECT;
@@ -144,8 +144,8 @@ fn leave(source: &mut Source, viewer: u64) -> u8
 /// Makes an update, if it is a mirror.
 fn update(object: &mut Object, viewer: u64, rows: &mut u16, cols: &mut u16, len: &mut usize) -> u8
     ensures call { UpdatesObject Drawn viewer
-        (told rows.old cols.old len.old) (told rows.new cols.new len.new) object.old result object.new }
-    ensures refused { ¬ (result ≡ ok) → told rows.new cols.new len.new ≡ told rows.old cols.old len.old }
+        (numbers rows.old cols.old len.old) (numbers rows.new cols.new len.new) object.old result object.new }
+    ensures refused { ¬ (result ≡ ok) → numbers rows.new cols.new len.new ≡ numbers rows.old cols.old len.old }
 {
     match &mut object.source {
         Source::Mirror(mirror) => {
@@ -167,8 +167,8 @@ fn update_scrolling(
     len: &mut usize,
 ) -> u8
     ensures call { UpdatesObject Scrolling viewer
-        (told rows.old cols.old len.old) (told rows.new cols.new len.new) object.old result object.new }
-    ensures refused { ¬ (result ≡ ok) → told rows.new cols.new len.new ≡ told rows.old cols.old len.old }
+        (numbers rows.old cols.old len.old) (numbers rows.new cols.new len.new) object.old result object.new }
+    ensures refused { ¬ (result ≡ ok) → numbers rows.new cols.new len.new ≡ numbers rows.old cols.old len.old }
 {
     match &mut object.source {
         Source::Mirror(mirror) => {

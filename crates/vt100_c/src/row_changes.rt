@@ -3,7 +3,7 @@
 ghost use Rattle.std.specs.Prelude.{◌≡◌, IfOk, Some, length, string_bytes};
 ghost use Rattle.vt100_c.specs.Due.{AnswersOrStays, IsAnswer, OnBoth, due_at_both, due_beside, due_on_both};
 ghost use Rattle.vt100_c.specs.KeptText.{KeepsBoth};
-ghost use Rattle.vt100_c.specs.Rows.{ChangesRows, HoldBeside, TellsRows, have_range};
+ghost use Rattle.vt100_c.specs.Rows.{ChangesRows, HoldBeside, GivesRows, have_range};
 ghost use Rattle.vt100_c.specs.Sources.{screen_in};
 ghost use Rattle.vt_screen.specs.RowsShown.{changed_rows};
 
@@ -58,7 +58,7 @@ fn beside(
 ) -> Result<String, u8>
     ensures prev { prev.new.held ≡ prev.old.held }
     ensures rows { IfOk result (λ made. HoldBeside (screen_in source.now) prev.old.held (λ screen before.
-        TellsRows screen (changed_rows range.0 range.1 screen before) (string_bytes made) ends.old ends.new)) }
+        GivesRows screen (changed_rows range.0 range.1 screen before) (string_bytes made) ends.old ends.new)) }
     ensures answer { AnswersOrStays (due_beside (have_range range.0 (length ends.old))
         (screen_in source.now) prev.old.held) result (ends.new ≡ ends.old) }
 {
@@ -80,7 +80,7 @@ fn changed_in(
     ends: &mut [usize],
 ) -> Result<String, u8>
     ensures rows { IfOk result (λ made. OnBoth (screen_in source.now) (screen_in prev.now) (λ screen before.
-        TellsRows screen (changed_rows range.0 range.1 screen before) (string_bytes made) ends.old ends.new)) }
+        GivesRows screen (changed_rows range.0 range.1 screen before) (string_bytes made) ends.old ends.new)) }
     ensures answer { AnswersOrStays (due_on_both (have_range range.0 (length ends.old))
         (screen_in source.now) (screen_in prev.now)) result (ends.new ≡ ends.old) }
 {
@@ -102,7 +102,7 @@ fn changed_of(
     range: (u16, u16),
     ends: &mut [usize],
 ) -> Result<String, u8>
-    ensures rows { IfOk result (λ made. TellsRows screen.now
+    ensures rows { IfOk result (λ made. GivesRows screen.now
         (changed_rows range.0 range.1 screen.now prev.now) (string_bytes made) ends.old ends.new) }
     ensures answer { AnswersOrStays (have_range range.0 (length ends.old) screen.now prev.now) result (ends.new ≡ ends.old) }
 {

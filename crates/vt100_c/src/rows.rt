@@ -4,7 +4,7 @@ ghost use Rattle.std.specs.Prelude.{◌≡◌, ◌<◌, ◌≤◌, IfErr, IfOk, 
 ghost use Rattle.std.specs.Prelude.{drop, if◌then◌else◌, take, true};
 ghost use Rattle.vt100_c.specs.Due.{AnswersOrStays, IsAnswer, OnScreen, due_at, due_on};
 ghost use Rattle.vt100_c.specs.KeptText.{KeepsText};
-ghost use Rattle.vt100_c.specs.Rows.{MakesRows, TellsRows, has_places, has_range, plain_rows};
+ghost use Rattle.vt100_c.specs.Rows.{MakesRows, GivesRows, has_places, has_range, plain_rows};
 ghost use Rattle.vt100_c.specs.Sources.{screen_in};
 ghost use Rattle.vt100_c.specs.Status.{bad_argument, ok, out_of_memory};
 ghost use Rattle.vt_screen.specs.RowsShown.{formatted_rows};
@@ -78,7 +78,7 @@ fn plain_in(
     ends: &mut [usize],
 ) -> Result<String, u8>
     ensures rows { IfOk result (λ made. OnScreen (screen_in source.now) (λ screen.
-        TellsRows screen (plain_rows start width screen) (string_bytes made) ends.old ends.new)) }
+        GivesRows screen (plain_rows start width screen) (string_bytes made) ends.old ends.new)) }
     ensures answer { AnswersOrStays
         (due_on (has_places (length ends.old)) (screen_in source.now)) result (ends.new ≡ ends.old) }
 {
@@ -97,7 +97,7 @@ fn plain_of(
     ends: &mut [usize],
 ) -> Result<String, u8>
     ensures rows { IfOk result (λ made.
-        TellsRows screen.now (plain_rows start width screen.now) (string_bytes made) ends.old ends.new) }
+        GivesRows screen.now (plain_rows start width screen.now) (string_bytes made) ends.old ends.new) }
     ensures answer { AnswersOrStays (has_places (length ends.old) screen.now) result (ends.new ≡ ends.old) }
 {
     if !has_places(screen, ends) {
@@ -118,7 +118,7 @@ fn formatted_in(
     ends: &mut [usize],
 ) -> Result<String, u8>
     ensures rows { IfOk result (λ made. OnScreen (screen_in source.now) (λ screen.
-        TellsRows screen (formatted_rows start width screen) (string_bytes made) ends.old ends.new)) }
+        GivesRows screen (formatted_rows start width screen) (string_bytes made) ends.old ends.new)) }
     ensures answer { AnswersOrStays
         (due_on (has_range start (length ends.old)) (screen_in source.now)) result (ends.new ≡ ends.old) }
 {
@@ -138,7 +138,7 @@ fn formatted_of(
     ends: &mut [usize],
 ) -> Result<String, u8>
     ensures rows { IfOk result (λ made.
-        TellsRows screen.now (formatted_rows start width screen.now) (string_bytes made) ends.old ends.new) }
+        GivesRows screen.now (formatted_rows start width screen.now) (string_bytes made) ends.old ends.new) }
     ensures answer { AnswersOrStays (has_range start (length ends.old) screen.now) result (ends.new ≡ ends.old) }
 {
     if !has_range(screen, start, ends) {

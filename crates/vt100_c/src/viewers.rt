@@ -1,7 +1,7 @@
 //! Viewers of a mirror, and what they are told.
 
 ghost use Rattle.std.specs.Prelude.{◌≡◌, string_bytes};
-ghost use Rattle.vt100_c.specs.Mirrors.{Joins, LeavesIt, status_after, text_after, told, told_after};
+ghost use Rattle.vt100_c.specs.Mirrors.{Joins, LeavesIt, status_after, text_after, numbers, numbers_after};
 ghost use Rattle.vt100_c.specs.Status.{ok};
 
 use crate::status::{BAD_ARGUMENT, OK, status_of};
@@ -43,8 +43,8 @@ pub(crate) fn hand_over(
 ) -> u8
     ensures status { result ≡ status_after answer }
     ensures text { string_bytes text.new ≡ text_after answer (string_bytes text.old) }
-    ensures told { told rows.new cols.new len.new ≡ told_after answer (told rows.old cols.old len.old) }
-    ensures refused { ¬ (result ≡ ok) → told rows.new cols.new len.new ≡ told rows.old cols.old len.old }
+    ensures numbers { numbers rows.new cols.new len.new ≡ numbers_after answer (numbers rows.old cols.old len.old) }
+    ensures refused { ¬ (result ≡ ok) → numbers rows.new cols.new len.new ≡ numbers rows.old cols.old len.old }
 {
     match answer {
         Ok(

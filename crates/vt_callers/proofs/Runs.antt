@@ -20,7 +20,7 @@ fresh_parser rows cols capacity p tall wide sound begun shown =
       few_rows = subst (λ (n : ℕ). n < 2 ^ 16) (length-replicate rows (blank_row default_attrs cols)) page.height;
       has_columns = wide;
       few_columns = page.columns;
-      begun = begun;
+      ground = begun;
       shown = shown;
     }
 

@@ -7,7 +7,7 @@ ghost use Rattle.vt_cells.specs.Refusals.{OnlyOutOfMemory};
 ghost use Rattle.vt_scan.specs.Automaton.{start};
 ghost use Rattle.vt_screen.specs.Contents.{between_of, contents_of};
 ghost use Rattle.vt_screen.specs.Screen.{fresh_screen};
-ghost use Rattle.vt_screen.specs.Telling.{screen_in};
+ghost use Rattle.vt_screen.specs.CallsOfRun.{screen_in};
 
 use std::alloc::Global;
 use std::num::NonZeroU16;

@@ -1,6 +1,6 @@
 //! A screen that is left where bytes end, drawn again.
 
-use crate::told::difference;
+use crate::given::difference;
 use anyhow::Result;
 use std::alloc::Global;
 use vt100::Screen;

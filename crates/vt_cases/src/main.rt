@@ -8,12 +8,12 @@
 
 mod case;
 mod cut;
+mod given;
 mod lines;
 mod replay;
 mod script;
 mod tally;
 mod text;
-mod told;
 
 use anyhow::{Context, Result, bail};
 use case::Case;

@@ -2,8 +2,8 @@
 
 use crate::case::Case;
 use crate::cut;
+use crate::given::{difference, gives};
 use crate::lines::{other_lines, picture_lines};
-use crate::told::{difference, is_told};
 use anyhow::{Context, Result};
 use std::alloc::Global;
 use vt_notes::Notes;
@@ -14,10 +14,10 @@ use vt100::{Parser, Screen};
 /// a line for the first difference of each kind, and answers whether there was none.
 pub fn replay<R: AllocGlobal + Print>(rt: &R, case: &Case<'_>) -> Result<bool> {
     let is_shown = is_shown_however_cut(rt, case)?;
-    let is_told = are_texts_told(rt, case)?;
+    let gives = are_texts_given(rt, case)?;
     let is_drawn = !case.is_steady || is_drawn_again(rt, case)?;
     let is_drawn_everywhere = is_drawn_at_every_place(rt, case)?;
-    Ok(is_shown && is_told && is_drawn && is_drawn_everywhere)
+    Ok(is_shown && gives && is_drawn && is_drawn_everywhere)
 }
 
 fn is_shown_however_cut<R: AllocGlobal + Print>(rt: &R, case: &Case<'_>) -> Result<bool> {
@@ -40,7 +40,7 @@ fn is_shown_however_cut<R: AllocGlobal + Print>(rt: &R, case: &Case<'_>) -> Resu
     Ok(same)
 }
 
-fn are_texts_told<R: AllocGlobal + Print>(rt: &R, case: &Case<'_>) -> Result<bool> {
+fn are_texts_given<R: AllocGlobal + Print>(rt: &R, case: &Case<'_>) -> Result<bool> {
     let alloc = rt.alloc();
     let name = case.name;
     let mut same = true;
@@ -118,7 +118,7 @@ fn differing_text<'a>(alloc: Global, case: &Case<'a>) -> Result<Option<&'a str>>
     let prev = screen_before(alloc, case)?;
     let parser = fed(alloc, case, &[case.bytes.as_slice()])?;
     for line in &case.texts {
-        if !is_told(alloc, parser.screen(), &prev, line)? {
+        if !gives(alloc, parser.screen(), &prev, line)? {
             return Ok(Some(line));
         }
     }

@@ -1,8 +1,8 @@
 //! The replay of one script.
 
+use crate::given::gives;
 use crate::lines::{other_lines, picture_lines, size_lines};
 use crate::text::bytes_of;
-use crate::told::is_told;
 use anyhow::{Result, bail};
 use std::alloc::Global;
 use std::num::NonZeroU16;
@@ -107,7 +107,7 @@ fn differing_word<'a>(
         let word = line.split(' ').next().unwrap_or(line);
         if is_of_state(word) {
             writeln!(shown, "{line}")?;
-        } else if !is_told(alloc, parser.screen(), prev, line)? {
+        } else if !gives(alloc, parser.screen(), prev, line)? {
             return Ok(Some(word));
         }
     }

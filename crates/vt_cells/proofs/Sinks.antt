@@ -13,14 +13,14 @@ on_err (Ok x) p = tt
 on_err (Err e) p = p
 
 -- the first piece of a text was refused
-pub stopped_first : (refuses : List ℕ → List ℕ → List ℕ → Type 0) (before piece rest after : List ℕ)
-    → refuses before piece after → IsStopped refuses before (piece ++ rest) after
-stopped_first refuses before piece rest after refused = record {
+pub stopped_first : (refuses : List ℕ → List ℕ → List ℕ → Type 0) (before offered rest after : List ℕ)
+    → refuses before offered after → IsStopped refuses before (offered ++ rest) after
+stopped_first refuses before offered rest after refused = record {
   taken = [];
-  piece = piece;
+  offered = offered;
   rest = rest;
   parts = refl;
-  refused = subst (λ (xs : List ℕ). refuses xs piece after) (sym (append-nil before)) refused;
+  refused = subst (λ (xs : List ℕ). refuses xs offered after) (sym (append-nil before)) refused;
 }
 
 head_same : (x y : ℕ) (xs ys : List ℕ) → x ∷ xs ≡ y ∷ ys → x ≡ y
@@ -48,16 +48,16 @@ stopped_in refuses old mid text rest whole after e le stopped =
     let front = drop (length old) mid in
     record {
       taken = front ++ stopped.taken;
-      piece = stopped.piece;
+      offered = stopped.offered;
       rest = stopped.rest ++ rest;
       parts =
           sym part.1
           ∙ ap (λ (xs : List ℕ). front ++ (xs ++ rest)) stopped.parts
-          ∙ ap (λ (xs : List ℕ). front ++ xs) (append_assoc stopped.taken (stopped.piece ++ stopped.rest) rest
-          ∙ ap (λ (xs : List ℕ). stopped.taken ++ xs) (append_assoc stopped.piece stopped.rest rest))
-          ∙ sym (append_assoc front stopped.taken (stopped.piece ++ (stopped.rest ++ rest)));
+          ∙ ap (λ (xs : List ℕ). front ++ xs) (append_assoc stopped.taken (stopped.offered ++ stopped.rest) rest
+          ∙ ap (λ (xs : List ℕ). stopped.taken ++ xs) (append_assoc stopped.offered stopped.rest rest))
+          ∙ sym (append_assoc front stopped.taken (stopped.offered ++ (stopped.rest ++ rest)));
       refused =
-          subst (λ (xs : List ℕ). refuses xs stopped.piece after)
+          subst (λ (xs : List ℕ). refuses xs stopped.offered after)
           (ap (λ (xs : List ℕ). xs ++ stopped.taken) (sym part.0) ∙ append_assoc old front stopped.taken)
           stopped.refused;
     }

@@ -1,11 +1,11 @@
 -- What a sink holds after it refused a part of a text.
 use Rattle.std.specs.Prelude.{◌≡◌, ℕ, List, ◌++◌}
 
--- of a text behind another one the sink took a beginning, refused the piece behind that, and was given no more; what it
--- holds then goes by its own relation
+-- of a text behind another one the sink took a beginning, refused what was offered behind that, and was given no more;
+-- what it holds then goes by its own relation
 pub record IsStopped (refuses : List ℕ → List ℕ → List ℕ → Type 0) (before text after : List ℕ) : Type 0 where
   pub taken : List ℕ
-  pub piece : List ℕ
+  pub offered : List ℕ
   pub rest : List ℕ
-  pub parts : text ≡ taken ++ (piece ++ rest)
-  pub refused : refuses (before ++ taken) piece after
+  pub parts : text ≡ taken ++ (offered ++ rest)
+  pub refused : refuses (before ++ taken) offered after

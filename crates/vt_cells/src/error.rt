@@ -6,7 +6,7 @@ use std::{fmt, io};
 /// Why a call was refused.
 #[derive(Clone, Copy, PartialEq, Eq, Debug)]
 pub enum Error {
-    /// A growth was refused by the allocator.
+    /// An allocation was refused by the allocator.
     OutOfMemory,
 
     /// The parser ran out of memory before, and reads nothing any more.
@@ -16,7 +16,7 @@ pub enum Error {
     NoNumber,
 }
 
-/// A refused growth, for `?`.
+/// A refused allocation, for `?`.
 impl From<AllocError> for Error {
     ghost use Rattle.std.specs.Prelude.{◌≡◌};
     ghost use Rattle.vt_cells.specs.declared.error.Error.TheVariants.{OutOfMemory};
@@ -28,7 +28,7 @@ impl From<AllocError> for Error {
     }
 }
 
-/// For `?` where input and output are handled: of the kind `OutOfMemory` for a refused growth, and
+/// For `?` where input and output are handled: of the kind `OutOfMemory` for a refused allocation, and
 /// of the kind `Other` for the others.
 impl From<Error> for io::Error {
     ghost use Rattle.std.specs.IoError.{error_kind};

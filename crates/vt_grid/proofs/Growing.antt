@@ -65,13 +65,13 @@ none_in_view w h gone above e =
     ∙ ap (λ (xs : List RowValue). narrow_rows w (take h xs)) all in
     omega (arith, none, narrow-most w (take h empty), length-take h empty)
 
-pub growths_enough : (w h count first : ℕ) (gone : List RowValue) (above : Scrollback) →
+pub allocations_enough : (w h count first : ℕ) (gone : List RowValue) (above : Scrollback) →
     IsScrollback above → length gone ≡ count → 0 < above.offset →
     first ≡ length above.rows + count - min (above.offset + count) above.capacity →
     narrow_rows w (in_view h (kept_after gone above))
     ≤ narrow_rows w (window_from first h above.rows) + (min (first + h) (length above.rows + count) - length above.rows)
 unfolding kept_after
-growths_enough w h count first gone above a e o f =
+allocations_enough w h count first gone above a e o f =
     let whole = stacked gone above in
     let rows = last_of above.capacity whole in
     let offset = if above.offset == 0 then 0 else min (above.offset + length gone) (length rows) in

@@ -127,12 +127,12 @@ kept_by_steps gone above before kept theoretical offset len b e t l o =
     kept_is gone above kept theoretical offset stacks t
     (o ∙ ap (λ (n : ℕ). if above.offset == 0 then 0 else min (above.offset + length gone) n) l)
 
-pub told_by_steps : {S : Type 0} (leaves : S → RowValue → S → Type 0)
+pub reported_by_steps : {S : Type 0} (leaves : S → RowValue → S → Type 0)
     (gone : List RowValue) (above : Scrollback) (before : List RowValue) (old new : S) →
     0 < length gone →
     before ≡ above.rows → FoldsTo leaves old (before_last above.capacity (before ++ map trimmed_row gone)) new →
     FoldsTo leaves old (reported gone above) new
-told_by_steps leaves gone above before old new s b told =
+reported_by_steps leaves gone above before old new s b told =
     let all = ap (λ (xs : List RowValue). before_last above.capacity (xs ++ map trimmed_row gone)) b
     ∙ sym (reported_some gone above s) in
     subst (λ (rows : List RowValue). FoldsTo leaves old rows new) all told

@@ -31,8 +31,8 @@ one c = row (n c ∷ default_blank ∷ [])
 abbrev two : ℕ → ℕ → RowValue
 two c d = row (n c ∷ n d ∷ [])
 
-abbrev bare : RowValue
-bare = row (default_blank ∷ default_blank ∷ [])
+abbrev blank_row : RowValue
+blank_row = row (default_blank ∷ default_blank ∷ [])
 
 -- these rows, the cursor, and a region
 abbrev paged : List RowValue → (r c width top bottom : ℕ) → Page
@@ -42,7 +42,7 @@ paged rows r c width top bottom =
 -- ---- rows
 
 -- above the region only the first row scrolls it
-index_above : reverse_index (paged (one 1 ∷ one 2 ∷ one 3 ∷ []) 0 0 2 1 2) ≡ paged (one 1 ∷ bare ∷ one 2 ∷ []) 0 0 2 1 2
+index_above : reverse_index (paged (one 1 ∷ one 2 ∷ one 3 ∷ []) 0 0 2 1 2) ≡ paged (one 1 ∷ blank_row ∷ one 2 ∷ []) 0 0 2 1 2
 unfolding reverse_index moved_rows
 index_above = refl
 
@@ -53,13 +53,13 @@ index_between = refl
 
 -- the flag travels with its row, and falls at the region's bottom
 line_inserted : lines_inserted 1 (paged (on (n 1 ∷ n 2 ∷ []) ∷ one 3 ∷ []) 0 0 2 0 1)
-    ≡ paged (bare ∷ two 1 2 ∷ []) 0 0 2 0 1
+    ≡ paged (blank_row ∷ two 1 2 ∷ []) 0 0 2 0 1
 unfolding lines_inserted moved_rows
 line_inserted = refl
 
 line_inserted_between : lines_inserted 1
     (paged (on (n 1 ∷ n 2 ∷ []) ∷ on (n 3 ∷ n 4 ∷ []) ∷ one 5 ∷ one 6 ∷ []) 1 1 2 0 3)
-    ≡ paged (on (n 1 ∷ n 2 ∷ []) ∷ bare ∷ on (n 3 ∷ n 4 ∷ []) ∷ one 5 ∷ []) 1 1 2 0 3
+    ≡ paged (on (n 1 ∷ n 2 ∷ []) ∷ blank_row ∷ on (n 3 ∷ n 4 ∷ []) ∷ one 5 ∷ []) 1 1 2 0 3
 unfolding lines_inserted moved_rows
 line_inserted_between = refl
 
@@ -70,17 +70,17 @@ line_outside = refl
 
 -- more than there are leave blank rows, and what stands below the region stays
 lines_gone : lines_deleted 9 (paged (one 1 ∷ one 2 ∷ one 3 ∷ one 4 ∷ []) 1 2 2 0 2)
-    ≡ paged (one 1 ∷ bare ∷ bare ∷ one 4 ∷ []) 1 2 2 0 2
+    ≡ paged (one 1 ∷ blank_row ∷ blank_row ∷ one 4 ∷ []) 1 2 2 0 2
 unfolding lines_deleted moved_rows
 lines_gone = refl
 
 line_deleted : lines_deleted 1 (paged (one 1 ∷ on (n 2 ∷ n 3 ∷ []) ∷ one 4 ∷ []) 0 0 2 0 2)
-    ≡ paged (on (n 2 ∷ n 3 ∷ []) ∷ one 4 ∷ bare ∷ []) 0 0 2 0 2
+    ≡ paged (on (n 2 ∷ n 3 ∷ []) ∷ one 4 ∷ blank_row ∷ []) 0 0 2 0 2
 unfolding lines_deleted moved_rows
 line_deleted = refl
 
 region_down : scrolled_down 1 (paged (one 1 ∷ on (n 2 ∷ n 3 ∷ []) ∷ on (n 4 ∷ n 5 ∷ []) ∷ one 6 ∷ []) 0 2 2 1 2)
-    ≡ paged (one 1 ∷ bare ∷ two 2 3 ∷ one 6 ∷ []) 0 2 2 1 2
+    ≡ paged (one 1 ∷ blank_row ∷ two 2 3 ∷ one 6 ∷ []) 0 2 2 1 2
 unfolding moved_rows
 region_down = refl
 
@@ -144,7 +144,7 @@ tab_last = refl
 
 -- at a pending wrap the whole row, and its flag falls
 start_pending : erased_start default_attrs (paged (on (n 1 ∷ n 2 ∷ []) ∷ one 3 ∷ []) 0 2 2 0 1)
-    ≡ paged (bare ∷ one 3 ∷ []) 0 2 2 0 1
+    ≡ paged (blank_row ∷ one 3 ∷ []) 0 2 2 0 1
 unfolding erased_start put_cells
 start_pending = refl
 
@@ -154,7 +154,7 @@ unfolding erased_start put_cells
 start_half = refl
 
 above : erased_above default_attrs (paged (on (n 1 ∷ n 2 ∷ []) ∷ two 3 4 ∷ one 5 ∷ []) 1 0 2 0 2)
-    ≡ paged (bare ∷ row (default_blank ∷ n 4 ∷ []) ∷ one 5 ∷ []) 1 0 2 0 2
+    ≡ paged (blank_row ∷ row (default_blank ∷ n 4 ∷ []) ∷ one 5 ∷ []) 1 0 2 0 2
 unfolding erased_above erased_start put_cells
 above = refl
 

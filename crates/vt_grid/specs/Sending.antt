@@ -11,34 +11,34 @@ use Rattle.vt_grid.specs.Scrollback.{Scrollback, Sends, TakesMemory}
 
 -- the page becomes this one, and these rows go to scrollback; or memory for them is refused, and nothing has changed
 pub record LetsRowsGo {P S : Type 0} (leaves : S → RowValue → S → Type 0) (height width : ℕ) (gone : List RowValue)
-    (before : P) (above : Scrollback) (heard : S) (made after : P) (kept : Scrollback) (told : S)
+    (before : P) (above : Scrollback) (old : S) (made after : P) (kept : Scrollback) (new : S)
     (result : Result (Unit {0}) Error) : Type 0 where
   pub page : OnOk result (after ≡ made)
-  pub sent : OnOk result (Sends leaves height width gone above heard kept told)
-  pub err : OnErr result ((after ≡ before) × ((kept ≡ above) × (told ≡ heard)))
+  pub sent : OnOk result (Sends leaves height width gone above old kept new)
+  pub err : OnErr result ((after ≡ before) × ((kept ≡ above) × (new ≡ old)))
   pub grows : IsErr result → TakesMemory gone above
   pub memory : OnlyOutOfMemory result
 
 -- a call that fails was refused memory, and nothing has changed
-pub record FailsUnchanged {P S : Type 0} (before : P) (heard : S) (after : P) (told : S)
+pub record FailsUnchanged {P S : Type 0} (before : P) (old : S) (after : P) (new : S)
     (result : Result (Unit {0}) Error) : Type 0 where
-  pub err : OnErr result ((after ≡ before) × (told ≡ heard))
+  pub err : OnErr result ((after ≡ before) × (new ≡ old))
   pub memory : OnlyOutOfMemory result
 
 -- these rows go to scrollback; or memory for them is refused, and scrollback is as it was before
 pub record SendsOrFails {S : Type 0} (leaves : S → RowValue → S → Type 0) (height width : ℕ) (gone : List RowValue)
-    (above : Scrollback) (heard : S) (before after : Scrollback) (told : S)
+    (above : Scrollback) (old : S) (before after : Scrollback) (new : S)
     (result : Result (Unit {0}) Error) : Type 0 where
-  pub sent : OnOk result (Sends leaves height width gone above heard after told)
-  pub refused : FailsUnchanged before heard after told result
+  pub sent : OnOk result (Sends leaves height width gone above old after new)
+  pub refused : FailsUnchanged before old after new result
 
 -- the page gets this height and width; or memory for the rows that leave it is refused, and nothing has changed
 pub record ResizesPage {S : Type 0} (leaves : S → RowValue → S → Type 0) (height width : ℕ)
-    (before : Page) (was : Scrollback) (heard : S) (after : Page) (kept : Scrollback) (told : S)
+    (before : Page) (was : Scrollback) (old : S) (after : Page) (kept : Scrollback) (new : S)
     (result : Result (Unit {0}) Error) : Type 0 where
   pub page : OnOk result (after ≡ page_resized height width was before)
   pub above : OnOk result (kept ≡ scrollback_resized height before was)
-  pub reported : OnOk result (FoldsTo leaves heard (resize_reports height before was) told)
-  pub err : OnErr result ((after ≡ before) × ((kept ≡ was) × (told ≡ heard)))
+  pub reported : OnOk result (FoldsTo leaves old (resize_reports height before was) new)
+  pub err : OnErr result ((after ≡ before) × ((kept ≡ was) × (new ≡ old)))
   pub grows : IsErr result → TakesMemory (take (leaving height before) before.rows) (out_of_view was)
   pub memory : OnlyOutOfMemory result

@@ -90,7 +90,7 @@ pub fn turn_over<L: Leaving>(
     requires page { HasRows 1 page.now }
     requires sound { AreRows rows.old.items }
     ensures rows { OnOk result (rows.new.items ≡ drop 1 rows.old.items ++ map trimmed_row (take 1 page.now.rows)) }
-    ensures left { OnOk result (FoldsTo L.leaves leaving.old (take 1 rows.old.items) leaving.new) }
+    ensures reported { OnOk result (FoldsTo L.leaves leaving.old (take 1 rows.old.items) leaving.new) }
     ensures refused { FailsUnchanged rows.old.items leaving.old rows.new.items leaving.new result }
     ensures grows { IsErr result → OldestIsShorter page.now.rows rows.old.items }
 {

@@ -230,7 +230,7 @@ impl Scrollback {
         let spare = blank_rows(
             self.alloc,
             usize::from(size.cols),
-            self.growths(count, size),
+            self.allocations(count, size),
         )?;
         self.rows
             .reserve(count.min(self.capacity - self.rows.len()))?;
@@ -243,7 +243,7 @@ impl Scrollback {
 
     /// At most how many of the rows that are shown are too short once `count`
     /// rows have been taken over.
-    fn growths(&self, count: usize, size: Size) -> usize
+    fn allocations(&self, count: usize, size: Size) -> usize
         requires { count < 2 ^ 63 }
         ensures { (gone : List RowValue) → length gone ≡ count →
             narrow_rows size.cols (in_view size.rows (kept_after gone self.now)) ≤ result }

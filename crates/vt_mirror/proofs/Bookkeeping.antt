@@ -113,10 +113,10 @@ left_viewers old v was is had has e f u w a =
     put_viewers old new v false None (left old v was is had has e f u w)
     a (λ h. absurd (false≢true h)) (omega arith) (λ _. refl)
 
-pub told : (old : ViewersValue) (v : ℕ) (screen : ScreenValue) (had has : BTreeMap ℕ ScreenValue) →
+pub updated : (old : ViewersValue) (v : ℕ) (screen : ScreenValue) (had has : BTreeMap ℕ ScreenValue) →
     old.notes ≡ had.entries → map.Updates nat_cmp had has v (Some screen) →
     is_viewer old v ≡ true → Puts old v true (Some screen) (record old { notes = has.entries })
-told old v screen had has f w is = record {
+noted old v screen had has f w is = record {
   here = is;
   note_here = w.1;
   others = λ q h. refl;
@@ -125,10 +125,10 @@ told old v screen had has f w is = record {
       ∙ ap (λ (entries : List (ℕ × ScreenValue)). note_of (record old { notes = entries }) q) (sym f);
 }
 
-pub told_viewers : (old : ViewersValue) (v : ℕ) (screen : ScreenValue) (had has : BTreeMap ℕ ScreenValue) →
+pub noted_viewers : (old : ViewersValue) (v : ℕ) (screen : ScreenValue) (had has : BTreeMap ℕ ScreenValue) →
     old.notes ≡ had.entries → map.Updates nat_cmp had has v (Some screen) →
     is_viewer old v ≡ true → AreViewers old → AreViewers (record old { notes = has.entries })
-told_viewers old v screen had has f w is a =
+noted_viewers old v screen had has f w is a =
     put_viewers old (record old { notes = has.entries }) v true (Some screen)
     (told old v screen had has f w is) a (λ _. a.numbers v is) (omega arith) (λ h. absurd (false≢true (sym h)))
 

@@ -10,7 +10,7 @@ use Rattle.vt_scan.specs.Automaton.{start}
 use Rattle.vt_screen.specs.Chain.{chain_text, last_screen, texts_behind}
 use Rattle.vt_screen.specs.Screen.{ScreenValue}
 use Rattle.vt_screen.specs.Shown.{shown}
-use Rattle.vt_screen.specs.Telling.{screen_in}
+use Rattle.vt_screen.specs.CallsOfRun.{screen_in}
 use Rattle.vt_mirror.specs.Runs.{multiples, screens_on_way}
 
 -- ---- which screens

@@ -16,16 +16,16 @@ use Rattle.vt_scan.specs.Scanner.{StandsFor}
 use Rattle.vt_screen.specs.Chain.{chain_text, last_screen}
 use Rattle.vt_screen.specs.Screen.{ScreenValue}
 use Rattle.vt_screen.specs.Shown.{shown}
-use Rattle.vt_screen.specs.Telling.{screen_in}
+use Rattle.vt_screen.specs.CallsOfRun.{screen_in}
 use Rattle.vt100.specs.Parser.{Parsing, Ran, quietly}
 use Rattle.vt100.proofs.Running.{ran_then}
 use Rattle.vt100.proofs.Sizes.{quiet_leaves}
-use Rattle.vt100.proofs.Streams.{ran_heard}
-use Rattle.vt_mirror.specs.Calls.{Drawn, IsUpdate, MirrorProcesses, Tells}
+use Rattle.vt100.proofs.Streams.{ran_called}
+use Rattle.vt_mirror.specs.Calls.{Drawn, IsUpdate, MirrorProcesses, GivesUpdate}
 use Rattle.vt_mirror.specs.Internals.{InStretch, IsBegun, IsWritten, ReadsAtMost, ReadsBytes, ReadsFewer, ReadsStretch}
 use Rattle.vt_mirror.specs.Internals.{WritesUpdate, text_of_update}
 use Rattle.vt_mirror.specs.Mirror.{MirrorValue}
-use Rattle.vt_mirror.specs.Runs.{IsToldAfter, WritesBehind, WritesOnWay, WritesToEnd}
+use Rattle.vt_mirror.specs.Runs.{IsUpdatedAfter, WritesBehind, WritesOnWay, WritesToEnd}
 use Rattle.vt_mirror.specs.Runs.{screens_on_way, screens_to_end, text_on_way}
 use Rattle.vt_mirror.specs.Viewers.{ViewersValue, is_viewer, note_of}
 use Rattle.vt_mirror.specs.declared.update.Update.{Update}
@@ -155,13 +155,13 @@ diff_text self prev None update e is = absurd (no_some prev (sym e))
 
 ran_shows : (p q : Parsing (Unit {0})) (bytes : List ℕ) → StandsFor p.scanner start → Ran quietly p bytes q →
     q.screen ≡ screen_in start p.screen bytes
-ran_shows p q bytes stands ran = (ran_heard quietly quiet_leaves p q bytes start stands ran).shown
+ran_shows p q bytes stands ran = (ran_called quietly quiet_leaves p q bytes start stands ran).shown
 
 pub begun_written : (every viewer : ℕ) (old new : MirrorValue) (left written grown : Option (List ℕ)) → 0 < every →
     IsBegun old viewer → WritesUpdate old viewer new written grown →
     IsWritten every viewer old new left left written grown
 begun_written every viewer old new left written grown some b w =
-    let t = w.tells in
+    let t = w.gives in
     let first = old.parser.screen in
     let none = none_on_way first every some in
     let size : SameSize new.parser.screen.page first.page =
@@ -176,9 +176,9 @@ begun_written every viewer old new left written grown some b w =
       views = t.puts.here;
       note = t.puts.note_here ∙ ap (λ (p : Parsing (Unit {0})). Some p.screen) (sym t.parser);
       last = ap (last_screen first) none ∙ ap (λ (p : Parsing (Unit {0})). p.screen) (sym t.parser);
-      told = (
+      updated = (
         record { sound = t.whole; colored = t.colored; size = own_size first.page },
-        subst (AllByRecursion (IsToldAfter first)) (sym none) tt,
+        subst (AllByRecursion (IsUpdatedAfter first)) (sym none) tt,
       );
       appends =
           subst (Appends written grown) (full_text first (note_of old.viewers viewer) w.update b.note t.text
@@ -187,25 +187,25 @@ begun_written every viewer old new left written grown some b w =
 
 -- one more screen is told of
 record OneMore (first : ScreenValue) (screens : List ScreenValue) (written grown : Option (List ℕ)) : Type 0 where
-  told : AllByRecursion (IsToldAfter first) (first ∷ screens)
+  told : AllByRecursion (IsUpdatedAfter first) (first ∷ screens)
   appends : Appends written grown (chain_text first screens)
 
 one_more : (viewer : ℕ) (first : ScreenValue) (nexts : List ScreenValue) (mid read new : MirrorValue)
     (written grown more : Option (List ℕ))
     → last_screen first nexts ≡ mid.parser.screen → note_of read.viewers viewer ≡ Some mid.parser.screen
-    → SameSize read.parser.screen.page first.page → AllByRecursion (IsToldAfter first) (first ∷ nexts)
+    → SameSize read.parser.screen.page first.page → AllByRecursion (IsUpdatedAfter first) (first ∷ nexts)
     → Appends written grown (chain_text first nexts) → WritesUpdate read viewer new grown more
     → OneMore first (nexts ++ (read.parser.screen ∷ [])) written more
 one_more viewer first nexts mid read new written grown more last note size told appends w =
-    let t = w.tells in
+    let t = w.gives in
     let screen = read.parser.screen in
     let text : text_of_update w.update ≡ bytes_of_all (difference (shown screen) (shown (last_screen first nexts))) =
     diff_text screen mid.parser.screen (note_of read.viewers viewer) w.update note t.text
     ∙ ap (λ (s : ScreenValue). bytes_of_all (difference (shown screen) (shown s))) (sym last) in
     record {
-      told = (
+      updated = (
         told.0,
-        all_of_more (IsToldAfter first) nexts screen told.1
+        all_of_more (IsUpdatedAfter first) nexts screen told.1
             (record { sound = t.whole; colored = t.colored; size = size }),
       );
       appends =
@@ -221,7 +221,7 @@ pub written_more : (every viewer : ℕ) (old mid read new : MirrorValue) (left a
     → IsWritten every viewer old new left rest written more
 written_more every viewer old mid read new left at rest written grown more some stands before s w =
     let first = old.parser.screen in
-    let t = w.tells in
+    let t = w.gives in
     let all = before.input ++ s.bytes in
     let nexts = screens_on_way first every before.input in
     let ran : Ran quietly old.parser all read.parser =
@@ -232,7 +232,7 @@ written_more every viewer old mid read new left at rest written grown more some 
     more_on_way first every before.count before.input s.bytes some before.length_is (s.whole refl)
     ∙ ap (λ (x : ScreenValue). nexts ++ (x ∷ [])) (sym (ran_shows old.parser read.parser all stands ran)) in
     let one = one_more viewer first nexts mid read new written grown more before.last
-    (ap (λ (v : ViewersValue). note_of v viewer) s.reads.viewers ∙ before.note) size before.told before.appends w in
+    (ap (λ (v : ViewersValue). note_of v viewer) s.reads.viewers ∙ before.note) size before.updated before.appends w in
     record {
       input = all;
       count = suc before.count;
@@ -245,8 +245,8 @@ written_more every viewer old mid read new left at rest written grown more some 
       last =
           ap (last_screen first) screens
           ∙ (last_of_more first nexts read.parser.screen ∙ ap (λ (p : Parsing (Unit {0})). p.screen) (sym t.parser));
-      told =
-          subst (λ (xs : List ScreenValue). AllByRecursion (IsToldAfter first) (first ∷ xs)) (sym screens) one.told;
+      updated =
+          subst (λ (xs : List ScreenValue). AllByRecursion (IsUpdatedAfter first) (first ∷ xs)) (sym screens) one.updated;
       appends = subst (λ (xs : List ScreenValue). Appends written more (chain_text first xs)) (sym screens) one.appends;
     }
 
@@ -268,13 +268,13 @@ written_all every viewer old mid read new left at rest written grown more stands
     let one = one_more viewer first nexts mid read new written grown more before.last
     (ap (λ (v : ViewersValue). note_of v viewer) s.reads.viewers ∙ before.note)
     (size_through read.parser.screen.page mid.parser.screen.page first.page s.reads.size before.size)
-    before.told before.appends w in
+    before.updated before.appends w in
     record {
       input = all;
       reads = Consumes-trans left at rest before.input s.bytes before.reads s.reads.reads;
       appends = subst (λ (xs : List ScreenValue). Appends written more (chain_text first xs)) (sym screens) one.appends;
-      told =
-          subst (λ (xs : List ScreenValue). AllByRecursion (IsToldAfter first) (first ∷ xs)) (sym screens) one.told;
+      updated =
+          subst (λ (xs : List ScreenValue). AllByRecursion (IsUpdatedAfter first) (first ∷ xs)) (sym screens) one.updated;
     }
 
 -- ---- where it stops
@@ -327,13 +327,13 @@ still_views every viewer is_whole old mid read left at rest written grown w s =
     ap (λ (v : ViewersValue). is_viewer v viewer) s.reads.viewers ∙ w.views
 
 -- an update was answered, and its text was written
-pub told_written : (old : MirrorValue) (viewer : ℕ) (new : MirrorValue) (update : Update) (text : List ℕ)
+pub update_written : (old : MirrorValue) (viewer : ℕ) (new : MirrorValue) (update : Update) (text : List ℕ)
     (written grown : Option (List ℕ)) (answer : Result (Unit {0}) Fault)
-    → Tells Drawn old viewer update new → text ≡ text_of_update update → OnOk answer (Appends written grown text)
+    → GivesUpdate Drawn old viewer update new → text ≡ text_of_update update → OnOk answer (Appends written grown text)
     → OnOk answer (WritesUpdate old viewer new written grown)
-told_written old viewer new update text written grown (Ok u) tells is appends =
-    record { update = update; tells = tells; appends = subst (Appends written grown) is appends }
-told_written old viewer new update text written grown (Err fault) tells is appends = tt
+update_written old viewer new update text written grown (Ok u) gives is appends =
+    record { update = update; gives = gives; appends = subst (Appends written grown) is appends }
+update_written old viewer new update text written grown (Err fault) gives is appends = tt
 
 pub ended_written : (every viewer : ℕ) (is_whole : Bool) (old mid read new : MirrorValue)
     (left at rest written grown more : Option (List ℕ))

@@ -17,7 +17,7 @@ use Rattle.vt100.specs.Parser.{Parsing}
 use Rattle.vt100.specs.Pieces.{HasRead, IsPlainParser}
 use Rattle.vt100.proofs.Pieces.{read_pieces}
 use Rattle.vt_mirror.specs.Calls.{Asks, Drawn, IsDiff, IsFull, IsOfKind, IsUpdate, JoinsMirror, Kind}
-use Rattle.vt_mirror.specs.Calls.{Scrolling, Resizes, Tells}
+use Rattle.vt_mirror.specs.Calls.{Scrolling, Resizes, GivesUpdate}
 use Rattle.vt_mirror.specs.Mirror.{MirrorValue}
 use Rattle.vt_mirror.specs.Viewers.{Puts, ViewersValue, next_number, note_of}
 use Rattle.vt_mirror.specs.Watching.{Ask, CountUp, Goes, IsFresh, IsLeft, IsNew, IsTakenBy, MirrorDoes, Watches}
@@ -184,7 +184,7 @@ holds_left {S} number old new before l h = record {
 }
 
 holds_own : {S : Type 0} (kind : Kind) (number : ℕ) (update : Update) (old new : Watching S) →
-    Tells kind old.mirror number update new.mirror → Sees update old new → Holds number old → Holds number new
+    GivesUpdate kind old.mirror number update new.mirror → Sees update old new → Holds number old → Holds number new
 holds_own {S} kind number update old new t s h =
     let self = old.mirror.parser.screen in
     let shows_prev : (prev : ScreenValue) →
@@ -203,12 +203,12 @@ holds_own {S} kind number update old new t s h =
     }
 
 holds_taken : {S : Type 0} (kind : Kind) (number asked : ℕ) (update : Update) (old new : Watching S) →
-    Tells kind old.mirror asked update new.mirror →
+    GivesUpdate kind old.mirror asked update new.mirror →
     IsTakenBy number asked update old new → Holds number old → Holds number new
 holds_taken {S} kind number asked update old new t taken h =
     by_number number asked
     (λ own. holds_own kind number update old new
-    (subst (λ (n : ℕ). Tells kind old.mirror n update new.mirror) own t) (taken.own own) h)
+    (subst (λ (n : ℕ). GivesUpdate kind old.mirror n update new.mirror) own t) (taken.own own) h)
     (λ other. holds_left number old new
     (λ screen e. sym (t.puts.other_notes number (λ same. other (sym same))) ∙ e) (taken.others other) h)
 

@@ -110,8 +110,8 @@ IsUpdate kind self (Some prev) (Diff text) = IsOfKind kind self prev (string_byt
 IsUpdate kind self (Some prev) (Full rows cols text) = ⊥
 IsUpdate kind self None update = IsFullUpdate self update
 
--- a viewer is told, and the mirror's screen, which is a screen, is noted for it
-pub record Tells (kind : Kind) (old : MirrorValue) (viewer : ℕ) (update : Update) (new : MirrorValue) : Type 0 where
+-- a viewer gets an update, and the mirror's screen, which is a screen, is noted for it
+pub record GivesUpdate (kind : Kind) (old : MirrorValue) (viewer : ℕ) (update : Update) (new : MirrorValue) : Type 0 where
   pub is : is_viewer old.viewers viewer ≡ true
   pub whole : IsScreen old.parser.screen
   pub colored : IsColored old.parser.screen
@@ -123,7 +123,7 @@ pub record Tells (kind : Kind) (old : MirrorValue) (viewer : ℕ) (update : Upda
 -- what an answer of an update means; none is for a number that is no viewer's
 abbrev pub Answers : Kind → (old : MirrorValue) → ℕ → Option Update → (new : MirrorValue) → Type 0
 Answers kind old viewer None new = (is_viewer old.viewers viewer ≡ false) × (new ≡ old)
-Answers kind old viewer (Some update) new = Tells kind old viewer update new
+Answers kind old viewer (Some update) new = GivesUpdate kind old viewer update new
 
 -- an update is asked for; no viewer is answered none and is never refused; refused, all is as before
 pub record Asks (kind : Kind) (old : MirrorValue) (viewer : ℕ)

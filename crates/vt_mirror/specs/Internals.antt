@@ -8,9 +8,9 @@ use Rattle.vt_scan.specs.Automaton.{start}
 use Rattle.vt_scan.specs.Scanner.{StandsFor}
 use Rattle.vt_screen.specs.Chain.{last_screen}
 use Rattle.vt100.specs.Parser.{Ran, quietly}
-use Rattle.vt_mirror.specs.Calls.{Drawn, Tells}
+use Rattle.vt_mirror.specs.Calls.{Drawn, GivesUpdate}
 use Rattle.vt_mirror.specs.Mirror.{MirrorValue}
-use Rattle.vt_mirror.specs.Runs.{IsToldAfter, screens_on_way, text_on_way}
+use Rattle.vt_mirror.specs.Runs.{IsUpdatedAfter, screens_on_way, text_on_way}
 use Rattle.vt_mirror.specs.Viewers.{is_viewer, note_of}
 use Rattle.vt_mirror.specs.declared.update.Update.{Update}
 use Rattle.vt_mirror.specs.declared.update.Update.TheVariants.{Diff, Full}
@@ -20,11 +20,11 @@ abbrev pub text_of_update : Update → List ℕ
 text_of_update (Diff text) = string_bytes text
 text_of_update (Full rows cols text) = string_bytes text
 
--- a viewer was told, and the text was written
+-- a viewer got an update, and the text was written
 pub record WritesUpdate (old : MirrorValue) (viewer : ℕ) (new : MirrorValue)
     (written grown : Option (List ℕ)) : Type 0 where
   pub update : Update
-  pub tells : Tells Drawn old viewer update new
+  pub gives : GivesUpdate Drawn old viewer update new
   pub appends : Appends written grown (text_of_update update)
 
 -- bytes were read by the mirror; its viewers and its size are as before
@@ -43,7 +43,7 @@ pub record ReadsStretch (every : ℕ) (is_whole : Bool)
   pub fewer : is_whole ≡ false → length bytes < every
   pub end : is_whole ≡ false → IsAtEnd rest
 
--- in the midst of them, with so many left to read
+-- among them, with so many left to read
 pub record InStretch (every still : ℕ) (old new : MirrorValue) (left rest : Option (List ℕ)) : Type 0 where
   pub bytes : List ℕ
   pub reads : ReadsBytes bytes old new left rest
@@ -79,6 +79,6 @@ pub record IsWritten (every viewer : ℕ) (old new : MirrorValue) (left rest wri
   pub views : is_viewer new.viewers viewer ≡ true
   pub note : note_of new.viewers viewer ≡ Some new.parser.screen
   pub last : last_screen old.parser.screen (screens_on_way old.parser.screen every input) ≡ new.parser.screen
-  pub told : AllByRecursion (IsToldAfter old.parser.screen)
+  pub updated : AllByRecursion (IsUpdatedAfter old.parser.screen)
       (old.parser.screen ∷ screens_on_way old.parser.screen every input)
   pub appends : Appends written grown (text_on_way old.parser.screen every input)

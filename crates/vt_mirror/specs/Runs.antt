@@ -9,11 +9,11 @@ use Rattle.vt_grid.specs.Page.{SameSize}
 use Rattle.vt_scan.specs.Automaton.{start}
 use Rattle.vt_screen.specs.Chain.{chain_text}
 use Rattle.vt_screen.specs.Screen.{IsColored, IsScreen, ScreenValue}
-use Rattle.vt_screen.specs.Telling.{screen_in}
+use Rattle.vt_screen.specs.CallsOfRun.{screen_in}
 use Rattle.vt_show.specs.declared.faults.Fault.{Fault}
 use Rattle.vt_show.specs.declared.faults.Fault.TheVariants.{Memory, Read}
 
--- ---- which screens the viewer is told of, after the first one
+-- ---- of which screens the viewer gets an update, after the first one
 
 -- a number, twice that, and so on: so many multiples
 abbrev pub multiples : (number count : ℕ) → List ℕ
@@ -30,7 +30,7 @@ abbrev pub screens_to_end : (first : ScreenValue) (every : ℕ) → List ℕ →
 screens_to_end first every input = screens_on_way first every input ++ (screen_in start first input ∷ [])
 
 -- each is whole, and has the first one's size
-pub record IsToldAfter (first screen : ScreenValue) : Type 0 where
+pub record IsUpdatedAfter (first screen : ScreenValue) : Type 0 where
   pub sound : IsScreen screen
   pub colored : IsColored screen
   pub size : SameSize screen.page first.page
@@ -50,7 +50,7 @@ pub record WritesToEnd (first : ScreenValue) (every : ℕ) (left rest written gr
   pub input : List ℕ
   pub reads : Consumes left rest input
   pub appends : Appends written grown (text_to_end first every input)
-  pub told : AllByRecursion (IsToldAfter first) (first ∷ screens_to_end first every input)
+  pub updated : AllByRecursion (IsUpdatedAfter first) (first ∷ screens_to_end first every input)
 
 -- for bytes behind which a read failed: all updates that were due
 pub record WritesOnWay (first : ScreenValue) (every : ℕ) (left rest written grown : Option (List ℕ)) : Type 0 where

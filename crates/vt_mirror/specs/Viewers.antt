@@ -1,4 +1,4 @@
--- Viewers: their numbers, and the screen that each was told of last.
+-- Viewers: their numbers, and the screen of each one's last update.
 use Rattle.std.specs.Prelude.{◌≡◌, ◌≢◌, ℕ, ◌+◌, ◌≤◌, Bool, true, List, Option, Some, None}
 use Rattle.std.specs.BTreeMap.{is_at}
 use Rattle.std.specs.List.{list_any}

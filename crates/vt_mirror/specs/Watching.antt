@@ -81,7 +81,7 @@ pub record Sees {S : Type 0} (update : Update) (old new : Watching S) : Type 0 w
   pub takes : TakesUpdate update old.viewer new.viewer
   pub seen : new.seen ≡ Some old.mirror.parser.screen
 
--- it is told nothing
+-- it gets no update
 pub record IsLeft {S : Type 0} (old new : Watching S) : Type 0 where
   pub viewer : new.viewer ≡ old.viewer
   pub seen : new.seen ≡ old.seen
@@ -105,7 +105,7 @@ Watches {S} number old (Ask kind viewer (Err error)) new = IsLeft old new
 abbrev pub Goes : {S : Type 0} → ℕ → Watching S → MirrorCall → Watching S → Type 0
 Goes {S} number old call new = MirrorDoes old.mirror call new.mirror × Watches number old call new
 
--- a terminal that was never told anything: it is plain
+-- a terminal that never got an update: it is plain
 pub record IsNew {S : Type 0} (watching : Watching S) : Type 0 where
   pub sound : IsScreen watching.viewer.screen
   pub plain : IsPlainParser watching.viewer

@@ -5,7 +5,7 @@ ghost use Rattle.std.specs.List.{AllByRecursion, FoldsTo};
 ghost use Rattle.std.specs.Prelude.{◌≡◌, ◌∷◌, ℕ, List};
 ghost use Rattle.vt_grid.specs.Page.{SameSize};
 ghost use Rattle.vt_mirror.specs.Mirror.{MirrorValue};
-ghost use Rattle.vt_mirror.specs.Runs.{IsToldAfter, screens_to_end, text_to_end};
+ghost use Rattle.vt_mirror.specs.Runs.{IsUpdatedAfter, screens_to_end, text_to_end};
 ghost use Rattle.vt_mirror.specs.Viewers.{next_number};
 ghost use Rattle.vt_mirror.specs.Watching.{CountUp, Goes, IsFresh, IsNew, MirrorCall, MirrorDoes};
 ghost use Rattle.vt_mirror.specs.Watching.{ShowsSeen, Watching, numbers_given};
@@ -13,7 +13,7 @@ ghost use Rattle.vt_redraw.specs.Steady.{IsSteady};
 ghost use Rattle.vt_scan.specs.Automaton.{start};
 ghost use Rattle.vt_screen.specs.Screen.{IsScreen, ScreenValue};
 ghost use Rattle.vt_screen.specs.Shown.{shown};
-ghost use Rattle.vt_screen.specs.Telling.{screen_in};
+ghost use Rattle.vt_screen.specs.CallsOfRun.{screen_in};
 ghost use Rattle.vt100.specs.Parser.{Parsing};
 ghost use Rattle.vt100.specs.Pieces.{IsFine, IsPlainParser, Processes, Processing, ShowsLast, bytes_in};
 
@@ -52,11 +52,11 @@ pub fn viewers<CB: Callbacks>()
 ///
 /// Premises are that the screen was steady at each update (see
 /// `Screen::contents_formatted`). That each of them is whole and of one size
-/// (`IsToldAfter`) is said where the run answers Ok.
+/// (`IsUpdatedAfter`) is said where the run answers Ok.
 pub fn runs<CB: Callbacks>()
     ensures { (first : ScreenValue) (every : ℕ) (input : List ℕ) (p q : Parsing CB) (calls : List Processing) →
         IsScreen p.screen → IsPlainParser p → SameSize first.page p.screen.page →
-        AllByRecursion (IsToldAfter first) (first ∷ screens_to_end first every input) →
+        AllByRecursion (IsUpdatedAfter first) (first ∷ screens_to_end first every input) →
         AllByRecursion (λ screen. IsSteady (shown screen)) (first ∷ screens_to_end first every input) →
         bytes_in calls ≡ text_to_end first every input → FoldsTo Processes p calls q →
         AllByRecursion IsFine calls × ShowsLast p (screen_in start first input) q }

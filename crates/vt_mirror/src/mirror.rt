@@ -69,7 +69,7 @@ impl Mirror {
         cols: NonZeroU16,
         scrollback_capacity: usize,
     ) -> Result<Mirror, Error>
-        ensures begun { IfOk result (λ mirror. StandsFor mirror.parser.scanner start) }
+        ensures ground { IfOk result (λ mirror. StandsFor mirror.parser.scanner start) }
         ensures shown { IfOk result (ShowsFreshScreen rows.value cols.value scrollback_capacity) }
         ensures last { IfOk result (λ mirror. mirror.viewers.last ≡ None) }
         ensures nobody { IfOk result (λ mirror. mirror.viewers.numbers ≡ []) }

@@ -83,7 +83,7 @@ impl Viewers {
     }
 
     /// Notes a screen for a viewer.
-    #[tactic(auto, using(crate::proofs::Bookkeeping::told, crate::proofs::Bookkeeping::told_viewers))]
+    #[tactic(auto, using(crate::proofs::Bookkeeping::noted, crate::proofs::Bookkeeping::noted_viewers))]
     pub(crate) fn put(&mut self, viewer: u64, screen: Screen) -> Result<(), Error>
         requires { is_viewer self.old viewer ≡ true }
         ensures ok { OnOk result (Puts self.old viewer true (Some screen) self.new) }

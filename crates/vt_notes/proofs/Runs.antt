@@ -15,7 +15,7 @@ use Rattle.vt_screen.specs.Controls.{seen_of, steps_of}
 use Rattle.vt_screen.specs.Steps.{Step, Print, LineFeed, ScrollUp, OnPage, SaveCursor, RestoreCursor, EnterAlternate}
 use Rattle.vt_screen.specs.Steps.{EnterFresh, LeaveAlternate, LeaveRestoring, Reset, EraseScrollback, Render}
 use Rattle.vt_screen.specs.Steps.{HideCursor, SetMode, CallBack, reports, screen_after, display_after}
-use Rattle.vt_screen.specs.Telling.{calls_of, calls_of_all, screen_after_all, steps_of_all, steps_in, calls_in, screen_in}
+use Rattle.vt_screen.specs.CallsOfRun.{calls_of, calls_of_all, screen_after_all, steps_of_all, steps_in, calls_in, screen_in}
 use Rattle.vt100.specs.Parser.{Parsing, Ran, pieces_joined, parsing, stage}
 use Rattle.vt_rows.proofs.Folds.{folds_then}
 use Rattle.vt100.proofs.Running.{ran_joined}
@@ -72,22 +72,22 @@ done_telling call a b t = record {
 }
 
 -- rows that are reported
-done_heard : (alternate : Bool) (rows : List RowValue) (old new : Noted) (screen : ScreenValue) →
+done_called : (alternate : Bool) (rows : List RowValue) (old new : Noted) (screen : ScreenValue) →
     FoldsTo (CalledOnScroll NotesIt alternate) old rows new →
     Done (state old screen) (map (λ (row : RowValue). OnScroll row alternate) rows) screen (state new screen)
-done_heard alternate [] old new screen e =
+done_called alternate [] old new screen e =
     subst (λ (n : Noted). Done (state old screen) [] screen (state n screen)) e (done_nothing (state old screen))
-done_heard alternate (row ∷ rows) old new screen t =
+done_called alternate (row ∷ rows) old new screen t =
     done_then (state old screen) (state t.0 screen) (state new screen)
     (OnScroll row alternate ∷ []) (map (λ (r : RowValue). OnScroll r alternate) rows) screen screen
     (done_telling (OnScroll row alternate) (state old screen) (state t.0 screen) (t.1 screen))
-    (done_heard alternate rows t.0 new screen t.2)
+    (done_called alternate rows t.0 new screen t.2)
 
 done_scrolled : (x : Step) (a b : act.State Noted) → Scrolls NotesIt a x b →
     Done a (map (λ (row : RowValue). OnScroll row a.screen.is_alternate) (reports x a.screen)) (screen_after x a.screen) b
 done_scrolled x a b t =
-    let heard = done_heard a.screen.is_alternate (reports x a.screen) a.callbacks b.callbacks a.screen t.heard in
-    record { shown = t.screen; complete = heard.complete; noted = heard.noted }
+    let called = done_called a.screen.is_alternate (reports x a.screen) a.callbacks b.callbacks a.screen t.called in
+    record { shown = t.screen; complete = called.complete; noted = called.noted }
 
 done_step : (x : Step) (a b : act.State Noted) → Takes NotesIt a x b →
     Done a (calls_of x a.screen) (screen_after x a.screen) b

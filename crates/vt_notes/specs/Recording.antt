@@ -5,7 +5,7 @@ use Rattle.vt_rows.specs.Row.{RowValue}
 use Rattle.vt_screen.specs.Calls.{CallValue}
 use Rattle.vt_screen.specs.Capture.{basic_texts, written_after_all}
 use Rattle.vt_screen.specs.Screen.{ScreenValue}
-use Rattle.vt_screen.specs.Streamed.{row_told}
+use Rattle.vt_screen.specs.Streamed.{row_of_call}
 
 -- the capture so far, the state behind it, and whether nothing of it was refused
 pub record Recorded : Type 0 where
@@ -24,4 +24,4 @@ with_rows rows old =
 -- the row that a call reports of the main page is written behind the capture,
 -- or that is known not to be whole; the screen stays
 abbrev pub Records : CallValue → Recorded → ScreenValue → Recorded → ScreenValue → Type 0
-Records call old before new after = (after ≡ before) × ((new ≡ with_rows (row_told call) old) ⊎ (new.is_whole ≡ false))
+Records call old before new after = (after ≡ before) × ((new ≡ with_rows (row_of_call call) old) ⊎ (new.is_whole ≡ false))

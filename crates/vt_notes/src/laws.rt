@@ -11,7 +11,7 @@ ghost use Rattle.vt_scan.specs.Automaton.{State, start};
 ghost use Rattle.vt_scan.specs.Scanner.{StandsFor};
 ghost use Rattle.vt_screen.specs.Capture.{all_rows, basic_texts};
 ghost use Rattle.vt_screen.specs.Streamed.{HasNoRis};
-ghost use Rattle.vt_screen.specs.Telling.{calls_in, screen_in};
+ghost use Rattle.vt_screen.specs.CallsOfRun.{calls_in, screen_in};
 
 /// A run whose callbacks note each call: the screen is what the bytes make of it, and where no note
 /// is missing, the new notes are exactly the calls of the bytes, each once and in order.

@@ -4,7 +4,7 @@ ghost use Rattle.std.specs.Prelude.{◌≡◌, map, true, IfErr, IfOk};
 ghost use Rattle.vt100.specs.Parser.{pieces_joined};
 ghost use Rattle.vt_scan.specs.Automaton.{start};
 ghost use Rattle.vt_screen.specs.Screen.{fresh_screen};
-ghost use Rattle.vt_screen.specs.Telling.{calls_in, screen_in};
+ghost use Rattle.vt_screen.specs.CallsOfRun.{calls_in, screen_in};
 
 use crate::notes::Notes;
 use std::alloc::Global;

@@ -45,15 +45,15 @@ ends_append (x ∷ []) y ys = refl
 ends_append (x ∷ z ∷ xs) y ys = ends_append (z ∷ xs) y ys
 
 -- the last column of a row whose rest is `rest`, behind cells that end so, where a torn half became so
-abbrev pub end_of : Bool → Bool → List CellValue → Bool
-end_of n o [] = n
-end_of n o (right_half ∷ []) = o
-end_of n o (right_half ∷ y ∷ xs) = ends (y ∷ xs)
-end_of n o (blank a ∷ xs) = ends (blank a ∷ xs)
-end_of n o (glyph text wide a ∷ xs) = ends (glyph text wide a ∷ xs)
+abbrev pub ends_after : Bool → Bool → List CellValue → Bool
+ends_after n o [] = n
+ends_after n o (right_half ∷ []) = o
+ends_after n o (right_half ∷ y ∷ xs) = ends (y ∷ xs)
+ends_after n o (blank a ∷ xs) = ends (blank a ∷ xs)
+ends_after n o (glyph text wide a ∷ xs) = ends (glyph text wide a ∷ xs)
 
 ends_new : (xs : List CellValue) (o : CellValue) (rest : List CellValue) →
-    ends (xs ++ opened o rest) ≡ end_of (ends xs) (is_blank o) rest
+    ends (xs ++ opened o rest) ≡ ends_after (ends xs) (is_blank o) rest
 ends_new xs o [] = ap ends (append-nil xs)
 ends_new xs o (blank b ∷ ys) = ends_append xs (blank b) ys
 ends_new xs o (glyph text wide b ∷ ys) = ends_append xs (glyph text wide b) ys
@@ -63,7 +63,7 @@ ends_new xs o (right_half ∷ y ∷ ys) = ends_append xs o (y ∷ ys)
 -- the flag after a change, by what is left of what stood there
 flag_after : (f n o : Bool) (rest : List CellValue) →
     (f ≡ true → is_nil rest ≡ false → is_torn rest ≡ false → ends rest ≡ false) →
-    (f && not (end_of n o rest)) ≡ (f && not ((is_nil rest && n) || (is_torn rest && o)))
+    (f && not (ends_after n o rest)) ≡ (f && not ((is_nil rest && n) || (is_torn rest && o)))
 flag_after false n o rest h = refl
 flag_after true n o [] h = grind (arith)
 flag_after true n o (right_half ∷ []) h = grind (arith)
@@ -86,7 +86,7 @@ nil_drop zero = refl
 nil_drop (suc m) = refl
 
 end_rest : (n o : Bool) (y : CellValue) (ys : List CellValue) (m : ℕ) →
-    is_nil (drop m ys) ≡ false → end_of n o (y ∷ ys) ≡ ends (drop m ys)
+    is_nil (drop m ys) ≡ false → ends_after n o (y ∷ ys) ≡ ends (drop m ys)
 end_rest n o y [] m h = let t = nil_drop m in absurd (cc)
 end_rest n o (blank a) (z ∷ zs) m h = sym (ends_drop m (z ∷ zs) h)
 end_rest n o (glyph text wide a) (z ∷ zs) m h = sym (ends_drop m (z ∷ zs) h)
@@ -100,9 +100,9 @@ pub flag_step : (pre new : List CellValue) (y : CellValue)
     ≡ (f && not ((is_nil (drop m ys) && b) || (is_torn (drop m ys) && is_blank q)))
 flag_step pre new y ys q o m f b e h =
     let rest = drop m ys in
-    let last : ends (pre ++ (new ++ opened q rest)) ≡ end_of b (is_blank q) rest =
+    let last : ends (pre ++ (new ++ opened q rest)) ≡ ends_after b (is_blank q) rest =
     ap ends (sym (append_assoc pre new (opened q rest)))
-    ∙ (ends_new (pre ++ new) q rest ∙ ap (λ (z : Bool). end_of z (is_blank q) rest) e) in
+    ∙ (ends_new (pre ++ new) q rest ∙ ap (λ (z : Bool). ends_after z (is_blank q) rest) e) in
     ap (λ (z : Bool). f && not z) last
     ∙ flag_after f b (is_blank q) rest
     (λ t s _. sym (end_rest (ends pre) (is_blank o) y ys m s) ∙ (sym (ends_new pre o (y ∷ ys)) ∙ h t))

@@ -33,7 +33,7 @@ pub mod UncutItems
 pub mod ItemDraws
 pub mod ItemEmpty
 pub mod ItemFits
-pub mod PlainSteady
+pub mod SteadyWithout
 pub mod Cuts
 pub mod Chain
 pub mod Touched

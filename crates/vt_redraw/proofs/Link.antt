@@ -218,9 +218,9 @@ going_behind_draws May base done below xs flag r height pen reads e rows w h ful
 -- ---- the break
 
 -- what stands where the last glyph was erased
-abbrev pub bare : Bool → Attrs → List CellValue
-bare false a = blank a ∷ []
-bare true a = blank a ∷ default_blank ∷ []
+abbrev pub blanked : Bool → Attrs → List CellValue
+blanked false a = blank a ∷ []
+blanked true a = blank a ∷ default_blank ∷ []
 
 falls_off : (flag : Bool) (pre : List CellValue) (y : CellValue) (ys : List CellValue) →
     ends (y ∷ ys) ≡ true → kept flag (pre ++ y ∷ ys) ≡ false
@@ -241,7 +241,7 @@ pub erase_last : (May : ℕ → ℕ → Type 0) (base : Canvas) (done below : Li
     ((k : ℕ) → length pre ≤ k → k < base.page.width → May r k) →
     DrawsIn May (EraseChars 1 ∷ [])
     (mid base done below (pre ++ glyph_cells text wide b) flag (pen_at r (length pre) a))
-    (mid base done below (pre ++ bare wide a) false (pen_at r (length pre) a))
+    (mid base done below (pre ++ blanked wide a) false (pen_at r (length pre) a))
 erase_last May base done below pre text false b a flag r e w h may =
     let start = mid base done below (pre ++ glyph text false b ∷ []) flag (pen_at r (length pre) a) in
     record {
@@ -270,7 +270,7 @@ pub print_bare : (May : ℕ → ℕ → Type 0) (base : Canvas) (done below : Li
     (pre : List CellValue) (text : List ℕ) (wide : Bool) (b a : Attrs) (r : ℕ) →
     Prints base.page.width text wide → length done ≡ r → length pre + glyph_columns wide ≡ base.page.width →
     Paired pre → ((k : ℕ) → length pre ≤ k → k < base.page.width → May r k) →
-    DrawsIn May (Print text ∷ []) (mid base done below (pre ++ bare wide b) false (pen_at r (length pre) a))
+    DrawsIn May (Print text ∷ []) (mid base done below (pre ++ blanked wide b) false (pen_at r (length pre) a))
     (mid base done below (pre ++ glyph_cells text wide a) false (pen_at r (length pre + glyph_columns wide) a))
 print_bare May base done below pre text false b a r prints e w h may =
     print_in May base done below pre default_blank (blank b) [] false r (length pre) text false a
@@ -313,7 +313,7 @@ breaking_draws May base done below xs flag wanted r height pen reads e rows w h 
       let n = length_glyph pre text wide a in
       let one = some_columns wide in
       let row = pre ++ glyph_cells text wide a in
-      let gone = pre ++ bare wide pen.attrs in
+      let gone = pre ++ blanked wide pen.attrs in
       let c = length pre in
       let goal = mid base done below row false (pen_at r (length row) a) in
       in_then May (move_ops pen r c) (EraseChars 1 ∷ (attr_ops pen.attrs a ++ Print text ∷ []))

@@ -104,7 +104,7 @@ pub fn cursor_state_local()
 
 /// A picture without U+FE0F among its glyphs is steady, whatever the widths of
 /// its characters are.
-pub fn plain_steady()
+pub fn steady_without_selectors()
     ensures { (picture : Picture) → IsPicture picture → HasNoSelector picture → IsSteady picture }
 {}
 

@@ -1,6 +1,6 @@
 //! Makes calls that take memory, one after another, and prints what each answers and what stands
 //! after it. Nothing else here takes memory but what comes first: for each byte of standard input a
-//! growth that is given back at once. So with the growth of one number refused, input of another
+//! allocation that is given back at once. So with the allocation of one number refused, input of another
 //! length has another call refused: that call has to answer so, and all else has to stay as it was.
 //! `tests/refusals` looks at this.
 //!
@@ -43,12 +43,12 @@ fn main(rt: HostRuntime) -> io::Result<()> {
         return scarce::run(&rt);
     }
     if !has_warmed_up(rt.alloc(), count) {
-        return println!(rt; "the growths that come first: refused");
+        return println!(rt; "the allocations that come first: refused");
     }
     run_scenes(&rt)
 }
 
-/// Makes so many growths, and gives each back; false if one is refused.
+/// Makes so many allocations, and gives each back; false if one is refused.
 fn has_warmed_up(alloc: Global, count: usize) -> bool {
     for _ in 0..count {
         if Vec::<u8>::with_capacity(alloc, 1).is_err() {
@@ -92,7 +92,7 @@ fn run<R: AllocGlobal + Print>(rt: &R, scene: &Scene) -> io::Result<()> {
         let answer = step.make(rt.alloc(), &mut parser);
         print!(rt; "{step}: {answer}; {}", Shown(&parser))?;
         if answer.is_refusal() {
-            tell(rt, standing::of_scene(rt.alloc(), scene, number, &parser))?;
+            print(rt, standing::of_scene(rt.alloc(), scene, number, &parser))?;
         }
         println!(rt)?;
     }
@@ -110,7 +110,7 @@ fn run_pair<R: AllocGlobal + Print>(rt: &R, name: &str, acts: &[Act]) -> io::Res
         let answer = pair.make(rt.alloc(), *act);
         print!(rt; "{act}: {answer}; {}", Shown(pair.changed_by(*act)))?;
         if answer.is_refusal() {
-            tell(rt, standing::of_pair(rt.alloc(), acts, number, &pair))?;
+            print(rt, standing::of_pair(rt.alloc(), acts, number, &pair))?;
         }
         println!(rt)?;
     }
@@ -129,7 +129,7 @@ fn new_pair(alloc: Global) -> Result<Pair, &'static str> {
 }
 
 /// Prints what stands.
-fn tell<R: Print>(rt: &R, standing: Result<Standing, Error>) -> io::Result<()> {
+fn print<R: Print>(rt: &R, standing: Result<Standing, Error>) -> io::Result<()> {
     match standing {
         Ok(standing) => print!(rt; "; {standing}"),
         Err(_) => print!(rt; "; refused once more"),

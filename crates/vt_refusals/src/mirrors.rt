@@ -1,4 +1,4 @@
-//! Growths of a mirror with viewers.
+//! Allocations of a mirror with viewers.
 
 use crate::step;
 use std::{fmt, io};
@@ -40,7 +40,7 @@ enum Answer {
     Was(bool),
 
     /// An update.
-    Told(Update),
+    Update(Update),
 
     /// The number is no viewer's.
     Nobody,
@@ -137,16 +137,16 @@ impl Call {
                 Err(error) => Answer::Refused(error),
             },
             Call::Leave(viewer) => Answer::Was(mirror.leave(viewer)),
-            Call::Update(viewer) => told(mirror.update(viewer)),
-            Call::UpdateScrolling(viewer) => told(mirror.update_scrolling(viewer)),
+            Call::Update(viewer) => answer_of(mirror.update(viewer)),
+            Call::UpdateScrolling(viewer) => answer_of(mirror.update_scrolling(viewer)),
         }
     }
 }
 
 /// The answer of a call that gives an update.
-fn told(made: Result<Option<Update>, Error>) -> Answer {
+fn answer_of(made: Result<Option<Update>, Error>) -> Answer {
     match made {
-        Ok(Some(update)) => Answer::Told(update),
+        Ok(Some(update)) => Answer::Update(update),
         Ok(None) => Answer::Nobody,
         Err(error) => Answer::Refused(error),
     }
@@ -171,10 +171,10 @@ impl fmt::Display for Answer {
             Answer::Done => write!(f, "ok"),
             Answer::Number(viewer) => write!(f, "{viewer}"),
             Answer::Was(was) => write!(f, "{was}"),
-            Answer::Told(Update::Diff(text)) => {
+            Answer::Update(Update::Diff(text)) => {
                 write!(f, "difference [{}]", text.as_bytes().escape_ascii())
             }
-            Answer::Told(Update::Full { rows, cols, text }) => {
+            Answer::Update(Update::Full { rows, cols, text }) => {
                 write!(f, "full {rows} {cols} [{}]", text.as_bytes().escape_ascii())
             }
             Answer::Nobody => write!(f, "none"),

@@ -88,16 +88,16 @@ impl Step {
     /// The answer of a call that gives a text of the screen.
     fn text(self, alloc: Global, screen: &Screen) -> Answer {
         match self {
-            Step::Redraw => told(screen.contents_formatted()),
-            Step::Reset => told(screen.contents_formatted_reset()),
-            Step::Cursor => told(screen.cursor_state_formatted()),
-            Step::Attributes => told(screen.attributes_formatted()),
-            Step::State => told(screen.state_formatted()),
-            Step::Modes => told(screen.input_mode_formatted()),
-            Step::Contents => told(screen.contents()),
-            Step::Range => told(screen.contents_between(0, 0, 1, 4)),
+            Step::Redraw => answer_of(screen.contents_formatted()),
+            Step::Reset => answer_of(screen.contents_formatted_reset()),
+            Step::Cursor => answer_of(screen.cursor_state_formatted()),
+            Step::Attributes => answer_of(screen.attributes_formatted()),
+            Step::State => answer_of(screen.state_formatted()),
+            Step::Modes => answer_of(screen.input_mode_formatted()),
+            Step::Contents => answer_of(screen.contents()),
+            Step::Range => answer_of(screen.contents_between(0, 0, 1, 4)),
             Step::Row(row) => row_text(screen, row),
-            Step::Basic => told(screen.contents_formatted_basic()),
+            Step::Basic => answer_of(screen.contents_formatted_basic()),
             Step::Capture => captured(alloc, screen),
             _ => Answer::NoText,
         }
@@ -113,7 +113,7 @@ fn done(made: Result<(), Error>) -> Answer {
 }
 
 /// The answer of a call with a text.
-fn told(made: Result<String, Error>) -> Answer {
+fn answer_of(made: Result<String, Error>) -> Answer {
     match made {
         Ok(text) => Answer::Text(text),
         Err(error) => Answer::Refused(error),
@@ -127,7 +127,7 @@ fn row_text(screen: &Screen, row: u16) -> Answer {
         let _before = rows.next();
     }
     match rows.next() {
-        Some(text) => told(text),
+        Some(text) => answer_of(text),
         None => Answer::NoText,
     }
 }
@@ -169,10 +169,10 @@ impl Change {
             return Answer::TwoSizes;
         }
         match self {
-            Change::Picture => told(screen.contents_diff(prev)),
-            Change::Scrolling => told(screen.contents_diff_scrolling(prev)),
-            Change::State => told(screen.state_diff(prev)),
-            Change::Modes => told(screen.input_mode_diff(prev)),
+            Change::Picture => answer_of(screen.contents_diff(prev)),
+            Change::Scrolling => answer_of(screen.contents_diff_scrolling(prev)),
+            Change::State => answer_of(screen.state_diff(prev)),
+            Change::Modes => answer_of(screen.input_mode_diff(prev)),
             Change::Rows => {
                 let (_rows, _cols) = screen.size();
                 let mut rows = screen.rows_diff(prev, 0, u16::MAX);

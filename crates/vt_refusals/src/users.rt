@@ -1,4 +1,4 @@
-//! Growths of what stands on a parser, and of one in the default size.
+//! Allocations of what stands on a parser, and of one in the default size.
 
 use crate::step;
 use std::io;

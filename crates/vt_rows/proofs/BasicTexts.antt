@@ -27,18 +27,18 @@ kept_same attrs cell e =
     (cond_both (is_bare cell) attrs (attrs_of cell) (λ (after : Attrs). after ≡ attrs)
     (λ _. refl) (λ _. sym (attrs_of-same attrs (attrs_of cell) e)))
 
-bare : (attrs : Attrs) (cell : CellValue) → is_bare cell ≡ true → attrs_after attrs cell ≡ attrs
-bare attrs cell e = ap (λ (b : Bool). if b then attrs else attrs_of cell) e
+unmoved : (attrs : Attrs) (cell : CellValue) → is_bare cell ≡ true → attrs_after attrs cell ≡ attrs
+unmoved attrs cell e = ap (λ (b : Bool). if b then attrs else attrs_of cell) e
 
 pub kept_default : (attrs : Attrs) (cell : CellValue) → is_default_blank cell ≡ true →
     (attrs_after attrs cell ≡ attrs) × (change_text attrs (attrs_after attrs cell) ≡ [])
 kept_default attrs cell e =
-    both attrs (attrs_after attrs cell) (bare attrs cell (ap (λ (b : Bool). b || is_right_half cell) e))
+    both attrs (attrs_after attrs cell) (unmoved attrs cell (ap (λ (b : Bool). b || is_right_half cell) e))
 
 pub kept_right : (attrs : Attrs) (cell : CellValue) → is_right_half cell ≡ true →
     (attrs_after attrs cell ≡ attrs) × (change_text attrs (attrs_after attrs cell) ≡ [])
 kept_right attrs cell e =
-    both attrs (attrs_after attrs cell) (bare attrs cell (right (is_default_blank cell) refl)) where
+    both attrs (attrs_after attrs cell) (unmoved attrs cell (right (is_default_blank cell) refl)) where
       right : (b : Bool) → is_default_blank cell ≡ b → is_bare cell ≡ true
       right true d = ap (λ (b : Bool). b || is_right_half cell) d
       right false d = ap (λ (b : Bool). b || is_right_half cell) d ∙ e

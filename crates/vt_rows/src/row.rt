@@ -106,7 +106,7 @@ impl Row {
     ) -> Result<(), Error>
         requires { IsRow (length self.old.cells) self.old }
         ensures row { OnOk result (self.new ≡ trimmed_row (record { cells = cells.now; wrapped = wrapped })) }
-        ensures left { OnOk result (L.leaves leaving.old self.old leaving.new) }
+        ensures reported { OnOk result (L.leaves leaving.old self.old leaving.new) }
         ensures err { OnErr result ((self.new ≡ self.old) × (leaving.new ≡ leaving.old)) }
         ensures grows { IsErr result → length self.old.cells < length (trimmed cells.now) }
         ensures memory { OnlyOutOfMemory result }

@@ -5,7 +5,7 @@ use Rattle.std.proofs.Math.Logic.{⊎_elim}
 use Rattle.vt_scan.specs.Table.{turn_of, class_of}
 use Rattle.vt_scan.specs.Parameters.{GroupTable, table_of}
 use Rattle.vt_scan.specs.Automaton.{State, Step, EscDispatch, CsiDispatch, OscDispatch, Executed, is_parameter}
-use Rattle.vt_scan.specs.Automaton.{parameter_text, intermediates_of, parts_of, given, after, step_in}
+use Rattle.vt_scan.specs.Automaton.{parameter_text, intermediates_of, parts_of, given, step_after, step_in}
 use Rattle.vt_scan.specs.Run.{run}
 use Rattle.vt_scan.specs.Scanner.{Held, Reads, ReadsSequence, StandsFor}
 use Rattle.vt_scan.specs.Internals.{Fits, FitsEnding}
@@ -163,7 +163,7 @@ given_alike kind next ends.OscDispatchAndExecuted a b x fits r =
     ap (λ text. OscDispatch (parts_of text) ∷ Executed x ∷ []) (same_text kind a b fits.0 r)
 
 after_alike : (kind : Kind) (a b : List ℕ) (x : ℕ) (turn : Turn) → Fits kind turn →
-    AlikeIn kind a b → Same (after kind a x turn) (after kind b x turn)
+    AlikeIn kind a b → Same (step_after kind a x turn) (step_after kind b x turn)
 after_alike kind a b x (Collect next) fits r =
     record { alike = record { kind = refl; reads = collects_alike kind next a b x fits r }; events = refl }
 after_alike kind a b x Drop fits r = record { alike = record { kind = refl; reads = r }; events = refl }

@@ -6,7 +6,7 @@ use Rattle.std.proofs.lemmas.List.{append-nil}
 use Rattle.std.proofs.lemmas.Bool.{false≢true}
 use Rattle.vt_scan.specs.Characters.{is_beginning, character_of}
 use Rattle.vt_scan.specs.Automaton as automaton
-use Rattle.vt_scan.specs.Automaton.{Step, parameter_text, parts_of, after, fresh_step, step_in}
+use Rattle.vt_scan.specs.Automaton.{Step, parameter_text, parts_of, step_after, fresh_step, step_in}
 use Rattle.vt_scan.specs.Parameters.{GroupTable, table_of}
 use Rattle.vt_scan.specs.Table.{class_of, turn_of}
 use Rattle.vt_scan.specs.Scanner.{Feeds, Held, Reads, StandsFor, Follows, event_of, events_in}
@@ -156,9 +156,9 @@ fresh_broken held b answer is none high broken e =
     (subst (λ (a : Events). Follows held a (gives Ground [] (automaton.Character 0xFFFD ∷ []))) (sym e) known)
 
 -- a printable character in plain text leaves all as it is
-pub plain_feeds : (held : Held) (b : ℕ) → held.kind ≡ Ground → held.unfinished ≡ [] →
+pub text_feeds : (held : Held) (b : ℕ) → held.kind ≡ Ground → held.unfinished ≡ [] →
     0x20 ≤ b → b < 0x80 → Feeds held b held (one_event (given.Character b))
-plain_feeds held b is none low high = λ s stands.
+text_feeds held b is none low high = λ s stands.
     let kind : s.kind ≡ Ground = sym stands.kind ∙ is in
     let read : Reads held Ground s.collected = subst (λ (k : Kind). Reads held k s.collected) is stands.reads in
     let collected : s.collected ≡ [] = sym read ∙ none in
@@ -204,9 +204,9 @@ pub fed_end : (old new : Held) (next : Kind) (end : ending.Ending) (b : ℕ) (an
     → turn_of old.kind (class_of b) ≡ End next end → Fits old.kind (End next end) → Begins old new next
     → answer ≡ answer_of end b → Feeds old b new answer
 fed_end old new next end b answer other turn fits begun e = λ s stands.
-    follows_as new answer (step_in s.kind s.collected b) (after s.kind s.collected b (End next end))
+    follows_as new answer (step_in s.kind s.collected b) (step_after s.kind s.collected b (End next end))
     (step_in-table s.kind s.collected b (λ is. other (stands.kind ∙ is))
-    ∙ ap (after s.kind s.collected b) (ap (λ k. turn_of k (class_of b)) (sym stands.kind) ∙ turn))
+    ∙ ap (step_after s.kind s.collected b) (ap (λ k. turn_of k (class_of b)) (sym stands.kind) ∙ turn))
     (record {
       stands = record { kind = begun.kind; reads = subst (λ (k : Kind). Reads new k []) (sym begun.kind) begun.reads };
       means = ap (events_in new) e ∙ given_by old new next end s.collected b other fits begun stands.reads;

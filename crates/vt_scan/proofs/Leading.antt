@@ -10,7 +10,7 @@ use Rattle.std.proofs.lemmas.Bool.{cases_lt}
 use Rattle.std.proofs.lemmas.Bool.Decides.{nat_tests}
 use Rattle.vt_scan.specs.declared.table.Class.{Class}
 use Rattle.vt_scan.specs.Automaton as automaton
-use Rattle.vt_scan.specs.Automaton.{State, Step, is_parameter, after, step_in}
+use Rattle.vt_scan.specs.Automaton.{State, Step, is_parameter, step_after, step_in}
 use Rattle.vt_scan.specs.Internals.{Begins, Fits, IsUnended, Opens}
 use Rattle.vt_scan.specs.Parameters.{table_of}
 use Rattle.vt_scan.specs.Run.{run}
@@ -75,7 +75,7 @@ intermediate_feeds old new b was tells is same pushed = λ s stands.
     collect_intermediate old new EscapeIntermediate b fits (λ e. cc) other same pushed s.collected stands.reads in
     follows_as new no_event (step_in s.kind s.collected b) (gives EscapeIntermediate (s.collected ++ b ∷ []) [])
     (step_in-table s.kind s.collected b (λ e. cc)
-    ∙ ap (after s.kind s.collected b) (ap (λ k. turn_of k (class_of b)) kind ∙ intermediate_turn b low high))
+    ∙ ap (step_after s.kind s.collected b) (ap (λ k. turn_of k (class_of b)) kind ∙ intermediate_turn b low high))
     (record {
       stands = record { kind = is; reads = subst (λ (k : Kind). Reads new k (s.collected ++ b ∷ [])) (sym is) reads };
       means = refl;
@@ -87,7 +87,7 @@ step_entry : (text : List ℕ) (b : ℕ) → 0x30 ≤ b → b ≤ 0x3B →
     step_in CsiEntry text b ≡ gives CsiParam (text ++ b ∷ []) []
 step_entry text b low high =
     class_of-parameter
-    (λ k. after CsiEntry text b (turn_of CsiEntry k) ≡ gives CsiParam (text ++ b ∷ []) []) b low high refl
+    (λ k. step_after CsiEntry text b (turn_of CsiEntry k) ≡ gives CsiParam (text ++ b ∷ []) []) b low high refl
 
 run_parameters : (before text : List ℕ) → IsParameterText text →
     run (record { kind = CsiParam; collected = before }) text ≡ gives CsiParam (before ++ text) []
@@ -215,7 +215,7 @@ escape_byte_feeds old new b ends fits begun =
 
 skip_step : (text : List ℕ) (b : ℕ) → IsUnended b → step_in Skip text b ≡ gives Skip text []
 skip_step text b (can, sub, esc) =
-    let P : Class → Type 0 = λ k. after Skip text b (turn_of Skip k) ≡ gives Skip text [] in
+    let P : Class → Type 0 = λ k. step_after Skip text b (turn_of Skip k) ≡ gives Skip text [] in
     let t0 : (b == 0x18 || b == 0x1A) ≡ false = grind (arith, nat_tests) in
     ⊎_elim
     (λ low. class_of-control P b low esc
@@ -261,7 +261,7 @@ run_text : (text bytes : List ℕ) → AllByRecursion (λ b. 0x20 ≤ b) bytes �
 run_text text [] all = ap (λ t. gives OscString t []) (sym (append-nil text))
 run_text text (b ∷ bytes) all =
     run-known (record { kind = OscString; collected = text }) b bytes (gives OscString (text ++ b ∷ []) [])
-    (ap (after OscString text b) (text_turn b all.0))
+    (ap (step_after OscString text b) (text_turn b all.0))
     ∙ run_text (text ++ b ∷ []) bytes all.1
     ∙ ap (λ t. gives OscString t []) (append_assoc text (b ∷ []) bytes)
 

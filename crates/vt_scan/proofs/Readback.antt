@@ -9,19 +9,19 @@ use Rattle.std.specs.List.{AllByRecursion}
 use lib.Utf8.{next, scalar_cases}
 use Rattle.vt_scan.specs.Table.{turn_of}
 use Rattle.vt_scan.specs.Characters.{is_second, is_character, is_beginning, character_of}
-use Rattle.vt_scan.specs.Automaton.{State, Step, Character, Executed, EscDispatch, start, after, step_in}
+use Rattle.vt_scan.specs.Automaton.{State, Step, Character, Executed, EscDispatch, start, step_after, step_in}
 use Rattle.vt_scan.specs.Run.{run}
 use Rattle.vt_scan.specs.Texts.{back_with}
 use Rattle.vt_scan.specs.declared.table.Kind.TheVariants.{Ground, Escape}
 use Rattle.vt_scan.specs.declared.table.Class.{Class}
 use Rattle.vt_scan.proofs.Stepping.{gives, either, class_of-text, fresh_step-character, fresh_step-control}
 use Rattle.vt_scan.proofs.Stepping.{fresh_step-escape, fresh_step-begun, character_step-whole, character_step-further}
-use Rattle.vt_scan.proofs.Running.{behind, run-append}
+use Rattle.vt_scan.proofs.Running.{events_then, run-append}
 
 -- a run whose first step is known
 pub run-known : (state : State) (b : ℕ) (bytes : List ℕ) (known : Step) →
-    step_in state.kind state.collected b ≡ known → run state (b ∷ bytes) ≡ behind known.events (run known.state bytes)
-run-known state b bytes known e = ap (λ (s : Step). behind s.events (run s.state bytes)) e
+    step_in state.kind state.collected b ≡ known → run state (b ∷ bytes) ≡ events_then known.events (run known.state bytes)
+run-known state b bytes known e = ap (λ (s : Step). events_then s.events (run s.state bytes)) e
 
 -- a printable byte of ASCII is that character
 pub read_ascii : (b : ℕ) → 0x20 ≤ b → b ≤ 0x7F → run start (b ∷ []) ≡ back_with (Character b ∷ [])
@@ -41,7 +41,7 @@ read_escape_start bytes = run-known start 0x1B bytes (gives Escape [] []) fresh_
 pub read_escape : (b : ℕ) → 0x30 ≤ b → b ≤ 0x7E → b ≢ 0x5B → b ≢ 0x5D → b ≢ 0x50 → b ≢ 0x58 →
     b ≢ 0x5E → b ≢ 0x5F → run start (0x1B ∷ b ∷ []) ≡ back_with (EscDispatch [] b ∷ [])
 read_escape b low high csi osc dcs sos pm apc =
-    let P : Class → Type 0 = λ k. after Escape [] b (turn_of Escape k) ≡ gives Ground [] (EscDispatch [] b ∷ []) in
+    let P : Class → Type 0 = λ k. step_after Escape [] b (turn_of Escape k) ≡ gives Ground [] (EscDispatch [] b ∷ []) in
     let t0 : nat_lt b 0x30 ≡ false = grind (arith, nat_tests) in
     let t1 : nat_lt b 0x7F ≡ true = grind (arith, nat_tests) in
     let t2 : (b == 0x5B) ≡ false = grind (arith, nat_tests) in
@@ -151,5 +151,5 @@ pub read_text : (cs : List ℕ) → AllByRecursion (λ c. IsScalar c × (0x20 �
 read_text [] all = refl
 read_text (c ∷ cs) all =
     run-append start (encode_utf8 c) (encode_utf8_all cs)
-    ∙ ap (λ (s : Step). behind s.events (run s.state (encode_utf8_all cs))) (read_written c all.0.0 all.0.1)
-    ∙ ap (behind (Character c ∷ [])) (read_text cs all.1)
+    ∙ ap (λ (s : Step). events_then s.events (run s.state (encode_utf8_all cs))) (read_written c all.0.0 all.0.1)
+    ∙ ap (events_then (Character c ∷ [])) (read_text cs all.1)

@@ -6,7 +6,7 @@ use Rattle.std.specs.List.{AllByRecursion}
 use Rattle.std.specs.Prelude.{if◌then◌else◌}
 use Rattle.std.proofs.lemmas.Bool.Decides.{nat_tests}
 use lib.Utf8.{scalar, low_scalar}
-use Rattle.vt_scan.specs.Automaton.{State, Event, Step, Character, after, given, fresh_step, character_step, step_in}
+use Rattle.vt_scan.specs.Automaton.{State, Event, Step, Character, step_after, given, fresh_step, character_step, step_in}
 use Rattle.vt_scan.specs.Characters.{is_character, is_beginning, character_of}
 use Rattle.vt_scan.specs.Run.{run}
 use Rattle.vt_scan.specs.Table.{class_of, turn_of}
@@ -78,7 +78,7 @@ coded_given kind ends.OscDispatch text b next p h = (tt, tt)
 coded_given kind ends.OscDispatchAndExecuted text b next p h = (tt, (tt, tt))
 
 coded_after : (kind : Kind) (text : List ℕ) (b : ℕ) (turn : Turn) → PrintsIn kind turn →
-    (kind ≡ Ground → b < 0x80) → AreCoded (after kind text b turn).events
+    (kind ≡ Ground → b < 0x80) → AreCoded (step_after kind text b turn).events
 coded_after kind text b (Collect next) p h = tt
 coded_after kind text b Drop p h = tt
 coded_after kind text b Execute p h = (tt, tt)

@@ -5,7 +5,7 @@ use Rattle.std.specs.List.{AllByRecursion}
 use Rattle.std.specs.Prelude.{if◌then◌else◌}
 use Rattle.std.proofs.lemmas.Bool.Decides.{nat_tests}
 use Rattle.std.proofs.lemmas.List.{append_assoc}
-use Rattle.vt_scan.specs.Automaton.{State, Event, Step, Character, after, given, start}
+use Rattle.vt_scan.specs.Automaton.{State, Event, Step, Character, step_after, given, start}
 use Rattle.vt_scan.specs.Automaton.{fresh_step, character_step, step_in}
 use Rattle.vt_scan.specs.Characters.{is_character, is_beginning, character_of}
 use Rattle.vt_scan.specs.Run.{run}
@@ -103,7 +103,7 @@ given_others kind next ends.OscDispatch text b p low = (λ e. cc, tt)
 given_others kind next ends.OscDispatchAndExecuted text b p low = (λ e. cc, (λ e. cc, tt))
 
 goes_after : (kind : Kind) (text : List ℕ) (b : ℕ) (bytes : List ℕ) (turn : Turn) → TurnsIn kind turn →
-    (kind ≡ Ground → (b < 0x80) × (text ≡ [])) → SpellsNoSelector bytes → GoesOn (after kind text b turn) bytes
+    (kind ≡ Ground → (b < 0x80) × (text ≡ [])) → SpellsNoSelector bytes → GoesOn (step_after kind text b turn) bytes
 goes_after kind text b bytes (Collect next) p fresh h =
     (tt, record { rest = h; begun = λ e. absurd (p e) })
 goes_after kind text b bytes Drop p fresh h =

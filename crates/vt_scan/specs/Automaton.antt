@@ -63,16 +63,16 @@ given ends.CsiDispatch text b = CsiDispatch (table_of (parameter_text text)).gro
 given ends.OscDispatch text b = OscDispatch (parts_of text) ∷ []
 given ends.OscDispatchAndExecuted text b = OscDispatch (parts_of text) ∷ Executed b ∷ []
 
-abbrev pub after : Kind → List ℕ → ℕ → Turn → Step
-after kind text b (Collect next) = record { state = record { kind = next; collected = text ++ b ∷ [] }; events = [] }
-after kind text b Drop = record { state = record { kind = kind; collected = text }; events = [] }
-after kind text b Execute = record { state = record { kind = kind; collected = text }; events = Executed b ∷ [] }
-after kind text b (End next end) = record { state = record { kind = next; collected = [] }; events = given end text b }
+abbrev pub step_after : Kind → List ℕ → ℕ → Turn → Step
+step_after kind text b (Collect next) = record { state = record { kind = next; collected = text ++ b ∷ [] }; events = [] }
+step_after kind text b Drop = record { state = record { kind = kind; collected = text }; events = [] }
+step_after kind text b Execute = record { state = record { kind = kind; collected = text }; events = Executed b ∷ [] }
+step_after kind text b (End next end) = record { state = record { kind = next; collected = [] }; events = given end text b }
 
 -- no character is unfinished: a byte from 80 on begins one, or is a U+FFFD by itself
 unfoldable pub fresh_step : ℕ → Step
 fresh_step b =
-    if nat_lt b 0x80 then after Ground [] b (turn_of Ground (class_of b))
+    if nat_lt b 0x80 then step_after Ground [] b (turn_of Ground (class_of b))
     else if is_beginning (b ∷ []) then record { state = record { kind = Ground; collected = b ∷ [] }; events = [] }
     else record { state = start; events = Character 0xFFFD ∷ [] }
 
@@ -90,4 +90,4 @@ character_step text b =
 abbrev pub step_in : Kind → List ℕ → ℕ → Step
 step_in Ground [] b = fresh_step b
 step_in Ground (x ∷ xs) b = character_step (x ∷ xs) b
-step_in kind text b = after kind text b (turn_of kind (class_of b))
+step_in kind text b = step_after kind text b (turn_of kind (class_of b))

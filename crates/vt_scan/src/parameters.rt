@@ -217,8 +217,8 @@ impl Parameters {
         requires { i < length self.now.groups }
         ensures { result.now ≡ slice_index_or self.now.groups i [] }
     {
-        let start = start_of(&self.ends, i);
-        let end = end_of(&self.ends, self.closed, self.len, i);
+        let start = group_start(&self.ends, i);
+        let end = group_end(&self.ends, self.closed, self.len, i);
         &self.numbers[start..end]
     }
 
@@ -231,7 +231,7 @@ impl Parameters {
         if i > self.closed {
             return 0;
         }
-        self.numbers[start_of(&self.ends, i)]
+        self.numbers[group_start(&self.ends, i)]
     }
 
     /// The numbers, one after the other, where no group has more than one.
@@ -265,7 +265,7 @@ impl Parameters {
 
 /// The place where a group begins.
 #[inline(always)]
-fn start_of(ends: &[usize; MAX_NUMBERS], i: usize) -> usize
+fn group_start(ends: &[usize; MAX_NUMBERS], i: usize) -> usize
     requires { i < 32 }
     ensures { result ≡ slice_index_or (0 ∷ ends.now) i 0 }
 {
@@ -275,7 +275,7 @@ fn start_of(ends: &[usize; MAX_NUMBERS], i: usize) -> usize
 /// The place where a group ends, if so many are closed; the last one ends with
 /// the numbers.
 #[inline(always)]
-fn end_of(ends: &[usize; MAX_NUMBERS], closed: usize, len: usize, i: usize) -> usize
+fn group_end(ends: &[usize; MAX_NUMBERS], closed: usize, len: usize, i: usize) -> usize
     requires { closed ≤ 32 }
     ensures { result ≡ (if nat_lt i closed then slice_index_or ends.now i 0 else len) }
 {

@@ -74,7 +74,7 @@ impl Unfinished {
     /// Begins a character with its first byte, if one begins so.
     pub fn begin(&mut self, byte: u8) -> bool
         requires { self.old ≡ [] }
-        ensures tells { result ≡ is_beginning (byte ∷ []) }
+        ensures answers { result ≡ is_beginning (byte ∷ []) }
         ensures keeps { self.new ≡ (if result then byte ∷ [] else []) }
     {
         let is_first = (0xC2..=0xF4).contains(&byte);

@@ -24,7 +24,7 @@ use Rattle.vt_screen.specs.Controls.{counted_step, intermediate_steps, mode_step
 use Rattle.vt_screen.specs.Steps.{OnPage, display_after}
 use Rattle.vt_screen.proofs.Became.{redraw_redraws}
 use Rattle.vt_screen.proofs.ReadbackTexts.{csi_read, reads_append, reads_then}
-use Rattle.vt_screen.proofs.Telling.{redraws_tell}
+use Rattle.vt_screen.proofs.EqualTexts.{redraws_tell}
 
 -- ---- the two sequences
 

@@ -13,12 +13,12 @@ use Rattle.vt_scan.proofs.Scalars.{IsCoded, AreCoded, coded_run}
 use Rattle.vt_screen.specs.Calls.{CallValue}
 use Rattle.vt_screen.specs.Screen.{ScreenValue, IsPrintable}
 use Rattle.vt_screen.specs.Sgr.{group_read}
-use Rattle.vt_screen.specs.Streamed.{HasNoRis, ris, row_told, sent_off_in}
-use Rattle.vt_screen.specs.Telling.{calls_in, screen_in, screen_after_all, steps_in, steps_of_all}
+use Rattle.vt_screen.specs.Streamed.{HasNoRis, ris, row_of_call, sent_off_in}
+use Rattle.vt_screen.specs.CallsOfRun.{calls_in, screen_in, screen_after_all, steps_in, steps_of_all}
 use Rattle.vt_screen.specs.Controls.{alternate_step, character_steps, clipboard_steps, control_steps, counted_step}
 use Rattle.vt_screen.specs.Controls.{csi_steps, escape_steps, fresh_alternate_step, intermediate_steps}
 use Rattle.vt_screen.specs.Controls.{intermediate_at, mode_step, mode_steps, named_steps, number_or, one_or}
-use Rattle.vt_screen.specs.Controls.{osc_steps, other_steps, page_erasing, plain_steps, private_steps, reading_steps}
+use Rattle.vt_screen.specs.Controls.{osc_steps, other_steps, page_erasing, unmarked_steps, private_steps, reading_steps}
 use Rattle.vt_screen.specs.Controls.{repeated, row_erasing, scrolling_steps, Seen, seen_of, sgr_from, space_steps}
 use Rattle.vt_screen.specs.Controls.{steps_of, style_steps, window_steps}
 use Rattle.vt_screen.specs.Steps.{Step, Print, OnPage, Reset, CallBack}
@@ -42,7 +42,7 @@ none = record { all = tt }
 own : {Q : ℕ → Type 0} {R : Type 0} → (x : Step) → IsAmong Q R x → AllAmong Q R (x ∷ [])
 own x i = record { all = (i, tt) }
 
-told : {Q : ℕ → Type 0} {R : Type 0} → (call : CallValue) → row_told call ≡ [] → AllAmong Q R (CallBack call ∷ [])
+told : {Q : ℕ → Type 0} {R : Type 0} → (call : CallValue) → row_of_call call ≡ [] → AllAmong Q R (CallBack call ∷ [])
 told call e = record { all = (e, tt) }
 
 all_if : {Q : ℕ → Type 0} {R : Type 0} → (b : Bool) (xs ys : List Step) → AllAmong Q R xs → AllAmong Q R ys
@@ -100,12 +100,12 @@ stream_sgr groups wanted (group ∷ rest) =
     all_then (reading_steps groups read.reading) (sgr_from groups read.wanted rest)
     (stream_reading groups read.reading) (stream_sgr groups read.wanted rest)
 
-stream_page_erasing : {Q : ℕ → Type 0} {R : Type 0} → (report : CallValue) (n : ℕ) → row_told report ≡ []
+stream_page_erasing : {Q : ℕ → Type 0} {R : Type 0} → (report : CallValue) (n : ℕ) → row_of_call report ≡ []
     → AllAmong Q R (page_erasing report n)
 unfolding page_erasing
 stream_page_erasing report n e = search (all_if, own) depth 20
 
-stream_row_erasing : {Q : ℕ → Type 0} {R : Type 0} → (report : CallValue) (n : ℕ) → row_told report ≡ []
+stream_row_erasing : {Q : ℕ → Type 0} {R : Type 0} → (report : CallValue) (n : ℕ) → row_of_call report ≡ []
     → AllAmong Q R (row_erasing report n)
 unfolding row_erasing
 stream_row_erasing report n e = search (all_if, own) depth 20
@@ -140,14 +140,14 @@ stream_one_or (Some step) others q = own (OnPage step) tt
 stream_one_or None others q = q
 
 stream_plain : {Q : ℕ → Type 0} {R : Type 0} → (groups : List (List ℕ)) (b : ℕ) (seen : Seen) → IfSome seen.last Q
-    → AllAmong Q R (plain_steps groups b seen)
+    → AllAmong Q R (unmarked_steps groups b seen)
 stream_plain groups b seen k =
     stream_one_or (counted_step b (number_or 1 0 groups)) (scrolling_steps groups b seen)
     (stream_scrolling groups b seen k)
 
 -- ---- modes and other marked sequences
 
-stream_style : {Q : ℕ → Type 0} {R : Type 0} → (report : CallValue) (look : Option CursorStyle) → row_told report ≡ []
+stream_style : {Q : ℕ → Type 0} {R : Type 0} → (report : CallValue) (look : Option CursorStyle) → row_of_call report ≡ []
     → AllAmong Q R (style_steps report look)
 stream_style report (Some look) e = (own _ tt)
 stream_style report None e = (told _ e)
@@ -160,13 +160,13 @@ stream_fresh : {Q : ℕ → Type 0} {R : Type 0} → (on : Bool) → AllAmong Q 
 stream_fresh true = (own _ tt)
 stream_fresh false = (own _ tt)
 
-stream_mode : {Q : ℕ → Type 0} {R : Type 0} → (on : Bool) (report : CallValue) (n : ℕ) → row_told report ≡ []
+stream_mode : {Q : ℕ → Type 0} {R : Type 0} → (on : Bool) (report : CallValue) (n : ℕ) → row_of_call report ≡ []
     → AllAmong Q R (mode_step on report n)
 unfolding mode_step
 stream_mode on report n e = search (all_if, own, stream_alternate, stream_fresh) depth 20
 
 stream_modes : {Q : ℕ → Type 0} {R : Type 0} → (on : Bool) (report : CallValue) (groups : List (List ℕ))
-    → row_told report ≡ [] → AllAmong Q R (mode_steps on report groups)
+    → row_of_call report ≡ [] → AllAmong Q R (mode_steps on report groups)
 stream_modes on report [] e = none
 stream_modes on report ([] ∷ groups) e = record { all = (e, (stream_modes on report groups e).all) }
 stream_modes on report ((n ∷ []) ∷ groups) e =

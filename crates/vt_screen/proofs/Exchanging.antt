@@ -11,7 +11,7 @@ use Rattle.vt_rows.specs.Row.{blank_row}
 use Rattle.std.proofs.lemmas.List.{length-replicate}
 use Rattle.vt_grid.specs.Page.{SameSize}
 use Rattle.vt_screen.specs.Internals.{main_scrollback, with_other, with_fresh_other, with_fresh_page}
-use Rattle.vt_screen.specs.Pages.{entered, entered_fresh, fresh_page, left, page_aside, reset, saved}
+use Rattle.vt_screen.specs.Pages.{entered, entered_fresh, fresh_page, left_alternate, page_aside, reset, saved}
 use Rattle.vt_screen.specs.Screen.{ScreenValue, IsScreen, no_modes}
 
 -- ---- the page that isn't active
@@ -81,7 +81,7 @@ made (Some p) page h = refl
 made None page h = absurd (false≢true h)
 
 left_if : (b : Bool) (s : ScreenValue) → s.is_alternate ≡ b →
-    (b ≡ true → IsSome s.other) → IsScreen s → IsLeft s (left s)
+    (b ≡ true → IsSome s.other) → IsScreen s → IsLeft s (left_alternate s)
 left_if true s e h i = record {
   main = rw e refl;
   size = rw e (same_fresh (page_aside s) s.page (aside_size s.other s.page (fresh_page s) i.other (h refl)));
@@ -105,7 +105,7 @@ renewed s page other capacity = record {
 }
 
 pub reset_is : (s v : ScreenValue) (active idle above : Scrollback)
-    → IsScreen s → v ≡ with_fresh_page (with_fresh_other (left s))
+    → IsScreen s → v ≡ with_fresh_page (with_fresh_other (left_alternate s))
     → v.scrollback ≡ main_scrollback v.is_alternate active idle → above ≡ cleared active
     → record {
       page = v.page;
@@ -120,10 +120,10 @@ pub reset_is : (s v : ScreenValue) (active idle above : Scrollback)
     } ≡ reset s
 reset_is s v active idle above i e w a =
     let l = left_if s.is_alternate s refl i.entered i in
-    let fresh : with_fresh_page (with_fresh_other (left s))
-    ≡ record (left s) { page = fresh_page s; other = option_map (λ _. fresh_page s) s.other }
-    = ap (λ (p : Page). record (left s) { page = p; other = option_map (λ _. p) (left s).other }) l.size
-    ∙ ap (λ (o : Option Page). record (left s) { page = fresh_page s; other = o }) (l.other (fresh_page s)) in
+    let fresh : with_fresh_page (with_fresh_other (left_alternate s))
+    ≡ record (left_alternate s) { page = fresh_page s; other = option_map (λ _. fresh_page s) s.other }
+    = ap (λ (p : Page). record (left_alternate s) { page = p; other = option_map (λ _. p) (left_alternate s).other }) l.size
+    ∙ ap (λ (o : Option Page). record (left_alternate s) { page = fresh_page s; other = o }) (l.other (fresh_page s)) in
     let whole = e ∙ fresh in
     let main : v.is_alternate ≡ false = ap (λ (x : ScreenValue). x.is_alternate) whole ∙ l.main in
     let kept : s.scrollback ≡ active =

@@ -5,7 +5,7 @@ pub mod Shown
 pub mod Seen
 pub mod Redrawing
 pub mod Became
-pub mod Telling
+pub mod EqualTexts
 pub mod MovedRead
 pub mod AnyRegion
 pub mod Chains

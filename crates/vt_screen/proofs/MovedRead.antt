@@ -36,7 +36,7 @@ use Rattle.vt_screen.proofs.Readback.{changed_read, counted_read, moved_to_read}
 use Rattle.vt_screen.proofs.ReadbackTexts.{reads_then}
 use Rattle.vt_screen.proofs.Redrawing.{Becomes, difference_read, drawing_read}
 use Rattle.vt_screen.proofs.Shown.{plain_shown, shown_colored, shown_height, shown_is}
-use Rattle.vt_screen.proofs.Telling.{difference_none, difference_tells}
+use Rattle.vt_screen.proofs.EqualTexts.{difference_none, difference_tells}
 
 -- ---- lines deleted and inserted
 

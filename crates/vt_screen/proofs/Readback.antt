@@ -28,7 +28,7 @@ use Rattle.vt_scan.proofs.Readback.{read_written}
 use Rattle.vt_scan.proofs.Written.{alone, empty_groups, decimal_groups, joined_groups, place_groups_are}
 use Rattle.vt_scan.proofs.Written.{decimal_is_parameter, joined_is_parameter, place_is_parameter}
 use Rattle.vt_screen.specs.Screen.{ScreenValue, canvas_of, with_canvas, with_page}
-use Rattle.vt_screen.specs.Controls.{plain_steps, counted_step, scrolling_steps, other_steps, page_erasing}
+use Rattle.vt_screen.specs.Controls.{unmarked_steps, counted_step, scrolling_steps, other_steps, page_erasing}
 use Rattle.vt_screen.specs.Controls.{row_erasing, character_steps, control_steps, escape_steps, intermediate_steps}
 use Rattle.vt_screen.specs.Controls.{private_steps, mode_step, number_or, seen_of}
 use Rattle.vt_screen.specs.Steps.{OnPage, display_after}
@@ -72,28 +72,28 @@ hidden_read false screen = refl
 -- ---- control sequences
 
 -- without a number
-bare : (final : ℕ) (screen after : ScreenValue) → IsFinal final
-    → quiet_steps (plain_steps ((0 ∷ []) ∷ []) final (seen_of screen)) screen ≡ Some after
+final_alone : (final : ℕ) (screen after : ScreenValue) → IsFinal final
+    → quiet_steps (unmarked_steps ((0 ∷ []) ∷ []) final (seen_of screen)) screen ≡ Some after
     → read (terminal start screen) (csi [] final) ≡ Some (terminal start after)
-bare final screen after is_final quiet = csi_read [] final ((0 ∷ []) ∷ []) screen after tt is_final empty_groups quiet
+final_alone final screen after is_final quiet = csi_read [] final ((0 ∷ []) ∷ []) screen after tt is_final empty_groups quiet
 
 pub cleared_read : (screen : ScreenValue) →
     read (terminal start screen) (csi [] 0x6D) ≡ Some (terminal start (record screen { attrs = default_attrs }))
 unfolding counted_step scrolling_steps other_steps
 cleared_read screen =
-    bare 0x6D screen (record screen { attrs = default_attrs }) (omega arith, omega arith) (sgr_clear screen)
+    final_alone 0x6D screen (record screen { attrs = default_attrs }) (omega arith, omega arith) (sgr_clear screen)
 
 erased_below_read : (screen : ScreenValue) →
     read (terminal start screen) (csi [] 0x4A) ≡ Some (terminal start (display_after (OnPage page.EraseBelow) screen))
 unfolding counted_step scrolling_steps other_steps page_erasing
 erased_below_read screen =
-    bare 0x4A screen (display_after (OnPage page.EraseBelow) screen) (omega arith, omega arith) refl
+    final_alone 0x4A screen (display_after (OnPage page.EraseBelow) screen) (omega arith, omega arith) refl
 
 erased_rest_read : (screen : ScreenValue) →
     read (terminal start screen) (csi [] 0x4B) ≡ Some (terminal start (display_after (OnPage page.EraseRest) screen))
 unfolding counted_step scrolling_steps other_steps row_erasing
 erased_rest_read screen =
-    bare 0x4B screen (display_after (OnPage page.EraseRest) screen) (omega arith, omega arith) refl
+    final_alone 0x4B screen (display_after (OnPage page.EraseRest) screen) (omega arith, omega arith) refl
 
 -- a count that isn't 0 is itself
 count_read : (n : ℕ) (rest : List (List ℕ)) → 0 < n → number_or 1 0 ((n ∷ []) ∷ rest) ≡ n
@@ -102,12 +102,12 @@ count_read n rest h = let t : (n == 0) ≡ false = grind (arith, nat_tests) in r
 -- with a count: the step that the sequence is, with this count
 pub counted_read : (n final : ℕ) (step : ℕ → page.PageStep) (screen : ScreenValue) → suc n < 2 ^ 16 → IsFinal final
     → ((groups : List (List ℕ))
-    → quiet_steps (plain_steps groups final (seen_of screen)) screen
+    → quiet_steps (unmarked_steps groups final (seen_of screen)) screen
     ≡ Some (display_after (OnPage (step (number_or 1 0 groups))) screen))
     → read (terminal start screen) (counted (suc n) final)
     ≡ Some (terminal start (display_after (OnPage (step (suc n))) screen))
 counted_read zero final step screen h is_final means =
-    bare final screen (display_after (OnPage (step 1)) screen) is_final (means ((0 ∷ []) ∷ []))
+    final_alone final screen (display_after (OnPage (step 1)) screen) is_final (means ((0 ∷ []) ∷ []))
 counted_read (suc n) final step screen h is_final means =
     let count : ℕ = suc (suc n) in
     let groups : List (List ℕ) = (count ∷ []) ∷ [] in
@@ -132,7 +132,7 @@ ordinal_read : (n : ℕ) → (if (n + 1) == 0 then 1 else n + 1) - 1 ≡ n
 ordinal_read n = let t : ((n + 1) == 0) ≡ false = grind (arith, nat_tests) in rw t (omega arith)
 
 placed : (row col : ℕ) (screen : ScreenValue) →
-    quiet_steps (plain_steps (((row + 1) ∷ []) ∷ ((col + 1) ∷ []) ∷ []) 0x48 (seen_of screen)) screen
+    quiet_steps (unmarked_steps (((row + 1) ∷ []) ∷ ((col + 1) ∷ []) ∷ []) 0x48 (seen_of screen)) screen
     ≡ Some (display_after (OnPage (page.MoveTo row col)) screen)
 unfolding counted_step scrolling_steps other_steps
 placed row col screen =
@@ -141,7 +141,7 @@ placed row col screen =
     ∙ ap (λ (c : ℕ). Some (display_after (OnPage (page.MoveTo row c)) screen)) (ordinal_read col)
 
 place_read : (row col : ℕ) (screen : ScreenValue) →
-    quiet_steps (plain_steps (place_groups row col) 0x48 (seen_of screen)) screen
+    quiet_steps (unmarked_steps (place_groups row col) 0x48 (seen_of screen)) screen
     ≡ Some (display_after (OnPage (page.MoveTo row col)) screen)
 unfolding counted_step scrolling_steps other_steps
 place_read zero zero screen = refl

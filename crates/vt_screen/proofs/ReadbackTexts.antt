@@ -5,7 +5,7 @@ use Rattle.std.specs.List.{AllByRecursion}
 use Rattle.vt_cells.specs.Op.{csi}
 use Rattle.vt_grid.specs.Canvas.{and_then}
 use Rattle.vt_grid.proofs.Drawing.{and_then-assoc, and_then-same}
-use Rattle.vt_scan.specs.Automaton.{State, Step, Event, CsiDispatch, OscDispatch, after, step_in, start}
+use Rattle.vt_scan.specs.Automaton.{State, Step, Event, CsiDispatch, OscDispatch, step_after, step_in, start}
 use Rattle.vt_scan.specs.Parameters.{table_of}
 use Rattle.vt_scan.specs.Run.{run}
 use Rattle.vt_scan.specs.Table.{class_of, turn_of}
@@ -14,10 +14,10 @@ use Rattle.vt_scan.specs.declared.table.Kind.{Kind}
 use Rattle.vt_scan.specs.declared.table.Kind.TheVariants.{Ground, OscString}
 use Rattle.vt_scan.specs.declared.table.Class.{Class}
 use Rattle.vt_scan.specs.declared.table.Class.TheVariants.{Bell, Cancel, Introducer, Control}
-use Rattle.vt_scan.proofs.Running.{behind}
+use Rattle.vt_scan.proofs.Running.{events_then}
 use Rattle.vt_scan.proofs.Sequences.{read_csi}
 use Rattle.vt_screen.specs.Screen.{ScreenValue}
-use Rattle.vt_screen.specs.Controls.{plain_steps, seen_of, steps_of}
+use Rattle.vt_screen.specs.Controls.{unmarked_steps, seen_of, steps_of}
 use Rattle.vt_screen.specs.Reading.{quiet_steps, quiet_events, grows, Terminal, terminal, read_byte, read}
 
 -- ---- texts one after the other
@@ -65,12 +65,12 @@ abbrev in_command : List ℕ → State
 in_command text = record { kind = OscString; collected = text }
 
 abbrev run_after : Step → List ℕ → Step
-run_after step bytes = behind step.events (run step.state bytes)
+run_after step bytes = events_then step.events (run step.state bytes)
 
 -- a command that is begun is read, or goes on
 unended_by : (c : Class) (text : List ℕ) (b : ℕ) (bytes : List ℕ)
     → ((more : List ℕ) → IsCalm (run (in_command more) bytes) → ⊥)
-    → IsCalm (run_after (after OscString text b (turn_of OscString c)) bytes) → ⊥
+    → IsCalm (run_after (step_after OscString text b (turn_of OscString c)) bytes) → ⊥
 unended_by Bell text b bytes rest calm = let met : true ≡ false = calm.events.0 in cc
 unended_by Cancel text b bytes rest calm = let met : true ≡ false = calm.events.0 in cc
 unended_by Introducer text b bytes rest calm = let met : true ≡ false = calm.events.0 in cc
@@ -138,7 +138,7 @@ IsFinal b = (0x40 ≤ b) × (b ≤ 0x7E)
 -- a control sequence of parameters alone
 pub csi_read : (text : List ℕ) (final : ℕ) (groups : List (List ℕ)) (screen after : ScreenValue)
     → IsParameterText text → IsFinal final → (table_of text).groups ≡ groups
-    → quiet_steps (plain_steps groups final (seen_of screen)) screen ≡ Some after
+    → quiet_steps (unmarked_steps groups final (seen_of screen)) screen ≡ Some after
     → read (terminal start screen) (csi text final) ≡ Some (terminal start after)
 csi_read text final groups screen after is is_final table quiet =
     event_read (csi text final) (CsiDispatch groups [] final) screen after

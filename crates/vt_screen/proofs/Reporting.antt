@@ -40,12 +40,12 @@ record IsAbove (s : ScreenValue) (active idle : Scrollback) : Type 0 where
   nothing : IsNothing (alternate_scrollback s.is_alternate active idle)
 
 -- what is told of rows that left the active page
-heard_above : {S : Type 0} (does : CallRelation S)
+called_above : {S : Type 0} (does : CallRelation S)
     (s : ScreenValue) (gone : List RowValue) (active idle : Scrollback) (old new : S)
     → IsAbove s active idle
     → FoldsTo (CalledOnScroll does s.is_alternate) old (reported gone active) new
     → FoldsTo (CalledOnScroll does s.is_alternate) old (reported gone (above_page s)) new
-heard_above does s gone active idle old new i h =
+called_above does s gone active idle old new i h =
     subst (λ (rows : List RowValue). FoldsTo (CalledOnScroll does s.is_alternate) old rows new)
     (reported_if s.is_alternate gone active idle s.scrollback i.whole i.nothing) h
 
@@ -67,7 +67,7 @@ line_fed does s now page active idle above old new same w n p a h =
       screen = ap (λ (q : Page). after q (main_scrollback s.is_alternate above idle)) p
           ∙ sym (sent_if s.is_alternate (after (line_feed s.page)) (length s.page.rows)
           s.page.width (fed_out s.page) active idle above s.scrollback w a);
-      heard = heard_above does s (fed_out s.page) active idle old new (record { whole = w; nothing = n }) h;
+      called = called_above does s (fed_out s.page) active idle old new (record { whole = w; nothing = n }) h;
     })
 
 pub scrolled_up_by : {S : Type 0} (does : CallRelation S)
@@ -88,7 +88,7 @@ scrolled_up_by does count s now page active idle above old new same w n p a h =
       screen = ap (λ (q : Page). after q (main_scrollback s.is_alternate above idle)) p
           ∙ sym (sent_if s.is_alternate (after (scrolled_up count s.page)) (length s.page.rows)
           s.page.width (scrolled_out count s.page) active idle above s.scrollback w a);
-      heard = heard_above does s (scrolled_out count s.page) active idle old new (record { whole = w; nothing = n }) h;
+      called = called_above does s (scrolled_out count s.page) active idle old new (record { whole = w; nothing = n }) h;
     })
 
 pub character_printed : {S : Type 0} (does : CallRelation S) (c : ℕ)
@@ -112,8 +112,8 @@ character_printed does c s now page active idle above last old new same w n p l 
           ∙ ap (λ (o : Option ℕ). after (printed c s.attrs s.page) o (main_scrollback s.is_alternate above idle)) k
           ∙ sym (sent_if s.is_alternate (after (printed c s.attrs s.page) (last_after c s)) (length s.page.rows)
           s.page.width (printed_out c s.attrs s.page) active idle above s.scrollback w a);
-      heard =
-          heard_above does s (printed_out c s.attrs s.page) active idle old new (record { whole = w; nothing = n }) h;
+      called =
+          called_above does s (printed_out c s.attrs s.page) active idle old new (record { whole = w; nothing = n }) h;
     })
 
 -- ---- scrollback given up
@@ -150,15 +150,15 @@ scrollback_erased does s now active idle above old new same w n a h =
     same
     (record {
       screen = cleared_is s active idle above w a;
-      heard =
+      called =
           subst (λ (rows : List RowValue). FoldsTo (CalledOnScroll does s.is_alternate) old rows new)
           (rows_if s.is_alternate active idle s.scrollback w n) h;
     })
 
 -- ---- rows told as calls
 
-pub told_rows : {S : Type 0} (does : CallRelation S) (alternate : Bool) (rows : List RowValue) (old new : S)
+pub called_rows : {S : Type 0} (does : CallRelation S) (alternate : Bool) (rows : List RowValue) (old new : S)
     → FoldsTo (CalledOnScroll does alternate) old rows new
     → FoldsTo (CalledOnAnyScreen does) old (map (λ row. OnScroll row alternate) rows) new
-told_rows does alternate [] old new e = e
-told_rows does alternate (row ∷ rows) old new f = (f.0, f.1, told_rows does alternate rows f.0 new f.2)
+called_rows does alternate [] old new e = e
+called_rows does alternate (row ∷ rows) old new f = (f.0, f.1, called_rows does alternate rows f.0 new f.2)

@@ -16,9 +16,9 @@ use Rattle.vt_screen.specs.Internals.{Aside, IsKept, IsNothing, main_scrollback,
 use Rattle.vt_screen.specs.Pages.{reports_of}
 use Rattle.vt_screen.specs.Run.{CallRelation, CalledOnScroll, CalledOnAnyScreen}
 use Rattle.vt_screen.specs.Screen.{ScreenValue}
-use Rattle.vt_screen.specs.Telling.{TakesCalls}
+use Rattle.vt_screen.specs.CallsOfRun.{TakesCalls}
 use Rattle.vt_screen.proofs.Asides.{kept_resized, nothing_pushed}
-use Rattle.vt_screen.proofs.Reporting.{told_rows}
+use Rattle.vt_screen.proofs.Reporting.{called_rows}
 
 pub if_ok : {A E : Type 0} (r : Result A E) (P : Type 0) → is_ok r ≡ true → OnOk r P → P
 if_ok (Ok x) P e h = h
@@ -49,7 +49,7 @@ fresh_is o p f s b e h k =
 pub record AlternateDone {S : Type 0} (does : CallRelation S)
     (rows cols : ℕ) (o : Option Page) (new : Page) (after : Scrollback) (s t : S) : Type 0 where
   pub page : Some new ≡ option_map (page_resized rows cols (no_scrollback 0)) o
-  pub told : TakesCalls does s (reports_of true rows o (no_scrollback 0)) t
+  pub called : TakesCalls does s (reports_of true rows o (no_scrollback 0)) t
   pub nothing : IsNothing after
 
 pub alternate_done : {S : Type 0} (does : CallRelation S) (rows cols : ℕ)
@@ -59,7 +59,7 @@ pub alternate_done : {S : Type 0} (does : CallRelation S) (rows cols : ℕ)
     → after ≡ scrollback_resized (length page_rows.rows) p above
     → FoldsTo (CalledOnScroll does true) s (resize_reports (length page_rows.rows) p above) t
     → AlternateDone does rows cols o new after s t
-alternate_done {S} does rows cols o p new page_rows f above after s t e h k n page scrolled heard =
+alternate_done {S} does rows cols o p new page_rows f above after s t e h k n page scrolled called =
     let fresh = fresh_is o p f page_rows (blank_page rows cols) e h k in
     let height = fresh_height rows cols page_rows fresh in
     let width = fresh_width rows cols page_rows fresh in
@@ -73,9 +73,9 @@ alternate_done {S} does rows cols o p new page_rows f above after s t e h k n pa
     = ap (λ (m : ℕ). resize_reports m p above) height ∙ ap (resize_reports rows p) n in
     record {
       page = rw h (ap Some there);
-      told =
-          rw h (told_rows does true (resize_reports rows p (no_scrollback 0)) s t
-          (subst (λ (all : List RowValue). FoldsTo (CalledOnScroll does true) s all t) same heard));
+      called =
+          rw h (called_rows does true (resize_reports rows p (no_scrollback 0)) s t
+          (subst (λ (all : List RowValue). FoldsTo (CalledOnScroll does true) s all t) same called));
       nothing = subst IsNothing (sym beyond) (nothing_resized rows p);
     }
 
@@ -85,10 +85,10 @@ pub main_done : {S : Type 0} (does : CallRelation S)
     → page_rows ≡ blank_page rows cols
     → FoldsTo (CalledOnScroll does false) s (resize_reports (length page_rows.rows) p above) t
     → TakesCalls does s (reports_of false rows (Some p) above) t
-main_done {S} does rows cols p page_rows above s t fresh heard =
-    told_rows does false (resize_reports rows p above) s t
+main_done {S} does rows cols p page_rows above s t fresh called =
+    called_rows does false (resize_reports rows p above) s t
     (subst (λ (all : List RowValue). FoldsTo (CalledOnScroll does false) s all t)
-    (ap (λ (m : ℕ). resize_reports m p above) (fresh_height rows cols page_rows fresh)) heard)
+    (ap (λ (m : ℕ). resize_reports m p above) (fresh_height rows cols page_rows fresh)) called)
 
 -- ---- both
 
@@ -115,19 +115,19 @@ above_main : (b : Bool) (active idle whole : Scrollback) →
 above_main true active idle whole w e = absurd (false≢true (sym e))
 above_main false active idle whole w e = sym w
 
-pub told_by_steps : {S : Type 0} (does : CallRelation S)
+pub called_by_steps : {S : Type 0} (does : CallRelation S)
     (rows cols : ℕ) (v now : ScreenValue) (active idle : Scrollback) (page_rows : Page) (s m t : S)
     → v ≡ now → v.scrollback ≡ main_scrollback v.is_alternate active idle
     → now.is_alternate ≡ false → page_rows ≡ blank_page rows cols
     → FoldsTo (CalledOnScroll does false) s (resize_reports (length page_rows.rows) v.page active) m
     → TakesCalls does m (reports_of true rows v.other (no_scrollback 0)) t
     → TakesCalls does s (reports_of_pages rows now) t
-told_by_steps {S} does rows cols v now active idle page_rows s m t same w main fresh heard told =
+called_by_steps {S} does rows cols v now active idle page_rows s m t same w main fresh called told =
     let whole : active ≡ v.scrollback =
     above_main v.is_alternate active idle v.scrollback w (ap (λ (x : ScreenValue). x.is_alternate) same ∙ main) in
     subst (λ (x : ScreenValue). TakesCalls does s (reports_of_pages rows x) t) same
     (folds_then (CalledOnAnyScreen does) (reports_of false rows (Some v.page) v.scrollback)
     (reports_of true rows v.other (no_scrollback 0)) s m t
     (subst (λ (z : Scrollback). TakesCalls does s (reports_of false rows (Some v.page) z) m)
-    whole (main_done does rows cols v.page page_rows active s m fresh heard))
+    whole (main_done does rows cols v.page page_rows active s m fresh called))
     told)

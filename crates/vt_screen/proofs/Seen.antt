@@ -18,7 +18,7 @@ use Rattle.vt_redraw.specs.Locality.{row_of_picture}
 use Rattle.vt_redraw.specs.Picture.{Picture, SamePictureSize, cut_rows}
 use Rattle.vt_redraw.specs.Steady.{IsSteady, has_selector}
 use Rattle.vt_redraw.proofs.Cuts.{IsAnyRow}
-use Rattle.vt_redraw.proofs.PlainSteady.{picture_steady}
+use Rattle.vt_redraw.proofs.SteadyWithout.{picture_steady}
 use Rattle.vt_screen.specs.Contents.{between_of, contents_of, line_end, lines_of, without_line_ends}
 use Rattle.vt_screen.specs.Screen.{IsScreen, ScreenValue, above_page, visible_row, visible_rows}
 use Rattle.vt_screen.specs.Shown.{ShowSamePage, ShowsNoSelector, ShowsOwnPage, shown}
@@ -90,8 +90,8 @@ cut_rows_inner width (x ∷ y ∷ rows) (suc r) col are lt = cut_rows_inner widt
 -- ---- what is shown
 
 -- without U+FE0F it is steady
-pub plain_steady : (s : ScreenValue) → IsScreen s → ShowsNoSelector s → IsSteady (shown s)
-plain_steady s is none =
+pub steady_without : (s : ScreenValue) → IsScreen s → ShowsNoSelector s → IsSteady (shown s)
+steady_without s is none =
     let tall = length_visible (above_page s) s.page.rows in
     picture_steady (shown s) (shown_is s is) (cut_rows_none s.page.width (visible_rows s) (λ r col inside lt.
     none_in_cell (at (visible_row s r).cells col) (none r col (omega (arith, inside, tall)) lt)))

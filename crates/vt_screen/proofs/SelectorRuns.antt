@@ -26,22 +26,22 @@ use Rattle.vt_screen.specs.Screen.{IsPrintable, IsScreen, ScreenValue, above_pag
 use Rattle.vt_screen.specs.Screen.{fresh_screen, scrolled_back, visible_row}
 use Rattle.vt_screen.specs.Selectors.{CellHasNoSelector, HasNoSelectors, RowsHaveNoSelector}
 use Rattle.vt_screen.specs.Shown.{ShowsNoSelector}
-use Rattle.vt_screen.specs.Telling.{screen_in, screen_after_all, steps_in, steps_of_all}
+use Rattle.vt_screen.specs.CallsOfRun.{screen_in, screen_after_all, steps_in, steps_of_all}
 use Rattle.vt_screen.proofs.EventSteps.{AllAmong, Allows, all_then, none, stream_event}
-use Rattle.vt_screen.proofs.Selectors.{ArePlain, IsPlainCell, IsPlainCharacter, StaysPlain}
-use Rattle.vt_screen.proofs.Selectors.{plain_aside, selecting, steps_plain}
+use Rattle.vt_screen.proofs.Selectors.{AreFree, IsFreeCell, IsFreeCharacter, StaysFree}
+use Rattle.vt_screen.proofs.Selectors.{free_aside, selecting, steps_free}
 use Rattle.vt_screen.proofs.Shown.{above_by, length_visible, rows_visible}
 use Rattle.vt_screen.proofs.Stable.{EachCell, stable_blank}
 use Rattle.vt_screen.proofs.StableScrollback.{stable_page_resized, stable_scrollback_resized, stable_viewed}
 
 -- ---- with and without what every cell is
 
-into_cell : (cell : CellValue) → IsCell cell → CellHasNoSelector cell → IsPlainCell cell
+into_cell : (cell : CellValue) → IsCell cell → CellHasNoSelector cell → IsFreeCell cell
 into_cell (blank attrs) is without = tt
 into_cell (glyph text wide attrs) is without = (IsGlyphText-utf8 text wide is, without)
 into_cell right_half is without = tt
 
-from_cell : (cell : CellValue) → IsPlainCell cell → CellHasNoSelector cell
+from_cell : (cell : CellValue) → IsFreeCell cell → CellHasNoSelector cell
 from_cell (blank attrs) p = ap (list_any is_selector) chars-nil
 from_cell (glyph text wide attrs) p = p.1
 from_cell right_half p = ap (list_any is_selector) chars-nil
@@ -49,39 +49,39 @@ from_cell right_half p = ap (list_any is_selector) chars-nil
 abbrev HasNone : RowValue → Type 0
 HasNone row = All CellHasNoSelector row.cells
 
-into_row : (row : RowValue) → All IsCell row.cells → HasNone row → EachCell IsPlainCell row
+into_row : (row : RowValue) → All IsCell row.cells → HasNone row → EachCell IsFreeCell row
 into_row row is without k d lt = into_cell (slice_index_or row.cells k d) (is k d lt) (without k d lt)
 
-into_rows : (rows : List RowValue) → All (λ row. All IsCell row.cells) rows → RowsHaveNoSelector rows → ArePlain rows
+into_rows : (rows : List RowValue) → All (λ row. All IsCell row.cells) rows → RowsHaveNoSelector rows → AreFree rows
 into_rows rows is without k d lt = into_row (slice_index_or rows k d) (is k d lt) (without k d lt)
 
-from_rows : (rows : List RowValue) → ArePlain rows → RowsHaveNoSelector rows
+from_rows : (rows : List RowValue) → AreFree rows → RowsHaveNoSelector rows
 from_rows rows all =
-    All-weaker (EachCell IsPlainCell) HasNone
-    (λ row. All-weaker IsPlainCell CellHasNoSelector from_cell row.cells) rows all
+    All-weaker (EachCell IsFreeCell) HasNone
+    (λ row. All-weaker IsFreeCell CellHasNoSelector from_cell row.cells) rows all
 
 into_other : (page : Page) (o : Option Page) → IfSome o (λ other. IsPage other × SameSize other page)
-    → IfSome o (λ other. RowsHaveNoSelector other.rows) → IfSome o (λ other. ArePlain other.rows)
+    → IfSome o (λ other. RowsHaveNoSelector other.rows) → IfSome o (λ other. AreFree other.rows)
 into_other page (Some other) is without = into_rows other.rows (λ k d lt. (is.0.rows k d lt).sound) without
 into_other page None is without = tt
 
-into_last : (last : Option ℕ) → IfSome last IsPrintable → last ≢ Some 0xFE0F → IfSome last IsPlainCharacter
+into_last : (last : Option ℕ) → IfSome last IsPrintable → last ≢ Some 0xFE0F → IfSome last IsFreeCharacter
 into_last (Some c) is other = (is.0, λ e. other (ap Some e))
 into_last None is other = tt
 
 same_some : (x y : ℕ) → Some x ≡ Some y → x ≡ y
 same_some x y e = cc
 
-from_last : (last : Option ℕ) → IfSome last IsPlainCharacter → last ≢ Some 0xFE0F
+from_last : (last : Option ℕ) → IfSome last IsFreeCharacter → last ≢ Some 0xFE0F
 from_last (Some c) k = λ e. k.1 (same_some c 0xFE0F e)
 from_last None k = λ e. absurd (cc)
 
-from_other : (o : Option Page) → IfSome o (λ other. ArePlain other.rows)
+from_other : (o : Option Page) → IfSome o (λ other. AreFree other.rows)
     → IfSome o (λ other. RowsHaveNoSelector other.rows)
 from_other (Some other) all = from_rows other.rows all
 from_other None all = tt
 
-stays_from : (s : ScreenValue) → IsScreen s → HasNoSelectors s → StaysPlain s
+stays_from : (s : ScreenValue) → IsScreen s → HasNoSelectors s → StaysFree s
 stays_from s is without = record {
   rows = into_rows s.page.rows (λ k d lt. (is.page.rows k d lt).sound) without.rows;
   other = into_other s.page s.other is.other without.other;
@@ -89,7 +89,7 @@ stays_from s is without = record {
   last = into_last s.last is.last without.last;
 }
 
-none_from : (s : ScreenValue) → StaysPlain s → HasNoSelectors s
+none_from : (s : ScreenValue) → StaysFree s → HasNoSelectors s
 none_from s k = record {
   rows = from_rows s.page.rows k.rows;
   other = from_other s.other k.other;
@@ -99,28 +99,28 @@ none_from s k = record {
 
 -- ---- runs
 
-allows : (event : Event) → event ≢ Character 0xFE0F → Allows IsPlainCharacter (Unit {0}) event
+allows : (event : Event) → event ≢ Character 0xFE0F → Allows IsFreeCharacter (Unit {0}) event
 allows event other =
     record { prints = λ c e is. (is.0, λ same. other (e ∙ ap Character same)); resets = λ e. tt }
 
-events_plain : (events : List Event) (s : ScreenValue) → AreCoded events
-    → AllByRecursion (λ event. event ≢ Character 0xFE0F) events → StaysPlain s
-    → AllAmong IsPlainCharacter (Unit {0}) (steps_of_all events s)
-events_plain [] s coded others k = none
-events_plain (event ∷ events) s coded others k =
+events_free : (events : List Event) (s : ScreenValue) → AreCoded events
+    → AllByRecursion (λ event. event ≢ Character 0xFE0F) events → StaysFree s
+    → AllAmong IsFreeCharacter (Unit {0}) (steps_of_all events s)
+events_free [] s coded others k = none
+events_free (event ∷ events) s coded others k =
     let steps = steps_of event (seen_of s) in
-    let now : AllAmong IsPlainCharacter (Unit {0}) steps =
+    let now : AllAmong IsFreeCharacter (Unit {0}) steps =
     stream_event event (seen_of s) coded.0 (allows event others.0) k.last in
-    let there = steps_plain steps s now.all k in
+    let there = steps_free steps s now.all k in
     all_then steps (steps_of_all events (screen_after_all steps s)) now
-    (events_plain events (screen_after_all steps s) coded.1 others.1 there)
+    (events_free events (screen_after_all steps s) coded.1 others.1 there)
 
 pub run_keeps : (scan : State) (s : ScreenValue) (bytes : List ℕ) → IsScreen s → HasNoSelectors s
     → ReadsNoSelector scan bytes → HasNoSelectors (screen_in scan s bytes)
 run_keeps scan s bytes is without others =
     let k = stays_from s is without in
-    none_from (screen_in scan s bytes) (steps_plain (steps_in scan s bytes) s
-    (events_plain (run scan bytes).events s (coded_run scan bytes) others k).all k)
+    none_from (screen_in scan s bytes) (steps_free (steps_in scan s bytes) s
+    (events_free (run scan bytes).events s (coded_run scan bytes) others k).all k)
 
 -- ---- fresh screens, other sizes, and scrollback in view
 
@@ -128,7 +128,7 @@ pub fresh_has_none : (rows cols capacity : ℕ) → HasNoSelectors (fresh_screen
 fresh_has_none rows cols capacity = none_from (fresh_screen rows cols capacity) (record {
   rows = stable_blank selecting rows cols;
   other = tt;
-  above = All-nil (EachCell IsPlainCell);
+  above = All-nil (EachCell IsFreeCell);
   last = tt;
 })
 
@@ -150,7 +150,7 @@ shows_none s without r col inside lt =
 
 pub viewed_has_none : (n : ℕ) (s : ScreenValue) → IsScreen s → HasNoSelectors s → HasNoSelectors (scrolled_back n s)
 viewed_has_none n s is without = by s.is_alternate where
-  k : StaysPlain s
+  k : StaysFree s
   k = stays_from s is without
 
   now : Scrollback
@@ -167,26 +167,26 @@ viewed_has_none n s is without = by s.is_alternate where
 
 -- ---- another size
 
-above_aside_none : (b : Bool) (above : Scrollback) → ArePlain above.rows
-    → ArePlain (if b then above else no_scrollback 0).rows
+above_aside_none : (b : Bool) (above : Scrollback) → AreFree above.rows
+    → AreFree (if b then above else no_scrollback 0).rows
 above_aside_none true above all = all
-above_aside_none false above all = All-nil (EachCell IsPlainCell)
+above_aside_none false above all = All-nil (EachCell IsFreeCell)
 
-page_if : (b : Bool) (page other : Page) → ArePlain page.rows → ArePlain other.rows
-    → ArePlain (if b then page else other).rows
+page_if : (b : Bool) (page other : Page) → AreFree page.rows → AreFree other.rows
+    → AreFree (if b then page else other).rows
 page_if true page other p q = p
 page_if false page other p q = q
 
-other_resized : (rows cols : ℕ) (above : Scrollback) (o : Option Page) → ArePlain above.rows
-    → IfSome o (λ other. ArePlain other.rows)
-    → IfSome (option_map (page_resized rows cols above) o) (λ other. ArePlain other.rows)
+other_resized : (rows cols : ℕ) (above : Scrollback) (o : Option Page) → AreFree above.rows
+    → IfSome o (λ other. AreFree other.rows)
+    → IfSome (option_map (page_resized rows cols above) o) (λ other. AreFree other.rows)
 other_resized rows cols above (Some page) a all = stable_page_resized selecting rows cols above page a all
 other_resized rows cols above None a all = tt
 
 pub resized_has_none : (rows cols : ℕ) (s : ScreenValue) → IsScreen s → HasNoSelectors s
     → HasNoSelectors (resized rows cols s)
 resized_has_none rows cols s is without = by (has_size rows cols s) where
-  k : StaysPlain s
+  k : StaysFree s
   k = stays_from s is without
 
   after : ScreenValue
@@ -196,14 +196,14 @@ resized_has_none rows cols s is without = by (has_size rows cols s) where
     scrollback = scrollback_resized rows (main_page s) s.scrollback;
   }
 
-  stays : StaysPlain after
+  stays : StaysFree after
   stays = record {
     rows = stable_page_resized selecting rows cols (above_page s) s.page
-        (above_by (EachCell IsPlainCell) s.is_alternate s.scrollback k.above) k.rows;
+        (above_by (EachCell IsFreeCell) s.is_alternate s.scrollback k.above) k.rows;
     other = other_resized rows cols (above_aside s) s.other
         (above_aside_none s.is_alternate s.scrollback k.above) k.other;
     above = stable_scrollback_resized selecting rows (main_page s) s.scrollback
-        (page_if s.is_alternate (page_aside s) s.page (plain_aside s k) k.rows) k.above;
+        (page_if s.is_alternate (page_aside s) s.page (free_aside s k) k.rows) k.above;
     last = k.last;
   }
 

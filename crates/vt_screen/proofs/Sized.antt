@@ -7,7 +7,7 @@ use Rattle.vt_rows.specs.Row.{blank_row}
 use Rattle.vt_grid.specs.Page.{Page, SameSize, IsPage, blank_page}
 use Rattle.vt_grid.specs.Resize.{out_of_view}
 use Rattle.vt_grid.specs.Scrollback.{pushed}
-use Rattle.vt_screen.specs.Pages.{fresh_page, page_aside, entered, entered_fresh, left, saved, restored, reset}
+use Rattle.vt_screen.specs.Pages.{fresh_page, page_aside, entered, entered_fresh, left_alternate, saved, restored, reset}
 use Rattle.vt_screen.specs.Screen.{ScreenValue, IsScreen}
 use Rattle.vt_screen.specs.Steps.{Step, Print, LineFeed, ScrollUp, OnPage, SaveCursor, RestoreCursor, EnterAlternate}
 use Rattle.vt_screen.specs.Steps.{EnterFresh, LeaveAlternate, LeaveRestoring, Reset, EraseScrollback, Render}
@@ -84,7 +84,7 @@ sized_entered height width screen z = by_page screen.is_alternate where
   by_page false = record { page = aside_sized height width screen z; other = z.page }
 
 sized_left : (height width : ℕ) (screen : ScreenValue) →
-    IsSized height width screen → IsSized height width (left screen)
+    IsSized height width screen → IsSized height width (left_alternate screen)
 sized_left height width screen z = by_page screen.is_alternate where
   by_page : (b : Bool) →
       IsSized height width
@@ -136,7 +136,7 @@ sized_stepped height width EnterAlternate screen z = sized_entered height width 
 sized_stepped height width EnterFresh screen z = sized_entered_fresh height width screen z
 sized_stepped height width LeaveAlternate screen z = sized_left height width screen z
 sized_stepped height width LeaveRestoring screen z =
-    sized_restored height width (left screen) (sized_left height width screen z)
+    sized_restored height width (left_alternate screen) (sized_left height width screen z)
 sized_stepped height width Reset screen z = sized_reset height width screen z
 sized_stepped height width EraseScrollback screen z = z
 sized_stepped height width (ScrollUp n) screen z =

@@ -7,7 +7,7 @@ use Rattle.vt_screen.specs.Run.{CallRelation, Scrolls, Takes, state}
 use Rattle.vt_screen.specs.Steps.{Step, Print, LineFeed, ScrollUp, OnPage, SaveCursor, RestoreCursor, EnterAlternate}
 use Rattle.vt_screen.specs.Steps.{EnterFresh, LeaveAlternate, LeaveRestoring, Reset, EraseScrollback, Render}
 use Rattle.vt_screen.specs.Steps.{HideCursor, SetMode, CallBack, screen_after, display_after}
-use Rattle.vt_screen.specs.Telling.{LeavesScreen}
+use Rattle.vt_screen.specs.CallsOfRun.{LeavesScreen}
 use Rattle.vt_screen.proofs.Sized.{IsSized, sized_sent, sized_stepped}
 
 module _ {S : Type 0} (does : CallRelation S) (leaves : LeavesScreen does) (height width : ℕ) where

@@ -45,8 +45,8 @@ EachRow P rows = All (EachCell P) rows
 
 -- ---- cells
 
-pub bare : {P : CellValue → Type 0} {F : Attrs → Type 0} {Q : ℕ → Type 0} → IsStable P F Q → P default_blank
-bare rule = rule.empty default_attrs rule.plain
+pub stable_default_blank : {P : CellValue → Type 0} {F : Attrs → Type 0} {Q : ℕ → Type 0} → IsStable P F Q → P default_blank
+stable_default_blank rule = rule.empty default_attrs rule.plain
 
 stable_mended : {P : CellValue → Type 0} {F : Attrs → Type 0} {Q : ℕ → Type 0} → IsStable P F Q → (x : CellValue)
     → P x → P (mended x)
@@ -92,7 +92,7 @@ pub stable_at : {P : CellValue → Type 0} {F : Attrs → Type 0} {Q : ℕ → T
     → (cells : List CellValue) (k : ℕ) → All P cells → P (at cells k)
 stable_at {P} {F} {Q} rule cells k all = elim (cases_lt k (length cells)) [
   | inl lt ↦ All-get_or P cells k default_blank lt all
-  | inr past ↦ subst P (sym (get_or_past cells k default_blank past)) (bare rule)
+  | inr past ↦ subst P (sym (get_or_past cells k default_blank past)) (stable_default_blank rule)
 ]
 
 -- ---- rows
@@ -158,7 +158,7 @@ stable_blank {P} {F} {Q} rule height width =
 stable_erased : {P : CellValue → Type 0} {F : Attrs → Type 0} {Q : ℕ → Type 0} → IsStable P F Q
     → (c n : ℕ) (attrs : Attrs) (cells : List CellValue) → F attrs → All P cells → All P (erased c n attrs cells)
 stable_erased {P} {F} {Q} rule c n attrs cells h all =
-    stable_put_cells rule c n default_blank (blanks attrs n) cells (bare rule)
+    stable_put_cells rule c n default_blank (blanks attrs n) cells (stable_default_blank rule)
     (All-replicate P n (blank attrs) (rule.empty attrs h)) all
 
 pub stable_erased_columns : {P : CellValue → Type 0} {F : Attrs → Type 0} {Q : ℕ → Type 0} → IsStable P F Q

@@ -14,7 +14,7 @@ use Rattle.vt_grid.specs.Shifts.{down_source, rows_down, reverse_index, scrolled
 use Rattle.vt_grid.specs.Shifts.{lines_inserted, lines_deleted, chars_inserted, chars_deleted}
 use Rattle.vt_grid.specs.Erasing.{erased_start, erased_row, blanked_above, erased_above, erased_page}
 use Rattle.vt_grid.proofs.Pages.{length-moved_rows, row_or-moved_rows}
-use Rattle.vt_screen.proofs.Stable.{IsStable, EachCell, EachRow, bare, stable_if, stable_at, stable_blank_row}
+use Rattle.vt_screen.proofs.Stable.{IsStable, EachCell, EachRow, stable_default_blank, stable_if, stable_at, stable_blank_row}
 use Rattle.vt_screen.proofs.Stable.{stable_row_or, stable_cursor_row, stable_with_row, stable_erased_columns}
 
 -- ---- rows
@@ -82,7 +82,7 @@ stable_moved_at {P} {F} {Q} rule n source cells k all =
     let alone = is_right_half x && not (source k == source (k - 1) + 1) in
     cell_if rule (is_wide x && not (nat_lt (k + 1) n && (source (k + 1) == source k + 1))) (blank (attrs_of x))
     (if alone then default_blank else x) (rule.torn x there)
-    (cell_if rule alone default_blank x (bare rule) there)
+    (cell_if rule alone default_blank x (stable_default_blank rule) there)
 
 pub stable_moved : {P : CellValue → Type 0} {F : Attrs → Type 0} {Q : ℕ → Type 0} → IsStable P F Q
     → (n : ℕ) (source : ℕ → ℕ) (cells : List CellValue) → All P cells → All P (moved n source cells)

@@ -15,7 +15,7 @@ use Rattle.vt_screen.proofs.InputRead.{change_none, change_tells, modes_changed,
 use Rattle.vt_screen.proofs.ReadbackTexts.{reads_then}
 use Rattle.vt_screen.proofs.Redrawing.{Becomes, difference_read, redraw_read}
 use Rattle.vt_screen.proofs.Shown.{shown_is}
-use Rattle.vt_screen.proofs.Telling.{difference_none, difference_tells}
+use Rattle.vt_screen.proofs.EqualTexts.{difference_none, difference_tells}
 
 -- a reader that shows what a screen shows, and has its modes
 abbrev restored : (screen : ScreenValue) → Saved → Option ℕ → ScreenValue → ScreenValue

@@ -8,7 +8,7 @@ use Rattle.vt_screen.specs.Screen.{ScreenValue}
 use Rattle.vt_screen.specs.Controls.{seen_of, steps_of}
 use Rattle.vt_screen.specs.Steps.{Step, screen_after}
 use Rattle.vt_screen.specs.Streamed.{sent_off, sent_off_all, sent_off_in}
-use Rattle.vt_screen.specs.Telling.{screen_in, screen_after_all, steps_in, steps_of_all}
+use Rattle.vt_screen.specs.CallsOfRun.{screen_in, screen_after_all, steps_in, steps_of_all}
 
 pub stepped_then : (xs ys : List Step) (s : ScreenValue) → screen_after_all (xs ++ ys) s ≡ screen_after_all ys (screen_after_all xs s)
 stepped_then [] ys s = refl

@@ -7,7 +7,7 @@ use Rattle.vt_rows.specs.Row.{RowValue, trimmed, trimmed_row}
 use Rattle.vt_screen.specs.Calls.{CallValue}
 use Rattle.vt_screen.specs.Capture.{all_rows, basic_texts, written_after_all}
 use Rattle.vt_screen.specs.Screen.{ScreenValue}
-use Rattle.vt_screen.specs.Streamed.{AreSameTrimmed, rows_told, streamed_text}
+use Rattle.vt_screen.specs.Streamed.{AreSameTrimmed, rows_of_calls, streamed_text}
 use Rattle.vt_screen.proofs.TrailingBlanks.{trimmed_twice}
 use Rattle.vt_screen.proofs.TrailingBlanksScrollback.{alike_then}
 use Rattle.vt_screen.proofs.Streaming.{Streamed}
@@ -57,7 +57,7 @@ pub streamed_is : (calls : List CallValue) (gone : List RowValue) (s t : ScreenV
     → Streamed calls gone s t → s.scrollback.rows ≡ [] → t.is_alternate ≡ false
     → streamed_text calls t ≡ basic_texts unwritten (gone ++ t.page.rows)
 streamed_is calls gone s t k none main =
-    let told = rows_told calls in
+    let told = rows_of_calls calls in
     let rows : told ++ all_rows t ≡ (told ++ t.scrollback.rows) ++ t.page.rows
     = ap (λ (z : Scrollback). told ++ (z.rows ++ t.page.rows)) (above_main t.is_alternate t.scrollback main)
     ∙ sym (append_assoc told t.scrollback.rows t.page.rows) in

@@ -18,13 +18,13 @@ use Rattle.vt_grid.specs.Scrollback.{Scrollback, cleared, no_scrollback, pushed,
 use Rattle.vt_grid.proofs.Printed.{page_printed}
 use Rattle.vt_grid.proofs.Pages.{page_blank, page_cursor_saved, page_cursor_restored, page_line_feed, page_scrolled_up}
 use Rattle.vt_screen.specs.Calls.{CallValue, OnScroll}
-use Rattle.vt_screen.specs.Pages.{fresh_page, page_aside, entered, entered_fresh, left, left_restored, saved, restored}
+use Rattle.vt_screen.specs.Pages.{fresh_page, page_aside, entered, entered_fresh, left_alternate, left_restored, saved, restored}
 use Rattle.vt_screen.specs.Screen.{IsPrintable, IsScreen, ScreenValue, fresh_screen, scrolled_back, with_page}
 use Rattle.vt_screen.specs.Steps.{Step, Print, LineFeed, ScrollUp, OnPage, SaveCursor, RestoreCursor, EnterAlternate}
 use Rattle.vt_screen.specs.Steps.{EnterFresh, LeaveAlternate, LeaveRestoring, Reset, EraseScrollback, Render}
 use Rattle.vt_screen.specs.Steps.{HideCursor, SetMode, CallBack, becomes_last, screen_after, display_after}
-use Rattle.vt_screen.specs.Streamed.{AreSameTrimmed, HasWideFlags, row_told, rows_told, sent_off, sent_off_all}
-use Rattle.vt_screen.specs.Telling.{calls_of, calls_of_all, screen_after_all}
+use Rattle.vt_screen.specs.Streamed.{AreSameTrimmed, HasWideFlags, row_of_call, rows_of_calls, sent_off, sent_off_all}
+use Rattle.vt_screen.specs.CallsOfRun.{calls_of, calls_of_all, screen_after_all}
 use Rattle.vt_screen.proofs.TrailingBlanks.{IsWide}
 use Rattle.vt_screen.proofs.TrailingBlanksScrollback.{AreSound, alike_pushed, alike_then, alike_viewed, sound_pushed}
 use Rattle.vt_screen.proofs.TrailingBlanksScrollback.{sound_viewed, wide_pushed, wide_viewed}
@@ -38,7 +38,7 @@ use Rattle.vt_screen.proofs.Sizes.{same_line_feed, same_printed, same_scrolled_u
 abbrev pub IsAmong : (ℕ → Type 0) → Type 0 → Step → Type 0
 IsAmong Q R (Print c) = Q c
 IsAmong Q R Reset = R
-IsAmong Q R (CallBack call) = row_told call ≡ []
+IsAmong Q R (CallBack call) = row_of_call call ≡ []
 IsAmong Q R _ = Unit {0}
 
 -- all but RIS
@@ -64,7 +64,7 @@ Held s = IsHeld s.page s.other s.scrollback s.last
 -- from one screen to another, what was told and what left
 pub record Streamed (calls : List CallValue) (gone : List RowValue) (s t : ScreenValue) : Type 0 where
   pub held : Held t
-  pub alike : AreSameTrimmed (rows_told calls ++ t.scrollback.rows) (s.scrollback.rows ++ gone)
+  pub alike : AreSameTrimmed (rows_of_calls calls ++ t.scrollback.rows) (s.scrollback.rows ++ gone)
 
 -- nothing was told, and nothing left
 quietly : (s t : ScreenValue) → Held t → t.scrollback.rows ≡ s.scrollback.rows →
@@ -98,17 +98,17 @@ on_page page s sound same k =
 
 -- ---- rows that leave
 
-told_none : (rows : List RowValue) → rows_told (map (λ row. OnScroll row true) rows) ≡ []
+told_none : (rows : List RowValue) → rows_of_calls (map (λ row. OnScroll row true) rows) ≡ []
 told_none [] = refl
 told_none (row ∷ rows) = told_none rows
 
-pub told_append : (xs ys : List CallValue) → rows_told (xs ++ ys) ≡ rows_told xs ++ rows_told ys
-told_append [] ys = refl
-told_append (x ∷ xs) ys =
-    ap (λ (rows : List RowValue). row_told x ++ rows) (told_append xs ys)
-    ∙ sym (append_assoc (row_told x) (rows_told xs) (rows_told ys))
+pub rows_of_append : (xs ys : List CallValue) → rows_of_calls (xs ++ ys) ≡ rows_of_calls xs ++ rows_of_calls ys
+rows_of_append [] ys = refl
+rows_of_append (x ∷ xs) ys =
+    ap (λ (rows : List RowValue). row_of_call x ++ rows) (rows_of_append xs ys)
+    ∙ sym (append_assoc (row_of_call x) (rows_of_calls xs) (rows_of_calls ys))
 
-told_all : (rows : List RowValue) → rows_told (map (λ row. OnScroll row false) rows) ≡ rows
+told_all : (rows : List RowValue) → rows_of_calls (map (λ row. OnScroll row false) rows) ≡ rows
 told_all [] = refl
 told_all (row ∷ rows) = ap (λ (xs : List RowValue). row ∷ xs) (told_all rows)
 
@@ -209,7 +209,7 @@ turned_entered s k = by s.is_alternate where
         rows = refl;
       }
 
-turned_left : (s : ScreenValue) → Held s → Turned s (left s)
+turned_left : (s : ScreenValue) → Held s → Turned s (left_alternate s)
 turned_left s k = by s.is_alternate where
   by : (b : Bool) →
       Turned s (if b then record s { page = page_aside s; other = Some s.page; is_alternate = false } else s)
@@ -304,10 +304,10 @@ step_streams EnterFresh s i k =
     let saves = turned_saved s k in
     by_turn s (entered_fresh s) (turned_fresh s (entered (saved s)) k
     (turned_then s (saved s) (entered (saved s)) saves (turned_entered (saved s) saves.held)))
-step_streams LeaveAlternate s i k = by_turn s (left s) (turned_left s k)
+step_streams LeaveAlternate s i k = by_turn s (left_alternate s) (turned_left s k)
 step_streams LeaveRestoring s i k =
     let leaves = turned_left s k in
-    by_turn s (left_restored s) (turned_then s (left s) (left_restored s) leaves (turned_restored (left s) leaves.held))
+    by_turn s (left_restored s) (turned_then s (left_alternate s) (left_restored s) leaves (turned_restored (left_alternate s) leaves.held))
 step_streams (OnPage x) s i k =
     on_page (page_after s.attrs x s.page) s (page_page_after s.attrs x s.page k.sound)
     (same_page_after s.attrs x s.page (inside_page s.page k.sound)) k
@@ -324,12 +324,12 @@ pub streamed_then : (calls more : List CallValue) (gone later : List RowValue) (
 streamed_then calls more gone later s t u a b = record {
   held = b.held;
   alike =
-      ap (map trimmed_row) (ap (λ (xs : List RowValue). xs ++ u.scrollback.rows) (told_append calls more)
-      ∙ append_assoc (rows_told calls) (rows_told more) u.scrollback.rows)
-      ∙ alike_then (rows_told calls) (rows_told calls)
-      (rows_told more ++ u.scrollback.rows) (t.scrollback.rows ++ later) refl b.alike
-      ∙ ap (map trimmed_row) (sym (append_assoc (rows_told calls) t.scrollback.rows later))
-      ∙ alike_then (rows_told calls ++ t.scrollback.rows) (s.scrollback.rows ++ gone) later later a.alike refl
+      ap (map trimmed_row) (ap (λ (xs : List RowValue). xs ++ u.scrollback.rows) (rows_of_append calls more)
+      ∙ append_assoc (rows_of_calls calls) (rows_of_calls more) u.scrollback.rows)
+      ∙ alike_then (rows_of_calls calls) (rows_of_calls calls)
+      (rows_of_calls more ++ u.scrollback.rows) (t.scrollback.rows ++ later) refl b.alike
+      ∙ ap (map trimmed_row) (sym (append_assoc (rows_of_calls calls) t.scrollback.rows later))
+      ∙ alike_then (rows_of_calls calls ++ t.scrollback.rows) (s.scrollback.rows ++ gone) later later a.alike refl
       ∙ ap (map trimmed_row) (append_assoc s.scrollback.rows gone later);
 }
 

@@ -95,7 +95,7 @@ print_scrolls does c s screen low high room =
     let none = nothing_out c screen.attrs screen.page low high room in
     record {
       screen = sent_nothing screen.is_alternate c screen (printed_out c screen.attrs screen.page) none;
-      heard =
+      called =
           subst
           (λ (gone : List RowValue). FoldsTo (CalledOnScroll does screen.is_alternate) s (reported gone (above_page screen)) s)
           (sym none) refl;

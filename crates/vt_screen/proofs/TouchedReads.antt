@@ -33,7 +33,7 @@ use Rattle.vt_scan.proofs.Written.{decimal_is_parameter, joined_is_parameter, pl
 use Rattle.vt_screen.specs.Reading.{quiet_steps, quiet_events, Terminal, terminal, read_byte, read}
 use Rattle.vt_screen.specs.Screen.{ScreenValue, canvas_of, with_canvas, with_page}
 use Rattle.vt_screen.specs.Sgr.{group_read}
-use Rattle.vt_screen.specs.Controls.{private_steps, intermediate_steps, mode_step, plain_steps, counted_step, scrolling_steps}
+use Rattle.vt_screen.specs.Controls.{private_steps, intermediate_steps, mode_step, unmarked_steps, counted_step, scrolling_steps}
 use Rattle.vt_screen.specs.Controls.{other_steps, page_erasing, row_erasing, control_steps}
 use Rattle.vt_screen.specs.Controls.{escape_steps, number_or, steps_of, reading_steps, sgr_from, seen_of}
 use Rattle.vt_screen.specs.Steps.{display_after}
@@ -109,7 +109,7 @@ event_touches M text event screen gives other p =
 
 csi_touches : (M : ℕ → ℕ → Type 0) (text : List ℕ) (final : ℕ) (groups : List (List ℕ)) (screen : ScreenValue) →
     IsParameterText text → IsFinal final → (table_of text).groups ≡ groups →
-    StepsTouch M (plain_steps groups final (seen_of screen)) screen →
+    StepsTouch M (unmarked_steps groups final (seen_of screen)) screen →
     ReadTouches M (terminal start screen) (csi text final)
 csi_touches M text final groups screen is is_final table p =
     event_touches M (csi text final) (CsiDispatch groups [] final) screen
@@ -147,24 +147,24 @@ sgr_touches M all wanted (group ∷ rest) screen =
 
 -- SGR, CUP, CUF
 rendition_touches : (M : ℕ → ℕ → Type 0) (groups : List (List ℕ)) (screen : ScreenValue) →
-    StepsTouch M (plain_steps groups 0x6D (seen_of screen)) screen
+    StepsTouch M (unmarked_steps groups 0x6D (seen_of screen)) screen
 unfolding counted_step scrolling_steps other_steps
 rendition_touches M groups screen = sgr_touches M groups Any groups screen
 
 place_touches : (M : ℕ → ℕ → Type 0) (groups : List (List ℕ)) (screen : ScreenValue) →
-    StepsTouch M (plain_steps groups 0x48 (seen_of screen)) screen
+    StepsTouch M (unmarked_steps groups 0x48 (seen_of screen)) screen
 unfolding counted_step scrolling_steps other_steps
 place_touches M groups screen = (tt, λ next e. tt)
 
 right_touches : (M : ℕ → ℕ → Type 0) (groups : List (List ℕ)) (screen : ScreenValue) →
-    StepsTouch M (plain_steps groups 0x43 (seen_of screen)) screen
+    StepsTouch M (unmarked_steps groups 0x43 (seen_of screen)) screen
 unfolding counted_step
 right_touches M groups screen = (tt, λ next e. tt)
 
 -- a text with a count, whose steps touch no more than may be for each count
 counted_touches : (M : ℕ → ℕ → Type 0) (n final : ℕ) (screen : ScreenValue) → suc n < 2 ^ 16 → IsFinal final →
     ((groups : List (List ℕ)) → number_or 1 0 groups ≡ suc n →
-    StepsTouch M (plain_steps groups final (seen_of screen)) screen) →
+    StepsTouch M (unmarked_steps groups final (seen_of screen)) screen) →
     ReadTouches M (terminal start screen) (counted (suc n) final)
 counted_touches M zero final screen h is_final p =
     csi_touches M [] final ((0 ∷ []) ∷ []) screen tt is_final empty_groups (p ((0 ∷ []) ∷ []) refl)
@@ -211,7 +211,7 @@ below_touches M screen p =
 
 chars_touch : (M : ℕ → ℕ → Type 0) (n : ℕ) (groups : List (List ℕ)) (screen : ScreenValue) →
     OpTouches M (EraseChars n) (canvas_of screen) → number_or 1 0 groups ≡ n →
-    StepsTouch M (plain_steps groups 0x58 (seen_of screen)) screen
+    StepsTouch M (unmarked_steps groups 0x58 (seen_of screen)) screen
 unfolding counted_step
 chars_touch M n groups screen p e =
     (subst (λ (k : ℕ). PageStepTouches M (page.EraseChars k) screen.page) (sym e) p, λ next f. tt)

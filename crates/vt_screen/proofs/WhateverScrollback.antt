@@ -6,14 +6,14 @@ use Rattle.vt_grid.specs.Resize.{out_of_view}
 use Rattle.vt_grid.specs.Scrollback.{Scrollback, cleared, with_view}
 use Rattle.vt_scan.specs.Automaton.{State, Event}
 use Rattle.vt_scan.specs.Run.{run}
-use Rattle.vt_screen.specs.Pages.{fresh_page, page_aside, entered, left, restored, saved}
+use Rattle.vt_screen.specs.Pages.{fresh_page, page_aside, entered, left_alternate, restored, saved}
 use Rattle.vt_screen.specs.Screen.{ScreenValue, scrolled_back}
 use Rattle.vt_screen.specs.Controls.{seen_of, steps_of}
 use Rattle.vt_screen.specs.Steps.{Step, Print, LineFeed, ScrollUp, OnPage, SaveCursor, RestoreCursor, EnterAlternate}
 use Rattle.vt_screen.specs.Steps.{EnterFresh, LeaveAlternate, LeaveRestoring, Reset, EraseScrollback, Render}
 use Rattle.vt_screen.specs.Steps.{HideCursor, SetMode, CallBack, screen_after, display_after}
 use Rattle.vt_screen.specs.Streamed.{without_scrollback, sent_off, sent_off_all, sent_off_in}
-use Rattle.vt_screen.specs.Telling.{screen_in, screen_after_all, steps_in, steps_of_all}
+use Rattle.vt_screen.specs.CallsOfRun.{screen_in, screen_after_all, steps_in, steps_of_all}
 
 -- screens that are the same but for scrollback
 abbrev pub SameBare : ScreenValue → ScreenValue → Type 0
@@ -38,7 +38,7 @@ bare_entered s = by s.is_alternate where
   by true = refl
   by false = refl
 
-bare_left : (s : ScreenValue) → SameBare (left s) (left (without_scrollback s))
+bare_left : (s : ScreenValue) → SameBare (left_alternate s) (left_alternate (without_scrollback s))
 bare_left s = by s.is_alternate where
   by : (b : Bool) →
       SameBare (if b then record s { page = page_aside s; other = Some s.page; is_alternate = false } else s)

@@ -17,7 +17,7 @@ use Rattle.vt_screen.specs.Screen.{IsPrintable, IsScreen, ScreenValue, above_pag
 use Rattle.vt_screen.specs.Controls.{escape_steps, seen_of, steps_of}
 use Rattle.vt_screen.specs.Steps.{EraseScrollback, screen_after}
 use Rattle.vt_screen.specs.Streamed.{HasWideFlags, ris}
-use Rattle.vt_screen.specs.Telling.{screen_in, screen_after_all, steps_of_all}
+use Rattle.vt_screen.specs.CallsOfRun.{screen_in, screen_after_all, steps_of_all}
 use Rattle.vt_screen.proofs.TrailingBlanks.{IsWide}
 use Rattle.vt_screen.proofs.TrailingBlanksScrollback.{AreSound, wide_pushed, wide_viewed}
 use Rattle.vt_screen.proofs.EventSteps.{AllAmong, stream_event}

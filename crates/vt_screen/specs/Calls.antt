@@ -1,4 +1,4 @@
--- What a terminal tells the program around it.
+-- What a terminal calls the program around it for.
 use Rattle.std.specs.Prelude.{ℕ, Bool, List, Option}
 use Rattle.vt_rows.specs.Row.{RowValue}
 

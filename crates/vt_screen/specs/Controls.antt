@@ -168,8 +168,8 @@ one_or (Some step) others = OnPage step ∷ []
 one_or None others = others
 
 -- control sequences without a marker or an intermediate
-abbrev pub plain_steps : List (List ℕ) → ℕ → Seen → List Step
-plain_steps groups b seen = one_or (counted_step b (number_or 1 0 groups)) (scrolling_steps groups b seen)
+abbrev pub unmarked_steps : List (List ℕ) → ℕ → Seen → List Step
+unmarked_steps groups b seen = one_or (counted_step b (number_or 1 0 groups)) (scrolling_steps groups b seen)
 
 -- DECSCUSR's numbers
 unfoldable pub style_of : ℕ → Option CursorStyle
@@ -244,7 +244,7 @@ intermediate_steps intermediate second groups b =
     else CallBack (UnhandledCsi (Some intermediate) second groups b) ∷ []
 
 abbrev pub csi_steps : List (List ℕ) → List ℕ → ℕ → Seen → List Step
-csi_steps groups [] b seen = plain_steps groups b seen
+csi_steps groups [] b seen = unmarked_steps groups b seen
 csi_steps groups (intermediate ∷ intermediates) b seen = intermediate_steps intermediate (intermediate_at 0 intermediates) groups b
 
 -- operating system commands: titles, and the clipboard (xterm's 0, 1, 2 and 52)

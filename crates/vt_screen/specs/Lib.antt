@@ -17,7 +17,7 @@ pub mod Touched
 pub mod Chain
 pub mod Reports
 pub mod Internals
-pub mod Telling
+pub mod CallsOfRun
 pub mod Selectors
 pub mod Contents
 pub mod RowItems

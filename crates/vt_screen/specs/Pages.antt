@@ -40,14 +40,14 @@ abbrev pub entered_fresh : ScreenValue → ScreenValue
 entered_fresh screen = record (entered (saved screen)) { page = fresh_page screen }
 
 -- the main page becomes the active one
-abbrev pub left : ScreenValue → ScreenValue
-left screen =
+abbrev pub left_alternate : ScreenValue → ScreenValue
+left_alternate screen =
     if screen.is_alternate
     then record screen { page = page_aside screen; other = Some screen.page; is_alternate = false } else screen
 
 -- the main page becomes the active one, and its saved cursor and origin mode and the saved attributes are restored
 abbrev pub left_restored : ScreenValue → ScreenValue
-left_restored screen = restored (left screen)
+left_restored screen = restored (left_alternate screen)
 
 -- all is as on a fresh screen of the same size and capacity; an alternate page that was entered stays, made fresh (RIS)
 abbrev pub reset : ScreenValue → ScreenValue

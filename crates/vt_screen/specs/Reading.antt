@@ -13,7 +13,7 @@ use Rattle.vt_scan.specs.declared.table.Kind.TheVariants.{OscString}
 use Rattle.vt_scan.specs.declared.table.Turn.{Turn}
 use Rattle.vt_scan.specs.declared.table.Turn.TheVariants.{Collect}
 
--- a step that calls nobody, takes no memory and gives up no scrollback to be told of
+-- a step that calls nobody, takes no memory and gives up no scrollback to be reported
 abbrev pub quiet_step : Step → ScreenValue → Option ScreenValue
 quiet_step (Print c) screen = if pushes c screen.page then None else Some (display_after (Print c) screen)
 quiet_step LineFeed screen = if feeds_out screen.page then None else Some (display_after LineFeed screen)

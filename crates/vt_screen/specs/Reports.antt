@@ -4,7 +4,7 @@ use Rattle.vt_rows.specs.Row.{RowValue}
 use Rattle.vt_screen.specs.Run.{CallRelation, CalledOnScroll}
 use Rattle.vt_screen.specs.declared.reporter.Reporter.{Reporter}
 
--- the callbacks hear of the row, and are the same ones as before
+-- the callbacks are called for the row, and are the same ones as before
 abbrev pub Reports : {S : Type 0} → CallRelation S → Reporter S → RowValue → Reporter S → Type 0
 Reports does old row new =
     (new.callbacks.ghost_name ≡ old.callbacks.ghost_name)

@@ -32,7 +32,7 @@ CalledOnScroll does alternate old row new = CalledOnAnyScreen does old (OnScroll
 -- a step that may send rows off the page: first its rows are reported, one by one
 pub record Scrolls {S : Type 0} (does : CallRelation S) (a : State S) (step : Step) (b : State S) : Type 0 where
   pub screen : b.screen ≡ screen_after step a.screen
-  pub heard : FoldsTo (CalledOnScroll does a.screen.is_alternate) a.callbacks (reports step a.screen) b.callbacks
+  pub called : FoldsTo (CalledOnScroll does a.screen.is_alternate) a.callbacks (reports step a.screen) b.callbacks
 
 -- a step: a callback does what its relation says, a scroll reports what it doesn't keep,
 -- any other step changes the screen alone

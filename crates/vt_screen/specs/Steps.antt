@@ -12,7 +12,7 @@ use Rattle.vt_rows.specs.Row.{RowValue}
 use Rattle.vt_screen.specs.Calls.{CallValue}
 use Rattle.vt_screen.specs.ModeStep.{ModeStep, modes_after}
 use Rattle.vt_screen.specs.Sgr.{rendered}
-use Rattle.vt_screen.specs.Pages.{saved, restored, entered, entered_fresh, left, left_restored, reset}
+use Rattle.vt_screen.specs.Pages.{saved, restored, entered, entered_fresh, left_alternate, left_restored, reset}
 use Rattle.vt_screen.specs.Screen.{ScreenValue, with_page, above_page}
 use Rattle.vt_screen.specs.declared.sgr.Setting.{Setting}
 
@@ -58,7 +58,7 @@ display_after SaveCursor screen = saved screen
 display_after RestoreCursor screen = restored screen
 display_after EnterAlternate screen = entered screen
 display_after EnterFresh screen = entered_fresh screen
-display_after LeaveAlternate screen = left screen
+display_after LeaveAlternate screen = left_alternate screen
 display_after LeaveRestoring screen = left_restored screen
 display_after Reset screen = reset screen
 display_after EraseScrollback screen = screen

@@ -1,4 +1,4 @@
--- What streams out of the main page: the rows that leave it, the rows that are told, and the text of all of them.
+-- What streams out of the main page: the rows that leave it, the rows of calls, and the text of all of them.
 use Rattle.std.specs.Prelude.{◌≡◌, ◌≢◌, ℕ, ◌≤◌, true, false, List, [], ◌∷◌, ◌++◌, length, All, map, if◌then◌else◌}
 use Rattle.std.specs.List.{AllByRecursion}
 use Rattle.vt_rows.specs.Basic.{unwritten}
@@ -10,22 +10,22 @@ use Rattle.vt_screen.specs.Calls.{CallValue, OnScroll}
 use Rattle.vt_screen.specs.Capture.{all_rows, basic_texts, written_after_all}
 use Rattle.vt_screen.specs.Screen.{ScreenValue}
 use Rattle.vt_screen.specs.Steps.{Step, outgoing, screen_after}
-use Rattle.vt_screen.specs.Telling.{steps_in}
+use Rattle.vt_screen.specs.CallsOfRun.{steps_in}
 
 -- the same rows, but for default blanks at their ends: one flag, and cells that are equal without these
 abbrev pub AreSameTrimmed : List RowValue → List RowValue → Type 0
 AreSameTrimmed rows others = map trimmed_row rows ≡ map trimmed_row others
 
--- ---- what is told
+-- ---- what is called for
 
 -- the rows of the main page that are reported
-abbrev pub row_told : CallValue → List RowValue
-row_told (OnScroll row false) = row ∷ []
-row_told _ = []
+abbrev pub row_of_call : CallValue → List RowValue
+row_of_call (OnScroll row false) = row ∷ []
+row_of_call _ = []
 
-abbrev pub rows_told : List CallValue → List RowValue
-rows_told [] = []
-rows_told (call ∷ calls) = row_told call ++ rows_told calls
+abbrev pub rows_of_calls : List CallValue → List RowValue
+rows_of_calls [] = []
+rows_of_calls (call ∷ calls) = row_of_call call ++ rows_of_calls calls
 
 -- ---- what leaves
 
@@ -63,8 +63,8 @@ without_scrollback screen = record screen { scrollback = no_scrollback 0 }
 
 -- ---- captures
 
--- the rows that were told one by one, and with the same state behind them a full capture of the screen
+-- the rows that were reported one by one, and with the same state behind them a full capture of the screen
 abbrev pub streamed_text : List CallValue → ScreenValue → List ℕ
 streamed_text calls screen =
-    let told = rows_told calls in
-    basic_texts unwritten told ++ basic_texts (written_after_all unwritten told) (all_rows screen)
+    let gone = rows_of_calls calls in
+    basic_texts unwritten gone ++ basic_texts (written_after_all unwritten gone) (all_rows screen)

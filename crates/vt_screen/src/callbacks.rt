@@ -1,4 +1,4 @@
-//! What a terminal tells the program around it.
+//! What a terminal calls the program around it for.
 
 use crate::screen::Screen;
 use vt_rows::RowContents;
@@ -99,7 +99,7 @@ pub trait Callbacks {
     /// that wasn't kept comes back to the page blank where a resize brings it
     /// back, and is then a row like any other: where it leaves again it is
     /// reported again, blank. RIS, [`Screen::clear_scrollback`] and
-    /// [`Screen::set_size`] tell nobody.
+    /// [`Screen::set_size`] call nobody.
     fn on_scroll(&mut self, row: RowContents<'_>, alternate: bool)
         ensures { (screen : ScreenValue) → does (calls.OnScroll row.entry alternate) self.old screen self.new screen };
 

@@ -17,8 +17,8 @@ ghost use Rattle.vt_screen.specs.Screen.{IsScreen, ScreenValue, fresh_screen, sc
 ghost use Rattle.vt_screen.specs.Selectors.{HasNoSelectors};
 ghost use Rattle.vt_screen.specs.Shown.{ShowSamePage, ShowsNoSelector, ShowsOwnPage, shown};
 ghost use Rattle.vt_screen.specs.Steps.{EraseScrollback, screen_after};
-ghost use Rattle.vt_screen.specs.Streamed.{AreSameTrimmed, HasNoRis, HasWideFlags, without_scrollback, rows_told, sent_off_in};
-ghost use Rattle.vt_screen.specs.Telling.{calls_in, screen_in};
+ghost use Rattle.vt_screen.specs.Streamed.{AreSameTrimmed, HasNoRis, HasWideFlags, without_scrollback, rows_of_calls, sent_off_in};
+ghost use Rattle.vt_screen.specs.CallsOfRun.{calls_in, screen_in};
 
 /// What a screen shows is a picture of the screen's size, and screens are of one
 /// size exactly where their pictures are (`sizes`).
@@ -64,15 +64,15 @@ pub fn same_shown()
 
 /// A screen without U+FE0F in any cell that getters read of its rows and columns
 /// shows a steady picture, whatever the widths of its characters are.
-pub fn plain_steady()
+pub fn steady_without_selectors()
     ensures { (screen : ScreenValue) → IsScreen screen → ShowsNoSelector screen → IsSteady (shown screen) }
 {}
 
 /// Where no character that bytes read is U+FE0F, none comes into a cell: a
 /// screen that has none on either page and in scrollback, as a fresh one has
 /// none (`fresh`), has none after a run whose callbacks leave the screen alone
-/// (`ran`), in another size (`sized`) and scrolled back (`viewed`). What it
-/// shows has none then (`shown`), and is steady by `plain_steady`. Bytes in
+/// (`ran`), in another size (`sized`) and scrolled back (`scrolled_back`). What it
+/// shows has none then (`shown`), and is steady by `steady_without_selectors`. Bytes in
 /// which EF B8 8F stands nowhere read none, by `vt_scan::laws::selectors`.
 pub fn no_selectors()
     ensures fresh { (rows cols capacity : ℕ) → HasNoSelectors (fresh_screen rows cols capacity) }
@@ -80,7 +80,7 @@ pub fn no_selectors()
         HasNoSelectors screen → ReadsNoSelector scan bytes → HasNoSelectors (screen_in scan screen bytes) }
     ensures sized { (rows cols : ℕ) (screen : ScreenValue) → IsScreen screen → HasNoSelectors screen →
         HasNoSelectors (resized rows cols screen) }
-    ensures viewed { (rows : ℕ) (screen : ScreenValue) → IsScreen screen → HasNoSelectors screen →
+    ensures scrolled_back { (rows : ℕ) (screen : ScreenValue) → IsScreen screen → HasNoSelectors screen →
         HasNoSelectors (scrolled_back rows screen) }
     ensures shown { (screen : ScreenValue) → HasNoSelectors screen → ShowsNoSelector screen }
 {}
@@ -103,7 +103,7 @@ pub fn fresh_capture()
 pub fn streams()
     ensures kept { (scan : State) (screen : ScreenValue) (bytes : List ℕ) → IsScreen screen → HasWideFlags screen →
         HasNoRis scan bytes →
-        AreSameTrimmed (rows_told (calls_in scan screen bytes) ++ (screen_in scan screen bytes).scrollback.rows)
+        AreSameTrimmed (rows_of_calls (calls_in scan screen bytes) ++ (screen_in scan screen bytes).scrollback.rows)
         (screen.scrollback.rows ++ sent_off_in scan screen bytes) }
     ensures sent { (scan : State) (screen other : ScreenValue) (bytes : List ℕ) →
         without_scrollback screen ≡ without_scrollback other → sent_off_in scan screen bytes ≡ sent_off_in scan other bytes }

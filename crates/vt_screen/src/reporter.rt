@@ -1,12 +1,12 @@
-//! Rows that leave the screen, told to callbacks.
+//! Rows that leave the screen, reported to callbacks.
 
 use crate::callbacks::Callbacks;
 use vt_rows::{Leaving, RowContents};
 
-/// Callbacks that are told of the rows of one page.
+/// Callbacks that are called for the rows of one page.
 #[derive(Drop)]
 pub struct Reporter<'a, CB: Callbacks> {
-    /// Who is told.
+    /// Who is called.
     pub callbacks: &'a mut CB,
 
     /// Whether the rows are those of the alternate page.

@@ -23,8 +23,8 @@ impl Digest {
         self.take(0x100);
     }
 
-    fn take_mark(&mut self, mark: Option<u8>) {
-        self.take(mark.map_or(0x101, u64::from));
+    fn take_marker(&mut self, marker: Option<u8>) {
+        self.take(marker.map_or(0x101, u64::from));
     }
 
     fn take_call(&mut self, call: Call<'_>) {
@@ -43,11 +43,11 @@ impl Digest {
             Call::UnhandledChar(code) => self.take(0x1_0000_0000 + u64::from(u32::from(code))),
             Call::UnhandledControl(byte) => self.take(0x2_0000_0000 + u64::from(byte)),
             Call::UnhandledEscape(first, second, byte) => {
-                self.take_marks(8, first, second);
+                self.take_markers(8, first, second);
                 self.take(u64::from(byte));
             }
             Call::UnhandledCsi(first, second, groups, byte) => {
-                self.take_marks(9, first, second);
+                self.take_markers(9, first, second);
                 self.take_groups(groups);
                 self.take(u64::from(u32::from(byte)));
             }
@@ -62,10 +62,10 @@ impl Digest {
         }
     }
 
-    fn take_marks(&mut self, name: u64, first: Option<u8>, second: Option<u8>) {
+    fn take_markers(&mut self, name: u64, first: Option<u8>, second: Option<u8>) {
         self.take(name);
-        self.take_mark(first);
-        self.take_mark(second);
+        self.take_marker(first);
+        self.take_marker(second);
     }
 
     fn take_groups(&mut self, groups: &[&[u16]]) {

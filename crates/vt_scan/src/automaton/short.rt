@@ -32,10 +32,10 @@ impl Scanner {
     /// character is unfinished. Reading it leaves the scanner as it is, so
     /// that it need not be fed.
     #[inline(always)]
-    pub fn is_plain(&self, byte: u8) -> bool
+    pub fn is_text(&self, byte: u8) -> bool
         ensures feeds { IsTrue result
             → Feeds self.now byte self.now (record { first = Some (Event.Character byte); second = None }) }
-        ensures plain { IsTrue result ↔ ReadsItself self.now byte }
+        ensures itself { IsTrue result ↔ ReadsItself self.now byte }
     {
         is_printable(byte) && self.is_fresh()
     }
@@ -45,9 +45,9 @@ impl Scanner {
     /// none where a sequence or another character is unfinished. Reading them
     /// leaves the scanner as it is, so that they need not be fed.
     #[inline]
-    pub fn plain_len(&self, bytes: &[u8]) -> usize
+    pub fn text_len(&self, bytes: &[u8]) -> usize
         ensures inside { result ≤ length bytes.now }
-        ensures plain { All (ReadsItself self.now) (take result bytes.now) }
+        ensures itself { All (ReadsItself self.now) (take result bytes.now) }
         ensures longest { result < length bytes.now → ReadsItself self.now (slice_index_or bytes.now result 0) → ⊥ }
     {
         if self.is_fresh() {
@@ -82,7 +82,7 @@ impl Scanner {
     /// then the control sequence.
     #[inline(always)]
     pub fn final_byte(&mut self, byte: u8) -> bool
-        ensures tells { result ≡ ends_sequence self.old.kind byte }
+        ensures answers { result ≡ ends_sequence self.old.kind byte }
         ensures fed { IsTrue result
             → Feeds self.old byte self.new (record { first = Some (Event.Csi byte); second = None }) }
         ensures kept { result ≡ false → self.new ≡ self.old }
@@ -97,7 +97,7 @@ impl Scanner {
     /// tells. The byte's one event is then the escape sequence.
     #[inline]
     pub fn escape_byte(&mut self, byte: u8) -> bool
-        ensures tells { IsTrue result ↔ EndsEscape self.old.kind byte }
+        ensures answers { IsTrue result ↔ EndsEscape self.old.kind byte }
         ensures fed { IsTrue result
             → Feeds self.old byte self.new (record { first = Some (Event.Escape byte); second = None }) }
         ensures kept { result ≡ false → self.new ≡ self.old }
@@ -264,7 +264,7 @@ impl Scanner {
     #[inline(always)]
     fn ends_with(&mut self, byte: u8) -> bool
         requires { (self.old.kind ≡ Kind.CsiEntry) ⊎ (self.old.kind ≡ Kind.CsiParam) }
-        ensures tells { result ≡ is_final byte }
+        ensures answers { result ≡ is_final byte }
         ensures fed { IsTrue result
             → Feeds self.old byte self.new (record { first = Some (Event.Csi byte); second = None }) }
         ensures kept { result ≡ false → self.new ≡ self.old }
@@ -296,7 +296,7 @@ impl Scanner {
     #[inline]
     fn takes_bracket(&mut self, byte: u8) -> bool
         requires { self.old.kind ≡ Kind.Escape }
-        ensures tells { result ≡ (byte == 0x5B) }
+        ensures answers { result ≡ (byte == 0x5B) }
         ensures begins { IsTrue result → self.new.kind ≡ Kind.CsiEntry }
         ensures fed { IsTrue result → Feeds self.old byte self.new (record { first = None; second = None }) }
         ensures kept { result ≡ false → self.new ≡ self.old }
@@ -312,7 +312,7 @@ impl Scanner {
     #[inline]
     fn takes_intermediate(&mut self, byte: u8) -> bool
         requires { self.old.kind ≡ Kind.Escape }
-        ensures tells { result ≡ is_intermediate byte }
+        ensures answers { result ≡ is_intermediate byte }
         ensures kind { IsTrue result → self.new.kind ≡ Kind.EscapeIntermediate }
         ensures fed { IsTrue result → Feeds self.old byte self.new (record { first = None; second = None }) }
         ensures kept { result ≡ false → self.new ≡ self.old }
@@ -329,7 +329,7 @@ impl Scanner {
     #[inline]
     fn takes_escape(&mut self, byte: u8) -> bool
         requires { self.old.kind ≡ Kind.Ground }
-        ensures tells { result ≡ ((byte == 0x1B) && (length self.old.unfinished == 0)) }
+        ensures answers { result ≡ ((byte == 0x1B) && (length self.old.unfinished == 0)) }
         ensures begins { IsTrue result → self.new.kind ≡ Kind.Escape }
         ensures fed { IsTrue result → Feeds self.old byte self.new (record { first = None; second = None }) }
         ensures kept { result ≡ false → self.new ≡ self.old }

@@ -86,7 +86,7 @@ pub fn leave_and_restore(screen: &mut Screen)
 }
 
 /// Makes all as it is on a fresh screen of the same size and scrollback
-/// capacity, and takes no memory (RIS). Nobody is told of the rows that
+/// capacity, and takes no memory (RIS). Nobody is called for the rows that
 /// scrollback gives up; an alternate page that was entered keeps its rows,
 /// blank.
 pub fn ris(screen: &mut Screen)

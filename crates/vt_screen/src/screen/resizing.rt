@@ -8,7 +8,7 @@ ghost use Rattle.vt_grid.specs.Scrollback.{no_scrollback};
 ghost use Rattle.vt_screen.specs.Internals.{IsNothing, IsPageSize, pages_resized, reports_of_pages};
 ghost use Rattle.vt_screen.specs.Pages as pages;
 ghost use Rattle.vt_screen.specs.Pages.{calls_resized, reports_of, resized};
-ghost use Rattle.vt_screen.specs.Telling.{TakesCalls};
+ghost use Rattle.vt_screen.specs.CallsOfRun.{TakesCalls};
 
 use super::Screen;
 use super::pages::exchange;
@@ -22,8 +22,8 @@ use vt_grid::{Grid, Scrollback, Size};
 impl Screen {
     /// Gives the screen another number of rows and columns, as xterm's resize
     /// does, on both pages. On each the scroll region becomes the whole page
-    /// and a pending wrap ends, and scrollback leaves view. Nobody is told of
-    /// the rows that leave. An equal size changes nothing and takes no memory.
+    /// and a pending wrap ends, and scrollback leaves view. Nobody is called
+    /// for the rows that leave. An equal size changes nothing and takes no memory.
     ///
     /// Fewer rows: those below the cursor go first, and where that is not
     /// enough, rows leave at the top, to scrollback. More rows: those that left
@@ -43,13 +43,13 @@ impl Screen {
     }
 }
 
-/// Gives the screen another size, as [`Screen::set_size`] does, and tells
-/// the callbacks of the rows that aren't kept (see
+/// Gives the screen another size, as [`Screen::set_size`] does, and calls
+/// the callbacks for the rows that aren't kept (see
 /// [`Callbacks::on_scroll`]): first those of scrollback and the main page,
 /// then those of the alternate one, each older ones first.
 ///
-/// Fails where memory is refused; then nothing has changed, and nothing was
-/// told.
+/// Fails where memory is refused; then nothing has changed, and nobody was
+/// called.
 pub fn set_size_with_cb<CB: Callbacks>(
     screen: &mut Screen,
     rows: NonZeroU16,
@@ -57,7 +57,7 @@ pub fn set_size_with_cb<CB: Callbacks>(
     callbacks: &mut CB,
 ) -> Result<(), Error>
     ensures ok { OnOk result (screen.new ≡ resized rows.value cols.value screen.old) }
-    ensures told { OnOk result
+    ensures called { OnOk result
         (TakesCalls CB.does callbacks.old (calls_resized rows.value cols.value screen.old) callbacks.new) }
     ensures err { OnErr result ((screen.new ≡ screen.old) × (callbacks.new ≡ callbacks.old)) }
     ensures grows { IsErr result → pages.has_size rows.value cols.value screen.old ≡ false }
@@ -91,7 +91,7 @@ fn resize_pages<CB: Callbacks>(
     requires size { IsPageSize size.rows size.cols }
     requires other { pages.has_size size.rows size.cols screen.old ≡ false }
     ensures ok { OnOk result (screen.new ≡ resized size.rows size.cols screen.old) }
-    ensures told { OnOk result
+    ensures called { OnOk result
         (TakesCalls CB.does callbacks.old (calls_resized size.rows size.cols screen.old) callbacks.new) }
     ensures err { OnErr result ((screen.new ≡ screen.old) × (callbacks.new ≡ callbacks.old)) }
     ensures memory { OnlyOutOfMemory result }
@@ -114,7 +114,7 @@ fn resize_below<CB: Callbacks>(
     requires size { IsPageSize size.rows size.cols }
     requires main { screen.old.is_alternate ≡ false }
     ensures ok { OnOk result (screen.new ≡ pages_resized size.rows size.cols screen.old) }
-    ensures told { OnOk result (TakesCalls CB.does callbacks.old (reports_of_pages size.rows screen.old) callbacks.new) }
+    ensures called { OnOk result (TakesCalls CB.does callbacks.old (reports_of_pages size.rows screen.old) callbacks.new) }
     ensures err { OnErr result ((screen.new ≡ screen.old) × (callbacks.new ≡ callbacks.old)) }
     ensures memory { OnlyOutOfMemory result }
 {
@@ -162,7 +162,7 @@ fn resize_alternate<CB: Callbacks>(
     requires fresh { fresh ≡ option_map (λ _. blank_page size.rows size.cols) page.old }
     requires nothing { nothing.old ≡ no_scrollback 0 }
     ensures page { page.new ≡ option_map (page_resized size.rows size.cols (no_scrollback 0)) page.old }
-    ensures told { TakesCalls CB.does callbacks.old (reports_of true size.rows page.old (no_scrollback 0)) callbacks.new }
+    ensures called { TakesCalls CB.does callbacks.old (reports_of true size.rows page.old (no_scrollback 0)) callbacks.new }
     ensures nothing { IsNothing nothing.new }
 {
     let Some(fresh) = fresh else {

@@ -17,8 +17,8 @@ use vt_cells::Error;
 /// region's bottom the region scrolls up instead (LF, VT and FF).
 ///
 /// A row that leaves the page at its top goes to scrollback; the callbacks
-/// are told of each row that isn't kept there. Fails where memory for
-/// scrollback is refused; then nothing has changed, and nothing was told.
+/// are called for each row that isn't kept there. Fails where memory for
+/// scrollback is refused; then nothing has changed, and nobody was called.
 #[inline]
 pub fn lf<CB: Callbacks>(screen: &mut Screen, callbacks: &mut CB) -> Result<(), Error>
     ensures done { OnOk result
@@ -38,7 +38,7 @@ pub fn lf<CB: Callbacks>(screen: &mut Screen, callbacks: &mut CB) -> Result<(), 
 }
 
 /// Scrolls the scroll region up; default blank rows come in at its bottom
-/// (SU). Rows that leave the page are kept and told, and memory is refused,
+/// (SU). Rows that leave the page are kept and reported, and memory is refused,
 /// as in [`lf`].
 pub fn su<CB: Callbacks>(screen: &mut Screen, count: u16, callbacks: &mut CB) -> Result<(), Error>
     ensures done { OnOk result
@@ -57,7 +57,7 @@ pub fn su<CB: Callbacks>(screen: &mut Screen, count: u16, callbacks: &mut CB) ->
     Ok(())
 }
 
-/// Gives up scrollback, and tells the callbacks of each of its rows, older
+/// Gives up scrollback, and calls the callbacks for each of its rows, older
 /// ones first (ED 3).
 pub fn erase_scrollback<CB: Callbacks>(screen: &mut Screen, callbacks: &mut CB)
     ensures { Takes CB.does (state callbacks.old screen.old) step.EraseScrollback (state callbacks.new screen.new) }
@@ -95,8 +95,8 @@ impl Screen {
         Ok(())
     }
 
-    /// Gives up scrollback, and the view goes back to the page; nobody is told
-    /// of the rows. None of them comes back where the screen gets more rows. On
+    /// Gives up scrollback, and the view goes back to the page; nobody is
+    /// called for the rows. None of them comes back where the screen gets more rows. On
     /// the alternate page, which has no scrollback, nothing happens.
     pub fn clear_scrollback(&mut self)
         ensures { self.new ≡ screen_after step.EraseScrollback self.old }

@@ -1,16 +1,16 @@
 use Rattle.std.proofs.Common.{sym, subst, ◌∙◌}
 use Rattle.vt_scan.specs.Automaton.{start}
 use Rattle.vt_screen.specs.Streamed.{HasNoRis}
-use Rattle.vt100.proofs.Streams.{calls_heard, one_text, ran_apart, ran_keeps, recorded_text}
+use Rattle.vt100.proofs.Streams.{calls_made, one_text, ran_apart, ran_keeps, recorded_text}
 use Rattle.vt100.proofs.laws.one_text.Goals as goal
 
 pub returns : goal.returns
 returns g c =
     let does = g.CB.Callbacks.does in
     record {
-      heard =
+      called =
           λ p q calls scan leaves stands makes. let all =
-          calls_heard does leaves calls p q scan stands makes in (all.shown, all.heard);
+          calls_made does leaves calls p q scan stands makes in (all.shown, all.called);
       kept =
           λ p q bytes scan leaves stands ran is wide none. ran_keeps does leaves p q bytes scan stands ran is wide none;
       apart = λ p q r s bytes scan leaves stands others same ran runs. ran_apart does leaves p q r s bytes scan stands others same ran runs;

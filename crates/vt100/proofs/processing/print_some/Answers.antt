@@ -2,14 +2,14 @@ use Rattle.std.proofs.Common.{◌+◌, ◌≤◌, ℕ, List, length, get_or, tak
 use Rattle.std.specs.Prelude.{All}
 use Rattle.std.proofs.lemmas.List.{length-take, take-take, take_more}
 use Rattle.vt_scan.specs.Scanner.{ReadsItself}
-use Rattle.vt_scan.proofs.Feeding.{plain_feeds}
+use Rattle.vt_scan.proofs.Feeding.{text_feeds}
 use Rattle.vt_screen.specs.Screen.{ScreenValue}
 use Rattle.vt100.specs.Parser.{Ran, parsing, stage}
 use Rattle.vt100.proofs.Plain.{printable_of, text_ran}
-use Rattle.vt100.proofs.Running.{byte_ran, one_character, plain_answer, some_read, stopped_in, stopped_within}
+use Rattle.vt100.proofs.Running.{byte_ran, one_character, text_answer, some_read, stopped_in, stopped_within}
 use Rattle.vt100.proofs.processing.print_some.Given as given
 use Rattle.vt100.proofs.processing.print_some.Goals as goal
-use Rattle.vt100.proofs.processing.print_some.Goals.{After-plain_len-count}
+use Rattle.vt100.proofs.processing.print_some.Goals.{After-text_len-count}
 
 pub returns-in_err-print_apart-clause-read : goal.returns-in_err-print_apart-clause-read
 returns-in_err-print_apart-clause-read g c =
@@ -17,12 +17,12 @@ returns-in_err-print_apart-clause-read g c =
     let before = parsing held c.args.screen.now c.args.callbacks.now in
     let byte = get_or c.args.bytes.now 0 0 in
     let code = c.from-then-count-eq0.result in
-    let itself = c.requires.plain in
-    let feeds = plain_feeds held byte itself.0 itself.1 itself.2 (omega (arith, itself.3)) in
+    let itself = c.requires.itself in
+    let feeds = text_feeds held byte itself.0 itself.1 itself.2 (omega (arith, itself.3)) in
     let now = parsing held c.print_apart.new.screen c.print_apart.new.callbacks in
     stopped_in g.CB.Callbacks.does before now c.args.bytes.now c.from_residual.result (inr (stopped_within g.CB.Callbacks.does before before now
     held c.args.bytes.now 0 (one_character code) c.requires.some (λ s stands. (stands, refl))
-    (plain_answer held byte code feeds c.from-then-count-eq0.ensures) (inl (c.in_err-print_apart.ensures.stopped refl))))
+    (text_answer held byte code feeds c.from-then-count-eq0.ensures) (inl (c.in_err-print_apart.ensures.stopped refl))))
     c.from_residual.ensures.0 (search rules)
 
 pub returns-then-count-eq0-clause-read : goal.returns-then-count-eq0-clause-read
@@ -32,45 +32,45 @@ returns-then-count-eq0-clause-read g c =
     let now = parsing held c.print_apart.new.screen c.print_apart.new.callbacks in
     let byte = get_or c.args.bytes.now 0 0 in
     let code = c.from-then-count-eq0.result in
-    let itself = c.requires.plain in
-    let feeds = plain_feeds held byte itself.0 itself.1 itself.2 (omega (arith, itself.3)) in
+    let itself = c.requires.itself in
+    let feeds = text_feeds held byte itself.0 itself.1 itself.2 (omega (arith, itself.3)) in
     some_read g.CB.Callbacks.does before now c.args.bytes.now 1 c.requires.some
     (subst (λ (bytes : List ℕ). Ran g.CB.Callbacks.does before bytes now)
     (sym (take_more c.args.bytes.now 0 0 c.requires.some))
     (byte_ran g.CB.Callbacks.does before now byte (one_character code)
-    (plain_answer held byte code feeds c.from-then-count-eq0.ensures) (stage now, c.in_ok-print_apart.ensures.done, refl)))
+    (text_answer held byte code feeds c.from-then-count-eq0.ensures) (stage now, c.in_ok-print_apart.ensures.done, refl)))
 
 -- the bytes that are printed are plain
-plain_text : (g : given.Over) (c : After-plain_len-count g) →
-    All (ReadsItself c.args.scanner.now) (take c.plain_len-count.result c.args.bytes.now)
+plain_text : (g : given.Over) (c : After-text_len-count g) →
+    All (ReadsItself c.args.scanner.now) (take c.text_len-count.result c.args.bytes.now)
 plain_text g c =
-    let count = c.plain_len-count.result in
+    let count = c.text_len-count.result in
     let fitting = c.min-fitting.result in
     let inside : count ≤ fitting =
-    omega (arith, length-take fitting c.args.bytes.now, c.plain_len-count.ensures.inside) in
+    omega (arith, length-take fitting c.args.bytes.now, c.text_len-count.ensures.inside) in
     subst (λ (text : List ℕ). All (ReadsItself c.args.scanner.now) text)
-    (take-take count fitting c.args.bytes.now inside) c.plain_len-count.ensures.plain
+    (take-take count fitting c.args.bytes.now inside) c.text_len-count.ensures.itself
 
 pub print_text-requires-clause-printable : goal.print_text-requires-clause-printable
 print_text-requires-clause-printable g c =
-    printable_of c.args.scanner.now (take c.plain_len-count.result c.args.bytes.now)
-    (plain_text g (goal.at.print_text-requires-clause-printable g c).After-plain_len-count)
+    printable_of c.args.scanner.now (take c.text_len-count.result c.args.bytes.now)
+    (plain_text g (goal.at.print_text-requires-clause-printable g c).After-text_len-count)
 
 pub returns-clause-read : goal.returns-clause-read
 returns-clause-read g c =
     let held = c.args.scanner.now in
     let screen = c.args.screen.now in
     let before = parsing held screen c.args.callbacks.now in
-    let text = take c.plain_len-count.result c.args.bytes.now in
+    let text = take c.text_len-count.result c.args.bytes.now in
     let cut = length-take c.min-fitting.result c.args.bytes.now in
-    let size = length-take c.plain_len-count.result c.args.bytes.now in
+    let size = length-take c.text_len-count.result c.args.bytes.now in
     let room : screen.page.column + length text ≤ screen.page.width =
-    omega (arith, cut, size, c.plain_len-count.ensures.inside, c.min-fitting.ensures, c.from.ensures, c.room.ensures) in
-    let inside : c.plain_len-count.result ≤ length c.args.bytes.now =
-    omega (arith, cut, c.plain_len-count.ensures.inside) in
+    omega (arith, cut, size, c.text_len-count.ensures.inside, c.min-fitting.ensures, c.from.ensures, c.room.ensures) in
+    let inside : c.text_len-count.result ≤ length c.args.bytes.now =
+    omega (arith, cut, c.text_len-count.ensures.inside) in
     some_read g.CB.Callbacks.does before (parsing held c.print_text.new.screen c.args.callbacks.now) c.args.bytes.now
-    c.plain_len-count.result inside
+    c.text_len-count.result inside
     (subst (λ (after : ScreenValue). Ran g.CB.Callbacks.does before text (parsing held after c.args.callbacks.now))
     (sym c.print_text.ensures)
     (text_ran g.CB.Callbacks.does text held c.args.callbacks.now screen
-    (plain_text g (goal.at.returns-clause-read g c).After-plain_len-count) room))
+    (plain_text g (goal.at.returns-clause-read g c).After-text_len-count) room))

@@ -1,12 +1,12 @@
 use Rattle.std.proofs.Common.{Option, subst}
 use Rattle.vt_mirror.specs.Calls.{Answers, Drawn}
 use Rattle.vt_mirror.specs.declared.update.Update.{Update}
-use Rattle.vt_mirror.proofs.Updating.{told_written}
+use Rattle.vt_mirror.proofs.Updating.{update_written}
 use Rattle.vt_mirror.proofs.engine.write_update.Goals as goal
 
 pub returns-clause-writes : goal.returns-clause-writes
 returns-clause-writes g c =
-    told_written c.args.mirror.now c.args.viewer c.update.new.self c.in-Some.update c.text.result.now
+    update_written c.args.mirror.now c.args.viewer c.update.new.self c.in-Some.update c.text.result.now
     (g.W.Write.contents c.args.writer.now) (g.W.Write.contents c.write_text.new.writer) c.write_text.result
     (subst (λ (o : Option Update). Answers Drawn c.args.mirror.now c.args.viewer o c.update.new.self)
     c.in-Some.is c.in-Ok.ensures.call.answers)

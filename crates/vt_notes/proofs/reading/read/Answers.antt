@@ -31,7 +31,7 @@ at_end c =
     ∙ ap (λ (notes : Noted). parsing c.in_ok-parser.parser.scanner
     (fresh_screen c.args.rows.value c.args.cols.value 0) notes)
     c.new.ensures)
-    c.in_ok-parser.ensures.begun
+    c.in_ok-parser.ensures.ground
     (subst (λ (pieces : List (Bor (List ℕ))). FoldsTo (Ran NotesIt) c.in_ok-parser.parser
     (map (λ (piece : Bor (List ℕ)). piece.now) pieces) c.loop-piece.parser)
     (take_all c.loop-piece.piece-index c.args.pieces.now c.loop-piece-test.false) c.loop-piece.invariant)

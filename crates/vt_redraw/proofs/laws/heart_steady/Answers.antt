@@ -1,4 +1,4 @@
-use Rattle.vt_redraw.proofs.PlainSteady.{heart_is_steady}
+use Rattle.vt_redraw.proofs.SteadyWithout.{heart_is_steady}
 use Rattle.vt_redraw.proofs.laws.heart_steady.Goals as goal
 
 pub returns : goal.returns

@@ -6,6 +6,6 @@ returns c = record {
   fresh = fresh_has_none;
   ran = run_keeps;
   sized = resized_has_none;
-  viewed = viewed_has_none;
+  scrolled_back = viewed_has_none;
   shown = shows_none;
 }

@@ -69,8 +69,8 @@ module _ (T : RattleType) (laws : Laws T) (g : declared.Ghosts T.Denot) (d : Dic
   abbrev end : Ended
   end = contract'.ended T g d
 
-  abbrev Heard : RattleType
-  Heard = param 0 T
+  abbrev Kept : RattleType
+  Kept = param 0 T
 
   abbrev Scanned : RattleType
   Scanned = scanner.the_row
@@ -79,10 +79,10 @@ module _ (T : RattleType) (laws : Laws T) (g : declared.Ghosts T.Denot) (d : Dic
   Shown = screen.the_row
 
   abbrev Whole : RattleType
-  Whole = parser.the_row Heard g
+  Whole = parser.the_row Kept g
 
   abbrev Inside : RattleType
-  Inside = inside.the_row Heard g
+  Inside = inside.the_row Kept g
 
   abbrev stayed : Stays end.signature.params end.kept
   stayed = (stay_dropped (mut_ref_to (0 ∷ []) tt (plain (λ _. Whole))) no, tt)
@@ -91,7 +91,7 @@ module _ (T : RattleType) (laws : Laws T) (g : declared.Ghosts T.Denot) (d : Dic
   abbrev members : List Member
   members =
       record { row = Scanned; ty = lone Scanned.mir } ∷ record { row = Shown; ty = lone Shown.mir }
-      ∷ record { row = Heard; ty = lone Heard.mir } ∷ record { row = builtin.bool; ty = lone (builtin.bool).mir } ∷ []
+      ∷ record { row = Kept; ty = lone Kept.mir } ∷ record { row = builtin.bool; ty = lone (builtin.bool).mir } ∷ []
 
   abbrev past : Ty → ℕ → ℕ
   past τ e = up (align τ) e + size τ
@@ -100,24 +100,24 @@ module _ (T : RattleType) (laws : Laws T) (g : declared.Ghosts T.Denot) (d : Dic
   screen_at = up (align (lone Shown.mir)) (past (lone Scanned.mir) 0)
 
   abbrev callbacks_at : ℕ
-  callbacks_at = up (align (lone Heard.mir)) (past (lone Shown.mir) (past (lone Scanned.mir) 0))
+  callbacks_at = up (align (lone Kept.mir)) (past (lone Shown.mir) (past (lone Scanned.mir) 0))
 
   abbrev failed_at : ℕ
   failed_at =
-      up (align (lone (builtin.bool).mir)) (past (lone Heard.mir) (past (lone Shown.mir) (past (lone Scanned.mir) 0)))
+      up (align (lone (builtin.bool).mir)) (past (lone Kept.mir) (past (lone Shown.mir) (past (lone Scanned.mir) 0)))
 
   abbrev values : Inside.Denot → Denots (rows_of members)
   values a = (a.scanner, (a.screen, (a.callbacks, (a.is_failed, tt))))
 
   abbrev view : Inside.Denot → Whole.Denot
-  view = parser.the_view Heard g
+  view = parser.the_view Kept g
 
   abbrev good : Inside.Denot → Type 0
-  good = parser.the_invariant Heard g
+  good = parser.the_invariant Kept g
 
   abbrev lawful : {M : Type 1} {𝓤 : Ura M} (𝓛 : Logic 𝓤) → Lawfuls 𝓛 (rows_of members)
   lawful 𝓛 =
-      let each = inside-laws.the_loose Heard g (param_laws 0 T laws) in
+      let each = inside-laws.the_loose Kept g (param_laws 0 T laws) in
       (each.0.lawful 𝓛, (each.1.0.lawful 𝓛, (each.1.1.0.lawful 𝓛, (each.1.1.1.0.lawful 𝓛, tt))))
 
 module _ (T : RattleType) (laws : Laws T) (g : declared.Ghosts T.Denot) (d : Dict)
@@ -139,7 +139,7 @@ module _ (T : RattleType) (laws : Laws T) (g : declared.Ghosts T.Denot) (d : Dic
     S = Shown T laws g d
 
     abbrev C : RattleType
-    C = Heard T laws g d
+    C = Kept T laws g d
 
     abbrev κ : Lft
     κ = κs.0
@@ -157,7 +157,7 @@ module _ (T : RattleType) (laws : Laws T) (g : declared.Ghosts T.Denot) (d : Dic
     Post = (walk_of 𝓛 (end T laws g d) (stayed T laws g d) spec).post bound
 
     abbrev new : S.Denot → C.Denot → P.Denot
-    new shown heard = record x { screen = shown; callbacks = heard }
+    new shown called = record x { screen = shown; callbacks = called }
 
     abbrev s : ℕ
     s = o + screen_at T laws g d
@@ -185,9 +185,9 @@ module _ (T : RattleType) (laws : Laws T) (g : declared.Ghosts T.Denot) (d : Dic
       unfolding part_of
       apart =
           let shown = part_at S full_share a.screen b s in
-          let heard = part_at C full_share a.callbacks b h in
+          let called = part_at C full_share a.callbacks b h in
           qed 𝓛 (‵ (part_at I full_share a b o) ∷ []) ∵
-          use1 𝓛 (‵ (fsep scanner_in (fsep shown (fsep heard (fsep failed_in ftrue)))) ⊛ raw Back)
+          use1 𝓛 (‵ (fsep scanner_in (fsep shown (fsep called (fsep failed_in ftrue)))) ⊛ raw Back)
           (Struct-parts 𝓛 full_share [] (members T laws g d) (lawful T laws g d 𝓛) (values T laws g d a) b o) $
           split ! $
           fsplit3 ! $ move ! (2 ∷ []) $ fsplit3 ! $ keep ! (4 ∷ 0 ∷ 3 ∷ 1 ∷ 5 ∷ []) $ done !

@@ -9,7 +9,7 @@ use Rattle.vt_grid.specs.Scrollback.{greatest, kept_after, last_of, narrow_rows}
 use Rattle.std.specs.List.{FoldsTo}
 use Rattle.vt_grid.specs.Spare.{in_view}
 use Rattle.vt_grid.proofs.Stacking.{All-copied}
-use Rattle.vt_grid.proofs.Scrolling.{All-kept, IsScrollback-pushed, kept_by_steps, pushed_is, spare_made, told_by_steps}
+use Rattle.vt_grid.proofs.Scrolling.{All-kept, IsScrollback-pushed, kept_by_steps, pushed_is, spare_made, reported_by_steps}
 use Rattle.vt_grid.proofs.scrollback.Scrollback.keep.Goals as goal
 
 pub push_rows-requires-clause-room : goal.push_rows-requires-clause-room
@@ -84,11 +84,11 @@ grow_in_view-requires-clause-spare g c =
     (c.len-2.ensures ∙ c.push_rows.new.kept.ok.0)
     (c.followed-self-inside.ensures
     ∙ ap (λ (m : ℕ). if inside.offset == 0 then 0 else min (inside.offset + m) c.len-2.result) (sym n)) in
-    let few : narrow_rows c.args.size.cols (in_view c.args.size.rows (kept_after gone above)) ≤ c.growths.result
+    let few : narrow_rows c.args.size.cols (in_view c.args.size.rows (kept_after gone above)) ≤ c.allocations.result
     = subst (λ (old : Scrollback). narrow_rows c.args.size.cols (in_view c.args.size.rows (kept_after gone old))
-    ≤ c.growths.result)
-    (sym c.self.view_is) (c.growths.ensures gone n) in
-    spare_made c.args.size.cols c.from.result c.args.size.rows c.growths.result gone above c.push_rows.new.kept.items
+    ≤ c.allocations.result)
+    (sym c.self.view_is) (c.allocations.ensures gone n) in
+    spare_made c.args.size.cols c.from.result c.args.size.rows c.allocations.result gone above c.push_rows.new.kept.items
     c.saturating_add-self-inside.result c.followed-self-inside.result c.in_ok-spare.spare.items
     kept few c.in_ok-spare.ensures.ok c.from.ensures
 
@@ -164,7 +164,7 @@ returns g c =
     c.args.size.cols gone old c.args.leaving.now new c.push_rows.new.leaving)
     c.self.view_is (
       all,
-      told_by_steps g.L.Leaving.leaves gone above c.reserve.new.self.items
+      reported_by_steps g.L.Leaving.leaves gone above c.reserve.new.self.items
           c.args.leaving.now c.push_rows.new.leaving some c.reserve.ensures.items told,
     ) in
     record { sent = sent; refused = record { err = tt; memory = tt } }

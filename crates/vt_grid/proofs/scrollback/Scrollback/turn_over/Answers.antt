@@ -57,7 +57,7 @@ returns-clause-pushed g c = λ height width.
       turned_is height width gone above c.turn_over.new.rows.items
           c.saturating_add-self-inside.result full some hidden n c.in_ok-turn_over.ensures.rows
           (c.saturating_add-self-inside.ensures ∙ ap (λ (m : ℕ). min (inside.theoretical + m) greatest) (sym n)),
-      subst (λ (told : List RowValue). FoldsTo g.L.Leaving.leaves c.args.leaving.now told c.turn_over.new.leaving)
-          (sym (turned_reports gone above full some n)) c.in_ok-turn_over.ensures.left,
+      subst (λ (gone : List RowValue). FoldsTo g.L.Leaving.leaves c.args.leaving.now gone c.turn_over.new.leaving)
+          (sym (turned_reports gone above full some n)) c.in_ok-turn_over.ensures.reported,
     ) in
     record { sent = sent; refused = record { err = tt; memory = tt } }

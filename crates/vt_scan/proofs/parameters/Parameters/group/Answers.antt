@@ -4,8 +4,8 @@ use Rattle.vt_scan.specs.Parameters.{GroupTable}
 use Rattle.vt_scan.proofs.Rows.{group_lies, groups_count}
 use Rattle.vt_scan.proofs.parameters.Parameters.group.Goals as goal
 
-pub start_of-start-requires : goal.start_of-start-requires
-start_of-start-requires c =
+pub group_start-start-requires : goal.group_start-start-requires
+group_start-start-requires c =
     let p = c.self.inside in
     let count = groups_count p.ends p.closed p.len p.numbers (omega arith) in
     let same = ap (λ (t : GroupTable). length t.groups) c.self.view_is in
@@ -18,8 +18,8 @@ offset_bounds-self-inside-start c =
     let same = ap (λ (t : GroupTable). length t.groups) c.self.view_is in
     let few : c.args.i ≤ p.closed = omega (arith, count, same, c.requires) in
     let lies = group_lies p.ends p.closed p.len p.numbers c.args.i (omega arith) c.self.invariant.2 few in
-    let small : c.start_of-start.result < 32 =
-    omega (arith, c.start_of-start.ensures, lies.rises, lies.inside) in
+    let small : c.group_start-start.result < 32 =
+    omega (arith, c.group_start-start.ensures, lies.rises, lies.inside) in
     search rules
 
 pub slice_bounds-result-count : goal.slice_bounds-result-count
@@ -29,7 +29,7 @@ slice_bounds-result-count c =
     let same = ap (λ (t : GroupTable). length t.groups) c.self.view_is in
     let few : c.args.i ≤ p.closed = omega (arith, count, same, c.requires) in
     let lies = group_lies p.ends p.closed p.len p.numbers c.args.i (omega arith) c.self.invariant.2 few in
-    omega (arith, c.start_of-start.ensures, c.end_of-end.ensures, lies.rises)
+    omega (arith, c.group_start-start.ensures, c.group_end-end.ensures, lies.rises)
 
 pub slice_bounds-result-start : goal.slice_bounds-result-start
 slice_bounds-result-start c =
@@ -38,9 +38,9 @@ slice_bounds-result-start c =
     let same = ap (λ (t : GroupTable). length t.groups) c.self.view_is in
     let few : c.args.i ≤ p.closed = omega (arith, count, same, c.requires) in
     let lies = group_lies p.ends p.closed p.len p.numbers c.args.i (omega arith) c.self.invariant.2 few in
-    let rises : c.start_of-start.result ≤ c.end_of-end.result =
-    omega (arith, c.start_of-start.ensures, c.end_of-end.ensures, lies.rises) in
-    let small : c.end_of-end.result ≤ 32 = omega (arith, c.end_of-end.ensures, lies.inside) in
+    let rises : c.group_start-start.result ≤ c.group_end-end.result =
+    omega (arith, c.group_start-start.ensures, c.group_end-end.ensures, lies.rises) in
+    let small : c.group_end-end.result ≤ 32 = omega (arith, c.group_end-end.ensures, lies.inside) in
     search rules
 
 pub slice_bounds-result-end : goal.slice_bounds-result-end
@@ -50,9 +50,9 @@ slice_bounds-result-end c =
     let same = ap (λ (t : GroupTable). length t.groups) c.self.view_is in
     let few : c.args.i ≤ p.closed = omega (arith, count, same, c.requires) in
     let lies = group_lies p.ends p.closed p.len p.numbers c.args.i (omega arith) c.self.invariant.2 few in
-    let rises : c.start_of-start.result ≤ c.end_of-end.result =
-    omega (arith, c.start_of-start.ensures, c.end_of-end.ensures, lies.rises) in
-    let small : c.end_of-end.result ≤ 32 = omega (arith, c.end_of-end.ensures, lies.inside) in
+    let rises : c.group_start-start.result ≤ c.group_end-end.result =
+    omega (arith, c.group_start-start.ensures, c.group_end-end.ensures, lies.rises) in
+    let small : c.group_end-end.result ≤ 32 = omega (arith, c.group_end-end.ensures, lies.inside) in
     search rules
 
 pub returns : goal.returns
@@ -62,5 +62,5 @@ returns c =
     let same = ap (λ (t : GroupTable). length t.groups) c.self.view_is in
     let few : c.args.i ≤ p.closed = omega (arith, count, same, c.requires) in
     let lies = group_lies p.ends p.closed p.len p.numbers c.args.i (omega arith) c.self.invariant.2 few in
-    rw (c.start_of-start.ensures, c.end_of-end.ensures)
+    rw (c.group_start-start.ensures, c.group_end-end.ensures)
     (lies.part ∙ ap (λ (t : GroupTable). get_or t.groups c.args.i []) c.self.view_is)

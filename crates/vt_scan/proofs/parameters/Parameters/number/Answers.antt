@@ -12,22 +12,22 @@ returns-then-i-self c =
     ap (λ (group : List _). get_or group 0 0)
     (sym (group_none c.args.self.now.groups c.args.i (omega (arith, count, same, c.if-i-self.true))))
 
-pub offset_bounds-self-inside-start_of : goal.offset_bounds-self-inside-start_of
-offset_bounds-self-inside-start_of c =
+pub offset_bounds-self-inside-group_start : goal.offset_bounds-self-inside-group_start
+offset_bounds-self-inside-group_start c =
     let p = c.self.inside in
     let lies = group_lies p.ends p.closed p.len p.numbers c.args.i (omega arith) c.self.invariant.2 (omega arith) in
-    let small : c.start_of.result < 32 = omega (arith, c.start_of.ensures, lies.rises, lies.inside) in
+    let small : c.group_start.result < 32 = omega (arith, c.group_start.ensures, lies.rises, lies.inside) in
     search rules
 
-pub bounds-self-inside-start_of : goal.bounds-self-inside-start_of
-bounds-self-inside-start_of c =
+pub bounds-self-inside-group_start : goal.bounds-self-inside-group_start
+bounds-self-inside-group_start c =
     let p = c.self.inside in
     let lies = group_lies p.ends p.closed p.len p.numbers c.args.i (omega arith) c.self.invariant.2 (omega arith) in
-    omega (arith, c.start_of.ensures, lies.rises, lies.inside)
+    omega (arith, c.group_start.ensures, lies.rises, lies.inside)
 
 pub returns : goal.returns
 returns c =
     let p = c.self.inside in
     let lies = group_lies p.ends p.closed p.len p.numbers c.args.i (omega arith) c.self.invariant.2 (omega arith) in
-    rw c.start_of.ensures
+    rw c.group_start.ensures
     (lies.first ∙ ap (λ (t : GroupTable). get_or (get_or t.groups c.args.i []) 0 0) c.self.view_is)

@@ -1,7 +1,7 @@
 use Rattle.std.proofs.Common.{◌≡◌, ℕ, List, ◌++◌, string_bytes, ap, sym, ◌∙◌}
 use Rattle.vt_screen.specs.Shown.{shown, shown_change}
 use Rattle.vt_screen.proofs.Became.{difference_redraws}
-use Rattle.vt_screen.proofs.Telling.{difference_none, difference_tells}
+use Rattle.vt_screen.proofs.EqualTexts.{difference_none, difference_tells}
 use Rattle.vt_screen.proofs.TouchedTexts.{difference_touches}
 use Rattle.vt_screen.proofs.Viewing.{same_shown}
 use Rattle.vt_screen.proofs.ContentTexts.{none_refused}

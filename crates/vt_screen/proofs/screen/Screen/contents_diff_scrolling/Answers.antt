@@ -3,7 +3,7 @@ use Rattle.vt_screen.proofs.MovedRead.{scrolling_redraws, scrolling_tells}
 use Rattle.vt_screen.proofs.Viewing.{same_shown}
 use Rattle.vt_screen.specs.Shown.{shown}
 use Rattle.vt_screen.proofs.ContentTexts.{none_refused}
-use Rattle.vt_screen.proofs.Telling.{difference_none}
+use Rattle.vt_screen.proofs.EqualTexts.{difference_none}
 use Rattle.vt_screen.proofs.screen.Screen.contents_diff_scrolling.Goals as goal
 
 pub returns-clause-redraws : goal.returns-clause-redraws

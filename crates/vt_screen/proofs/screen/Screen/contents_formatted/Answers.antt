@@ -1,7 +1,7 @@
 use Rattle.std.proofs.Common.{◌≡◌, ℕ, List, ◌++◌, string_bytes, ap, sym, ◌∙◌}
 use Rattle.vt_screen.specs.Shown.{shown_text}
 use Rattle.vt_screen.proofs.Became.{redraw_redraws}
-use Rattle.vt_screen.proofs.Telling.{redraws_tell}
+use Rattle.vt_screen.proofs.EqualTexts.{redraws_tell}
 use Rattle.vt_screen.proofs.screen.Screen.contents_formatted.Goals as goal
 
 pub returns-in-Ok-clause-redraws : goal.returns-in-Ok-clause-redraws

@@ -4,7 +4,7 @@ use Rattle.std.specs.Prelude.{is_ok}
 use Rattle.vt_grid.specs.Resize.{resize_reports}
 use Rattle.vt_grid.specs.Scrollback.{no_scrollback}
 use Rattle.vt_screen.specs.Pages.{reports_of}
-use Rattle.vt_screen.specs.Telling.{TakesCalls}
+use Rattle.vt_screen.specs.CallsOfRun.{TakesCalls}
 use Rattle.vt_screen.proofs.Reporting.{same_callbacks, reported_to}
 use Rattle.vt_screen.proofs.Resized.{AlternateDone, alternate_done, if_ok}
 use Rattle.vt_screen.proofs.screen.resizing.resize_alternate.Given as given
@@ -26,15 +26,15 @@ whole g c =
     (if_ok c.set_size-done.result _ done c.set_size-done.ensures.above)
     all
 
-pub returns-clause-told : goal.returns-clause-told
-returns-clause-told g c =
+pub returns-clause-called : goal.returns-clause-called
+returns-clause-called g c =
     let done : is_ok c.set_size-done.result ≡ true = sym (c.is_ok.ensures.value) ∙ c.if-prove.false in
     let rows = resize_reports _ c.in-Some-page.page c.args.nothing.now in
     let same = same_callbacks g.CB.Callbacks.does rows _ c.set_size-done.new.leaving
     (if_ok c.set_size-done.result _ done c.set_size-done.ensures.reported) in
     subst (λ z. TakesCalls g.CB.Callbacks.does c.args.callbacks.now
     (reports_of true c.args.size.rows c.args.page.now (no_scrollback 0)) z)
-    (search rules) (whole g c).told
+    (search rules) (whole g c).called
 
 pub returns-clause-nothing : goal.returns-clause-nothing
 returns-clause-nothing g c = (whole g c).nothing

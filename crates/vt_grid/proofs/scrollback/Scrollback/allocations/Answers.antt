@@ -1,8 +1,8 @@
 use Rattle.std.proofs.Common.{◌≡◌, ◌+◌, ◌-◌, ◌≤◌, length, subst, ◌∙◌, arith}
 use Rattle.vt_grid.specs.Scrollback.{Scrollback, kept_after, narrow_rows}
 use Rattle.vt_grid.specs.Spare.{in_view}
-use Rattle.vt_grid.proofs.Growing.{none_in_view, growths_enough}
-use Rattle.vt_grid.proofs.scrollback.Scrollback.growths.Goals as goal
+use Rattle.vt_grid.proofs.Growing.{none_in_view, allocations_enough}
+use Rattle.vt_grid.proofs.scrollback.Scrollback.allocations.Goals as goal
 
 pub returns-then-self-eq0 : goal.returns-then-self-eq0
 returns-then-self-eq0 c = λ gone e.
@@ -15,7 +15,7 @@ returns c = λ gone e.
     let inside = c.self.inside in
     let first = c.len-len.result + c.args.count - c.min.result in
     let len : c.len-len.result ≡ length inside.rows.items = c.len-len.ensures ∙ inside.rows.ok.0 in
-    let enough = growths_enough c.args.size.cols c.args.size.rows c.args.count first gone
+    let enough = allocations_enough c.args.size.cols c.args.size.rows c.args.count first gone
     (record {
       rows = inside.rows.items;
       capacity = inside.capacity;

@@ -7,13 +7,13 @@ use vt100::{Error, Screen};
 
 /// Whether a screen gives the text of a line, or the texts; `prev` is the screen that differences
 /// start from.
-pub fn is_told(alloc: Global, screen: &Screen, prev: &Screen, line: &str) -> Result<bool> {
+pub fn gives(alloc: Global, screen: &Screen, prev: &Screen, line: &str) -> Result<bool> {
     let (word, rest) = line.split_once(' ').unwrap_or((line, ""));
     match word {
-        "rows" => are_rows_told(alloc, screen, rest),
+        "rows" => are_rows(alloc, screen, rest),
         "rows_formatted" => are_rows_formatted(alloc, screen, rest),
         "rows_diff" => are_rows_changed(alloc, screen, prev, rest),
-        "between" => is_range_told(alloc, screen, rest),
+        "between" => is_range(alloc, screen, rest),
         _ => {
             let text = text_of(screen, prev, word)?;
             is_text(alloc, text.as_str(), rest)
@@ -55,7 +55,7 @@ pub fn difference(screen: &Screen, prev: &Screen) -> Result<String> {
 type Texts = std::result::Result<Vec<String>, Error>;
 
 /// Whether the rows have the texts of `START WIDTH BYTES ..`.
-fn are_rows_told(alloc: Global, screen: &Screen, line: &str) -> Result<bool> {
+fn are_rows(alloc: Global, screen: &Screen, line: &str) -> Result<bool> {
     let (start, width, words) = range_of(line)?;
     let texts: Texts = screen.rows(start, width).try_collect(alloc);
     are_texts(alloc, texts?, words)
@@ -106,7 +106,7 @@ fn are_texts(alloc: Global, texts: Vec<String>, words: &str) -> Result<bool> {
 }
 
 /// Whether the range has the text of `ROW COL ROW COL BYTES`.
-fn is_range_told(alloc: Global, screen: &Screen, line: &str) -> Result<bool> {
+fn is_range(alloc: Global, screen: &Screen, line: &str) -> Result<bool> {
     let mut words = line.split(' ');
     let start_row = number(words.next())?;
     let start_col = number(words.next())?;

@@ -53,30 +53,30 @@ rest_not true b h = absurd (cc)
 rest_not false b h = h
 
 -- without U+FE0F the width stays
-grows_plain : (width : ℕ) (wide : Bool) (text ms whole : List ℕ) → AllByRecursion IsMark ms →
+grows_without : (width : ℕ) (wide : Bool) (text ms whole : List ℕ) → AllByRecursion IsMark ms →
     Joins text ms whole → list_any is_selector ms ≡ false → Grows width wide text ms wide whole
-grows_plain width wide text [] whole marks joins none = (refl, joins)
-grows_plain width wide text (m ∷ ms) whole marks joins none =
+grows_without width wide text [] whole marks joins none = (refl, joins)
+grows_without width wide text (m ∷ ms) whole marks joins none =
     let no = first_not (is_selector m) (list_any is_selector ms) none in
     rw no (
       (marks.0, joins.0),
       (
         (λ t. t),
-        grows_plain width wide (text ++ encode_utf8 m) ms whole marks.1
+        grows_without width wide (text ++ encode_utf8 m) ms whole marks.1
             joins.1 (rest_not (is_selector m) (list_any is_selector ms) none),
       ),
     )
 
-pub plain_steady : (n : ℕ) (text : List ℕ) (wide : Bool) (attrs : Attrs) (g : IsGlyphText text wide) →
+pub without_steady : (n : ℕ) (text : List ℕ) (wide : Bool) (attrs : Attrs) (g : IsGlyphText text wide) →
     list_any is_selector g.marks ≡ false → glyph_columns wide ≤ suc n → IsSteadyGlyph (suc n) text wide attrs
-plain_steady n text wide attrs g none le = prints_steady n text wide attrs (record {
+without_steady n text wide attrs g none le = prints_steady n text wide attrs (record {
   first = g.first;
   marks = g.marks;
   start = wide;
   is = IsGlyphText-chars text wide g;
   columns = g.width none;
   fits = le;
-  grows = grows_plain (suc n) wide (encode_utf8 g.first) g.marks text g.are_marks g.spelled none;
+  grows = grows_without (suc n) wide (encode_utf8 g.first) g.marks text g.are_marks g.spelled none;
 })
 
 -- ---- U+2764 and U+FE0F
@@ -119,36 +119,36 @@ heart_steady n attrs =
 -- ---- rows and pictures without U+FE0F
 
 -- a cell without it, that fits, is steady
-plain_cell : (n : ℕ) (text : List ℕ) (wide : Bool) (attrs : Attrs) → IsGlyphText text wide →
+without_cell : (n : ℕ) (text : List ℕ) (wide : Bool) (attrs : Attrs) → IsGlyphText text wide →
     has_selector (glyph text wide attrs) ≡ false → glyph_columns wide ≤ suc n → IsSteadyGlyph (suc n) text wide attrs
-plain_cell n text wide attrs g none le =
+without_cell n text wide attrs g none le =
     let spelled : list_any is_selector (g.first ∷ g.marks) ≡ false =
     ap (list_any is_selector) (sym (IsGlyphText-chars text wide g)) ∙ none in
-    plain_steady n text wide attrs g (rest_not (is_selector g.first) (list_any is_selector g.marks) spelled) le
+    without_steady n text wide attrs g (rest_not (is_selector g.first) (list_any is_selector g.marks) spelled) le
 
-plain_cells : (n : ℕ) (cells : List CellValue) → Paired cells → length cells ≤ suc n → AllByRecursion IsCell cells →
+without_cells : (n : ℕ) (cells : List CellValue) → Paired cells → length cells ≤ suc n → AllByRecursion IsCell cells →
     AllByRecursion (λ cell. has_selector cell ≡ false) cells → All (IsSteadyCell (suc n)) cells
-plain_cells n [] p le is none = All-nil (IsSteadyCell (suc n))
-plain_cells n (blank a ∷ cells) p le is none =
-    All-cons (IsSteadyCell (suc n)) (blank a) cells tt (plain_cells n cells p (omega arith) is.1 none.1)
-plain_cells n (glyph text false a ∷ cells) p le is none =
+without_cells n [] p le is none = All-nil (IsSteadyCell (suc n))
+without_cells n (blank a ∷ cells) p le is none =
+    All-cons (IsSteadyCell (suc n)) (blank a) cells tt (without_cells n cells p (omega arith) is.1 none.1)
+without_cells n (glyph text false a ∷ cells) p le is none =
     All-cons (IsSteadyCell (suc n)) (glyph text false a) cells
-    (plain_cell n text false a is.0 none.0 (omega arith)) (plain_cells n cells p (omega arith) is.1 none.1)
-plain_cells n (glyph text true a ∷ []) p le is none = absurd p
-plain_cells n (glyph text true a ∷ blank b ∷ cells) p le is none = absurd p
-plain_cells n (glyph text true a ∷ glyph more wide b ∷ cells) p le is none = absurd p
-plain_cells n (glyph text true a ∷ right_half ∷ cells) p le is none =
+    (without_cell n text false a is.0 none.0 (omega arith)) (without_cells n cells p (omega arith) is.1 none.1)
+without_cells n (glyph text true a ∷ []) p le is none = absurd p
+without_cells n (glyph text true a ∷ blank b ∷ cells) p le is none = absurd p
+without_cells n (glyph text true a ∷ glyph more wide b ∷ cells) p le is none = absurd p
+without_cells n (glyph text true a ∷ right_half ∷ cells) p le is none =
     All-cons (IsSteadyCell (suc n)) (glyph text true a) (right_half ∷ cells)
-    (plain_cell n text true a is.0 none.0 (omega arith))
-    (All-cons (IsSteadyCell (suc n)) right_half cells tt (plain_cells n cells p (omega arith) is.1.1 none.1.1))
-plain_cells n (right_half ∷ cells) p le is none = absurd p
+    (without_cell n text true a is.0 none.0 (omega arith))
+    (All-cons (IsSteadyCell (suc n)) right_half cells tt (without_cells n cells p (omega arith) is.1.1 none.1.1))
+without_cells n (right_half ∷ cells) p le is none = absurd p
 
 plain_row : (width : ℕ) (row : RowValue) → 0 < width → IsRow width row →
     All (λ cell. has_selector cell ≡ false) row.cells → All (IsSteadyCell width) row.cells
 plain_row zero row some is none = absurd (omega arith)
 plain_row (suc n) row some is none =
     let columns = is.columns in
-    plain_cells n row.cells (paired_of row.cells is.paired) (omega arith) (recursion_from_All IsCell row.cells is.sound)
+    without_cells n row.cells (paired_of row.cells is.paired) (omega arith) (recursion_from_All IsCell row.cells is.sound)
     (recursion_from_All (λ cell. has_selector cell ≡ false) row.cells none)
 
 -- a picture without U+FE0F among its glyphs is steady

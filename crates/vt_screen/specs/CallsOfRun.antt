@@ -1,4 +1,4 @@
--- What a run tells callbacks that leave the screen alone: a function of where the scanner stands, the screen and the
+-- What a run calls callbacks for that leave the screen alone: a function of where the scanner stands, the screen and the
 -- bytes.
 use Rattle.std.specs.Prelude.{◌≡◌, ℕ, List, [], ◌∷◌, ◌++◌, map}
 use Rattle.std.specs.List.{FoldsTo}
@@ -19,7 +19,7 @@ abbrev pub LeavesScreen : {S : Type 0} → CallRelation S → Type 0
 LeavesScreen {S} does =
     (call : CallValue) → (old new : S) → (before after : ScreenValue) → does call old before new after → after ≡ before
 
--- such callbacks hear of a call, while there is some screen
+-- such callbacks take a call, while there is some screen
 abbrev pub CalledOnSomeScreen : {S : Type 0} → CallRelation S → S → CallValue → S → Type 0
 CalledOnSomeScreen does old call new = (screen : ScreenValue) × does call old screen new screen
 

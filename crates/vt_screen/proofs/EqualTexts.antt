@@ -27,10 +27,10 @@ same_some : {A : Type 0} (x y : A) → Some x ≡ Some y → x ≡ y
 same_some x y e = cc
 
 -- one text read by one terminal shows one picture
-tells : (a b : Picture) (text more : List ℕ) (reader : ScreenValue) → Becomes a text reader →
+one_picture : (a b : Picture) (text more : List ℕ) (reader : ScreenValue) → Becomes a text reader →
     Becomes b more reader → text ≡ more → SamePictureSize a b → b.width ≡ reader.page.width → a ≡ b
 unfolding shows
-tells a b text more reader one two e size width =
+one_picture a b text more reader one two e size width =
     let left = terminal start (showing a one.saved one.last reader) in
     let right = terminal start (showing b two.saved two.last reader) in
     let same : left ≡ right =
@@ -52,7 +52,7 @@ redraws_tell a b is colored steady other colored_other steady_other size e =
     let two = drawing_read (redraw y) y reader (redraw_fits y (shown_is b other) (shown_colored b other colored_other))
     (redraw_draws y (canvas.showing y) (shown_is b other) steady_other
     (shown_is b other) plain (record { width = refl; height = refl })) in
-    tells x y (bytes_of_all (redraw x)) (bytes_of_all (redraw y)) reader one two e size refl
+    one_picture x y (bytes_of_all (redraw x)) (bytes_of_all (redraw y)) reader one two e size refl
 
 -- a difference is empty only where both screens show the same
 pub difference_tells : (a b : ScreenValue) → IsScreen a → IsColored a → IsSteady (shown a) → IsScreen b → IsColored b →
@@ -70,7 +70,7 @@ difference_tells a b is colored steady other colored_other size e =
       last = reader.last;
       reads = refl;
     } in
-    tells x y (bytes_of_all (difference x y)) [] reader one two e size refl
+    one_picture x y (bytes_of_all (difference x y)) [] reader one two e size refl
 
 -- and between equal pictures nothing is written
 pub difference_none : (a b : Picture) → a ≡ b → bytes_of_all (difference a b) ≡ []
