@@ -1,4 +1,4 @@
--- Viewers that come, go and are told.
+-- Viewers that come, go and get updates.
 use Rattle.std.proofs.Common.{◌≡◌, ◌≢◌, ℕ, ◌+◌, ◌≤◌, ◌==◌, Bool, true, false, List}
 use Rattle.std.proofs.Common.{Option, Some, None, refl, sym, ap, subst, ◌∙◌, arith}
 use Rattle.std.proofs.lemmas.Bool.{false≢true}
@@ -113,7 +113,7 @@ left_viewers old v was is had has e f u w a =
     put_viewers old new v false None (left old v was is had has e f u w)
     a (λ h. absurd (false≢true h)) (omega arith) (λ _. refl)
 
-pub updated : (old : ViewersValue) (v : ℕ) (screen : ScreenValue) (had has : BTreeMap ℕ ScreenValue) →
+pub noted : (old : ViewersValue) (v : ℕ) (screen : ScreenValue) (had has : BTreeMap ℕ ScreenValue) →
     old.notes ≡ had.entries → map.Updates nat_cmp had has v (Some screen) →
     is_viewer old v ≡ true → Puts old v true (Some screen) (record old { notes = has.entries })
 noted old v screen had has f w is = record {
@@ -130,7 +130,7 @@ pub noted_viewers : (old : ViewersValue) (v : ℕ) (screen : ScreenValue) (had h
     is_viewer old v ≡ true → AreViewers old → AreViewers (record old { notes = has.entries })
 noted_viewers old v screen had has f w is a =
     put_viewers old (record old { notes = has.entries }) v true (Some screen)
-    (told old v screen had has f w is) a (λ _. a.numbers v is) (omega arith) (λ h. absurd (false≢true (sym h)))
+    (noted old v screen had has f w is) a (λ _. a.numbers v is) (omega arith) (λ h. absurd (false≢true (sym h)))
 
 -- as it was, where memory is refused
 pub if_refused : {A E : Type 0} (r : Result A E) (P : Type 0) → is_err r ≡ true → OnErr r P → P

@@ -185,9 +185,9 @@ begun_written every viewer old new left written grown some b w =
           ∙ (sym (append-nil (bytes_of_all (redraw (shown first)))) ∙ ap (chain_text first) (sym none))) w.appends;
     }
 
--- one more screen is told of
+-- one more screen is sent
 record OneMore (first : ScreenValue) (screens : List ScreenValue) (written grown : Option (List ℕ)) : Type 0 where
-  told : AllByRecursion (IsUpdatedAfter first) (first ∷ screens)
+  updated : AllByRecursion (IsUpdatedAfter first) (first ∷ screens)
   appends : Appends written grown (chain_text first screens)
 
 one_more : (viewer : ℕ) (first : ScreenValue) (nexts : List ScreenValue) (mid read new : MirrorValue)

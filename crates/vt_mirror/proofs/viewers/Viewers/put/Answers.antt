@@ -1,7 +1,7 @@
 use Rattle.std.proofs.Common.{ℕ, List, Some, true, ◌≡◌, ap, refl, subst, sym, ◌∙◌}
 use Rattle.vt_screen.specs.Screen.{ScreenValue}
 use Rattle.vt_mirror.specs.Viewers.{AreViewers, Puts, ViewersValue, is_viewer}
-use Rattle.vt_mirror.proofs.Bookkeeping.{if_refused, if_taken, told, noted_viewers}
+use Rattle.vt_mirror.proofs.Bookkeeping.{if_refused, if_taken, noted, noted_viewers}
 use Rattle.vt_mirror.proofs.viewers.Viewers.put.Goals as goal
 
 pub invariant_of-self : goal.invariant_of-self
@@ -28,6 +28,6 @@ returns-clause-ok c =
     subst (λ (v : ViewersValue). Puts v c.args.viewer true
     (Some c.args.screen) (record old { notes = c.insert.new.self.entries }))
     c.self.view_is
-    (told old c.args.viewer c.args.screen c.self.inside.notes c.insert.new.self refl
+    (noted old c.args.viewer c.args.screen c.self.inside.notes c.insert.new.self refl
     (if_taken c.insert.result _ (sym c.if-is_err.ensures.value) c.insert.ensures.updates)
     (ap (λ (v : ViewersValue). is_viewer v c.args.viewer) c.self.view_is ∙ c.requires))
