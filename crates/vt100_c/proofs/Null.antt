@@ -24,28 +24,28 @@ abbrev pub X : Type 0
 X = Object.the_row.Denot
 
 -- what a test of p against null tells, where what is held is o
-abbrev pub TestsNull : Ptr → Option X → Type 0
-TestsNull p o = (y : Bool) × (op2_val ptr_eq (ptr_val p) vnull ≡ vbool y) × Testable p × (not y ≡ is_some o)
+abbrev pub AnswersHeld : Ptr → Option X → Type 0
+AnswersHeld p o = (y : Bool) × (op2_val ptr_eq (ptr_val p) vnull ≡ vbool y) × Testable p × (not y ≡ is_some o)
 
 pub ptr_typed : (p : Ptr) → T (has_ty ty_ptr (ptr_val p)) × WT (ptr_val p)
 ptr_typed (block_ptr b o) = (tt, tt)
 ptr_typed null_ptr = (tt, record { fits = lit< tt })
 
 module _ {M : Type 1} {𝓤 : Ura M} (𝓛 : Logic 𝓤) where
-  null_tested : (p : Ptr) (o : Option X) → ent 𝓤 (sem 𝓛 (held_at p o)) (fact 𝓤 (TestsNull p o))
-  null_tested p None =
+  held_answered : (p : Ptr) (o : Option X) → ent 𝓤 (sem 𝓛 (held_at p o)) (fact 𝓤 (AnswersHeld p o))
+  held_answered p None =
       qed 𝓛 (‵ (feq Ptr p null_ptr) ∷ []) ∵ feq_l ! (λ e.
-      let is : TestsNull null_ptr None = (true, refl, lit< tt, refl) in
-      use0 𝓛 (raw (fact 𝓤 (TestsNull p None))) (fact_i 𝓤 (TestsNull p None) (emp 𝓤) (subst (λ (q : Ptr). TestsNull q None) (sym e) is)) $ done !)
-  null_tested p (Some x) =
+      let is : AnswersHeld null_ptr None = (true, refl, lit< tt, refl) in
+      use0 𝓛 (raw (fact 𝓤 (AnswersHeld p None))) (fact_i 𝓤 (AnswersHeld p None) (emp 𝓤) (subst (λ (q : Ptr). AnswersHeld q None) (sym e) is)) $ done !)
+  held_answered p (Some x) =
       qed 𝓛 (‵ (box_owns may_free Object.the_row p x) ∷ []) ∵
       in_a_block ! p (λ q. box_owns may_free Object.the_row q x) (fst∗ 𝓤 (never 𝓤) (sem 𝓛 (may_free (bare (τ E)) null_ptr))) (λ b o e. fsplit ! $ move ! (1 ∷ []) $
       use1 𝓛 (raw (fact 𝓤 (count_of (block_ptr b o) ≡ zero))) (dealloc_token_start 𝓛 heap (bare (τ E)) (block_ptr b o)) $ heard ! _ (λ first.
       let low : o < 2 ^ 63 = subst (λ (k : ℕ). k < 2 ^ 63) (sym first) (lit< tt) in
-      let is : TestsNull (block_ptr b o) (Some x) = (false, refl, low, refl) in
-      use0 𝓛 (raw (fact 𝓤 (TestsNull p (Some x)))) (fact_i 𝓤 (TestsNull p (Some x)) (emp 𝓤) (subst (λ (q : Ptr). TestsNull q (Some x)) (sym e) is)) $ keep ! (0 ∷ []) $ done !))
+      let is : AnswersHeld (block_ptr b o) (Some x) = (false, refl, low, refl) in
+      use0 𝓛 (raw (fact 𝓤 (AnswersHeld p (Some x)))) (fact_i 𝓤 (AnswersHeld p (Some x)) (emp 𝓤) (subst (λ (q : Ptr). AnswersHeld q (Some x)) (sym e) is)) $ keep ! (0 ∷ []) $ done !))
 
   -- the fact, beside what tells it
-  pub tests_null : (p : Ptr) (o : Option X) → ent 𝓤 (sem 𝓛 (held_at p o)) (sep 𝓤 (fact 𝓤 (TestsNull p o)) (sem 𝓛 (held_at p o)))
-  tests_null p o =
-      fact_use 𝓤 (TestsNull p o) (null_tested p o) (λ t. qed 𝓛 (‵ (held_at p o) ∷ []) ∵ use0 𝓛 (raw (fact 𝓤 (TestsNull p o))) (fact_i 𝓤 (TestsNull p o) (emp 𝓤) t) $ done !)
+  pub answers_held : (p : Ptr) (o : Option X) → ent 𝓤 (sem 𝓛 (held_at p o)) (sep 𝓤 (fact 𝓤 (AnswersHeld p o)) (sem 𝓛 (held_at p o)))
+  answers_held p o =
+      fact_use 𝓤 (AnswersHeld p o) (held_answered p o) (λ t. qed 𝓛 (‵ (held_at p o) ∷ []) ∵ use0 𝓛 (raw (fact 𝓤 (AnswersHeld p o))) (fact_i 𝓤 (AnswersHeld p o) (emp 𝓤) t) $ done !)

@@ -19,7 +19,7 @@ use denote.Signature.{plain}
 use denote.Steps.{nothing, opens, closes, peeks, heard}
 use denote.Triple.Walked.{Stays, walk_of, says, stay_ref, Goes-ref, ends_at}
 use Rattle.vt100_c.specs.Held.{held_at}
-use Rattle.vt100_c.proofs.Null.{TestsNull, tests_null, ptr_typed}
+use Rattle.vt100_c.proofs.Null.{AnswersHeld, answers_held, ptr_typed}
 use Rattle.vt100_c.specs.contracts.handle.Handle.{the_row as S}
 use Rattle.vt100_c.proofs.handle.Handle.TheLaws.{lowers}
 use Rattle.vt100_c.specs.contracts.handle.Handle.is_full as f
@@ -41,7 +41,7 @@ is_full_spec 𝓤 𝓛 𝓜 𝓡 wired =
     split ! $ split ! $ move ! (2 ∷ []) $ split ! $ keep ! (0 ∷ 2 ∷ []) $
     enter ! _ _ _ _ _ $ alloc_all ! (λ l. pass_all ! refl ((tt, tt), tt) $
     fsplit3 ! $ move ! (1 ∷ 2 ∷ 3 ∷ []) $ opens ! tt S b o (λ us. move ! (1 ∷ []) $ peeks ! S _ (shows 𝓛 S) h us (λ seen. fsplit ! $ move ! (1 ∷ []) $
-    use1 𝓛 (raw (fact 𝓤 (TestsNull h.at h.held)) ⊛ ‵ (held_at h.at h.held)) (tests_null 𝓛 h.at h.held) $ split ! $ heard ! _ (λ it.
+    use1 𝓛 (raw (fact 𝓤 (AnswersHeld h.at h.held)) ⊛ ‵ (held_at h.at h.held)) (answers_held 𝓛 h.at h.held) $ split ! $ heard ! _ (λ it.
     let Cell = λ (ws : List Val). ‵ (cell_at full_share S.mir ws b o) in let y = it.0 in
     rewrite ! 2 Cell (lowers.val_is h us seen) refl $
     -- [what the handle owns; what the fields own; the struct's cell; the open borrow, in three entries; self's first part]
