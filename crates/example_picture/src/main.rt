@@ -5,8 +5,6 @@
 mod color;
 mod drawing;
 mod spot;
-#[cfg(test)]
-mod tests;
 mod xml;
 
 use anyhow::Result;

@@ -1,9 +1,0 @@
-//! What tests of the terminal share: what is done to a parser, as values; what is seen of it then, as
-//! one text; and that each screen on the way is read back.
-#![tactic(auto)]
-
-pub mod cuts;
-pub mod picture;
-pub mod readback;
-pub mod seen;
-pub mod steps;

@@ -1,0 +1,72 @@
+//! The screens that an input leaves which ends at any byte.
+
+use super::readback::{Asked, Change};
+use super::seen::read_keeping;
+use super::steps::{Pieces, Step};
+use std::alloc::Global;
+use std::test::Fail;
+use vt_notes::Notes;
+use vt100::{Parser, Screen};
+
+/// Fails where, after one of the bytes of these steps or after one of the others, a terminal that reads
+/// the redraw of the screen with its modes, or what differs in both since the byte before, does not
+/// show the same.
+pub fn expect_read_back_at_each_byte(
+    alloc: Global,
+    size: (u16, u16),
+    capacity: usize,
+    steps: &[Step],
+) -> Result<(), Fail> {
+    let mut parser = read_keeping(alloc, size, capacity, &[])?;
+    for step in steps {
+        expect_step_read_back(alloc, &mut parser, *step)?;
+    }
+    Ok(())
+}
+
+fn expect_step_read_back(
+    alloc: Global,
+    parser: &mut Parser<Notes>,
+    step: Step,
+) -> Result<(), Fail> {
+    for byte in step.bytes().chunks(1) {
+        let prev = parser.screen().clone()?;
+        parser.process(byte)?;
+        expect_screen_read_back(alloc, parser.screen(), &prev)?;
+    }
+    if step.bytes().is_empty() {
+        let prev = parser.screen().clone()?;
+        step.take(parser, Pieces::Single)?;
+        expect_screen_read_back(alloc, parser.screen(), &prev)?;
+    }
+    Ok(())
+}
+
+fn expect_screen_read_back(alloc: Global, screen: &Screen, prev: &Screen) -> Result<(), Fail> {
+    if !is_surely_steady(screen) {
+        return Ok(());
+    }
+    Asked::State.expect_read(alloc, screen)?;
+    if !is_surely_steady(prev) || screen.size() != prev.size() {
+        return Ok(());
+    }
+    let text = Change::State.text(screen, prev)?;
+    Change::State.expect_read(alloc, screen, prev, text.as_str())
+}
+
+/// Whether each glyph that is shown, printed again on a blank row, gives just itself. Those without
+/// U+FE0F do, and so does one that it made wide. Of a narrow one that has it nothing is said.
+fn is_surely_steady(screen: &Screen) -> bool {
+    let (rows, cols) = screen.size();
+    for row in 0..rows.get() {
+        for col in 0..cols.get() {
+            if let Some(cell) = screen.cell(row, col)
+                && !cell.is_wide()
+                && cell.contents().contains('\u{fe0f}')
+            {
+                return false;
+            }
+        }
+    }
+    true
+}

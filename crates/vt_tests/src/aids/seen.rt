@@ -1,0 +1,226 @@
+//! What a parser shows and called, as one text, and what is expected of it.
+
+use super::cuts::expect_read_back_at_each_byte;
+use super::steps::{Pieces, Step, longest, size_of, taken};
+use std::alloc::{AllocError, Global};
+use std::test::Fail;
+use vt_notes::Notes;
+use vt100::{Cell, Color, CursorStyle, MouseProtocolEncoding, MouseProtocolMode, Parser, Screen};
+
+/// A fresh parser's size, how many rows its scrollback keeps, what is done, and what is seen then.
+pub type Example = ((u16, u16), usize, &'static [Step], &'static str);
+
+/// Fails where one of these examples gives something else, its bytes in two pieces or one by one, or
+/// where the screen after one of the bytes is not read back.
+pub fn expect_each(alloc: Global, examples: &[Example]) -> Result<(), Fail> {
+    for (size, capacity, steps, wanted) in examples {
+        expect_at_each_cut(alloc, *size, *capacity, steps, wanted)?;
+    }
+    Ok(())
+}
+
+/// Fails where these steps, their bytes in two pieces or one by one, give something else, or where the
+/// screen after one of the bytes is not read back.
+pub fn expect_at_each_cut(
+    alloc: Global,
+    size: (u16, u16),
+    capacity: usize,
+    steps: &[Step],
+    wanted: &str,
+) -> Result<(), Fail> {
+    for most in 0..=longest(steps) {
+        expect_after(alloc, size, capacity, steps, Pieces::Two(most), wanted)?;
+    }
+    expect_after(alloc, size, capacity, steps, Pieces::Single, wanted)?;
+    expect_read_back_at_each_byte(alloc, size, capacity, steps)
+}
+
+/// Fails where these steps, their bytes read like this, give something else.
+fn expect_after(
+    alloc: Global,
+    size: (u16, u16),
+    capacity: usize,
+    steps: &[Step],
+    pieces: Pieces,
+    wanted: &str,
+) -> Result<(), Fail> {
+    let parser = taken(alloc, size, capacity, steps, pieces)?;
+    expect(alloc, &parser, steps, wanted)
+}
+
+/// Fails where a parser after these steps shows or called something else.
+pub fn expect(
+    alloc: Global,
+    parser: &Parser<Notes>,
+    steps: &[Step],
+    wanted: &str,
+) -> Result<(), Fail> {
+    let found = seen(alloc, parser)?;
+    if found.as_str() != wanted {
+        return Err(Fail::new(format_args!("{steps:?} give {found}and not {wanted}")));
+    }
+    Ok(())
+}
+
+/// Fails where a text is another one.
+pub fn expect_text(text: String, wanted: &str) -> Result<(), Fail> {
+    if text.as_str() == wanted {
+        Ok(())
+    } else {
+        Err(Fail::new(format_args!("{text:?} and not {wanted:?}")))
+    }
+}
+
+/// What a parser shows, as a line, and the lines of its calls.
+fn seen(alloc: Global, parser: &Parser<Notes>) -> Result<String, Fail> {
+    let mut text = shown(alloc, parser.screen())?;
+    text.push_str(parser.callbacks().lines(alloc)?.as_str())?;
+    Ok(text)
+}
+
+/// What a screen shows, as a line.
+///
+/// Each row that shows something is its number, a colon and its cells: a dot for a blank, brackets
+/// around a wide glyph, a slash at the end of a row that goes on in the next one; blanks at the end
+/// are left out. Then come the cursor, whether the page is the alternate one, how many rows
+/// scrollback keeps and how many of them are in view, and attributes and modes; of all these but the
+/// cursor only what isn't the default.
+pub fn shown(alloc: Global, screen: &Screen) -> Result<String, Fail> {
+    let (rows, _cols) = screen.size();
+    let mut text = String::new(alloc);
+    for row in 0..rows.get() {
+        write_row(&mut text, screen, row)?;
+    }
+    let (row, col) = screen.cursor_position();
+    write!(text, "@{row},{col}")?;
+    write_page(&mut text, screen)?;
+    write_attributes(&mut text, screen)?;
+    write_modes(&mut text, screen)?;
+    text.push('\n')?;
+    Ok(text)
+}
+
+/// A fresh parser of this size after these pieces.
+pub fn read(alloc: Global, size: (u16, u16), pieces: &[&[u8]]) -> Result<Parser<Notes>, Fail> {
+    read_keeping(alloc, size, 0, pieces)
+}
+
+/// A fresh parser of this size, whose scrollback keeps `capacity` rows, after these pieces.
+pub fn read_keeping(
+    alloc: Global,
+    size: (u16, u16),
+    capacity: usize,
+    pieces: &[&[u8]],
+) -> Result<Parser<Notes>, Fail> {
+    let (rows, cols) = size_of(size)?;
+    let mut parser = Parser::new_with_callbacks(alloc, rows, cols, capacity, Notes::new(alloc))?;
+    for piece in pieces {
+        parser.process(piece)?;
+    }
+    Ok(parser)
+}
+
+fn write_row(text: &mut String, screen: &Screen, row: u16) -> Result<(), AllocError> {
+    let (_rows, cols) = screen.size();
+    let mut next = 0;
+    for col in 0..cols.get() {
+        let Some(cell) = screen.cell(row, col) else {
+            break;
+        };
+        if !cell.has_contents() && !cell.is_wide_continuation() {
+            continue;
+        }
+        if next == 0 {
+            write!(text, "{row}:")?;
+        }
+        for _ in next..col {
+            text.push('.')?;
+        }
+        next = col + 1;
+        write_cell(text, cell)?;
+    }
+    if screen.row_wrapped(row) {
+        text.push('/')?;
+    }
+    if next > 0 {
+        text.push(' ')?;
+    }
+    Ok(())
+}
+
+fn write_cell(text: &mut String, cell: &Cell) -> Result<(), AllocError> {
+    if cell.is_wide_continuation() {
+        return text.push(']');
+    }
+    if cell.is_wide() {
+        text.push('[')?;
+    }
+    text.push_str(cell.contents())
+}
+
+fn write_page(text: &mut String, screen: &Screen) -> Result<(), AllocError> {
+    if screen.alternate_screen() {
+        text.push_str(" alternate")?;
+    }
+    let kept = screen.scrollback_len();
+    if kept > 0 {
+        write!(text, " kept {kept}")?;
+    }
+    let in_view = screen.scrollback();
+    if in_view > 0 {
+        write!(text, " in view {in_view}")?;
+    }
+    Ok(())
+}
+
+fn write_attributes(text: &mut String, screen: &Screen) -> Result<(), AllocError> {
+    let foreground = screen.fgcolor();
+    if foreground != Color::Default {
+        write!(text, " foreground {foreground:?}")?;
+    }
+    let background = screen.bgcolor();
+    if background != Color::Default {
+        write!(text, " background {background:?}")?;
+    }
+    let words = [
+        (screen.bold(), " bold"),
+        (screen.dim(), " dim"),
+        (screen.italic(), " italic"),
+        (screen.underline(), " underline"),
+        (screen.inverse(), " inverse"),
+    ];
+    write_words(text, &words)
+}
+
+fn write_modes(text: &mut String, screen: &Screen) -> Result<(), AllocError> {
+    let words = [
+        (screen.hide_cursor(), " hidden"),
+        (screen.application_keypad(), " keypad"),
+        (screen.application_cursor(), " cursor keys"),
+        (screen.bracketed_paste(), " paste"),
+    ];
+    write_words(text, &words)?;
+    let mode = screen.mouse_protocol_mode();
+    if mode != MouseProtocolMode::None {
+        write!(text, " {mode:?}")?;
+    }
+    let encoding = screen.mouse_protocol_encoding();
+    if encoding != MouseProtocolEncoding::Default {
+        write!(text, " {encoding:?}")?;
+    }
+    let style = screen.cursor_style();
+    if style != CursorStyle::Default {
+        write!(text, " {style:?}")?;
+    }
+    Ok(())
+}
+
+/// Appends the words of what is on.
+fn write_words(text: &mut String, words: &[(bool, &str)]) -> Result<(), AllocError> {
+    for (on, word) in words {
+        if *on {
+            text.push_str(word)?;
+        }
+    }
+    Ok(())
+}

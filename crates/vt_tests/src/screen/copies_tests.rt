@@ -1,0 +1,118 @@
+//! Copies of screens: alike, and each going its own way.
+
+use crate::aids::seen::{read_keeping, shown};
+use crate::aids::steps::Step::{Text, View};
+use crate::aids::steps::{Pieces, Step, taken};
+use std::alloc::Global;
+use std::test::Fail;
+use vt_notes::Notes;
+use vt100::{Parser, Screen};
+
+/// How many rows scrollback has, shows and may keep.
+pub(crate) fn counts(screen: &Screen) -> (usize, usize, usize) {
+    (
+        screen.scrollback_len(),
+        screen.scrollback(),
+        screen.scrollback_capacity(),
+    )
+}
+
+/// Whether two screens are alike in all that can be asked of them.
+fn are_alike(alloc: Global, one: &Screen, other: &Screen) -> Result<bool, Fail> {
+    let (rows, cols) = one.size();
+    if other.size() != (rows, cols) || counts(one) != counts(other) {
+        return Ok(false);
+    }
+    for row in 0..rows.get() {
+        for col in 0..cols.get() {
+            if one.cell(row, col) != other.cell(row, col) {
+                return Ok(false);
+            }
+        }
+    }
+    let (one, other) = (shown(alloc, one)?, shown(alloc, other)?);
+    Ok(one.as_str() == other.as_str())
+}
+
+fn expect_alike(alloc: Global, one: &Screen, other: &Screen) -> Result<(), Fail> {
+    if are_alike(alloc, one, other)? {
+        return Ok(());
+    }
+    let (one, other) = (shown(alloc, one)?, shown(alloc, other)?);
+    Err(Fail::new(format_args!("{one}is not like {other}")))
+}
+
+/// Fails where two screens differ with some number of rows in view.
+fn expect_alike_in_view(alloc: Global, one: &mut Screen, other: &mut Screen) -> Result<(), Fail> {
+    for rows in 0..=one.scrollback_len() {
+        one.set_scrollback(rows)?;
+        other.set_scrollback(rows)?;
+        expect_alike(alloc, one, other)?;
+    }
+    Ok(())
+}
+
+/// A parser with a copy of this screen.
+fn with_copy(alloc: Global, screen: &Screen) -> Result<Parser<Notes>, Fail> {
+    let mut parser = read_keeping(alloc, (1, 1), 0, &[])?;
+    *parser.screen_mut() = screen.clone()?;
+    Ok(parser)
+}
+
+/// Fails where what the second parser reads changes the first one's screen, or not its own.
+fn expect_own_way(
+    alloc: Global,
+    one: &Parser<Notes>,
+    other: &mut Parser<Notes>,
+) -> Result<(), Fail> {
+    let before = shown(alloc, one.screen())?;
+    other.process(MORE)?;
+    let after = shown(alloc, one.screen())?;
+    if before.as_str() != after.as_str() || are_alike(alloc, one.screen(), other.screen())? {
+        return Err(Fail::new(format_args!("{before}has become {after}")));
+    }
+    Ok(())
+}
+
+#[rattlefmt::skip]
+const CLONED: [((u16, u16), usize, &[Step]); 12] = [
+    ((2, 4), 0, &[]),
+    ((2, 4), 0, &[Text("ab中\x1b[1;31mx")]),
+    ((2, 4), 0, &[Text("abcd")]),
+    ((2, 2), 10, &[Text("abcdefg\r\n中")]),
+    ((2, 2), 10, &[Text("abcdefg\r\n中"), View(2)]),
+    ((2, 2), 1, &[Text("abcdefg\r\n中"), View(1)]),
+    ((4, 4), 0, &[Text("\x1b[2;3r\x1b[?6h\x1b[44;2mx")]),
+    ((2, 4), 0, &[Text("\x1b[1mab\x1b7\x1b[m\x1b[Hc")]),
+    ((2, 4), 0, &[Text("\x1b=\x1b[?1;2004;1003;1006h\x1b[?25l\x1b[5 q")]),
+    ((2, 4), 10, &[Text("a\r\nb\r\nc\x1b[?47hxyz")]),
+    ((2, 4), 10, &[Text("a\r\nb\r\nc\x1b[?1049hxyz\x1b[?47l")]),
+    ((2, 4), 10, &[Text("a\r\nb\r\nc\x1b[?1049hxyz\x1b[?47l"), View(1)]),
+];
+
+/// What a screen reads after it was copied, or its copy.
+const MORE: &[u8] = b"x\x1b[2b\x1b[?47hyz\x1b8q\x1b[?47l\r\nu\r\nv\r\nw\x1b[Hs\x1b8\x1b[7mt";
+
+/// Fails where these steps lead to a screen whose copy isn't like it, now or after it went on by
+/// itself.
+fn expect_copied(
+    alloc: Global,
+    size: (u16, u16),
+    capacity: usize,
+    steps: &[Step],
+) -> Result<(), Fail> {
+    let mut parser = taken(alloc, size, capacity, steps, Pieces::Single)?;
+    let mut other = with_copy(alloc, parser.screen())?;
+    expect_alike(alloc, parser.screen(), other.screen())?;
+    expect_own_way(alloc, &parser, &mut other)?;
+    parser.process(MORE)?;
+    expect_alike_in_view(alloc, parser.screen_mut(), other.screen_mut())
+}
+
+#[test]
+fn a_copy_is_alike_and_goes_its_own_way(rt: HostRuntime) -> Result<(), Fail> {
+    for (size, capacity, steps) in &CLONED {
+        expect_copied(rt.alloc(), *size, *capacity, steps)?;
+    }
+    Ok(())
+}

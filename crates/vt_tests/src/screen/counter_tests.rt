@@ -1,0 +1,49 @@
+//! Callbacks that write each function themselves: that each is called itself.
+
+use super::counter::Counter;
+use super::counter::Function::{self, *};
+use crate::aids::steps::size_of;
+use std::alloc::Global;
+use std::test::Fail;
+use vt100::Parser;
+
+/// A sequence for each function.
+const CALLED: [(&[u8], Function); 12] = [
+    (b"\x07", AudibleBell),
+    (b"\x1bg", VisualBell),
+    (b"\x1b[8t", Resize),
+    (b"\x1b]1;x\x07", SetWindowIconName),
+    (b"\x1b]2;x\x07", SetWindowTitle),
+    (b"\x1b]52;c;aGk=\x07", CopyToClipboard),
+    (b"\x1b]52;c;?\x07", PasteFromClipboard),
+    (b"\xc2\x80", UnhandledChar),
+    (b"\x01", UnhandledControl),
+    (b"\x1b(B", UnhandledEscape),
+    (b"\x1b[?5l", UnhandledCsi),
+    (b"\x1b]9;x\x07", UnhandledOsc),
+];
+
+/// Fails where these bytes call this function not once, or any other one.
+fn expect_one_call(alloc: Global, bytes: &[u8], function: Function) -> Result<(), Fail> {
+    let (rows, cols) = size_of((24, 80))?;
+    let mut parser = Parser::new_with_callbacks(alloc, rows, cols, 0, Counter::default())?;
+    parser.process(bytes)?;
+    let counter = parser.callbacks();
+    for (i, count) in counter.counts().iter().enumerate() {
+        if *count != u8::from(i == function as usize) {
+            return Err(Fail::new(format_args!("{function:?}: {i} was called {count} times")));
+        }
+    }
+    if counter.otherwise() != 0 {
+        return Err(Fail::new(format_args!("{function:?} was not called itself")));
+    }
+    Ok(())
+}
+
+#[test]
+fn calls_each_function_itself(rt: HostRuntime) -> Result<(), Fail> {
+    for (bytes, function) in &CALLED {
+        expect_one_call(rt.alloc(), bytes, *function)?;
+    }
+    Ok(())
+}

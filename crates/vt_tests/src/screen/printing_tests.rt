@@ -1,0 +1,105 @@
+//! Printing: wraps, wide characters, marks and what follows U+FE0F.
+
+use crate::aids::seen::expect_at_each_cut;
+use crate::aids::steps::Step::Text;
+use std::test::Fail;
+
+#[rattlefmt::skip]
+const PRINTED: [((u16, u16), &str, &str); 47] = [
+    // A pending wrap.
+    ((2, 4), "abcd", "0:abcd @0,4\n"),
+    ((2, 4), "abcd\n", "0:abcd @1,4\n"),
+    ((2, 4), "abcdx", "0:abcd/ 1:x @1,1\n"),
+    ((2, 2), "abcde", "0:cd/ 1:e @1,1\nscroll 6162 0\n"),
+    ((1, 1), "ab", "0:b @0,1\nscroll 61 0\n"),
+
+    // Wide characters.
+    ((2, 1), "中", "@0,0\n"),
+    ((2, 2), "a中", "0:a 1:[中] @1,2\n"),
+    ((2, 4), "abc中", "0:abc 1:[中] @1,2\n"),
+    ((1, 4), "\x1b[1;2H中\x1b[H中", "0:[中] @0,2\n"),
+    ((1, 6), "中ab\x1b[1;2Hx", "0:.xab @0,2\n"),
+    ((1, 6), "中ab\x1b[Hx", "0:x ab @0,1\n"),
+
+    // Marks: a text takes them while it is below 26 bytes.
+    ((1, 4), "e\u{301}", "0:e\u{301} @0,1\n"),
+    ((1, 4), "\u{301}", "@0,0\n"),
+    (
+        (1, 4),
+        "e\u{301}\u{301}\u{301}\u{301}\u{301}\u{301}\u{301}\u{301}\u{301}\u{301}\
+         \u{301}\u{301}",
+        "0:e\u{301}\u{301}\u{301}\u{301}\u{301}\u{301}\u{301}\u{301}\u{301}\u{301}\
+         \u{301}\u{301} @0,1\n",
+    ),
+    (
+        (1, 4),
+        "e\u{301}\u{301}\u{301}\u{301}\u{301}\u{301}\u{301}\u{301}\u{301}\u{301}\
+         \u{301}\u{301}\u{301}\u{301}\u{301}\u{301}\u{301}\u{301}\u{301}\u{301}",
+        "0:e\u{301}\u{301}\u{301}\u{301}\u{301}\u{301}\u{301}\u{301}\u{301}\u{301}\
+         \u{301}\u{301}\u{301} @0,1\n",
+    ),
+    (
+        (1, 4),
+        "中\u{301}\u{301}\u{301}\u{301}\u{301}\u{301}\u{301}\u{301}\u{301}\u{301}\
+         \u{301}\u{301}\u{301}\u{301}\u{301}\u{301}\u{301}\u{301}\u{301}\u{301}",
+        "0:[中\u{301}\u{301}\u{301}\u{301}\u{301}\u{301}\u{301}\u{301}\u{301}\u{301}\
+         \u{301}\u{301}] @0,2\n",
+    ),
+
+    // REP, and a character that draws nothing.
+    ((1, 6), "ab\x1b[3b", "0:abbbb @0,5\n"),
+    ((1, 6), "\x1b[3b", "@0,0\n"),
+    ((1, 6), "a\x7fb", "0:ab @0,2\n"),
+
+    // A glyph that becomes wide, at each column.
+    ((2, 1), "\u{2764}\u{fe0f}", "0:\u{2764}\u{fe0f} @0,1\n"),
+    ((2, 1), "\x1b[2;1H\u{2764}\u{fe0f}", "1:\u{2764}\u{fe0f} @1,1\n"),
+    ((1, 1), "\u{2764}\u{fe0f}", "0:\u{2764}\u{fe0f} @0,1\n"),
+    ((1, 2), "a\u{2764}\u{fe0f}", "0:[\u{2764}\u{fe0f}] @0,2\nscroll 61 0\n"),
+    ((2, 2), "\u{2764}\u{fe0f}", "0:[\u{2764}\u{fe0f}] @0,2\n"),
+    ((2, 2), "\x1b[1;2H\u{2764}\u{fe0f}", "1:[\u{2764}\u{fe0f}] @1,2\n"),
+    ((2, 2), "\x1b[2;1H\u{2764}\u{fe0f}", "1:[\u{2764}\u{fe0f}] @1,2\n"),
+    ((2, 2), "\x1b[2;2H\u{2764}\u{fe0f}", "1:[\u{2764}\u{fe0f}] @1,2\nscroll . 0\n"),
+    ((2, 2), "a\x1b[2;2H\u{2764}\u{fe0f}", "1:[\u{2764}\u{fe0f}] @1,2\nscroll 61 0\n"),
+    ((2, 2), "\x1b[2;1Hab\x1b[2;2H\u{2764}\u{fe0f}", "0:a 1:[\u{2764}\u{fe0f}] @1,2\nscroll . 0\n"),
+    ((1, 3), "\u{2764}\u{fe0f}", "0:[\u{2764}\u{fe0f}] @0,2\n"),
+    ((2, 3), "\x1b[1;2H\u{2764}\u{fe0f}", "0:.[\u{2764}\u{fe0f}] @0,3\n"),
+    ((2, 3), "\x1b[1;3H\u{2764}\u{fe0f}", "1:[\u{2764}\u{fe0f}] @1,2\n"),
+    ((2, 3), "\x1b[2;2H\u{2764}\u{fe0f}", "1:.[\u{2764}\u{fe0f}] @1,3\n"),
+    ((2, 3), "ab\x1b[2;3H\u{2764}\u{fe0f}", "1:[\u{2764}\u{fe0f}] @1,2\nscroll 6162 0\n"),
+    ((1, 3), "ab\u{2764}\u{fe0f}", "0:[\u{2764}\u{fe0f}] @0,2\nscroll 6162 0\n"),
+    ((2, 5), "\u{2764}\u{fe0f}", "0:[\u{2764}\u{fe0f}] @0,2\n"),
+    ((2, 5), "\x1b[1;2H\u{2764}\u{fe0f}", "0:.[\u{2764}\u{fe0f}] @0,3\n"),
+    ((2, 5), "\x1b[1;3H\u{2764}\u{fe0f}", "0:..[\u{2764}\u{fe0f}] @0,4\n"),
+    ((2, 5), "\x1b[1;4H\u{2764}\u{fe0f}", "0:...[\u{2764}\u{fe0f}] @0,5\n"),
+    ((2, 5), "\x1b[1;5H\u{2764}\u{fe0f}", "1:[\u{2764}\u{fe0f}] @1,2\n"),
+    ((2, 5), "abcd\u{2764}\u{fe0f}", "0:abcd 1:[\u{2764}\u{fe0f}] @1,2\n"),
+    ((2, 5), "\x1b[2;5H\u{2764}\u{fe0f}", "1:[\u{2764}\u{fe0f}] @1,2\nscroll . 0\n"),
+    ((2, 5), "\x1b[1;2H中\x1b[H\u{2764}\u{fe0f}", "0:[\u{2764}\u{fe0f}] @0,2\n"),
+    ((2, 5), "\x1b[1;2Hx\x1b[H\u{2764}\u{fe0f}", "0:[\u{2764}\u{fe0f}] @0,2\n"),
+
+    // The longest rows, and the most.
+    ((1, 65535), "\x1b[1;65535H中", "0:[中] @0,2\nscroll . 0\n"),
+    ((65535, 1), "\x1b[65535;1Hab", "65533:a/ 65534:b @65534,1\nscroll . 0\n"),
+    ((2, 4), "", "@0,0\n"),
+];
+
+#[test]
+fn prints_at_every_cut(rt: HostRuntime) -> Result<(), Fail> {
+    for (size, text, wanted) in &PRINTED {
+        expect_at_each_cut(rt.alloc(), *size, 0, &[Text(text)], wanted)?;
+    }
+    Ok(())
+}
+
+#[test]
+fn wraps_the_longest_row(rt: HostRuntime) -> Result<(), Fail> {
+    let mut wanted = String::new(rt.alloc());
+    wanted.push_str("0:b @0,1\nscroll ")?;
+    for _ in 0..65534 {
+        wanted.push_str("20")?;
+    }
+    wanted.push_str("61 0\n")?;
+    let steps = [Text("\x1b[1;65535Hab")];
+    expect_at_each_cut(rt.alloc(), (1, 65535), 0, &steps, wanted.as_str())
+}

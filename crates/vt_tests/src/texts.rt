@@ -1,0 +1,10 @@
+//! The texts of a screen: plain texts, redraws, differences, rows, states and captures, each of which
+//! another terminal reads back.
+
+mod capture_tests;
+mod difference_tests;
+mod moved_tests;
+mod plain_tests;
+mod redraw_tests;
+mod row_items_tests;
+mod state_tests;

@@ -1,0 +1,70 @@
+//! Differences that move rows first: their texts, and what a terminal shows that reads them.
+
+use super::difference_tests::{Example, expect_at_each_cut};
+use crate::aids::readback::Change;
+use crate::aids::steps::Step::Text;
+use std::test::Fail;
+
+/// Four rows.
+const FOUR: &str = "aaaaaaaaa\r\nbbbbbbbbb\r\nccccccccc\r\nddddddddd";
+
+/// And a fifth one, which stays; the cursor is behind the fourth.
+const FIFTH: &str = "\r\nsssssssss\x1b[4;10H";
+
+#[rattlefmt::skip]
+const MOVED: [Example; 7] = [
+    // All rows go up.
+    (
+        (4, 10), 0,
+        &[Text(FOUR)],
+        &[Text(FOUR), Text("\r\neeeeeeeee")],
+        "\x1b[H\x1b[M\x1b[4;1Heeeeeeeee",
+    ),
+
+    // Those above the last one.
+    (
+        (5, 10), 0,
+        &[Text(FOUR), Text(FIFTH)],
+        &[Text(FOUR), Text(FIFTH), Text("\x1b[1;4r\x1b[4;1H\neeeeeeeee\x1b[r\x1b[4;10H")],
+        "\x1b[H\x1b[M\x1b[4;1H\x1b[Leeeeeeeee",
+    ),
+
+    // All go down, and those above the last one.
+    (
+        (4, 10), 0,
+        &[Text(FOUR), Text("\x1b[H")],
+        &[Text(FOUR), Text("\x1b[H\x1b[Lzzzzzzzzz")],
+        "\x1b[H\x1b[Lzzzzzzzzz",
+    ),
+    (
+        (5, 10), 0,
+        &[Text(FOUR), Text(FIFTH), Text("\x1b[H")],
+        &[Text(FOUR), Text(FIFTH), Text("\x1b[1;4r\x1b[H\x1b[L\x1b[rzzzzzzzzz")],
+        "\x1b[4;1H\x1b[M\x1b[H\x1b[Lzzzzzzzzz",
+    ),
+
+    // The attributes become the default ones before.
+    (
+        (4, 10), 0,
+        &[Text(FOUR), Text("\x1b[41m")],
+        &[Text(FOUR), Text("\r\neeeeeeeee")],
+        "\x1b[m\x1b[H\x1b[M\x1b[4;1Heeeeeeeee",
+    ),
+    (
+        (4, 10), 0,
+        &[Text(FOUR), Text("\x1b[41m")],
+        &[Text(FOUR), Text("\x1b[41m\r\neeeeeeeee")],
+        "\x1b[m\x1b[H\x1b[M\x1b[4;1H\x1b[41meeeeeeeee",
+    ),
+
+    // Nothing has moved.
+    ((4, 10), 0, &[Text(FOUR)], &[Text(FOUR), Text("\x1b[H0")], "\x1b[H0"),
+];
+
+#[test]
+fn rows_move_first(rt: HostRuntime) -> Result<(), Fail> {
+    for example in &MOVED {
+        expect_at_each_cut(rt.alloc(), Change::Scrolling, example)?;
+    }
+    Ok(())
+}

@@ -1,0 +1,249 @@
+//! Redraws: their texts, and what a terminal shows that reads them.
+
+use crate::aids::cuts::expect_read_back_at_each_byte;
+use crate::aids::readback::ASKED;
+use crate::aids::readback::Asked::{self, Attributes, Cursor, Redraw, Reset};
+use crate::aids::seen::{expect, read};
+use crate::aids::steps::Step::{self, Text, View};
+use crate::aids::steps::{Pieces, feed, longest, taken};
+use std::alloc::Global;
+use std::test::Fail;
+use vt_notes::Notes;
+use vt100::{Parser, Screen};
+
+/// What each redraw of a screen with a shown cursor begins with.
+const CLEAR: &str = "\x1b[?25h\x1b[m\x1b[H\x1b[J";
+
+/// What stands before that where the redraw is for terminals in any region: origin mode off, and the
+/// whole page as region.
+const WHOLE_REGION: &str = "\x1b[?6l\x1b[r";
+
+/// A fresh parser's size, how many rows its scrollback keeps, what is done, which text is asked for,
+/// and the text; of a redraw what comes behind `CLEAR`.
+pub(crate) type Example = ((u16, u16), usize, &'static [Step], Asked, &'static str);
+
+#[rattlefmt::skip]
+const REDRAWN: [Example; 19] = [
+    // A screen in colours, and a fresh one.
+    (
+        (24, 80), 0, &[Text("this text is \x1b[31mRED\x1b[m"), Text("\x1b[3D\x1b[32mGREEN")],
+        Redraw, "this text is \x1b[32mGREEN",
+    ),
+    ((24, 80), 0, &[], Redraw, ""),
+    ((24, 80), 0, &[], Cursor, "\x1b[?25h\x1b[H"),
+    ((2, 4), 0, &[Text("\x1b[31mabcd\x1b[m")], Redraw, "\x1b[31mabcd\x1b[m"),
+
+    // The smallest screen.
+    ((1, 1), 0, &[Text("ab")], Redraw, "b"),
+
+    // Flags.
+    ((3, 4), 0, &[Text("abcdx\x1b[L")], Redraw, "abcd \x08\x1b[X\r\nx\x1b[2;2H"),
+    (
+        (2, 2), 0, &[Text("abc\x1b[41m\x1b[2K")],
+        Redraw, "ab\x1b[41m \x08\x1b[X\x1b[C\x1b[K",
+    ),
+
+    // A pending wrap.
+    ((2, 4), 0, &[Text("abcd\n")], Redraw, "abcd\n"),
+    ((2, 4), 0, &[Text("abcd\x1b[2K")], Redraw, "\x1b[3C \x1b7\x08\x1b[X\x1b8"),
+    ((2, 4), 0, &[Text("ab\u{4e2d}")], Cursor, "\x1b[?25h\x1b[1;3H\u{4e2d}"),
+    ((2, 4), 0, &[Text("\x1b[31mabcd\x1b[m")], Cursor, "\x1b[?25h\x1b[1;4H\x1b[31md\x1b[m"),
+
+    // Scrollback in view.
+    ((2, 4), 10, &[Text("a\r\nb\r\nc"), View(1)], Redraw, "a\r\nb"),
+
+    // A glyph that U+FE0F made wide.
+    ((2, 4), 0, &[Text("a\u{2764}\u{fe0f}b")], Redraw, "a\u{2764}\u{fe0f}b"),
+
+    // For terminals in any region. The screen's own region and its origin mode don't tell.
+    ((24, 80), 0, &[], Reset, ""),
+    ((3, 2), 0, &[Text("a")], Reset, "a"),
+    ((3, 2), 0, &[Text("\x1b[2;3r\x1b[?6ha")], Reset, "\r\na"),
+
+    // Attributes.
+    ((24, 80), 0, &[Text("\x1b[1;31;44m")], Attributes, "\x1b[m\x1b[31;44;1m"),
+    ((24, 80), 0, &[Text("\x1b[38;5;9m")], Attributes, "\x1b[m\x1b[91m"),
+    ((24, 80), 0, &[Text("\x1b[38;5;300m")], Attributes, "\x1b[m"),
+];
+
+/// The text that is wanted of an example.
+fn wanted_text(alloc: Global, asked: Asked, text: &str) -> Result<String, Fail> {
+    let mut wanted = String::new(alloc);
+    match asked {
+        Redraw => wanted.push_str(CLEAR)?,
+        Reset => {
+            wanted.push_str(WHOLE_REGION)?;
+            wanted.push_str(CLEAR)?;
+        }
+        _ => {}
+    }
+    wanted.push_str(text)?;
+    Ok(wanted)
+}
+
+/// Fails where these steps, their bytes in two pieces or one by one, give another text, or where the
+/// screen after one of the bytes is not read back.
+pub(crate) fn expect_at_each_cut(
+    alloc: Global,
+    example: &Example,
+    wanted: &str,
+) -> Result<(), Fail> {
+    for most in 0..=longest(example.2) {
+        expect_after(alloc, example, Pieces::Two(most), wanted)?;
+    }
+    expect_after(alloc, example, Pieces::Single, wanted)?;
+    expect_read_back_at_each_byte(alloc, example.0, example.1, example.2)
+}
+
+fn expect_after(
+    alloc: Global,
+    (size, capacity, steps, asked, _text): &Example,
+    pieces: Pieces,
+    wanted: &str,
+) -> Result<(), Fail> {
+    let parser = taken(alloc, *size, *capacity, steps, pieces)?;
+    expect_text(parser.screen(), *asked, wanted)
+}
+
+fn expect_text(screen: &Screen, asked: Asked, wanted: &str) -> Result<(), Fail> {
+    let text = asked.text(screen)?;
+    if text.as_str() != wanted {
+        let (found, wanted) = (text.as_bytes(), wanted.as_bytes());
+        return Err(Fail::new(format_args!(
+            "{asked:?}: {} and not {}",
+            found.escape_ascii(),
+            wanted.escape_ascii()
+        )));
+    }
+    Ok(())
+}
+
+/// Fails where a terminal that reads any text of this screen takes over something else.
+pub(crate) fn expect_read_back(
+    alloc: Global,
+    (size, capacity, steps, _asked, _text): &Example,
+) -> Result<(), Fail> {
+    let parser = taken(alloc, *size, *capacity, steps, Pieces::Single)?;
+    for asked in &ASKED {
+        asked.expect_read(alloc, parser.screen())?;
+    }
+    Ok(())
+}
+
+#[test]
+fn redraws_at_every_cut(rt: HostRuntime) -> Result<(), Fail> {
+    for example in &REDRAWN {
+        let wanted = wanted_text(rt.alloc(), example.3, example.4)?;
+        expect_at_each_cut(rt.alloc(), example, wanted.as_str())?;
+    }
+    Ok(())
+}
+
+#[test]
+fn redraws_are_read_back(rt: HostRuntime) -> Result<(), Fail> {
+    for example in &REDRAWN {
+        expect_read_back(rt.alloc(), example)?;
+    }
+    Ok(())
+}
+
+/// What is read by a fresh terminal of three rows and two columns, and what is seen of it once it
+/// has read the redraw of a screen that shows `a`, then the one for any region, and then `AT_ENDS`.
+type InRegion = (&'static str, [&'static str; 3]);
+
+/// A letter at the first place, one at the bottom, and a line feed, which scrolls the whole page only
+/// where that is the region.
+const AT_ENDS: &[u8] = b"\x1b[Hb\x1b[3;1Hz\n";
+
+const IN_REGION: [InRegion; 5] = [
+    // Nothing is promised of the first redraw where the region isn't the whole page.
+    (
+        "\x1b[2;3r\x1b[?6h",
+        ["1:a @1,1\n", "0:a @0,1\n", "1:z @2,1\nscroll 62 0\n"],
+    ),
+    (
+        "\x1b[?47h\x1b[2;3r\x1b[?6h",
+        [
+            "1:a @1,1 alternate\n",
+            "0:a @0,1 alternate\n",
+            "1:z @2,1 alternate\nscroll 62 1\n",
+        ],
+    ),
+    (
+        "\x1b[2;3r",
+        ["0:a @0,1\n", "0:a @0,1\n", "1:z @2,1\nscroll 62 0\n"],
+    ),
+    (
+        "\x1b[?6h",
+        ["0:a @0,1\n", "0:a @0,1\n", "1:z @2,1\nscroll 62 0\n"],
+    ),
+    ("", ["0:a @0,1\n", "0:a @0,1\n", "1:z @2,1\nscroll 62 0\n"]),
+];
+
+/// Fails where a terminal in one of these regions shows something else.
+fn expect_redrawn(
+    alloc: Global,
+    screen: &Screen,
+    (before, [redrawn, reset, at_ends]): &InRegion,
+    pieces: Pieces,
+) -> Result<(), Fail> {
+    let mut reader = read(alloc, (3, 2), &[before.as_bytes()])?;
+    let text = screen.contents_formatted()?;
+    expect_seen(alloc, &mut reader, text.as_bytes(), pieces, redrawn)?;
+    let text = screen.contents_formatted_reset()?;
+    expect_seen(alloc, &mut reader, text.as_bytes(), pieces, reset)?;
+    expect_seen(alloc, &mut reader, AT_ENDS, pieces, at_ends)
+}
+
+/// Fails where something else is seen once these bytes are read.
+fn expect_seen(
+    alloc: Global,
+    reader: &mut Parser<Notes>,
+    bytes: &[u8],
+    pieces: Pieces,
+    wanted: &str,
+) -> Result<(), Fail> {
+    feed(reader, bytes, pieces)?;
+    expect(alloc, reader, &[], wanted)
+}
+
+#[test]
+fn redraws_in_any_region(rt: HostRuntime) -> Result<(), Fail> {
+    let parser = read(rt.alloc(), (3, 2), &[b"a"])?;
+    for example in &IN_REGION {
+        for pieces in [Pieces::Two(usize::MAX), Pieces::Single] {
+            expect_redrawn(rt.alloc(), parser.screen(), example, pieces)?;
+        }
+    }
+    Ok(())
+}
+
+/// Each redraw of a screen begins with whether its cursor is shown, and clears the screen.
+#[rattlefmt::skip]
+const WHOLE: [((u16, u16), &str, &str); 10] = [
+    ((24, 80), "", "\x1b[?25h\x1b[m\x1b[H\x1b[J"),
+    ((24, 80), "this text is \x1b[31mRED\x1b[m", "\x1b[?25h\x1b[m\x1b[H\x1b[Jthis text is \x1b[31mRED\x1b[m"),
+    (
+        (24, 80),
+        "this text is \x1b[31mRED\x1b[m\x1b[1;14H\x1b[32mGREEN",
+        "\x1b[?25h\x1b[m\x1b[H\x1b[Jthis text is \x1b[32mGREEN",
+    ),
+    ((2, 4), "abcd\r\nx", "\x1b[?25h\x1b[m\x1b[H\x1b[Jabcd\r\nx"),
+    ((1, 4), "\x1b[41m\x1b[1;2H\x1b[2X\x1b[m", "\x1b[?25h\x1b[m\x1b[H\x1b[J\x1b[C\x1b[41m\x1b[2X\x1b[m"),
+    ((2, 4), "\x1b[?25lx", "\x1b[?25l\x1b[m\x1b[H\x1b[Jx"),
+
+    // A cursor on a blank screen.
+    ((2, 4), "\x1b[1;2H", "\x1b[?25h\x1b[m\x1b[H\x1b[J\x1b[C"),
+    ((2, 4), "\x1b[?25l\x1b[2;1H", "\x1b[?25l\x1b[m\x1b[H\x1b[J\r\n"),
+    ((2, 4), "\x1b[?25l\x1b[2;3H", "\x1b[?25l\x1b[m\x1b[H\x1b[J\x1b[2;3H"),
+    ((2, 4), "\x1b[41m\x1b[1;4H", "\x1b[?25h\x1b[m\x1b[H\x1b[J\x1b[3C\x1b[41m"),
+];
+
+#[test]
+fn whole_redraws(rt: HostRuntime) -> Result<(), Fail> {
+    for (size, text, wanted) in &WHOLE {
+        let parser = read(rt.alloc(), *size, &[text.as_bytes()])?;
+        assert_eq!(rt; parser.screen().contents_formatted()?.as_str(), *wanted);
+    }
+    Ok(())
+}
