@@ -1,5 +1,5 @@
 -- What callbacks do that change the screen which they are lent.
-use Rattle.std.specs.Prelude.{ℕ, ◌≡◌, ◌⊎◌, ◌<◌, Bool, true, false}
+use Rattle.std.specs.Prelude.{ℕ, ◌≡◌, ◌⊎◌, ◌<◌, Bool, true}
 use Rattle.vt_screen.specs.Calls.{CallValue, Resize, AudibleBell}
 use Rattle.vt_screen.specs.Pages.{resized}
 use Rattle.vt_screen.specs.Screen.{ScreenValue, scrolled_back}
