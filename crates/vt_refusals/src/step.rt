@@ -237,27 +237,24 @@ fn write_item<W: fmt::Write>(
 
 impl fmt::Display for Step {
     fn fmt<W: fmt::Write>(&self, f: &mut fmt::Formatter<W>) -> fmt::Result {
-        let name = match self {
-            Step::Process(bytes) => return write!(f, "process {}", bytes.escape_ascii()),
-            Step::Row(row) => return write!(f, "row {row}"),
-            Step::SetScrollback(rows) => return write!(f, "set_scrollback {rows}"),
-            Step::SetSize(rows, cols) => return write!(f, "set_size {rows} {cols}"),
-            Step::SetScreenSize(rows, cols) => {
-                return write!(f, "screen set_size {rows} {cols}");
-            }
-            Step::Redraw => "redraw",
-            Step::Reset => "reset",
-            Step::Cursor => "cursor",
-            Step::Attributes => "attributes",
-            Step::State => "state",
-            Step::Modes => "modes",
-            Step::Contents => "contents",
-            Step::Range => "range",
-            Step::Basic => "basic",
-            Step::Capture => "capture",
-            Step::Rows => "rows",
-        };
-        f.write_str(name)
+        match self {
+            Step::Process(bytes) => write!(f, "process {}", bytes.escape_ascii()),
+            Step::Redraw => write!(f, "redraw"),
+            Step::Reset => write!(f, "reset"),
+            Step::Cursor => write!(f, "cursor"),
+            Step::Attributes => write!(f, "attributes"),
+            Step::State => write!(f, "state"),
+            Step::Modes => write!(f, "modes"),
+            Step::Contents => write!(f, "contents"),
+            Step::Range => write!(f, "range"),
+            Step::Row(row) => write!(f, "row {row}"),
+            Step::Basic => write!(f, "basic"),
+            Step::Capture => write!(f, "capture"),
+            Step::Rows => write!(f, "rows"),
+            Step::SetScrollback(rows) => write!(f, "set_scrollback {rows}"),
+            Step::SetSize(rows, cols) => write!(f, "set_size {rows} {cols}"),
+            Step::SetScreenSize(rows, cols) => write!(f, "screen set_size {rows} {cols}"),
+        }
     }
 }
 
