@@ -38,6 +38,9 @@
  *     A handle may be given to another thread. One call at a time uses a handle, reading calls too.
  *     Calls with other handles may run beside it; nothing is shared between them.
  *
+ *     Calls take and give back memory by malloc and free. So none may be made in a signal handler,
+ *     nor, in the child of a process that had several threads, between fork and exec.
+ *
  * MEMORY AND TEXTS
  *     Pointers are lent for one call; nothing that a caller passes is kept, and no pointer into the
  *     library is handed out. A text is made by one call, which says how many bytes it has and keeps
@@ -59,6 +62,19 @@
  *     It has no scrollback: while it is shown, none is in view, none is counted, and calls that
  *     bring it into view or drop it do nothing.
  *
+ * VERSIONS
+ *     VT100_VERSION_MAJOR and VT100_VERSION_MINOR number this interface. A change that breaks
+ *     compiled programs raises MAJOR, which the shared object's name has, libvt100.so.MAJOR; an
+ *     addition raises MINOR. VT100_CRATE_VERSION is the version of the Rust crate vt100 whose
+ *     behavior the library has.
+ *
+ * RUNNING A PROGRAM
+ *     The code is for Linux with glibc, on processors of level x86-64-v2 (SSE4.2 and POPCNT, which
+ *     they have since about 2009); others end the program by SIGILL. A program that was linked to
+ *     libvt100.a needs no file of this library. One that was linked to libvt100.so needs
+ *     libvt100.so.MAJOR where the dynamic linker looks: in the system's folders, in those that
+ *     LD_LIBRARY_PATH names, or in one that was named at the link (-Wl,-rpath,FOLDER).
+ *
  * RETURN VALUE
  *     Most calls answer a status. Where it is not VT100_OK, nothing is written to the results and
  *     nothing has changed, except where a call says what has. Where several statuses fit, it is one
@@ -74,6 +90,12 @@
 extern "C" {
 #endif
 
+/* ---- versions */
+
+#define VT100_VERSION_MAJOR 1
+#define VT100_VERSION_MINOR 0
+#define VT100_CRATE_VERSION "0.18.1"
+
 /* ---- handles and statuses */
 
 /* One word; null means that it holds nothing. Begin with VT100_EMPTY. */
@@ -81,7 +103,11 @@ typedef struct vt100_handle {
     void *at;
 } vt100_handle;
 
+#ifdef __cplusplus
+#define VT100_EMPTY {}
+#else
 #define VT100_EMPTY {0}
+#endif
 
 /* One of the following. */
 typedef uint8_t vt100_status;
@@ -107,6 +133,27 @@ enum {
     VT100_MIRROR = 3,
     VT100_CAPTURE = 4
 };
+
+/* Kinds of events (EVENTS below). */
+enum {
+    VT100_EVENT_AUDIBLE_BELL = 0,
+    VT100_EVENT_VISUAL_BELL = 1,
+    VT100_EVENT_RESIZE = 2,
+    VT100_EVENT_SET_WINDOW_ICON_NAME = 3,
+    VT100_EVENT_SET_WINDOW_TITLE = 4,
+    VT100_EVENT_COPY_TO_CLIPBOARD = 5,
+    VT100_EVENT_PASTE_FROM_CLIPBOARD = 6,
+    VT100_EVENT_UNHANDLED_CHAR = 7,
+    VT100_EVENT_UNHANDLED_CONTROL = 8,
+    VT100_EVENT_UNHANDLED_ESCAPE = 9,
+    VT100_EVENT_UNHANDLED_CSI = 10,
+    VT100_EVENT_UNHANDLED_OSC = 11,
+    VT100_EVENT_ON_SCROLL = 12
+};
+
+/* The bit of `wanted` for a kind of events, and all of them. */
+#define VT100_WANTS(kind) (1u << (kind))
+#define VT100_WANTS_ALL 0x1fffu
 
 /* ---- what is shown */
 
@@ -134,7 +181,10 @@ typedef struct vt100_cell {
     vt100_color fgcolor, bgcolor;
 } vt100_cell;
 
-/* What a screen is but for its cells. */
+/*
+ * What a screen is but for its cells: 56 bytes. What is in the 4 bytes of padding before
+ * `scrollback` is not said, so compare members, not memory.
+ */
 typedef struct vt100_state {
     uint16_t rows, cols;
     uint16_t cursor_row, cursor_col;   /* a column that is cols: behind the last one */
@@ -162,7 +212,8 @@ typedef struct vt100_state {
 
 /*
  * Makes a parser with a fresh screen. Bit k of `wanted` says whether events of kind k are kept
- * (EVENTS below); 0 keeps none, which is fastest.
+ * (EVENTS below); 0 keeps none, which is fastest. VT100_ROWS_WITHOUT_TEXT beside bit 12 leaves the
+ * plain text out of the records of rows, for callers that read rows by vt100_capture_row alone.
  * Fills `out`. VT100_IN_USE: it isn't empty. VT100_BAD_ARGUMENT: rows or cols is 0.
  * VT100_OUT_OF_MEMORY.
  */
@@ -208,9 +259,11 @@ uint8_t vt100_kind(vt100_handle *handle);
 vt100_status vt100_process(vt100_handle *handle, const uint8_t *bytes, size_t len);
 
 /*
- * Reads up to and with the first byte that left an event, or would have left one and was refused
- * memory for it; `*used` is how many bytes were read whole, whatever the status. Call it until all
- * are. A parser alone. Statuses: as vt100_process, but VT100_OK where there are no bytes.
+ * Reads up to and including the first byte that left or lost an event; `*used` is the number of
+ * bytes read. Call it until all bytes are read. It reads on over rows that are recorded without
+ * text, until those of this call take 64 KiB or the log reaches its limit. If the status is not
+ * VT100_OK, `*used` counts the bytes before the one whose allocation failed. A parser alone.
+ * Statuses: as vt100_process, but VT100_OK for no bytes.
  */
 vt100_status vt100_process_until(vt100_handle *handle, const uint8_t *bytes, size_t len,
                                  size_t *used);
@@ -416,12 +469,23 @@ vt100_status vt100_next_row(const uint8_t *text, size_t len, uint16_t width, siz
  *     10  unhandled_csi: two intermediates, 256 for none; text is the final character in 4 bytes,
  *         then each group of numbers: how many in 8 bytes, and 2 bytes each
  *     11  unhandled_osc: text is the parts, each behind its length in 8 bytes
- *     12  on_scroll: 1 for the alternate screen, 1 if the row goes on; text is its plain text
+ *     12  on_scroll: 1 for the alternate screen, 1 if the row goes on; text is its plain text, or
+ *         nothing with VT100_ROWS_WITHOUT_TEXT
+ *
+ * A program may leave events without end: one byte may scroll a thousand rows. So the log has a
+ * limit, 1 MiB unless vt100_set_event_limit sets another one. Its records count, and 40 bytes for
+ * each cell of a row that scrolled off. Events are kept until they take so much, and are lost from
+ * then on, until vt100_clear_events. A caller that clears the log after each vt100_process_until
+ * loses only what a single byte leaves past the limit.
  */
 
+/* A bit of `wanted`: the records of rows have no text. */
+enum { VT100_ROWS_WITHOUT_TEXT = 1 << 13 };
+
 /*
- * How many bytes the records take. *is_whole is 0 where memory was refused for a record: it and all
- * behind it are missing, until vt100_clear_events, so that the order holds. Else 1.
+ * The number of bytes that the records take. *is_whole is 0 if an event was lost, because its
+ * allocation failed or the log had reached its limit: it and all later ones are missing, until
+ * vt100_clear_events, so that the order holds. Else 1.
  * VT100_NO_OBJECT, VT100_WRONG_KIND.
  */
 vt100_status vt100_events(vt100_handle *handle, size_t *len, uint8_t *is_whole);
@@ -431,6 +495,12 @@ size_t vt100_copy_events(vt100_handle *handle, uint8_t *out, size_t room);
 
 /* Forgets the records and the rows that left. VT100_NO_OBJECT, VT100_WRONG_KIND. */
 vt100_status vt100_clear_events(vt100_handle *handle);
+
+/*
+ * Sets the limit of the log in bytes, and forgets the records. SIZE_MAX: no limit but memory.
+ * VT100_NO_OBJECT, VT100_WRONG_KIND.
+ */
+vt100_status vt100_set_event_limit(vt100_handle *handle, size_t bytes);
 
 /* ---- viewers of a mirror
  *
@@ -453,9 +523,18 @@ vt100_status vt100_leave(vt100_handle *mirror, uint64_t viewer);
 vt100_status vt100_update(vt100_handle *mirror, uint64_t viewer, uint16_t *rows, uint16_t *cols,
                           size_t *len);
 
-/* The same; a difference is never longer, and may move rows first. */
+/*
+ * As vt100_update, with a difference that is never longer and may move rows first. After a screen
+ * with a glyph that does not reproduce itself when it is printed again (only U+FE0F makes such), it
+ * is a redraw, so that a viewer that was displayed wrong is right again.
+ */
 vt100_status vt100_update_scrolling(vt100_handle *mirror, uint64_t viewer, uint16_t *rows,
                                     uint16_t *cols, size_t *len);
+
+/* ---- texts of statuses */
+
+/* What a status means, in English, without a newline. It is never null, and lasts forever. */
+const char *vt100_status_text(vt100_status status);
 
 #ifdef __cplusplus
 }

@@ -1,33 +1,90 @@
-//! Finds the library: in the folder that `VT100_LIB_DIR` names, else by pkg-config. The archive is
-//! linked where there is one, so that a program stands alone.
+//! Finds the library and links it.
+//!
+//! It is searched for in the folder that `VT100_LIB_DIR` names. If that is not set, in the folder
+//! `lib` of this package, and then by pkg-config. Of a folder with both, the archive is linked, so
+//! that a program needs nothing else at run time.
 
 use std::env;
-use std::path::Path;
-use std::process::Command;
+use std::path::{Path, PathBuf};
+use std::process::{exit, Command};
+
+const ARCHIVE: &str = "libvt100.a";
+const SHARED: &str = "libvt100.so";
 
 fn main() {
-    println!("cargo:rerun-if-env-changed=VT100_LIB_DIR");
-    println!("cargo:rerun-if-env-changed=PKG_CONFIG_PATH");
-    let folder = env::var("VT100_LIB_DIR").unwrap_or_else(|_| folder_of_package());
-    println!("cargo:rustc-link-search=native={folder}");
-    let archive = Path::new(&folder).join("libvt100.a");
-    println!("cargo:rerun-if-changed={}", archive.display());
-    if archive.exists() {
-        println!("cargo:rustc-link-lib=static=vt100");
-    } else {
-        println!("cargo:rustc-link-lib=dylib=vt100");
+    for name in ["VT100_LIB_DIR", "PKG_CONFIG_PATH", "PKG_CONFIG_LIBDIR"] {
+        println!("cargo:rerun-if-env-changed={name}");
+    }
+    if let Err(error) = library_dir().and_then(|folder| link(&folder)) {
+        eprintln!("vt100: {error}");
+        exit(1);
     }
 }
 
-/// The folder that pkg-config knows.
-fn folder_of_package() -> String {
-    let told = Command::new("pkg-config")
+/// Returns the folder to search.
+///
+/// # Errors
+///
+/// `VT100_LIB_DIR` is not an absolute path, or nothing says where the library is.
+fn library_dir() -> Result<PathBuf, String> {
+    match env::var_os("VT100_LIB_DIR") {
+        Some(value) => checked(value.into()),
+        None => packaged_dir().map_or_else(pkg_config_dir, Ok),
+    }
+}
+
+/// Returns the value of `VT100_LIB_DIR` if it is an absolute path.
+fn checked(folder: PathBuf) -> Result<PathBuf, String> {
+    let wanted = format!("the absolute path of the folder that has {ARCHIVE} or {SHARED}");
+    if folder.as_os_str().is_empty() {
+        return Err(format!(
+            "VT100_LIB_DIR is empty: set it to {wanted}, or unset it"
+        ));
+    }
+    if folder.is_relative() {
+        let folder = folder.display();
+        return Err(format!(
+            "VT100_LIB_DIR is the relative path {folder}: it must be {wanted}"
+        ));
+    }
+    Ok(folder)
+}
+
+/// Returns the folder of the archive that a prepared package contains, if it is for this target.
+fn packaged_dir() -> Option<PathBuf> {
+    let is = |name: &str, value: &str| env::var(name).as_deref() == Ok(value);
+    let folder = Path::new(&env::var_os("CARGO_MANIFEST_DIR")?).join("lib");
+    let fits = is("CARGO_CFG_TARGET_ARCH", "x86_64") && is("CARGO_CFG_TARGET_OS", "linux");
+    (fits && folder.join(ARCHIVE).is_file()).then_some(folder)
+}
+
+/// Returns the folder that pkg-config knows.
+fn pkg_config_dir() -> Result<PathBuf, String> {
+    let output = Command::new("pkg-config")
         .args(["--variable=libdir", "vt100"])
         .output();
-    match told {
+    match output {
         Ok(output) if output.status.success() => {
-            String::from_utf8_lossy(&output.stdout).trim().to_owned()
+            Ok(String::from_utf8_lossy(&output.stdout).trim().into())
         }
-        _ => panic!("no library: name its folder in VT100_LIB_DIR, or have pkg-config find vt100"),
+        _ => Err(
+            "no library: name its folder in VT100_LIB_DIR, or have pkg-config find vt100".into(),
+        ),
     }
+}
+
+/// Links the archive of a folder, or else its shared object.
+///
+/// # Errors
+///
+/// The folder has neither.
+fn link(folder: &Path) -> Result<(), String> {
+    let (kind, name) = [("static", ARCHIVE), ("dylib", SHARED)]
+        .into_iter()
+        .find(|(_, name)| folder.join(name).is_file())
+        .ok_or_else(|| format!("{} has neither {ARCHIVE} nor {SHARED}", folder.display()))?;
+    println!("cargo:rerun-if-changed={}", folder.join(name).display());
+    println!("cargo:rustc-link-search=native={}", folder.display());
+    println!("cargo:rustc-link-lib={kind}=vt100");
+    Ok(())
 }

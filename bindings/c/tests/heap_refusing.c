@@ -8,6 +8,10 @@
 struct block { bool is_granted; void *at; };
 static char nowhere;
 
+/* What stands before each block. */
+union head { size_t size; max_align_t aligned; };
+
+size_t heap_bytes, heap_peak;
 long heap_allocations, heap_live, heap_refused = -1;
 int heap_refuses_all_behind;
 
@@ -21,21 +25,33 @@ static bool is_refused(void) {
                                       && allocation > heap_refused);
 }
 
+/* A block of so many bytes, with its head before it; another block's memory, or new. */
+static struct block block_of(union head *old, size_t size) {
+    union head *head = realloc(old, sizeof *head + size);
+    if (head == NULL) return (struct block){false, &nowhere};
+    head->size = size;
+    heap_bytes += size;
+    if (heap_bytes > heap_peak) heap_peak = heap_bytes;
+    return (struct block){true, head + 1};
+}
+
 struct block rattle_alloc(size_t size, size_t align) {
     (void)align;
     if (is_refused()) return (struct block){false, &nowhere};
     heap_live++;
-    return (struct block){true, malloc(size > 0 ? size : 1)};
+    return block_of(NULL, size);
 }
 
 struct block rattle_realloc(void *at, size_t old_size, size_t size, size_t align) {
-    (void)old_size;
     (void)align;
     if (is_refused()) return (struct block){false, &nowhere};
-    return (struct block){true, realloc(at, size > 0 ? size : 1)};
+    heap_bytes -= old_size;
+    return block_of((union head *)at - 1, size);
 }
 
 void rattle_dealloc(void *at) {
+    union head *head = (union head *)at - 1;
     heap_live--;
-    free(at);
+    heap_bytes -= head->size;
+    free(head);
 }

@@ -74,6 +74,7 @@ static vt100_status drawn_rows(vt100_handle *h) {
     return vt100_rows_formatted(h, 0, COLS, ends, ROWS, &len);
 }
 static vt100_status events(vt100_handle *h) { return vt100_events(h, &len, &byte); }
+static vt100_status limit(vt100_handle *h) { return vt100_set_event_limit(h, 99); }
 static vt100_status join(vt100_handle *h) { return vt100_join(h, &viewer); }
 
 static vt100_status save(vt100_handle *h) {
@@ -114,7 +115,8 @@ static const struct {
     {"cursor_state_formatted", cursor, P | S}, {"attributes_formatted", attributes, P | S},
     {"input_mode_formatted", input, P | S}, {"rows", plain_rows, P | S},
     {"rows_formatted", drawn_rows, P | S}, {"events", events, P},
-    {"clear_events", vt100_clear_events, P}, {"join", join, M}, {"leave", leave, M},
+    {"clear_events", vt100_clear_events, P}, {"set_event_limit", limit, P}, {"join", join, M},
+    {"leave", leave, M},
     {"update", update, M}, {"update_scrolling", update_scrolling, M}, {"save", save, P | S | C},
 };
 
@@ -336,8 +338,21 @@ static void log_of(void) {
     vt100_free(&parser);
 }
 
+/* Each status has a text of its own, and a number that is no status another one. */
+static void names(void) {
+    for (unsigned first = 0; first <= VT100_NO_NUMBER; first++) {
+        const char *text = vt100_status_text((vt100_status)first);
+        must(text[0] != 0);
+        for (unsigned other = first + 1; other <= VT100_NO_NUMBER + 1; other++) {
+            must(strcmp(text, vt100_status_text((vt100_status)other)) != 0);
+        }
+    }
+    must(strcmp(vt100_status_text(255), vt100_status_text(VT100_NO_NUMBER + 1)) == 0);
+}
+
 int main(void) {
     calls_of_one();
+    names();
     calls_of_two();
     twice();
     making();

@@ -1,18 +1,83 @@
-//! `bench PIECE process ROWS COLS CAPACITY TIMES FILE`: one parser reads FILE so many times, in
-//! pieces of PIECE bytes, as `vt_bench process` does in pieces of 4096.
+//! `bench PIECE WHAT ROWS COLS CAPACITY TIMES FILE`: one parser processes FILE so many times, in
+//! pieces of PIECE bytes, as `vt_bench process` does in pieces of 4096. WHAT is done besides:
+//! `process` nothing, `callbacks` callbacks that do nothing, `rows` an `on_scroll` that writes the
+//! row, `cell` a look at a cell of the first row after each piece.
 
+use std::hint::black_box;
 use std::num::NonZeroU16;
-use vt100::Parser;
+use vt100::capture::{BasicFormattedCaptureState, RowContents};
+use vt100::{Callbacks, Parser, Screen};
+
+/// Callbacks that do nothing.
+struct Empty;
+
+impl Callbacks for Empty {}
+
+/// Writes each row that scrolls off.
+#[derive(Default)]
+struct Rows(BasicFormattedCaptureState);
+
+impl Callbacks for Rows {
+    fn on_scroll(&mut self, row: RowContents<'_>, _: bool) {
+        let mut text = String::new();
+        row.write_formatted_basic(&mut text, &mut self.0).unwrap();
+        black_box(text);
+    }
+}
+
+/// The command-line arguments.
+struct Work {
+    piece: usize,
+    rows: NonZeroU16,
+    cols: NonZeroU16,
+    capacity: usize,
+    times: usize,
+    bytes: Vec<u8>,
+}
+
+impl Work {
+    fn of(words: &[String]) -> Self {
+        let number = |word: &str| word.parse::<usize>().unwrap();
+        let size = |word: &str| word.parse::<NonZeroU16>().unwrap();
+        Self {
+            piece: number(&words[1]),
+            rows: size(&words[3]),
+            cols: size(&words[4]),
+            capacity: number(&words[5]),
+            times: number(&words[6]),
+            bytes: std::fs::read(&words[7]).unwrap(),
+        }
+    }
+
+    /// Processes all bytes, and looks at the screen after each piece.
+    fn run<CB: Callbacks>(&self, callbacks: CB, look: impl Fn(&Screen)) {
+        let (rows, cols, capacity) = (self.rows, self.cols, self.capacity);
+        let parser = Parser::new_with_callbacks(rows, cols, capacity, callbacks);
+        self.process(parser, look);
+    }
+
+    fn process<CB: Callbacks>(&self, mut parser: Parser<CB>, look: impl Fn(&Screen)) {
+        for _ in 0..self.times {
+            for piece in self.bytes.chunks(self.piece) {
+                parser.process(piece);
+                look(parser.screen());
+            }
+        }
+    }
+}
 
 fn main() {
     let words: Vec<String> = std::env::args().collect();
-    let size = |word: &str| word.parse::<NonZeroU16>().unwrap();
-    let number = |word: &str| word.parse::<usize>().unwrap();
-    let bytes = std::fs::read(&words[7]).unwrap();
-    let mut parser = Parser::new(size(&words[3]), size(&words[4]), number(&words[5]));
-    for _ in 0..number(&words[6]) {
-        for piece in bytes.chunks(number(&words[1])) {
-            parser.process(piece);
-        }
+    let work = Work::of(&words);
+    let quiet = || Parser::new(work.rows, work.cols, work.capacity);
+    let look_at_cell = |screen: &Screen| {
+        black_box(screen.cell(0, 3));
+    };
+    match words[2].as_str() {
+        "process" => work.process(quiet(), |_| {}),
+        "cell" => work.process(quiet(), look_at_cell),
+        "callbacks" => work.run(Empty, |_| {}),
+        "rows" => work.run(Rows::default(), |_| {}),
+        what => panic!("no such work: {what}"),
     }
 }

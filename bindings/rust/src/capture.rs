@@ -1,35 +1,34 @@
-//! Captures: the text of rows with colours and attributes, one behind the other as they leave a
-//! screen, and of those still on it at the end.
+//! Captures: the text of rows with colors and attributes, in order as they scroll off a screen,
+//! followed by that of the rows still on it.
 
 use crate::library::{self, Handle};
 use std::fmt;
 use std::iter::FusedIterator;
 use std::sync::{Mutex, PoisonError};
 
-/// Which rows [`Screen::write_contents_formatted_basic`] writes.
+/// The rows that [`Screen::write_contents_formatted_basic`] writes.
 ///
 /// [`Screen::write_contents_formatted_basic`]: crate::Screen::write_contents_formatted_basic
 #[derive(Debug)]
 pub enum BasicFormattedCaptureRange<'a> {
-    /// All rows, with scrollback, behind what was captured with this state; a fresh one where
-    /// nothing was.
+    /// All rows, including scrollback, as the continuation of what was captured with this state.
     Full(&'a mut BasicFormattedCaptureState),
 
-    /// The rows that are shown.
+    /// The displayed rows.
     Visible,
 }
 
-/// Where a capture stands: what its next row is written behind.
+/// The state of a capture between its rows: the attributes in effect, and whether a newline is due.
 ///
-/// The default is that of a capture that nothing was written to.
+/// The default is the state of an empty capture.
 #[derive(Default)]
 pub struct BasicFormattedCaptureState {
-    /// A capture of the library, or nothing before the first row.
+    /// A capture of the library, or an empty handle before the first row.
     capture: Mutex<Handle>,
 }
 
 impl BasicFormattedCaptureState {
-    /// That of a capture that nothing was written to.
+    /// Creates the state of an empty capture.
     #[must_use]
     pub fn new() -> Self {
         Self::default()
@@ -66,11 +65,12 @@ impl fmt::Debug for BasicFormattedCaptureState {
     }
 }
 
-/// A row that left a screen, lent by [`Callbacks::on_scroll`](crate::Callbacks::on_scroll).
+/// A row that scrolled off a screen, as [`Callbacks::on_scroll`](crate::Callbacks::on_scroll) gets
+/// it.
 pub struct RowContents<'a> {
     parser: &'a Mutex<Handle>,
 
-    /// Which of the rows that the parser keeps it is.
+    /// The number of the row among those that the parser keeps.
     index: usize,
 }
 
@@ -79,11 +79,11 @@ impl<'a> RowContents<'a> {
         Self { parser, index }
     }
 
-    /// Writes the row behind what was captured with this state.
+    /// Writes the row as the continuation of what was captured with this state.
     ///
     /// # Errors
     ///
-    /// That of the writer. The state then is that behind the row.
+    /// Returns the error of the writer. The state then is that after the row.
     pub fn write_formatted_basic(
         &self,
         writer: &mut impl fmt::Write,
@@ -96,7 +96,7 @@ impl<'a> RowContents<'a> {
     }
 }
 
-/// The iterator of [`basic_formatted_to_plain`].
+/// An iterator over the plain text of a capture, made by [`basic_formatted_to_plain`].
 pub struct BasicFormattedToPlain<'a> {
     indexed: BasicFormattedToPlainIndexed<'a>,
 }
@@ -111,14 +111,15 @@ impl<'a> Iterator for BasicFormattedToPlain<'a> {
 
 impl FusedIterator for BasicFormattedToPlain<'_> {}
 
-/// The iterator of [`basic_formatted_to_plain_indexed`].
+/// An iterator over the plain text of a capture with positions, made by
+/// [`basic_formatted_to_plain_indexed`].
 pub struct BasicFormattedToPlainIndexed<'a> {
     capture: &'a str,
     at: usize,
 }
 
 impl<'a> Iterator for BasicFormattedToPlainIndexed<'a> {
-    /// Where a piece begins, and the piece.
+    /// The byte index at which a chunk begins, and the chunk.
     type Item = (usize, &'a str);
 
     fn next(&mut self) -> Option<Self::Item> {
@@ -141,8 +142,8 @@ impl<'a> Iterator for BasicFormattedToPlainIndexed<'a> {
 
 impl FusedIterator for BasicFormattedToPlainIndexed<'_> {}
 
-/// The text of a capture without its sequences, in pieces. Of a text that is no capture's, nothing
-/// is said of the pieces.
+/// Returns the text of a capture without its sequences, in chunks. If `capture` is no capture, the
+/// chunks are unspecified.
 #[must_use]
 pub fn basic_formatted_to_plain(capture: &str) -> BasicFormattedToPlain<'_> {
     BasicFormattedToPlain {
@@ -150,7 +151,7 @@ pub fn basic_formatted_to_plain(capture: &str) -> BasicFormattedToPlain<'_> {
     }
 }
 
-/// The same, each piece with the place where it begins.
+/// Returns the text of a capture without its sequences, in chunks with their byte indices.
 ///
 /// ```
 /// # use vt100::capture::basic_formatted_to_plain_indexed;
@@ -164,7 +165,7 @@ pub fn basic_formatted_to_plain_indexed(capture: &str) -> BasicFormattedToPlainI
     BasicFormattedToPlainIndexed { capture, at: 0 }
 }
 
-/// The iterator of [`basic_formatted_rows`].
+/// An iterator over the rows of a capture, made by [`basic_formatted_rows`].
 pub struct BasicFormattedRows<'a> {
     capture: Option<&'a str>,
     width: u16,
@@ -188,8 +189,8 @@ impl<'a> Iterator for BasicFormattedRows<'a> {
 
 impl FusedIterator for BasicFormattedRows<'_> {}
 
-/// The rows of a capture on a screen of this width, without the newlines between them. Sequences
-/// stay as they stand. Of a text that is no capture's, nothing is said of the rows.
+/// Returns the rows that a capture has on a screen of this width, with their sequences and without
+/// the newlines between them. If `capture` is no capture, the rows are unspecified.
 #[must_use]
 pub fn basic_formatted_rows(capture: &str, screen_width: u16) -> BasicFormattedRows<'_> {
     BasicFormattedRows {
@@ -198,12 +199,12 @@ pub fn basic_formatted_rows(capture: &str, screen_width: u16) -> BasicFormattedR
     }
 }
 
-/// How many bytes of a capture the library is shown at first.
+/// The number of bytes of a capture that the library looks at first.
 const FIRST_WINDOW: usize = 256;
 
-/// What is found in a beginning of a text, each time twice as long as before, and shorter than the
-/// text. The library looks at all bytes that it is shown, so that a long capture is not shown as a
-/// whole for each row. What is found in a beginning is what is found in the whole.
+/// Returns what `find` finds in the shortest of some prefixes of `text`: the first has `first` bytes,
+/// and each other one twice as many. What is found in a prefix is what is found in the whole. The
+/// library looks at all bytes that it gets, so a long capture is not passed whole for each row.
 fn in_windows<T>(text: &str, first: usize, find: impl Fn(&str) -> Option<T>) -> Option<T> {
     let mut len = first;
     while len < text.len() {

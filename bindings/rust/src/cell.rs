@@ -1,7 +1,7 @@
 use crate::library;
 use crate::Color;
 
-/// A cell of a screen.
+/// A cell of a screen: a character with its colors and attributes.
 #[derive(Clone, Eq, PartialEq)]
 pub struct Cell(library::Cell);
 
@@ -10,68 +10,68 @@ impl Cell {
         Self(cell)
     }
 
-    /// Its text: a character with the marks that combine with it, or nothing.
+    /// Returns the cell's text: a character with its combining characters, or nothing.
     #[must_use]
     pub fn contents(&self) -> &str {
         let text = &self.0.text[..usize::from(self.0.len)];
         std::str::from_utf8(text).expect("a cell's text is UTF-8")
     }
 
-    /// Whether anything was written there.
+    /// Returns whether the cell has text.
     #[must_use]
     pub fn has_contents(&self) -> bool {
         self.0.len > 0
     }
 
-    /// Whether its character takes this cell and the next one.
+    /// Returns whether the cell's character is wide: it takes this cell and the next one.
     #[must_use]
     pub fn is_wide(&self) -> bool {
         self.has(library::WIDE)
     }
 
-    /// Whether it is the second cell of a wide character.
+    /// Returns whether this is the continuation cell of a wide character.
     #[must_use]
     pub fn is_wide_continuation(&self) -> bool {
         self.has(library::WIDE_CONTINUATION)
     }
 
-    /// The colour of its text.
+    /// Returns the foreground color.
     #[must_use]
     pub fn fgcolor(&self) -> Color {
-        self.0.fgcolor.into()
+        Color::of(self.0.fgcolor)
     }
 
-    /// The colour behind its text.
+    /// Returns the background color.
     #[must_use]
     pub fn bgcolor(&self) -> Color {
-        self.0.bgcolor.into()
+        Color::of(self.0.bgcolor)
     }
 
-    /// Whether it is drawn bold.
+    /// Returns whether the cell is bold.
     #[must_use]
     pub fn bold(&self) -> bool {
         self.has(library::BOLD)
     }
 
-    /// Whether it is drawn dim.
+    /// Returns whether the cell is dim.
     #[must_use]
     pub fn dim(&self) -> bool {
         self.has(library::DIM)
     }
 
-    /// Whether it is drawn italic.
+    /// Returns whether the cell is italic.
     #[must_use]
     pub fn italic(&self) -> bool {
         self.has(library::ITALIC)
     }
 
-    /// Whether it is underlined.
+    /// Returns whether the cell is underlined.
     #[must_use]
     pub fn underline(&self) -> bool {
         self.has(library::UNDERLINE)
     }
 
-    /// Whether its colours are exchanged.
+    /// Returns whether the cell's foreground and background colors are exchanged.
     #[must_use]
     pub fn inverse(&self) -> bool {
         self.has(library::INVERSE)

@@ -1,21 +1,21 @@
 use crate::library;
 
-/// A colour of text or of what is behind it.
+/// A foreground or background color.
 #[derive(Eq, PartialEq, Debug, Copy, Clone, Default)]
 pub enum Color {
-    /// The terminal's default colour.
+    /// The terminal's default color.
     #[default]
     Default,
 
-    /// A colour of the palette, by its number.
+    /// A color of the palette, by its index.
     Idx(u8),
 
-    /// Red, green and blue.
+    /// A color by its red, green and blue components.
     Rgb(u8, u8, u8),
 }
 
-impl From<library::Color> for Color {
-    fn from(color: library::Color) -> Self {
+impl Color {
+    pub(crate) fn of(color: library::Color) -> Self {
         match color.kind {
             0 => Self::Default,
             1 => Self::Idx(color.red),

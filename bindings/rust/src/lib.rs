@@ -1,9 +1,8 @@
-//! A terminal screen in memory: reads what a program writes to its terminal, keeps the screen that
-//! a person would see, and writes it as text.
+//! A headless terminal emulator: it processes what a program writes to its terminal, keeps the screen
+//! that a person would see, and returns it as text, as a redraw or as a difference.
 //!
-//! The items are those of the crate `vt100` 0.18.1, and beside them [`mirror`] and
-//! [`Screen::contents_diff_scrolling`]. What they do is done by a library that is proved; this crate
-//! calls it.
+//! The items are those of the crate `vt100` 0.18.1, and in addition [`mirror`] and
+//! [`Screen::contents_diff_scrolling`]. This crate calls a library that is formally verified.
 //!
 //! # Synopsis
 //!
@@ -31,8 +30,9 @@
 //!
 //! # Memory
 //!
-//! Where memory is refused, a call panics. What it was called for is whole, as before the call; a
-//! parser that was refused memory by [`Parser::process`] reads no more, and panics when it is to.
+//! If the library cannot allocate memory, a call panics and changes nothing; a parser that ran out
+//! of memory in [`Parser::process`] panics at the next [`Parser::process`], too. If Rust cannot
+//! allocate memory, for a string or for cells, the program aborts.
 
 #![warn(missing_docs)]
 #![deny(unsafe_code)]
@@ -40,6 +40,7 @@
 mod callbacks;
 pub mod capture;
 mod cell;
+mod cells;
 mod color;
 mod event;
 #[allow(unsafe_code)]

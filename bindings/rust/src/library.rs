@@ -47,7 +47,10 @@ pub const WIDE_CONTINUATION: u8 = 64;
 
 /// What [`Handle::parser`] is told to keep no events by, and to keep all.
 pub const NO_EVENTS: u16 = 0;
-pub const ALL_EVENTS: u16 = (1 << 13) - 1;
+pub const ALL_EVENTS: u16 = ((1 << 13) - 1) | ROWS_WITHOUT_TEXT;
+
+/// Rows are read by [`Handle::capture_row`], so their records need no text.
+const ROWS_WITHOUT_TEXT: u16 = 1 << 13;
 
 const OK: u8 = 0;
 const OUT_OF_MEMORY: u8 = 1;
@@ -154,6 +157,7 @@ extern "C" {
     fn vt100_events(handle: *mut Handle, len: *mut usize, is_whole: *mut u8) -> u8;
     fn vt100_copy_events(handle: *mut Handle, out: *mut u8, room: usize) -> usize;
     fn vt100_clear_events(handle: *mut Handle) -> u8;
+    fn vt100_set_event_limit(handle: *mut Handle, bytes: usize) -> u8;
     fn vt100_join(mirror: *mut Handle, viewer: *mut u64) -> u8;
     fn vt100_leave(mirror: *mut Handle, viewer: u64) -> u8;
     fn vt100_update(
@@ -258,10 +262,12 @@ fn check(status: u8) {
 
 // Each call below is safe for the reasons at the top of this module.
 impl Handle {
-    /// A parser with a fresh screen.
+    /// A parser with a fresh screen, whose log has no limit: it is cleared whenever
+    /// the parser stops, and one byte leaves no more rows than the screen has, or 65535 cells.
     pub fn parser(rows: u16, cols: u16, capacity: usize, wanted: u16) -> Self {
         let mut out = Self::default();
         check(unsafe { vt100_parser_new(rows, cols, capacity, wanted, &mut out) });
+        check(unsafe { vt100_set_event_limit(&mut out, usize::MAX) });
         out
     }
 

@@ -1,26 +1,26 @@
-//! A terminal that viewers elsewhere watch. Not in the crate `vt100`.
+//! A terminal whose screen is mirrored by remote viewers. Not in the crate `vt100`.
 
 use crate::library::{Handle, Updates};
 use std::num::NonZeroU16;
 
-/// What a viewer has to read.
+/// An update for the terminal of a viewer.
 #[derive(Clone, Debug, PartialEq, Eq)]
 pub enum Update {
-    /// The whole screen: the viewer's terminal takes this size, and then reads the text.
+    /// The whole screen: the viewer's terminal is resized, and then processes the text.
     Full {
-        /// How many rows it takes.
+        /// The number of rows of the viewer's terminal.
         rows: NonZeroU16,
-        /// How many columns it takes.
+        /// The number of columns of the viewer's terminal.
         cols: NonZeroU16,
-        /// What it reads then.
+        /// The redraw.
         text: String,
     },
-    /// What has changed since the viewer's last update.
+    /// The difference since the viewer's last update.
     Diff(String),
 }
 
 impl Update {
-    /// The text.
+    /// Returns the escape sequences of the update.
     #[must_use]
     pub fn text(&self) -> &str {
         match self {
@@ -29,10 +29,10 @@ impl Update {
     }
 }
 
-/// A terminal, and the screen that each of its viewers was told last.
+/// A terminal that keeps, for each of its viewers, the screen of the last update.
 ///
-/// A viewer's first update draws the whole screen, and so does the next one behind another size;
-/// each other one is what has changed. A viewer may join late and fall behind.
+/// A viewer's first update redraws the screen, and so does the first one after a resize; each other
+/// one is the difference. A viewer may join late and fall behind.
 ///
 /// ```
 /// use std::num::NonZeroU16;
@@ -52,8 +52,8 @@ pub struct Mirror {
 }
 
 impl Mirror {
-    /// A mirror with a fresh screen of this size, which keeps at most so many rows of scrollback,
-    /// and no viewers.
+    /// Creates a mirror without viewers, whose screen is blank and keeps at most
+    /// `scrollback_capacity` rows of scrollback.
     #[must_use]
     pub fn new(rows: NonZeroU16, cols: NonZeroU16, scrollback_capacity: usize) -> Self {
         Self {
@@ -61,33 +61,38 @@ impl Mirror {
         }
     }
 
-    /// Reads bytes, in any pieces.
+    /// Processes bytes. Input may be split anywhere.
     pub fn process(&mut self, bytes: &[u8]) {
         self.handle.process(bytes);
     }
 
-    /// Gives the terminal another size.
+    /// Resizes the terminal.
     pub fn set_size(&mut self, rows: NonZeroU16, cols: NonZeroU16) {
         self.handle.set_size(rows.get(), cols.get());
     }
 
-    /// The number of a new viewer, one that was never given before.
+    /// Adds a viewer, and returns its number, which is never reused.
     pub fn join(&mut self) -> u64 {
         self.handle.join()
     }
 
-    /// Forgets a viewer, and answers whether there was one of this number.
+    /// Removes a viewer. Returns whether there was one of this number.
     pub fn leave(&mut self, viewer: u64) -> bool {
         self.handle.leave(viewer)
     }
 
-    /// What the viewer has to read next, or `None` where there is none of this number.
+    /// Returns the next update of a viewer, or `None` if there is no viewer of this number.
     pub fn update(&mut self, viewer: u64) -> Option<Update> {
         self.next(Updates::DRAWN, viewer)
     }
 
-    /// The same; a difference is never longer, and may move rows first. A viewer may
-    /// get either kind from one update to the next.
+    /// Returns the next update of a viewer, or `None` if there is no viewer of this number. A
+    /// difference may move rows first, and is never longer than that of [`update`](Self::update). A
+    /// viewer may get either kind from one update to the next.
+    ///
+    /// After a screen with a glyph that does not reproduce itself when it is printed again (only
+    /// U+FE0F makes such), the update is a full one, so that a viewer that was displayed wrong is
+    /// right again.
     pub fn update_scrolling(&mut self, viewer: u64) -> Option<Update> {
         self.next(Updates::SCROLLING, viewer)
     }

@@ -1,20 +1,20 @@
-/// Which mouse events a program wants.
+/// The mouse events that a program has asked for.
 #[derive(Copy, Clone, Debug, Eq, PartialEq, Default)]
 pub enum MouseProtocolMode {
-    /// None.
+    /// No events.
     #[default]
     None,
 
-    /// Presses of a button, as X10 has it.
+    /// Button presses (xterm mode 9, X10).
     Press,
 
-    /// Presses and releases, as VT200 has it.
+    /// Button presses and releases (xterm mode 1000, VT200).
     PressRelease,
 
-    /// Presses, releases, and moves from cell to cell with a button held down.
+    /// Presses, releases, and motion between cells while a button is down (xterm mode 1002).
     ButtonMotion,
 
-    /// Presses, releases, and all moves from cell to cell.
+    /// Presses, releases, and all motion between cells (xterm mode 1003).
     AnyMotion,
 }
 
@@ -30,17 +30,17 @@ impl MouseProtocolMode {
     }
 }
 
-/// How mouse events are written to a program.
+/// The encoding of the mouse events that a program receives.
 #[derive(Copy, Clone, Debug, Eq, PartialEq, Default)]
 pub enum MouseProtocolEncoding {
-    /// A byte for each number.
+    /// One byte for each number.
     #[default]
     Default,
 
-    /// A character in UTF-8 for each number.
+    /// One UTF-8 character for each number (xterm mode 1005).
     Utf8,
 
-    /// Digits, as in SGR.
+    /// Decimal digits (xterm mode 1006, SGR).
     Sgr,
 }
 
@@ -54,29 +54,29 @@ impl MouseProtocolEncoding {
     }
 }
 
-/// How the cursor looks.
+/// The style of the cursor (DECSCUSR).
 #[derive(Copy, Clone, Debug, Eq, PartialEq, Default)]
 pub enum CursorStyle {
-    /// As the terminal likes.
+    /// The terminal's default style.
     #[default]
     Default,
 
-    /// A block that blinks.
+    /// A blinking block.
     BlinkBlock,
 
-    /// A block.
+    /// A steady block.
     SteadyBlock,
 
-    /// An underline that blinks.
+    /// A blinking underline.
     BlinkUnderline,
 
-    /// An underline.
+    /// A steady underline.
     SteadyUnderline,
 
-    /// A vertical bar that blinks.
+    /// A blinking vertical bar.
     BlinkVerticalBar,
 
-    /// A vertical bar.
+    /// A steady vertical bar.
     SteadyVerticalBar,
 }
 

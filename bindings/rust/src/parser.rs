@@ -6,7 +6,7 @@ use crate::Screen;
 use std::num::NonZeroU16;
 use std::sync::{Mutex, PoisonError};
 
-/// Reads what a program writes to its terminal, and keeps the screen.
+/// A terminal: it processes what a program writes, and keeps the screen.
 pub struct Parser<CB: Callbacks = ()> {
     /// Behind this stands the library's parser with the screen in it while they are together, else
     /// the screen alone. They are parted when the screen is lent as `&mut`, since then it may be
@@ -23,19 +23,20 @@ pub struct Parser<CB: Callbacks = ()> {
 }
 
 impl Parser {
-    /// How many rows [`Parser::default`] has: 24.
+    /// The number of rows of [`Parser::default`]: 24.
     pub const DEFAULT_ROWS: NonZeroU16 = match NonZeroU16::new(24) {
         Some(rows) => rows,
         None => unreachable!(),
     };
 
-    /// How many columns [`Parser::default`] has: 80.
+    /// The number of columns of [`Parser::default`]: 80.
     pub const DEFAULT_COLS: NonZeroU16 = match NonZeroU16::new(80) {
         Some(cols) => cols,
         None => unreachable!(),
     };
 
-    /// A parser with a fresh screen of this size, which keeps at most so many rows of scrollback.
+    /// Creates a parser whose screen is blank and keeps at most `scrollback_capacity` rows of
+    /// scrollback.
     #[must_use]
     pub fn new(rows: NonZeroU16, cols: NonZeroU16, scrollback_capacity: usize) -> Self {
         Self::with_events(rows, cols, scrollback_capacity, (), false)
@@ -43,7 +44,7 @@ impl Parser {
 }
 
 impl<CB: Callbacks> Parser<CB> {
-    /// The same, with callbacks.
+    /// Creates a parser as [`new`](Parser::new) does, with callbacks.
     pub fn new_with_callbacks(
         rows: NonZeroU16,
         cols: NonZeroU16,
@@ -90,12 +91,12 @@ impl<CB: Callbacks> Parser<CB> {
         }
     }
 
-    /// Gives the terminal another size.
+    /// Resizes the terminal.
     ///
-    /// Where it becomes lower, rows below the cursor go first; then rows at the top go into
+    /// If it becomes lower, rows below the cursor are removed first; then rows at the top go into
     /// scrollback, and [`on_scroll`](Callbacks::on_scroll) is called for those that are not kept.
-    /// Where it becomes higher, rows come back from scrollback; blank rows stand for those that are
-    /// no longer kept, and what is still missing comes in at the bottom as blank rows. Rows are cut
+    /// If it becomes higher, rows come back from scrollback, with blank rows for those that are no
+    /// longer kept; rows that are still missing are added as blank rows at the bottom. Rows are cut
     /// or filled up to the new width.
     pub fn set_size(&mut self, rows: NonZeroU16, cols: NonZeroU16) {
         self.join();
@@ -108,30 +109,30 @@ impl<CB: Callbacks> Parser<CB> {
         }
     }
 
-    /// The screen.
+    /// Returns the screen.
     #[must_use]
     pub fn screen(&self) -> &Screen {
         &self.screen
     }
 
-    /// The screen, to be changed or exchanged.
+    /// Returns the screen, to change it or to replace it.
     #[must_use]
     pub fn screen_mut(&mut self) -> &mut Screen {
         self.part();
         &mut self.screen
     }
 
-    /// The callbacks.
+    /// Returns the callbacks.
     pub fn callbacks(&self) -> &CB {
         &self.callbacks
     }
 
-    /// The callbacks, to be changed.
+    /// Returns the callbacks, to change them.
     pub fn callbacks_mut(&mut self) -> &mut CB {
         &mut self.callbacks
     }
 
-    /// Both, to be changed.
+    /// Returns the screen and the callbacks, to change them.
     pub fn screen_and_callbacks_mut(&mut self) -> (&mut Screen, &mut CB) {
         self.part();
         (&mut self.screen, &mut self.callbacks)
@@ -192,7 +193,7 @@ impl<CB: Callbacks> Parser<CB> {
 }
 
 impl Default for Parser {
-    /// A parser of 24 rows and 80 columns that keeps no scrollback.
+    /// Creates a parser of 24 rows and 80 columns that keeps no scrollback.
     fn default() -> Self {
         Self::new(Self::DEFAULT_ROWS, Self::DEFAULT_COLS, 0)
     }

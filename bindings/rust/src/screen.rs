@@ -1,22 +1,21 @@
+use crate::cells::Cells;
 use crate::library::{self, Handle, State};
 use crate::{Cell, Color, CursorStyle, MouseProtocolEncoding, MouseProtocolMode};
 use std::num::NonZeroU16;
 use std::sync::{Mutex, MutexGuard, OnceLock, PoisonError};
 
-/// The cells of rows that were asked for.
-type Rows = Box<[OnceLock<Box<[Cell]>>]>;
-
-/// A screen: a parser's, or a copy of one.
+/// A terminal screen: that of a parser, or a copy of one.
 ///
-/// Rows and columns count from 0. What is shown, and each text, is of the rows that are in view.
+/// Rows and columns count from 0. Cells and strings are those of the displayed rows, which include
+/// rows of scrollback after [`set_scrollback`](Self::set_scrollback).
 pub struct Screen {
-    /// A parser or a saved screen of the library. Each call of the library wants it alone, also one
-    /// that only reads.
+    /// A parser or a saved screen of the library. Each call of the library needs exclusive access,
+    /// even one that only reads.
     handle: Mutex<Handle>,
 
-    /// What was asked for since the last change.
+    /// The state, if it was asked for since the last change.
     state: OnceLock<State>,
-    rows: OnceLock<Rows>,
+    cells: Cells,
 }
 
 impl Screen {
@@ -24,31 +23,31 @@ impl Screen {
         Self {
             handle: Mutex::new(handle),
             state: OnceLock::new(),
-            rows: OnceLock::new(),
+            cells: Cells::default(),
         }
     }
 
-    /// The handle, to be lent on.
+    /// The handle, unlocked.
     pub(crate) fn handle(&self) -> &Mutex<Handle> {
         &self.handle
     }
 
-    /// The handle, for calls that change nothing that is shown.
+    /// Locks the handle, for calls that do not change the screen.
     pub(crate) fn lock(&self) -> MutexGuard<'_, Handle> {
         self.handle.lock().unwrap_or_else(PoisonError::into_inner)
     }
 
-    /// The handle, for calls that do not change the screen.
+    /// Returns the handle, for calls that do not change the screen.
     pub(crate) fn unchanged(&mut self) -> &mut Handle {
         self.handle
             .get_mut()
             .unwrap_or_else(PoisonError::into_inner)
     }
 
-    /// The handle, for calls that change the screen.
+    /// Returns the handle, for calls that change the screen.
     pub(crate) fn changed(&mut self) -> &mut Handle {
         self.state.take();
-        self.rows.take();
+        self.cells.clear();
         self.unchanged()
     }
 
@@ -56,13 +55,13 @@ impl Screen {
         self.state.get_or_init(|| self.lock().state())
     }
 
-    /// Gives the screen another size, telling nobody. A parser's rows that leave are told by
-    /// [`Parser::set_size`](crate::Parser::set_size).
+    /// Resizes the screen, invoking no callbacks. [`Parser::set_size`](crate::Parser::set_size)
+    /// reports the rows that scroll off the top.
     pub fn set_size(&mut self, rows: NonZeroU16, cols: NonZeroU16) {
         self.changed().screen_set_size(rows.get(), cols.get());
     }
 
-    /// How many rows and columns there are.
+    /// Returns the number of rows and of columns.
     #[must_use]
     pub fn size(&self) -> (NonZeroU16, NonZeroU16) {
         let state = self.state();
@@ -70,160 +69,140 @@ impl Screen {
         (number(state.rows), number(state.cols))
     }
 
-    /// How many rows of scrollback are kept.
+    /// Returns the number of rows of scrollback.
     #[must_use]
     pub fn scrollback_len(&self) -> usize {
         self.state().scrollback_len
     }
 
-    /// How many rows of scrollback are kept at most.
+    /// Returns the maximum number of rows of scrollback.
     #[must_use]
     pub fn scrollback_capacity(&self) -> usize {
         self.state().scrollback_capacity
     }
 
-    /// Brings so many rows of scrollback into view, at most as many as are kept; 0 is the page
-    /// itself.
+    /// Scrolls the display back by `rows` rows, or by all rows of scrollback if there are fewer; 0
+    /// displays none of them.
     pub fn set_scrollback(&mut self, rows: usize) {
         self.changed().set_scrollback(rows);
     }
 
-    /// Drops scrollback, telling nobody.
+    /// Removes all rows of scrollback, invoking no callbacks.
     pub fn clear_scrollback(&mut self) {
         self.changed().clear_scrollback();
     }
 
-    /// How many rows of scrollback are in view.
+    /// Returns by how many rows the display is scrolled back.
     #[must_use]
     pub fn scrollback(&self) -> usize {
         self.state().scrollback
     }
 
-    /// Row and column of the cursor; a column that is the width is behind the last one.
+    /// Returns the row and the column of the cursor. The column is the number of columns if the
+    /// cursor is past the last one, after a character was printed there.
     #[must_use]
     pub fn cursor_position(&self) -> (u16, u16) {
         let state = self.state();
         (state.cursor_row, state.cursor_col)
     }
 
-    /// The cell at a place, or `None` where there is none.
+    /// Returns the cell at a position, or `None` if there is none.
     #[must_use]
     pub fn cell(&self, row: u16, col: u16) -> Option<&Cell> {
-        let rows = self.rows.get_or_init(|| {
-            let rows = usize::from(self.state().rows);
-            (0..rows).map(|_| OnceLock::new()).collect()
-        });
-        let cells = rows.get(usize::from(row))?;
-        cells
-            .get_or_init(|| self.cells_of(row))
-            .get(usize::from(col))
+        self.cells.get(self, row, col)
     }
 
-    /// The cells of a row. One of scrollback may have more or fewer than there are columns.
-    fn cells_of(&self, row: u16) -> Box<[Cell]> {
-        let state = *self.state();
-        let mut handle = self.lock();
-        if usize::from(row) >= state.scrollback {
-            let cells = handle.cells(row, state.cols);
-            return cells.into_iter().map(Cell::new).collect();
-        }
-        (0..=u16::MAX)
-            .map_while(|col| handle.cell(row, col))
-            .map(Cell::new)
-            .collect()
-    }
-
-    /// Whether the text of a row goes on in the next one.
+    /// Returns whether a row is wrapped: its text continues on the next row.
     #[must_use]
     pub fn row_wrapped(&self, row: u16) -> bool {
         self.lock().row_wrapped(row)
     }
 
-    /// Whether the alternate screen is shown.
+    /// Returns whether the alternate screen is active.
     #[must_use]
     pub fn alternate_screen(&self) -> bool {
         self.state().alternate_screen == 1
     }
 
-    /// Whether the keypad sends its application sequences.
+    /// Returns whether the keypad is in application mode.
     #[must_use]
     pub fn application_keypad(&self) -> bool {
         self.state().application_keypad == 1
     }
 
-    /// Whether the cursor keys send their application sequences.
+    /// Returns whether the cursor keys are in application mode.
     #[must_use]
     pub fn application_cursor(&self) -> bool {
         self.state().application_cursor == 1
     }
 
-    /// Whether the cursor is hidden.
+    /// Returns whether the cursor is hidden.
     #[must_use]
     pub fn hide_cursor(&self) -> bool {
         self.state().hide_cursor == 1
     }
 
-    /// Whether text that is pasted is marked so.
+    /// Returns whether bracketed paste mode is set.
     #[must_use]
     pub fn bracketed_paste(&self) -> bool {
         self.state().bracketed_paste == 1
     }
 
-    /// Which mouse events the program wants.
+    /// Returns which mouse events the program has asked for.
     #[must_use]
     pub fn mouse_protocol_mode(&self) -> MouseProtocolMode {
         MouseProtocolMode::of(self.state().mouse_protocol_mode)
     }
 
-    /// How mouse events are written to the program.
+    /// Returns the encoding of mouse events.
     #[must_use]
     pub fn mouse_protocol_encoding(&self) -> MouseProtocolEncoding {
         MouseProtocolEncoding::of(self.state().mouse_protocol_encoding)
     }
 
-    /// How the cursor looks.
+    /// Returns the style of the cursor.
     #[must_use]
     pub fn cursor_style(&self) -> CursorStyle {
         CursorStyle::of(self.state().cursor_style)
     }
 
-    /// The colour that the next character is drawn with.
+    /// Returns the foreground color of the next character.
     #[must_use]
     pub fn fgcolor(&self) -> Color {
-        self.state().fgcolor.into()
+        Color::of(self.state().fgcolor)
     }
 
-    /// The colour that is drawn behind the next character.
+    /// Returns the background color of the next character.
     #[must_use]
     pub fn bgcolor(&self) -> Color {
-        self.state().bgcolor.into()
+        Color::of(self.state().bgcolor)
     }
 
-    /// Whether the next character is drawn bold.
+    /// Returns whether the next character is bold.
     #[must_use]
     pub fn bold(&self) -> bool {
         self.has(library::BOLD)
     }
 
-    /// Whether the next character is drawn dim.
+    /// Returns whether the next character is dim.
     #[must_use]
     pub fn dim(&self) -> bool {
         self.has(library::DIM)
     }
 
-    /// Whether the next character is drawn italic.
+    /// Returns whether the next character is italic.
     #[must_use]
     pub fn italic(&self) -> bool {
         self.has(library::ITALIC)
     }
 
-    /// Whether the next character is underlined.
+    /// Returns whether the next character is underlined.
     #[must_use]
     pub fn underline(&self) -> bool {
         self.has(library::UNDERLINE)
     }
 
-    /// Whether the next character's colours are exchanged.
+    /// Returns whether the next character's foreground and background colors are exchanged.
     #[must_use]
     pub fn inverse(&self) -> bool {
         self.has(library::INVERSE)

@@ -1,4 +1,4 @@
-//! The texts of a screen.
+//! The strings of a screen: its text, redraws and differences.
 
 use crate::capture::BasicFormattedCaptureRange;
 use crate::library::{Difference, Handle, RowTexts, Text};
@@ -6,14 +6,14 @@ use crate::Screen;
 use std::fmt;
 
 impl Screen {
-    /// The plain text of all that is shown. Rows are parted by a newline where their text does not
-    /// go on.
+    /// Returns the plain text of the displayed rows. A newline separates rows, unless the first of
+    /// them is wrapped.
     #[must_use]
     pub fn contents(&self) -> String {
         self.lock().text(Text::CONTENTS)
     }
 
-    /// The plain text of each row, of `width` columns from `start` on.
+    /// Returns the plain text of each displayed row, of `width` columns from column `start` on.
     pub fn rows(&self, start: u16, width: u16) -> impl Iterator<Item = String> + '_ {
         let rows = self.state().rows;
         self.lock()
@@ -21,11 +21,11 @@ impl Screen {
             .into_iter()
     }
 
-    /// The plain text from one cell up to before another.
+    /// Returns the plain text from one position up to, but not including, a second one.
     ///
     /// # Panics
     ///
-    /// Where `start_col` is more than the columns, and the range has several rows.
+    /// If `start_col` is greater than the number of columns, and the range has several rows.
     #[must_use]
     pub fn contents_between(
         &self,
@@ -38,39 +38,42 @@ impl Screen {
             .between((start_row, start_col), (end_row, end_col))
     }
 
-    /// [`contents_formatted`](Self::contents_formatted) and
+    /// Returns the escape sequences that redraw the screen and set the input modes:
+    /// [`contents_formatted`](Self::contents_formatted) followed by
     /// [`input_mode_formatted`](Self::input_mode_formatted).
     #[must_use]
     pub fn state_formatted(&self) -> String {
         self.lock().text(Text::STATE)
     }
 
-    /// [`contents_diff`](Self::contents_diff) and [`input_mode_diff`](Self::input_mode_diff).
+    /// Returns the escape sequences that turn the display and the input modes of `prev` into those
+    /// of `self`: [`contents_diff`](Self::contents_diff) followed by
+    /// [`input_mode_diff`](Self::input_mode_diff).
     #[must_use]
     pub fn state_diff(&self, prev: &Self) -> String {
         self.difference(prev, Difference::STATE)
             .unwrap_or_else(|| self.contents_formatted() + &self.input_mode_diff(prev))
     }
 
-    /// A redraw: what a terminal of this size has to read to show this screen.
+    /// Returns a redraw: the escape sequences that make a terminal of this size display the screen.
     #[must_use]
     pub fn contents_formatted(&self) -> String {
         self.lock().text(Text::FORMATTED)
     }
 
-    /// The text with its colours and attributes, and no sequences but those. Each row ends in a
-    /// newline unless it goes on or is the last one.
+    /// Returns the text with the sequences of its colors and attributes, and no other sequences. Each
+    /// row ends in a newline, unless it is wrapped or the last one.
     #[must_use]
     pub fn contents_formatted_basic(&self) -> String {
         self.lock().text(Text::BASIC)
     }
 
-    /// Writes a text as [`contents_formatted_basic`](Self::contents_formatted_basic) gives it: of
-    /// the rows that are shown, or of all rows behind a capture.
+    /// Writes rows in the form of [`contents_formatted_basic`](Self::contents_formatted_basic): the
+    /// displayed ones, or all rows as the continuation of a capture.
     ///
     /// # Errors
     ///
-    /// That of the writer.
+    /// Returns the error of the writer.
     pub fn write_contents_formatted_basic(
         &self,
         writer: &mut impl fmt::Write,
@@ -83,8 +86,8 @@ impl Screen {
         writer.write_str(&text)
     }
 
-    /// What redraws each row, of `width` columns from `start` on. The cursor has to stand at the
-    /// place where the row is to begin; where it stands then is not said.
+    /// Returns the escape sequences that draw each row, of `width` columns from column `start` on.
+    /// The cursor must be where the row is to begin; where it is afterwards is unspecified.
     pub fn rows_formatted(&self, start: u16, width: u16) -> impl Iterator<Item = String> + '_ {
         let (rows, cols) = (self.state().rows, self.state().cols);
         let texts = if start < cols {
@@ -95,24 +98,25 @@ impl Screen {
         texts.into_iter()
     }
 
-    /// What a terminal that shows `prev` has to read to show this screen. From a screen of another
-    /// size it is the redraw.
+    /// Returns the escape sequences that turn the display of `prev` into the display of `self`. If
+    /// the sizes differ, it is the redraw.
     #[must_use]
     pub fn contents_diff(&self, prev: &Self) -> String {
         self.difference(prev, Difference::CONTENTS)
             .unwrap_or_else(|| self.contents_formatted())
     }
 
-    /// The same, never longer; rows may move first. Not in the crate `vt100`.
+    /// Returns a difference from `prev` that may move rows first, and is never longer than
+    /// [`contents_diff`](Self::contents_diff). Not in the crate `vt100`.
     #[must_use]
     pub fn contents_diff_scrolling(&self, prev: &Self) -> String {
         self.difference(prev, Difference::SCROLLING)
             .unwrap_or_else(|| self.contents_formatted())
     }
 
-    /// What turns each row of `prev` into that of this screen, of `width` columns from `start` on.
-    /// The cursor has to stand at the place where the row is to begin; where it stands then is not
-    /// said. From a screen of another size it is what redraws each row that both have.
+    /// Returns the escape sequences that turn each row of `prev` into that of `self`, of `width`
+    /// columns from column `start` on. The cursor must be where the row begins; where it is
+    /// afterwards is unspecified. If the sizes differ, they redraw each row that both screens have.
     pub fn rows_diff<'a>(
         &'a self,
         prev: &'a Self,
@@ -134,29 +138,29 @@ impl Screen {
             .take(both)
     }
 
-    /// What sets the input modes: application keypad and cursor keys, bracketed paste, mouse and
-    /// the style of the cursor.
+    /// Returns the escape sequences that set the input modes: application keypad and cursor keys,
+    /// bracketed paste, mouse and the style of the cursor.
     #[must_use]
     pub fn input_mode_formatted(&self) -> String {
         self.lock().text(Text::INPUT_MODE)
     }
 
-    /// What changes the input modes of `prev` into those of this screen.
+    /// Returns the escape sequences that turn the input modes of `prev` into those of `self`.
     #[must_use]
     pub fn input_mode_diff(&self, prev: &Self) -> String {
         self.difference(prev, Difference::INPUT_MODE)
             .unwrap_or_else(|| self.input_mode_formatted())
     }
 
-    /// What sets the attributes that the next character is drawn with. A redraw has set them
-    /// already.
+    /// Returns the escape sequences that set the attributes of the next character. A redraw contains
+    /// them.
     #[must_use]
     pub fn attributes_formatted(&self) -> String {
         self.lock().text(Text::ATTRIBUTES)
     }
 
-    /// What sets the cursor. A redraw has set it already. The text may draw cells again, and so
-    /// change the attributes that the next character is drawn with.
+    /// Returns the escape sequences that set the cursor. A redraw contains them. They may draw cells
+    /// again, and so change the attributes of the next character.
     #[must_use]
     pub fn cursor_state_formatted(&self) -> String {
         self.lock().text(Text::CURSOR_STATE)
@@ -166,8 +170,8 @@ impl Screen {
         self.with_both(prev, |handle, prev| handle.difference(prev, difference))
     }
 
-    /// Lends both handles, locked in the order of their places, so that two threads do not wait for
-    /// each other. Of one screen twice, the second is a copy.
+    /// Passes both handles to `f`, locked in the order of their addresses, so that two threads cannot
+    /// deadlock. If both screens are one, the second handle is that of a copy.
     fn with_both<T>(&self, prev: &Self, f: impl FnOnce(&mut Handle, &mut Handle) -> T) -> T {
         let (one, other): (*const Self, *const Self) = (self, prev);
         if one == other {

@@ -51,6 +51,50 @@ fn cells_are_those_behind_the_last_change() {
     assert_eq!(text(parser.screen(), 23, 79).as_deref(), Some(""));
 }
 
+/// The text of a cell of four columns and three rows that show these texts.
+fn letter(rows: [&str; 3], (row, col): (u16, u16)) -> Option<String> {
+    let text = rows.get(usize::from(row))?;
+    text.chars().nth(col.into()).map(String::from)
+}
+
+#[test]
+fn cells_are_equal_in_any_order_of_requests() {
+    let mut parser = Parser::new(size(3), size(4), 1);
+    parser.process(b"abcd\r\nefgh\r\nijkl\r\nmnop");
+    let places: Vec<(u16, u16)> = (0..4)
+        .flat_map(|row| (0..5).map(move |col| (row, col)))
+        .collect();
+    for (scrollback, rows) in [(0, ["efgh", "ijkl", "mnop"]), (1, ["abcd", "efgh", "ijkl"])] {
+        for first in &places {
+            for second in &places {
+                parser.screen_mut().set_scrollback(scrollback);
+                let requests = [first, second, &(1, 1), second, first, &(1, 2), &(0, 0)];
+                for &place in requests {
+                    let cell = parser.screen().cell(place.0, place.1);
+                    let text = cell.map(|cell| cell.contents().to_owned());
+                    assert_eq!(text, letter(rows, place), "{requests:?} {place:?}");
+                }
+            }
+        }
+    }
+}
+
+#[test]
+fn a_cell_stays_where_it_is_until_the_screen_changes() {
+    let mut parser = Parser::new(size(2), size(4), 0);
+    parser.process(b"abcd\r\nefgh");
+    let screen = parser.screen();
+    let cells = [(1, 2), (1, 3), (0, 1), (0, 2), (0, 3)].map(|(row, col)| {
+        let cell = screen.cell(row, col).unwrap();
+        (row, col, cell)
+    });
+    for (row, col, cell) in cells {
+        assert!(std::ptr::eq(cell, screen.cell(row, col).unwrap()));
+    }
+    let text: String = cells.iter().map(|(_, _, cell)| cell.contents()).collect();
+    assert_eq!(text, "ghbcd");
+}
+
 #[test]
 fn cells_are_compared_by_what_they_show() {
     let mut parser = Parser::new(size(1), size(9), 0);

@@ -12,9 +12,11 @@ use anyhow::{Context, Result};
 use cast::{Clock, Event, Header};
 use player::Player;
 use std::alloc::Global;
+use std::io::ErrorKind;
 use std::process::ExitCode;
 use std::rt::Env;
 use std::{env, io};
+use tally::Tally;
 
 const USAGE: &str = "usage: example_cast <RECORDING";
 
@@ -45,15 +47,25 @@ fn play_line(alloc: Global, player: &mut Player, clock: &mut Clock, line: &str) 
     player.play(Event::read(&value, clock)?)
 }
 
-/// Reads a recording from standard input, and writes what came of it.
-fn run<R: AllocGlobal + Input + Print>(rt: &R) -> Result<()> {
-    let recording = io::read_to_string(rt.alloc(), rt.reader()).context("reading the recording")?;
-    let player = play(rt.alloc(), recording.as_str())?;
-    println!(rt; "{}\n", player.tally())?;
-    for row in &player.rows(rt.alloc())? {
+/// Writes the counts and the rows.
+fn write<R: Print>(rt: &R, tally: &Tally, rows: &[String]) -> io::Result<()> {
+    println!(rt; "{tally}\n")?;
+    for row in rows {
         println!(rt; "{row}")?;
     }
     Ok(())
+}
+
+/// Reads a recording from standard input, and writes what came of it. That nobody reads the output
+/// any more is no error.
+fn run<R: AllocGlobal + Input + Print>(rt: &R) -> Result<()> {
+    let recording = io::read_to_string(rt.alloc(), rt.reader()).context("reading the recording")?;
+    let player = play(rt.alloc(), recording.as_str())?;
+    let rows = player.rows(rt.alloc())?;
+    match write(rt, &player.tally(), rows.as_slice()) {
+        Err(error) if error.kind() != ErrorKind::BrokenPipe => Err(error.into()),
+        _ => Ok(()),
+    }
 }
 
 /// Whether there is a word after the program's name, or one that can't be read.

@@ -9,9 +9,9 @@
 ghost use Rattle.std.specs.Io.KnownBytes.{IsAtEnd};
 ghost use Rattle.std.specs.Prelude.{OnOk};
 
-use anyhow::{Result, bail};
+use anyhow::Result;
 use std::alloc::Global;
-use std::io::{Read, Write};
+use std::io::{ErrorKind, Read, Write};
 use std::num::NonZeroU16;
 use std::process::ExitCode;
 use std::{env, io};
@@ -90,10 +90,9 @@ impl Callbacks for Log {
 }
 
 /// Writes a text of rows, as it is or without its colours.
-fn write_text<W: Write>(writer: &mut W, text: &str, keeps_colors: bool) -> Result<()> {
+fn write_text<W: Write>(writer: &mut W, text: &str, keeps_colors: bool) -> io::Result<()> {
     if keeps_colors {
-        writer.write_all(text.as_bytes())?;
-        return Ok(());
+        return writer.write_all(text.as_bytes());
     }
     for piece in basic_formatted_to_plain(text) {
         writer.write_all(piece.as_bytes())?;
@@ -102,9 +101,9 @@ fn write_text<W: Write>(writer: &mut W, text: &str, keeps_colors: bool) -> Resul
 }
 
 /// Writes the rows that left since the last call.
-fn write_rows<W: Write>(log: &mut Log, writer: &mut W, keeps_colors: bool) -> Result<()> {
+fn write_rows<W: Write>(log: &mut Log, writer: &mut W, keeps_colors: bool) -> io::Result<()> {
     if log.has_gap {
-        bail!("out of memory");
+        return Err(io::Error::from(ErrorKind::OutOfMemory));
     }
     write_text(writer, log.text.as_str(), keeps_colors)?;
     writer.flush()?;
@@ -117,7 +116,7 @@ fn write_screen<W: Write>(
     parser: &mut Parser<Log>,
     writer: &mut W,
     keeps_colors: bool,
-) -> Result<()> {
+) -> io::Result<()> {
     let (screen, log) = parser.screen_and_callbacks_mut();
     screen.write_contents_formatted_basic(
         &mut log.text,
@@ -126,8 +125,7 @@ fn write_screen<W: Write>(
     write_text(writer, log.text.trim_end_matches('\n'), keeps_colors)?;
     let end = if keeps_colors { "\x1b[m\n" } else { "\n" };
     writer.write_all(end.as_bytes())?;
-    writer.flush()?;
-    Ok(())
+    writer.flush()
 }
 
 /// Reads the input to its end, and writes the log of it.
@@ -136,7 +134,7 @@ fn record<R: Read, W: Write>(
     reader: &mut R,
     writer: &mut W,
     keeps_colors: bool,
-) -> Result<()>
+) -> io::Result<()>
     ensures end { OnOk result (IsAtEnd (R.remaining reader.new)) }
 {
     let mut buffer = [0; BUFFER_SIZE];
@@ -149,11 +147,11 @@ fn record<R: Read, W: Write>(
         parser.process(&buffer[..count])?;
         write_rows(parser.callbacks_mut(), writer, keeps_colors)?;
     }
-    bail!("no end of input")
+    Err(io::Error::other("no end of input"))
 }
 
 /// Records standard input.
-fn run<R: AllocGlobal + Input + Print>(rt: &R, settings: Settings) -> Result<()> {
+fn run<R: AllocGlobal + Input + Print>(rt: &R, settings: Settings) -> io::Result<()> {
     let log = Log::new(rt.alloc());
     let mut parser = Parser::new_with_callbacks(rt.alloc(), settings.rows, settings.cols, 0, log)?;
     record(
@@ -164,12 +162,17 @@ fn run<R: AllocGlobal + Input + Print>(rt: &R, settings: Settings) -> Result<()>
     )
 }
 
+/// Ends quietly if nobody reads the output any more.
 fn main(rt: HostRuntime) -> Result<ExitCode> {
     let words: Vec<String> = env::args(&rt)?.skip(1).collect(rt.alloc())?;
     let Some(settings) = read_words(words.as_slice()) else {
         eprintln!(rt; "usage: example_recorder ROWS COLS [--colors]")?;
         return Ok(ExitCode::from(2));
     };
-    run(&rt, settings)?;
+    if let Err(error) = run(&rt, settings) {
+        if error.kind() != ErrorKind::BrokenPipe {
+            return Err(error.into());
+        }
+    }
     Ok(ExitCode::SUCCESS)
 }

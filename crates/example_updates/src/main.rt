@@ -1,34 +1,84 @@
-//! Reads what a program writes to its terminal piece by piece, and writes it for another terminal: the
-//! screen first, and behind each piece what has changed.
+//! `example_updates ROWS COLS EVERY`: reads what a program writes to its terminal, and writes it for
+//! another terminal of that size: the screen first, and after each piece that is read, of at most
+//! EVERY bytes, what has changed.
 #![tactic(auto)]
 
-use anyhow::{Result, bail};
-use std::io::{self, Read, Write};
+use anyhow::Result;
+use std::alloc::Global;
+use std::env;
+use std::io::{self, ErrorKind, Read, Write};
 use std::num::NonZeroU16;
+use std::process::ExitCode;
 use vt100::Parser;
 
-fn main(rt: HostRuntime) -> Result<()> {
-    let (rows, cols) = (NonZeroU16::new(24).unwrap(), NonZeroU16::new(80).unwrap());
-    let mut parser = Parser::new(rt.alloc(), rows, cols, 0)?;
-    let mut reader = rt.reader();
-    let mut writer = io::writer(&rt);
+/// What the command-line arguments ask for.
+#[derive(Clone, Copy)]
+struct Settings {
+    rows: NonZeroU16,
+    cols: NonZeroU16,
+
+    /// The most bytes that are read between two updates.
+    every: NonZeroU16,
+}
+
+/// Returns the settings that the arguments ask for, or `None` if they are wrong.
+fn read_arguments(arguments: &[String]) -> Option<Settings> {
+    let [rows, cols, every] = arguments else {
+        return None;
+    };
+    Some(Settings {
+        rows: rows.parse::<NonZeroU16>().ok()?,
+        cols: cols.parse::<NonZeroU16>().ok()?,
+        every: every.parse::<NonZeroU16>().ok()?,
+    })
+}
+
+/// Parses a piece of input, and writes what has changed on the screen.
+fn update<W: Write>(parser: &mut Parser, writer: &mut W, piece: &[u8]) -> io::Result<()> {
+    let before = parser.screen().clone()?;
+    parser.process(piece)?;
+    let screen = parser.screen();
+    let update = if screen.is_sized_as(&before) {
+        screen.contents_diff(&before)?
+    } else {
+        screen.contents_formatted()?
+    };
+    writer.write_all(update.as_bytes())?;
+    writer.flush()
+}
+
+/// Reads the input to its end, and writes the screen and its updates.
+fn run<R: Read, W: Write>(
+    alloc: Global,
+    reader: &mut R,
+    writer: &mut W,
+    settings: Settings,
+) -> io::Result<()> {
+    let mut parser = Parser::new(alloc, settings.rows, settings.cols, 0)?;
     writer.write_all(parser.screen().contents_formatted()?.as_bytes())?;
-    let mut buffer = [0; 64];
+    let mut buffer = vec![in alloc; 0u8; usize::from(settings.every.get())]?;
     for _ in 0..u64::MAX {
         let count = reader.read(&mut buffer)?;
         if count == 0 {
             return Ok(());
         }
-        let before = parser.screen().clone()?;
-        parser.process(&buffer[..count])?;
-        let screen = parser.screen();
-        let update = if screen.is_sized_as(&before) {
-            screen.contents_diff(&before)?
-        } else {
-            screen.contents_formatted()?
-        };
-        writer.write_all(update.as_bytes())?;
-        writer.flush()?;
+        update(&mut parser, writer, &buffer[..count])?;
     }
-    bail!("no end of input")
+    Err(io::Error::other("no end of input"))
+}
+
+/// Ends quietly if nobody reads the output any more.
+fn main(rt: HostRuntime) -> Result<ExitCode> {
+    let arguments: Vec<String> = env::args(&rt)?.skip(1).collect(rt.alloc())?;
+    let Some(settings) = read_arguments(arguments.as_slice()) else {
+        eprintln!(rt; "usage: example_updates ROWS COLS EVERY")?;
+        return Ok(ExitCode::from(2));
+    };
+    let ended = run(rt.alloc(), &mut rt.reader(), &mut io::writer(&rt), settings);
+    if let Err(error) = ended {
+        if error.kind() != ErrorKind::BrokenPipe {
+            return Err(error.into());
+        }
+    }
+    Ok(ExitCode::SUCCESS)
 }

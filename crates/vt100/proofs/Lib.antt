@@ -1,8 +1,10 @@
 pub mod Repeats
+pub mod Refusing
 pub mod Running
 pub mod Stepping
 pub mod Deciding
 pub mod Plain
+pub mod WideRuns
 pub mod Quiet
 pub mod Remaining
 pub mod Dispatching
@@ -11,3 +13,4 @@ pub mod Pieces
 pub mod Streams
 pub mod Sizes
 pub mod Fresh
+mod Again

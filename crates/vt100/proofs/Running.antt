@@ -1,13 +1,11 @@
 -- Runs, one after the other.
-use Rattle.std.proofs.Common.{◌≡◌, ℕ, List, [], ◌∷◌, ◌++◌, ◌+◌, ◌<◌, ◌≤◌, length, take, drop}
+use Rattle.std.proofs.Common.{◌≡◌, ℕ, List, [], ◌∷◌, ◌++◌, ◌+◌, ◌-◌, ◌<◌, ◌≤◌, length, take, drop}
 use Rattle.std.proofs.Common.{slice_index_or, Some, None, refl, sym, subst, ap, ◌∙◌, inl, inr, arith}
-use Rattle.std.proofs.Math.Seq.{get_or-append-add, take-append-add}
+use Rattle.std.proofs.Math.Seq.{get_or-append-add, take-add, take-append-add}
 use Rattle.std.proofs.lemmas.Bool.{false≢true}
 use Rattle.std.proofs.lemmas.List.{append-nil, drop_more, length-append, length-take-le, take-append-drop}
 use Rattle.std.specs.List.{FoldsTo}
-use Rattle.std.specs.Prelude.{Err, IsErr, Ok, Result}
-use Rattle.vt_cells.specs.Refusals.{OnlyOutOfMemory}
-use Rattle.vt_cells.specs.declared.error.Error.{Error}
+use Rattle.std.specs.Prelude.{Err, IfOk, Ok, Result}
 use Rattle.vt_rows.proofs.Folds.{folds_then}
 use Rattle.vt_scan.specs.Automaton.{Event, State, Step, step_in}
 use Rattle.vt_scan.specs.Run.{run}
@@ -21,7 +19,9 @@ use Rattle.vt_scan.specs.declared.table.Turn.TheVariants.{Collect}
 use Rattle.vt_scan.proofs.Running.{run-append}
 use Rattle.vt_screen.specs.Run.{CallRelation, Performs, Breaks, StopsIn}
 use Rattle.vt100.specs.Internals.{ReadsOrStops}
-use Rattle.vt100.specs.Parser.{Parsing, Ran, Stopped, StoppedBefore, StoppedWithin, Collects, pieces_joined, stage}
+use Rattle.vt100.specs.Parser.{CallsByLast, Parsing, Ran, Stopped, StoppedAt, StoppedBefore, StoppedWithin, Collects}
+use Rattle.vt100.specs.Parser.{pieces_joined, stage}
+use Rattle.vt100.proofs.Refusing.{stopped_at_after}
 
 pub stops_first : {P A : Type 0} (R T : P → A → P → Type 0) (xs ys : List A) (p q : P) →
     StopsIn R T p xs q → StopsIn R T p (xs ++ ys) q
@@ -183,21 +183,62 @@ known_stopped does p q after bytes n events fed stops = λ s stands.
 pub some_read : {S : Type 0} (does : CallRelation S) (p q : Parsing S) (bytes : List ℕ) (count : ℕ) →
     count ≤ length bytes → Ran does p (take count bytes) q → ReadsOrStops does p bytes q (Ok count)
 some_read does p q bytes count inside ran =
-    record { inside = inside; ran = ran; stopped = λ r. absurd (false≢true r); memory = tt }
+    record { inside = inside; ran = ran; stopped = λ r. absurd (false≢true r); where_stopped = tt }
 
-pub stopped_in : {S : Type 0} (does : CallRelation S) (p q : Parsing S) (bytes : List ℕ) (result : Result ℕ Error) →
-    Stopped does p bytes q → IsErr result → OnlyOutOfMemory result → ReadsOrStops does p bytes q result
-stopped_in does p q bytes (Ok count) h is memory = absurd (false≢true is)
-stopped_in does p q bytes (Err error) h is memory =
-    record { inside = tt; ran = tt; stopped = λ r. h; memory = memory }
+pub stopped_in : {S : Type 0} (does : CallRelation S) (p q : Parsing S) (bytes : List ℕ) (count : ℕ) →
+    Stopped does p bytes q → StoppedAt does p bytes count q → ReadsOrStops does p bytes q (Err count)
+stopped_in does p q bytes count stopped at =
+    record { inside = tt; ran = tt; stopped = λ r. stopped; where_stopped = at }
 
 -- nothing was read before
-pub read_behind : {S : Type 0} (does : CallRelation S) (p q r : Parsing S) (bytes : List ℕ) (result : Result ℕ Error) →
+pub read_behind : {S : Type 0} (does : CallRelation S) (p q r : Parsing S) (bytes : List ℕ) (result : Result ℕ ℕ) →
     Ran does p (take 0 bytes) q → ReadsOrStops does q bytes r result → ReadsOrStops does p bytes r result
 read_behind does p q r bytes (Ok count) nothing reads =
     some_read does p r bytes count reads.inside (ran_then does p q r [] (take count bytes) nothing reads.ran)
-read_behind does p q r bytes (Err error) nothing reads =
-    stopped_in does p r bytes (Err error)
-    (stopped_then does p q r bytes 0 nothing (reads.stopped refl)) refl reads.memory
+read_behind does p q r bytes (Err count) nothing reads =
+    stopped_in does p r bytes count (stopped_then does p q r bytes 0 nothing (reads.stopped refl))
+    (stopped_at_after does p q r bytes count nothing reads.where_stopped)
+
+-- ---- who is called, and when
+
+-- bytes without an event, and behind them some of which only the last has events
+pub led_by_last : {S : Type 0} (old new : S) (before led : Held) (bytes : List ℕ) (k n : ℕ)
+    → FeedsAll before (take k bytes) led [] → CallsByLast old led (drop k bytes) n new
+    → CallsByLast old before bytes (k + n) new
+led_by_last old new before led bytes k n fed last = elim last [
+  | inl same ↦ inl same
+  | inr some ↦
+      let cut : take (k + n - 1) bytes ≡ take k bytes ++ take (n - 1) (drop k bytes) =
+      ap (λ (m : ℕ). take m bytes) (omega (arith, some.0)) ∙ take-add k (n - 1) bytes in
+      inr (
+        omega (arith, some.0),
+        λ s stands.
+            let first = fed s stands in
+            let later = some.1 (run s (take k bytes)).state first.0 in
+            ap (λ (text : List ℕ). (run s text).events) cut
+            ∙ ap (λ (step : Step). step.events) (run-append s (take k bytes) (take (n - 1) (drop k bytes)))
+            ∙ ap (λ (events : List Event). events ++ (run (run s (take k bytes)).state (take (n - 1) (drop k bytes))).events)
+            first.1 ∙ later,
+      )
+]
+
+pub map_some : (P Q : ℕ → Type 0) (result : Result ℕ ℕ) → ((k : ℕ) → P k → Q k) → IfOk result P → IfOk result Q
+map_some P Q (Ok k) f h = f k h
+map_some P Q (Err error) f h = tt
+
+-- nothing was read before
+pub later_by_last : {S : Type 0} (does : CallRelation S) (p q : Parsing S) (new : S) (bytes : List ℕ) (n k : ℕ)
+    → n ≡ 0 → Ran does p (take n bytes) q → CallsByLast p.callbacks p.scanner bytes n q.callbacks
+    → CallsByLast q.callbacks q.scanner bytes k new → CallsByLast p.callbacks p.scanner bytes k new
+later_by_last does p q new bytes n k none ran first last =
+    let start : Ran does p [] q = subst (λ (m : ℕ). Ran does p (take m bytes) q) none ran in
+    let same : q.callbacks ≡ p.callbacks = elim first [
+      | inl e ↦ e
+      | inr some ↦ absurd (omega (arith, none, some.0))
+    ] in
+    elim last [
+      | inl e ↦ inl (e ∙ same)
+      | inr some ↦ inr (some.0, λ s stands. some.1 s (start s stands).0)
+    ]
 
 pub ruleset stops_later = (stops_then, stops_first)

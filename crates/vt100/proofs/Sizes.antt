@@ -10,7 +10,7 @@ use Rattle.vt_scan.specs.Automaton.{Event, State}
 use Rattle.vt_scan.specs.Run.{run}
 use Rattle.vt_scan.specs.Scanner.{StandsFor}
 use Rattle.vt_screen.specs.Run as act
-use Rattle.vt_screen.specs.Run.{CallRelation, Breaks, Performs, Refuses, StopsIn, Takes, state}
+use Rattle.vt_screen.specs.Run.{CallRelation, Breaks, Performs, Refuses, StopsIn, Takes}
 use Rattle.vt_screen.specs.Screen.{ScreenValue, IsScreen}
 use Rattle.vt_screen.specs.Controls.{seen_of, steps_of}
 use Rattle.vt_screen.specs.Steps.{Step}

@@ -1,12 +1,12 @@
 -- What the calls that read bytes answer, and what they leave.
-use Rattle.std.specs.Prelude.{◌≡◌, ◌≢◌, ◌↔◌, ℕ, true, false, List, Err, Ok, length, IfErr, IfOk, IsErr}
+use Rattle.std.specs.Prelude.{◌≡◌, ◌≢◌, ◌↔◌, ◌<◌, ◌≤◌, ℕ, true, false, List, Err, Ok, length, take, IfErr, IfOk, IsErr}
 use Rattle.std.specs.IoError.{error_kind}
 use Rattle.std.specs.declared.io.Error as io
 use Rattle.std.specs.declared.io.ErrorKind.TheVariants as kind
 use Rattle.std.specs.declared.result.Result.{Result}
 use Rattle.vt_cells.specs.declared.error.Error.{Error}
 use Rattle.vt_cells.specs.declared.error.Error.TheVariants.{Failed, NoNumber, OutOfMemory}
-use Rattle.vt100.specs.Parser.{IsHarmless, Parsing, Ran, Stopped, quietly}
+use Rattle.vt100.specs.Parser.{CallsByLast, IsHarmless, Parsing, Ran, Stopped, StoppedAt, quietly}
 use Rattle.vt100.specs.Pieces.{Processes, processing}
 use Rattle.vt_screen.specs.Run.{CallRelation}
 
@@ -21,6 +21,20 @@ pub record ParserProcesses {S : Type 0} (does : CallRelation S)
   pub for_good : new.is_failed ≡ true ↔ IsErr answer
   pub harmless : old.is_failed ≡ false → IsHarmless does old bytes → answer ≡ Ok tt
   pub quiet : Processes old (processing bytes answer) new
+
+-- so many of the bytes are read, of which only the last has events if a callback is invoked; or an allocation fails for
+-- the byte after so many without an event, and nothing is read from then on
+pub record ParserReadsUnit {S : Type 0} (does : CallRelation S) (old : Parsing S) (bytes : List ℕ) (count : ℕ)
+    (answer : Result (Unit {0}) Error) (new : Parsing S) : Type 0 where
+  pub some : IfOk answer (λ _. 0 < count)
+  pub inside : IfOk answer (λ _. count ≤ length bytes)
+  pub ran : IfOk answer (λ _. Ran does old (take count bytes) new)
+  pub last : IfOk answer (λ _. CallsByLast old.callbacks old.scanner bytes count new.callbacks)
+  pub memory : answer ≡ Err OutOfMemory → StoppedAt does old bytes count new
+  pub failed : old.is_failed ≡ true → (answer ≡ Err Failed) × (new ≡ old) × (count ≡ 0)
+  pub only : answer ≡ Err Failed → old.is_failed ≡ true
+  pub no_number : IfErr answer (λ error. error ≢ NoNumber)
+  pub for_good : new.is_failed ≡ true ↔ IsErr answer
 
 -- the same as a writer, whose errors are of two kinds
 pub record ParserWrites (old : Parsing (Unit {0})) (bytes : List ℕ) (answer : Result ℕ io.Error)

@@ -1,5 +1,5 @@
 -- Aids of proofs, which only contracts of private functions cite.
-use Rattle.std.specs.Prelude.{◌≡◌, ℕ, ◌<◌, ◌≤◌, Bool, true, false, List, Option, Some, None, IfOk, IsErr, length}
+use Rattle.std.specs.Prelude.{◌≡◌, ℕ, ◌<◌, ◌≤◌, Bool, true, false, List, Option, Some, None, IfErr, IfOk, IsErr, length}
 use Rattle.std.specs.Prelude.{replicate, take}
 use Rattle.std.specs.List.{FoldsTo}
 use Rattle.std.specs.declared.result.Result.{Result}
@@ -12,7 +12,7 @@ use Rattle.vt_screen.specs.Screen.{ScreenValue}
 use Rattle.vt_screen.specs.Steps.{Step, Print, LineFeed, ScrollUp, OnPage, EnterAlternate}
 use Rattle.vt_screen.specs.Steps.{EnterFresh, EraseScrollback, CallBack, display_after}
 use Rattle.vt_screen.specs.Run.{CallRelation, Breaks, Performs, Refuses, State, StopsIn, Takes, state}
-use Rattle.vt100.specs.Parser.{Parsing, Ran, Stopped}
+use Rattle.vt100.specs.Parser.{Parsing, Ran, Stopped, StoppedAt}
 use Rattle.vt100.specs.declared.sequence.Sequence.{Sequence}
 
 -- these steps, one after the other
@@ -48,13 +48,13 @@ pub record PerformsOrBreaks {S : Type 0} (does : CallRelation S)
   pub stopped : IsErr result → StopsIn (Performs does) (Breaks does) old events new
   pub memory : OnlyOutOfMemory result
 
--- a call that reads as many of these bytes as it answers, or stops in them for want of memory
+-- a call that reads as many of these bytes as it answers, or stops for want of memory after as many as it answers
 pub record ReadsOrStops {S : Type 0} (does : CallRelation S)
-    (old : Parsing S) (bytes : List ℕ) (new : Parsing S) (result : Result ℕ Error) : Type 0 where
+    (old : Parsing S) (bytes : List ℕ) (new : Parsing S) (result : Result ℕ ℕ) : Type 0 where
   pub inside : IfOk result (λ count. count ≤ length bytes)
   pub ran : IfOk result (λ count. Ran does old (take count bytes) new)
   pub stopped : IsErr result → Stopped does old bytes new
-  pub memory : OnlyOutOfMemory result
+  pub where_stopped : IfErr result (λ count. StoppedAt does old bytes count new)
 
 -- the report of a control sequence
 abbrev pub report_of : Sequence → CallValue

@@ -1,9 +1,9 @@
 -- What `process` does: a run over bytes, in full or up to a byte that takes memory.
-use Rattle.std.specs.Prelude.{◌≡◌, ◌⊎◌, ℕ, ◌<◌, Bool, false, List, [], ◌∷◌, ◌++◌, length, take, slice_index_or}
+use Rattle.std.specs.Prelude.{◌≡◌, ◌⊎◌, ℕ, ◌<◌, ◌-◌, Bool, false, List, [], ◌∷◌, ◌++◌, length, take, slice_index_or}
 use Rattle.std.specs.List.{FoldsTo}
-use Rattle.vt_scan.specs.Automaton.{State}
+use Rattle.vt_scan.specs.Automaton.{State, step_in}
 use Rattle.vt_scan.specs.Run as scan
-use Rattle.vt_scan.specs.Scanner.{Held, StandsFor}
+use Rattle.vt_scan.specs.Scanner.{HasNoEvent, Held, StandsFor}
 use Rattle.vt_scan.specs.Table.{class_of, turn_of}
 use Rattle.vt_scan.specs.declared.table.Kind.TheVariants.{OscString}
 use Rattle.vt_scan.specs.declared.table.Turn.TheVariants.{Collect}
@@ -61,6 +61,11 @@ StoppedWithin does old bytes new =
     (state : State) → StandsFor old.scanner state →
     StopsIn (Performs does) (Breaks does) (stage old) (scan.run state bytes).events (stage new)
 
+-- that many of these bytes call nobody, or only the last of them has events
+abbrev pub CallsByLast : {S : Type 0} → S → Held → List ℕ → ℕ → S → Type 0
+CallsByLast old held bytes count new =
+    (new ≡ old) ⊎ ((0 < count) × HasNoEvent held (take (count - 1) bytes))
+
 -- callbacks that do nothing, and leave the screen
 abbrev pub quietly : CallValue → Unit {0} → ScreenValue → Unit {0} → ScreenValue → Type 0
 quietly call old before new after = (new ≡ old) × (after ≡ before)
@@ -68,6 +73,21 @@ quietly call old before new after = (new ≡ old) × (after ≡ before)
 -- a run that ended for want of memory
 abbrev pub Stopped : {S : Type 0} → CallRelation S → Parsing S → List ℕ → Parsing S → Type 0
 Stopped does old bytes new = StoppedBefore does old bytes new ⊎ StoppedWithin does old bytes new
+
+-- a byte that memory is refused for, read in a state: it is collected into the text of a command, or one of its events
+-- has a step that takes memory
+abbrev pub IsRefused : {S : Type 0} → CallRelation S → screen.State S → State → ℕ → screen.State S → Type 0
+IsRefused does old state byte new =
+    ((new ≡ old) × (turn_of state.kind (class_of byte) ≡ Collect OscString))
+    ⊎ StopsIn (Performs does) (Breaks does) old (step_in state.kind state.collected byte).events new
+
+-- a run that ended at the byte at `count` for want of memory: the bytes before it have no event
+pub record StoppedAt {S : Type 0} (does : CallRelation S)
+    (old : Parsing S) (bytes : List ℕ) (count : ℕ) (new : Parsing S) : Type 0 where
+  pub inside : count < length bytes
+  pub before : HasNoEvent old.scanner (take count bytes)
+  pub refused : (state : State) → StandsFor old.scanner state →
+      IsRefused does (stage old) (scan.run state (take count bytes)).state (slice_index_or bytes count 0) (stage new)
 
 -- no run over these bytes comes to a step that takes memory
 abbrev pub IsHarmless : {S : Type 0} →

@@ -1,11 +1,16 @@
 -- Texts that are read quietly, in any list of calls of `process`.
 use Rattle.std.specs.Prelude.{◌≡◌, ℕ, false, List, [], ◌∷◌, ◌++◌, Ok, Some}
+use Rattle.std.specs.List.{AllByRecursion}
 use Rattle.std.specs.declared.result.Result.{Result}
 use Rattle.vt_cells.specs.declared.error.Error.{Error}
 use Rattle.vt_scan.specs.Automaton.{State, start}
 use Rattle.vt_scan.specs.Scanner.{StandsFor}
+use Rattle.vt_screen.specs.Again.{IsReport, KeepsAside}
+use Rattle.vt_screen.specs.Calls.{CallValue}
+use Rattle.vt_screen.specs.CallsOfRun.{TakesCalls}
 use Rattle.vt_screen.specs.Reading.{Terminal, read, terminal}
-use Rattle.vt_screen.specs.Screen.{ScreenValue}
+use Rattle.vt_screen.specs.Run.{CallRelation}
+use Rattle.vt_screen.specs.Screen.{IsScreen, ScreenValue, above_page}
 use Rattle.vt_screen.specs.Shown.{IsPlain, KeepsRest, shown}
 use Rattle.vt100.specs.Parser.{Parsing}
 
@@ -51,3 +56,18 @@ pub record ShowsLast {S : Type 0} (old : Parsing S) (last : ScreenValue) (new : 
   pub shows : shown new.screen ≡ shown last
   pub rest : KeepsRest old.screen new.screen
   pub callbacks : new.callbacks ≡ old.callbacks
+
+-- a parser in ground state that shows no scrollback; its region and origin mode may be any
+pub record IsUnscrolledParser {S : Type 0} (parser : Parsing S) : Type 0 where
+  pub sound : IsScreen parser.screen
+  pub scanner : StandsFor parser.scanner start
+  pub offset : (above_page parser.screen).offset ≡ 0
+
+-- a plain parser, which keeps its other page, its input modes, its cursor style and its size; of its callbacks `on_scroll`
+-- alone was invoked, for rows that scrolled off the top
+pub record IsPlainAgain {S : Type 0} (does : CallRelation S) (old new : Parsing S) : Type 0 where
+  pub plain : IsPlainParser new
+  pub aside : KeepsAside old.screen new.screen
+  pub calls : List CallValue
+  pub reports : AllByRecursion IsReport calls
+  pub called : TakesCalls does old.callbacks calls new.callbacks

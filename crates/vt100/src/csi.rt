@@ -1,6 +1,6 @@
 //! Control sequences.
 
-ghost use Rattle.std.specs.Prelude.{◌≡◌, ◌-◌, ◌<◌, None, Some, length};
+ghost use Rattle.std.specs.Prelude.{◌≡◌, ◌≢◌, ◌-◌, ◌<◌, None, Some, length};
 ghost use Rattle.vt100.specs.Internals.{Does, DoesOrStops, MadeIf, report_of};
 ghost use Rattle.vt_screen.specs.Calls.{UnhandledCsi};
 ghost use Rattle.vt_screen.specs.Controls.{counted_step, csi_steps, intermediate_steps, number_at, number_or, other_steps};
@@ -67,7 +67,8 @@ fn unmarked<CB: Callbacks>(
     unmarked_by_table(screen, callbacks, parameters, byte)
 }
 
-/// The same by a table of all final bytes.
+/// Performs a control sequence without a marker or an intermediate, by a table of
+/// all final bytes.
 #[inline(never)]
 #[tactic(auto, using(crate::proofs::Dispatching::by_counts))]
 fn unmarked_by_table<CB: Callbacks>(
@@ -76,10 +77,13 @@ fn unmarked_by_table<CB: Callbacks>(
     parameters: &Parameters,
     byte: u8,
 ) -> Result<(), Error>
+    requires position { byte ≢ 0x48 }
+    requires rendition { byte ≢ 0x6D }
     ensures { DoesOrStops CB.does callbacks.old screen.old
         (unmarked_steps parameters.now.groups byte (seen_of screen.old)) callbacks.new screen.new result }
 {
-    if counted(screen, byte, numbers::number_or(1, parameters, 0)) {
+    let count = numbers::number_or(1, parameters, 0);
+    if counted(screen, byte, count) {
         return Ok(());
     }
     let sequence = Sequence {
@@ -88,24 +92,28 @@ fn unmarked_by_table<CB: Callbacks>(
         parameters,
         byte,
     };
-    scrolling(screen, callbacks, sequence)
+    scrolling(screen, callbacks, sequence, count)
 }
 
-/// One that may scroll rows off the page, or another one.
+/// Performs a control sequence that may scroll rows off the page, or a different
+/// one. `count` is its first number.
 #[inline(always)]
 #[tactic(auto, using(crate::proofs::Stepping::tested_refusal), unfolding(vt_screen::specs::Controls::scrolling_steps))]
 fn scrolling<CB: Callbacks>(
     screen: &mut Screen,
     callbacks: &mut CB,
     sequence: Sequence<'_>,
+    count: u16,
 ) -> Result<(), Error>
-    requires { report_of sequence
+    requires report { report_of sequence
         ≡ UnhandledCsi None None sequence.parameters.now.groups sequence.byte }
+    requires position { sequence.byte ≢ 0x48 }
+    requires rendition { sequence.byte ≢ 0x6D }
+    requires count { count ≡ number_or 1 0 sequence.parameters.now.groups }
     ensures { DoesOrStops CB.does callbacks.old screen.old
         (scrolling_steps sequence.entry.parameters.now.groups sequence.entry.byte (seen_of screen.old))
         callbacks.new screen.new result }
 {
-    let count = numbers::number_or(1, sequence.parameters, 0);
     match sequence.byte {
         b'S' => {
             scrolling::su(screen, count, callbacks)?;
@@ -146,21 +154,23 @@ fn counted(screen: &mut Screen, byte: u8, count: u16) -> bool
     true
 }
 
-/// The other control sequences without a marker or an intermediate.
+/// Performs the other control sequences without a marker or an intermediate, but for
+/// CUP and SGR, which [`unmarked`] has taken.
 #[inline(always)]
 #[tactic(auto, using(crate::proofs::Stepping::tested_steps), unfolding(vt_screen::specs::Controls::other_steps))]
 fn other<CB: Callbacks>(screen: &mut Screen, callbacks: &mut CB, sequence: Sequence<'_>)
-    requires { report_of sequence
+    requires report { report_of sequence
         ≡ UnhandledCsi None None sequence.parameters.now.groups sequence.byte }
+    requires position { sequence.byte ≢ 0x48 }
+    requires rendition { sequence.byte ≢ 0x6D }
     ensures { Does CB.does callbacks.old screen.old
         (other_steps sequence.entry.parameters.now.groups sequence.entry.byte (seen_of screen.old))
         callbacks.new screen.new }
 {
     match sequence.byte {
-        b'H' | b'f' => move_to(screen, sequence.parameters),
+        b'f' => move_to(screen, sequence.parameters),
         b'J' => erase_page(screen, callbacks, sequence),
         b'K' => erase_row(screen, callbacks, sequence),
-        b'm' => sgr::perform(screen, callbacks, sequence.parameters),
         b'r' => set_region(screen, sequence.parameters),
         b't' => window(screen, callbacks, sequence),
         _ => sequence.report(screen, callbacks),

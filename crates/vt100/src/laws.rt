@@ -4,13 +4,15 @@
 ghost use Rattle.std.specs.List.{AllByRecursion, FoldsTo};
 ghost use Rattle.std.specs.Prelude.{◌≡◌, ◌<◌, ℕ, Bool, false, true, List, [], ◌∷◌, ◌++◌, Some, length, map};
 ghost use Rattle.vt100.specs.Parser.{IsHarmless, Parsing, Ran, Stopped, parsing, pieces_joined, quietly};
-ghost use Rattle.vt100.specs.Pieces.{HasRead, IsFine, IsPlainParser, Processes, Processing, ShowsLast, bytes_in};
+ghost use Rattle.vt100.specs.Pieces.{HasRead, IsFine, IsPlainAgain, IsPlainParser, IsUnscrolledParser};
+ghost use Rattle.vt100.specs.Pieces.{Processes, Processing, ShowsLast, bytes_in};
 ghost use Rattle.vt100.specs.Streams.{IsFreshParser, IsRecorder, MakesCall, ParserCall, Process, bytes_of_calls};
 ghost use Rattle.vt100.specs.Streams.{screen_by, calls_by, whole_text};
 ghost use Rattle.vt_grid.specs.Page.{SameSize};
 ghost use Rattle.vt_rows.specs.Basic.{Written, unwritten};
 ghost use Rattle.vt_scan.specs.Automaton.{State, start};
 ghost use Rattle.vt_scan.specs.Scanner.{StandsFor};
+ghost use Rattle.vt_screen.specs.Again.{KeepsPlain, MakesPlain};
 ghost use Rattle.vt_screen.specs.Capture.{all_rows, basic_texts};
 ghost use Rattle.vt_screen.specs.Chain.{CanShowOn, chain_text, last_screen};
 ghost use Rattle.vt_screen.specs.Pages.{resized};
@@ -130,10 +132,32 @@ pub fn quiet_pieces<CB: Callbacks>()
 /// Each call answers Ok; callbacks, scrollback, the other page and the modes
 /// are as before.
 pub fn chain<CB: Callbacks>()
-    ensures { (self : ScreenValue) → (nexts : List ScreenValue) → (p q : Parsing CB) →
+    ensures shows { (self : ScreenValue) → (nexts : List ScreenValue) → (p q : Parsing CB) →
         (calls : List Processing) → IsScreen p.screen → IsPlainParser p → CanShowOn p.screen self →
         AllByRecursion (CanShowOn p.screen) nexts → bytes_in calls ≡ chain_text self nexts →
         FoldsTo Processes p calls q → AllByRecursion IsFine calls × ShowsLast p (last_screen self nexts) q }
+{}
+
+/// A plain terminal that has read a redraw or a difference of any screen, steady
+/// or not, is plain again.
+///
+/// `kept` is about texts that keep plain terminals plain, as those of
+/// `contents_formatted`, `contents_diff`, `contents_diff_scrolling` and
+/// `cursor_state_formatted` do by their clause `again`; `made` is about texts that
+/// make any terminal plain that shows no scrollback, as those of
+/// `contents_formatted_reset` do. The text may come in any chunks. Whatever the
+/// callbacks are, `on_scroll` alone is invoked, for rows that scroll off the top;
+/// the other page, the input modes, the cursor style and the size are as before.
+/// So the next redraw of a steady screen displays that screen, whatever was drawn
+/// before.
+///
+/// The premise that the parser has not failed holds after calls of `process` that
+/// returned Ok.
+pub fn again<CB: Callbacks>()
+    ensures kept { (p q : Parsing CB) (chunks : List (List ℕ)) → KeepsPlain (pieces_joined chunks) →
+        IsPlainParser p → FoldsTo (Ran CB.does) p chunks q → q.is_failed ≡ false → IsPlainAgain CB.does p q }
+    ensures made { (p q : Parsing CB) (chunks : List (List ℕ)) → MakesPlain (pieces_joined chunks) →
+        IsUnscrolledParser p → FoldsTo (Ran CB.does) p chunks q → q.is_failed ≡ false → IsPlainAgain CB.does p q }
 {}
 
 /// A capture that is written as rows are reported has one text, whatever the

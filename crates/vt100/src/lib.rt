@@ -16,12 +16,12 @@
 //!     let before = parser.screen().clone()?;
 //!     parser.process(b"\x1b[3D\x1b[32mGREEN")?;
 //!     let screen = parser.screen();
-//!     let _ = println!(rt; "{}", screen.contents_formatted()?);
 //!     let update = if screen.is_sized_as(&before) {
 //!         screen.contents_diff(&before)?
 //!     } else {
 //!         screen.contents_formatted()?
 //!     };
+//!     let _ = println!(rt; "{}", screen.contents_formatted()?);
 //!     let _ = println!(rt; "{update}");
 //!     Ok(())
 //! }

@@ -1,9 +1,9 @@
 //! The parser: bytes in, a screen and callbacks out.
 
 ghost use Rattle.std.specs.Borrow.{sem, Lends, LendsBoth};
-ghost use Rattle.std.specs.Prelude.{◌≡◌, IfOk, IsErr, OnErr, OnOk, false};
+ghost use Rattle.std.specs.Prelude.{◌≡◌, ◌<◌, IfOk, IsErr, OnErr, OnOk, false, length};
 ghost use Rattle.vt_cells.specs.Refusals.{OnlyOutOfMemory};
-ghost use Rattle.vt100.specs.Calls.{ParserProcesses};
+ghost use Rattle.vt100.specs.Calls.{ParserProcesses, ParserReadsUnit};
 ghost use Rattle.vt100.specs.Parser.{HasFreshScreen};
 ghost use Rattle.vt100.specs.contracts.parser.Parser.{the_row as parser_row};
 ghost use Rattle.vt_scan.specs.Automaton.{State, start};
@@ -159,6 +159,36 @@ impl<CB: Callbacks> Parser<CB> {
         }
     }
 
+    /// Parses the longest prefix of `bytes` of which only the last byte can
+    /// invoke callbacks: text that fits the cursor's row, a character, a control
+    /// function, a sequence or its beginning, or bytes of a string. Returns how
+    /// many bytes that are.
+    ///
+    /// The library for C reads by this, so that it stops at the byte that
+    /// invoked a callback.
+    ///
+    /// # Errors
+    ///
+    /// Those of [`process`](Parser::process), with how many bytes come before
+    /// the one whose allocation fails.
+    #[inline(always)]
+    pub fn process_unit(&mut self, bytes: &[u8]) -> (usize, Result<(), Error>)
+        requires { 0 < length bytes.now }
+        ensures call { ParserReadsUnit CB.does self.old bytes.now result.0 result.1 self.new }
+    {
+        if self.is_failed {
+            return (0, Err(Error::Failed));
+        }
+        let (scanner, screen) = (&mut self.scanner, &mut self.screen);
+        match processing::process_some(scanner, screen, &mut self.callbacks, bytes) {
+            Ok(count) => (count, Ok(())),
+            Err(before) => {
+                self.is_failed = true;
+                (before, Err(Error::OutOfMemory))
+            }
+        }
+    }
+
     /// Gives the screen another number of rows and columns, on both pages, as
     /// [`Screen::set_size`] does. The callbacks are called for the rows that leave
     /// a page at its top and aren't kept: first those of the main page, then
@@ -189,6 +219,7 @@ impl<CB: Callbacks> Parser<CB> {
         ensures value { result.now ≡ self.now.screen }
         ensures stands { ∥ ((state : State) × StandsFor self.now.scanner state) ∥₁ }
     {
+        // For the proof: a scanner stands for some state at any time.
         self.scanner.stands();
         &self.screen
     }

@@ -3,7 +3,7 @@
 ghost use Rattle.std.specs.Prelude.{◌<◌, IfOk, IsErr, length, map, option_to_list, slice_index_or};
 ghost use Rattle.vt_cells.specs.Refusals.{OnlyOutOfMemory};
 ghost use Rattle.vt100.specs.Internals.{PerformsOrBreaks, ReadsOrStops};
-ghost use Rattle.vt100.specs.Parser.{Ran, Stopped, parsing};
+ghost use Rattle.vt100.specs.Parser.{CallsByLast, Ran, Stopped, parsing};
 ghost use Rattle.vt_scan.specs.Scanner.{ReadsItself, event_of, events_in};
 ghost use Rattle.vt_screen.specs.Run.{state};
 
@@ -12,6 +12,9 @@ use vt_cells::Error;
 use vt_scan::{Event, Events, Scanner};
 use vt_screen::screen::printing;
 use vt_screen::{Callbacks, Screen};
+
+/// The largest number of wide characters that are printed as one edit.
+const WIDE_RUN: usize = 64;
 
 /// Reads bytes, and does what their events say, up to a byte whose memory is
 /// refused.
@@ -29,8 +32,10 @@ pub fn process<CB: Callbacks>(
 {
     let mut at = 0;
     while at < bytes.len() {
-        let count = process_some(scanner, screen, callbacks, &bytes[at..])?;
-        at += count;
+        match process_some(scanner, screen, callbacks, &bytes[at..]) {
+            Ok(count) => at += count,
+            Err(_) => return Err(Error::OutOfMemory),
+        }
     }
     Ok(())
 }
@@ -38,16 +43,21 @@ pub fn process<CB: Callbacks>(
 /// Reads what comes first of these bytes: plain characters as one run, as far
 /// as the cursor's row has room for them, a control function of one byte, a
 /// sequence as far as it is there, bytes of a string, or else one character or
-/// byte. Answers how many bytes that were, unless memory is refused.
+/// byte. Returns how many bytes that were.
+///
+/// # Errors
+///
+/// If an allocation fails: how many bytes come before the one that needs it.
 #[inline(always)]
-fn process_some<CB: Callbacks>(
+pub fn process_some<CB: Callbacks>(
     scanner: &mut Scanner,
     screen: &mut Screen,
     callbacks: &mut CB,
     bytes: &[u8],
-) -> Result<usize, Error>
+) -> Result<usize, usize>
     requires { 0 < length bytes.now }
     ensures some { IfOk result (λ count. 0 < count) }
+    ensures last { IfOk result (λ count. CallsByLast callbacks.old scanner.old bytes.now count callbacks.new) }
     ensures read { ReadsOrStops CB.does (parsing scanner.old screen.old callbacks.old) bytes.now
         (parsing scanner.new screen.new callbacks.new) result }
 {
@@ -55,12 +65,14 @@ fn process_some<CB: Callbacks>(
         return print_some(scanner, screen, callbacks, bytes);
     }
     if bytes[0] >= 0x80 {
-        let count = process_one(scanner, screen, callbacks, bytes)?;
+        let count = process_high(scanner, screen, callbacks, bytes)?;
         return Ok(count);
     }
     if scanner.is_control(bytes[0]) {
-        execute(screen, callbacks, bytes[0])?;
-        return Ok(1);
+        return match execute(screen, callbacks, bytes[0]) {
+            Ok(()) => Ok(1),
+            Err(_) => Err(0),
+        };
     }
     let count = process_sequence(scanner, screen, callbacks, bytes)?;
     if count > 0 {
@@ -71,23 +83,26 @@ fn process_some<CB: Callbacks>(
 
 /// Reads what comes first of these bytes, as far as it leads into a sequence
 /// or ends it, and does what that says. Answers how many bytes that
-/// were, unless memory is refused: none where they begin with something else.
+/// were: none where they begin with something else.
 #[inline(always)]
 fn process_sequence<CB: Callbacks>(
     scanner: &mut Scanner,
     screen: &mut Screen,
     callbacks: &mut CB,
     bytes: &[u8],
-) -> Result<usize, Error>
-    ensures { ReadsOrStops CB.does (parsing scanner.old screen.old callbacks.old) bytes.now
+) -> Result<usize, usize>
+    ensures last { IfOk result (λ count. CallsByLast callbacks.old scanner.old bytes.now count callbacks.new) }
+    ensures read { ReadsOrStops CB.does (parsing scanner.old screen.old callbacks.old) bytes.now
         (parsing scanner.new screen.new callbacks.new) result }
 {
     let leading = scanner.lead_in(bytes);
     if leading == bytes.len() {
         return Ok(leading);
     }
-    let last = end_sequence(scanner, screen, callbacks, &bytes[leading..])?;
-    Ok(leading + last)
+    match end_sequence(scanner, screen, callbacks, &bytes[leading..]) {
+        Ok(last) => Ok(leading + last),
+        Err(before) => Err(leading + before),
+    }
 }
 
 /// Reads the first of these bytes, if it ends a control sequence or an escape
@@ -99,14 +114,17 @@ fn end_sequence<CB: Callbacks>(
     screen: &mut Screen,
     callbacks: &mut CB,
     bytes: &[u8],
-) -> Result<usize, Error>
+) -> Result<usize, usize>
     requires { 0 < length bytes.now }
-    ensures { ReadsOrStops CB.does (parsing scanner.old screen.old callbacks.old) bytes.now
+    ensures last { IfOk result (λ count. CallsByLast callbacks.old scanner.old bytes.now count callbacks.new) }
+    ensures read { ReadsOrStops CB.does (parsing scanner.old screen.old callbacks.old) bytes.now
         (parsing scanner.new screen.new callbacks.new) result }
 {
     if scanner.final_byte(bytes[0]) {
-        control_sequence(screen, callbacks, scanner, bytes[0])?;
-        return Ok(1);
+        return match control_sequence(screen, callbacks, scanner, bytes[0]) {
+            Ok(()) => Ok(1),
+            Err(_) => Err(0),
+        };
     }
     if scanner.escape_byte(bytes[0]) {
         escape_sequence(screen, callbacks, scanner, bytes[0]);
@@ -124,27 +142,36 @@ fn process_one<CB: Callbacks>(
     screen: &mut Screen,
     callbacks: &mut CB,
     bytes: &[u8],
-) -> Result<usize, Error>
+) -> Result<usize, usize>
     requires { 0 < length bytes.now }
     ensures some { IfOk result (λ count. 0 < count) }
+    ensures last { IfOk result (λ count. CallsByLast callbacks.old scanner.old bytes.now count callbacks.new) }
     ensures read { ReadsOrStops CB.does (parsing scanner.old screen.old callbacks.old) bytes.now
         (parsing scanner.new screen.new callbacks.new) result }
 {
     if let Some((character, count)) = scanner.whole_character(bytes) {
-        print(screen, callbacks, character)?;
-        return Ok(count);
+        return match print(screen, callbacks, character) {
+            Ok(()) => Ok(count),
+            Err(_) => Err(count - 1),
+        };
     }
     let skipped = scanner.skipped_len(bytes);
     if skipped > 0 {
         return Ok(skipped);
     }
-    let collected = scanner.command_text(bytes)?;
+    let Ok(collected) = scanner.command_text(bytes) else {
+        return Err(0);
+    };
     if collected > 0 {
         return Ok(collected);
     }
-    let events = scanner.feed(bytes[0])?;
-    perform_each(screen, callbacks, scanner, events)?;
-    Ok(1)
+    let Ok(events) = scanner.feed(bytes[0]) else {
+        return Err(0);
+    };
+    match perform_each(screen, callbacks, scanner, events) {
+        Ok(()) => Ok(1),
+        Err(_) => Err(0),
+    }
 }
 
 /// Prints what comes first of bytes that begin with a plain character: all
@@ -156,21 +183,105 @@ fn print_some<CB: Callbacks>(
     screen: &mut Screen,
     callbacks: &mut CB,
     bytes: &[u8],
-) -> Result<usize, Error>
+) -> Result<usize, usize>
     requires some { 0 < length bytes.now }
     requires itself { ReadsItself scanner.now (slice_index_or bytes.now 0 0) }
     ensures some { IfOk result (λ count. 0 < count) }
+    ensures last { IfOk result (λ count. CallsByLast callbacks.old scanner.now bytes.now count callbacks.new) }
     ensures read { ReadsOrStops CB.does (parsing scanner.now screen.old callbacks.old) bytes.now
         (parsing scanner.now screen.new callbacks.new) result }
 {
     let fitting = bytes.len().min(usize::from(printing::room(screen)));
     let count = scanner.text_len(&bytes[..fitting]);
     if count == 0 {
-        print_apart(screen, callbacks, char::from(bytes[0]))?;
-        return Ok(1);
+        return match print_apart(screen, callbacks, char::from(bytes[0])) {
+            Ok(()) => Ok(1),
+            Err(_) => Err(0),
+        };
     }
     printing::print_text(screen, &bytes[..count]);
     Ok(count)
+}
+
+/// Reads the first of these bytes, which begin with one from 80 on: a run of
+/// wide characters, or else what [`process_one`] reads. Returns the number of
+/// bytes that were read, unless an allocation fails.
+#[inline(always)]
+fn process_high<CB: Callbacks>(
+    scanner: &mut Scanner,
+    screen: &mut Screen,
+    callbacks: &mut CB,
+    bytes: &[u8],
+) -> Result<usize, usize>
+    requires { 0 < length bytes.now }
+    ensures some { IfOk result (λ count. 0 < count) }
+    ensures last { IfOk result (λ count. CallsByLast callbacks.old scanner.old bytes.now count callbacks.new) }
+    ensures read { ReadsOrStops CB.does (parsing scanner.old screen.old callbacks.old) bytes.now
+        (parsing scanner.new screen.new callbacks.new) result }
+{
+    let wide = print_wide(scanner, screen, callbacks, bytes)?;
+    if wide > 0 {
+        return Ok(wide);
+    }
+    process_one(scanner, screen, callbacks, bytes)
+}
+
+/// Prints the characters of three bytes and two columns at the start of these
+/// bytes, up to the end of the cursor's row. Returns the number of bytes that
+/// were read, which is 0 if the first character is a different one.
+#[inline(always)]
+fn print_wide<CB: Callbacks>(
+    scanner: &Scanner,
+    screen: &mut Screen,
+    callbacks: &CB,
+    bytes: &[u8],
+) -> Result<usize, usize>
+    requires { 0 < length bytes.now }
+    ensures { ReadsOrStops CB.does (parsing scanner.now screen.old callbacks.now) bytes.now
+        (parsing scanner.now screen.new callbacks.now) result }
+{
+    if bytes[0] < 0xE3 {
+        return Ok(0);
+    }
+    print_wide_run(scanner, screen, callbacks, bytes)
+}
+
+/// Prints a run of wide characters, as [`print_wide`] does, which has looked at
+/// the first byte alone. A function of its own, so that the buffer takes no room
+/// where there are none.
+#[inline(never)]
+fn print_wide_run<CB: Callbacks>(
+    scanner: &Scanner,
+    screen: &mut Screen,
+    callbacks: &CB,
+    bytes: &[u8],
+) -> Result<usize, usize>
+    ensures { ReadsOrStops CB.does (parsing scanner.now screen.old callbacks.now) bytes.now
+        (parsing scanner.now screen.new callbacks.now) result }
+{
+    let mut text = ['\0'; WIDE_RUN];
+    print_wide_some(scanner, screen, callbacks, bytes, &mut text)
+}
+
+/// Prints a run of wide characters, at most as many as `text` has room for.
+#[inline(always)]
+fn print_wide_some<CB: Callbacks>(
+    scanner: &Scanner,
+    screen: &mut Screen,
+    callbacks: &CB,
+    bytes: &[u8],
+    text: &mut [char],
+) -> Result<usize, usize>
+    ensures { ReadsOrStops CB.does (parsing scanner.now screen.old callbacks.now) bytes.now
+        (parsing scanner.now screen.new callbacks.now) result }
+{
+    let most = bytes.len().min(3 * usize::from(printing::room(screen) / 2));
+    let count = scanner.wide_text(&bytes[..most], text);
+    if count == 0 {
+        return Ok(0);
+    }
+    printing::print_wide_text(screen, &text[..count]);
+    Ok(3 * count)
 }
 
 /// The events of one byte, up to a step whose memory is refused.

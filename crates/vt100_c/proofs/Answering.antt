@@ -1,15 +1,25 @@
 -- A parser's and a mirror's answers as statuses, and bytes up to an event.
 use Rattle.std.proofs.Common.{◌≡◌, ◌≢◌, ◌↔◌, ◌+◌, ◌<◌, inl, inr, ℕ, List, length, take, drop, refl, sym, subst, ◌∙◌, arith, Bool, true, false, not, ◌||◌, ◌==◌, ◌&&◌}
+use Rattle.std.proofs.Common.{◌++◌, ◌-◌, ap, nat_lt, slice_index_or}
 use Rattle.std.proofs.Math.Seq.{take-add, take-length}
-use Rattle.std.proofs.lemmas.Bool.Decides.{nat_tests}
+use Rattle.std.proofs.lemmas.Bool.{false≢true}
+use Rattle.std.proofs.lemmas.List.{append-nil, drop-drop, get_or-drop, length-drop}
+use Rattle.std.specs.List.{FoldsTo}
+use Rattle.vt_scan.specs.Automaton.{Event, State, Step}
+use Rattle.vt_scan.specs.Run.{run}
+use Rattle.vt_scan.specs.Scanner.{HasNoEvent, StandsFor}
+use Rattle.vt_scan.proofs.Running.{run-append}
+use Rattle.vt_screen.specs.Run.{Performs}
+use Rattle.vt100.specs.Calls.{ParserReadsUnit}
 use Rattle.std.specs.Prelude.{Result, Ok, Err, IfErr, IfOk, IsErr}
 use Rattle.vt_cells.specs.declared.error.Error.{Error}
 use Rattle.vt_cells.specs.declared.error.Error.TheVariants.{Failed, NoNumber, OutOfMemory}
 use Rattle.vt100.proofs.Running.{ran_then}
-use Rattle.vt100.specs.Parser.{IsHarmless, Parsing, Ran, Stopped}
-use Rattle.vt100_c.specs.Reading.{ReadsFrom, ReadsParser, is_quiet}
+use Rattle.vt100.specs.Parser.{IsHarmless, IsRefused, Parsing, Ran, Stopped, StoppedAt, stage}
+use Rattle.vt100_c.specs.Reading.{IsQuietBefore, IsQuietBetween, ReadsFrom, ReadsParser, ReadsUnit, are_bare_rows, batch, is_quiet, mark_of}
 use Rattle.vt100_c.specs.Records.{Logged, Logs}
-use Rattle.vt100_c.specs.Status.{answered, ok}
+use Rattle.vt100_c.specs.Status.{answered, failed, ok}
+use Rattle.vt100_c.specs.declared.reading.Mark.{Mark}
 
 not_true : (b : Bool) → (b ≡ true → false ≡ true) → b ≡ false
 not_true true h = absurd (cc (h refl))
@@ -53,101 +63,215 @@ parser_reads old new bytes (Err Failed) ran stopped before only other good harml
 }
 parser_reads old new bytes (Err NoNumber) ran stopped before only other good harmless = absurd (other refl)
 
+-- ---- a unit
+
+pub unit_read : (old new : Parsing Logged) (bytes : List ℕ) (count : ℕ) (answer : Result (Unit {0}) Error)
+    → ParserReadsUnit Logs old bytes count answer new → ReadsUnit old bytes count (answered answer) new
+unit_read old new bytes count (Ok done) unit = record {
+  some = λ _. unit.some;
+  inside = unit.inside;
+  last = λ _. unit.last;
+  ran = λ _. unit.ran;
+  goes_on = λ _. (not_true old.is_failed (λ e. absurd (cc (unit.failed e).0)), not_true new.is_failed unit.for_good.0);
+  memory = λ no. absurd (no refl);
+  failed_before = λ no. absurd (no refl);
+  fails = λ no. absurd (no refl);
+}
+unit_read old new bytes count (Err OutOfMemory) unit = record {
+  some = λ e. absurd (cc e);
+  inside = omega (arith, (unit.memory refl).inside);
+  last = λ e. absurd (cc e);
+  ran = λ e. absurd (cc e);
+  goes_on = λ e. absurd (cc e);
+  memory = λ _ _. (refl, unit.memory refl);
+  failed_before = λ _ e. absurd (cc (unit.failed e).0);
+  fails = λ _. unit.for_good.1 refl;
+}
+unit_read old new bytes count (Err Failed) unit = record {
+  some = λ e. absurd (cc e);
+  inside = omega (arith, (unit.failed (unit.only refl)).2);
+  last = λ e. absurd (cc e);
+  ran = λ e. absurd (cc e);
+  goes_on = λ e. absurd (cc e);
+  memory = λ _ good. absurd (false≢true (sym good ∙ unit.only refl));
+  failed_before = λ _ e. (refl, (unit.failed e).2, (unit.failed e).1);
+  fails = λ _. unit.for_good.1 refl;
+}
+unit_read old new bytes count (Err NoNumber) unit = absurd (unit.no_number refl)
+
 -- ---- up to an event
 
 as_whole : (b : Bool) → (b || not b) ≡ true
 as_whole true = refl
 as_whole false = refl
 
-same_len : (n : ℕ) → (n == n) ≡ true
-same_len n = grind (arith, nat_tests)
+nothing_more : (n : ℕ) → n - n ≡ 0
+nothing_more n = omega arith
 
--- a log says as much as itself
-pub quiet_now : (log : Logged) → is_quiet (length log.records) log.is_whole log ≡ true
-quiet_now log = (λ i. same_len (length log.records) i && as_whole (log.is_whole) i)
+has_room : (is_full : Bool) → (not is_full || is_full) ≡ true
+has_room true = refl
+has_room false = refl
+
+-- a log has nothing that it had not
+pub quiet_now : (log : Logged) → is_quiet (mark_of log) log ≡ true
+quiet_now log = λ i.
+    are_bare_rows (nothing_more (length log.records) i) (nothing_more (length log.rows) i)
+    && (nat_lt (nothing_more log.room i) batch && (has_room (log.room == 0) i && as_whole log.is_whole i))
 
 -- the first bytes are read, and left no event
-pub record HasReadQuietly (len : ℕ) (whole : Bool) (old : Parsing Logged) (bytes : List ℕ) (count : ℕ)
+pub record HasReadQuietly (mark : Mark) (old : Parsing Logged) (bytes : List ℕ) (count : ℕ)
     (now : Parsing Logged) : Type 0 where
   pub ran : Ran Logs old (take count bytes) now
-  pub quiet : is_quiet len whole now.callbacks ≡ true
+  pub quiet : is_quiet mark now.callbacks ≡ true
   pub still : now.is_failed ≡ old.is_failed
   pub nothing : old.is_failed ≡ true → (count ≡ 0) × (now ≡ old)
 
-pub quiet_at_first : (len : ℕ) (whole : Bool) (old : Parsing Logged) (bytes : List ℕ)
-    → is_quiet len whole old.callbacks ≡ true → HasReadQuietly len whole old bytes 0 old
-quiet_at_first len whole old bytes quiet = record {
+pub quiet_at_first : (mark : Mark) (old : Parsing Logged) (bytes : List ℕ)
+    → is_quiet mark old.callbacks ≡ true → HasReadQuietly mark old bytes 0 old
+quiet_at_first mark old bytes quiet = record {
   ran = λ s stands. (stands, refl);
   quiet = quiet;
   still = refl;
   nothing = λ _. (refl, refl);
 }
 
--- a parser that reads a byte did not fail before
-unfailed : (now new : Parsing Logged) (bytes : List ℕ) (status : ℕ) → ReadsParser now bytes status new → status ≡ ok →
-    now.is_failed ≡ false
-unfailed now new bytes status reads well =
-    not_true now.is_failed (λ e. absurd (omega (arith, well, (reads.failed_before e).0)))
+next_ran : (old now new : Parsing Logged) (bytes : List ℕ) (at count : ℕ) → Ran Logs old (take at bytes) now
+    → Ran Logs now (take count (drop at bytes)) new → Ran Logs old (take (at + count) bytes) new
+next_ran old now new bytes at count first second =
+    subst (λ (read : List ℕ). Ran Logs old read new) (sym (take-add at count bytes))
+    (ran_then Logs old now new (take at bytes) (take count (drop at bytes)) first second)
 
-unfailed_at_first : (old now : Parsing Logged) → now.is_failed ≡ old.is_failed → now.is_failed ≡ false →
-    old.is_failed ≡ false
-unfailed_at_first old now still good = sym still ∙ good
-
-next_ran : (old now new : Parsing Logged) (bytes : List ℕ) (count : ℕ) → Ran Logs old (take count bytes) now
-    → Ran Logs now (take 1 (drop count bytes)) new → Ran Logs old (take (count + 1) bytes) new
-next_ran old now new bytes count first second =
-    subst (λ (read : List ℕ). Ran Logs old read new) (sym (take-add count 1 bytes))
-    (ran_then Logs old now new (take count bytes) (take 1 (drop count bytes)) first second)
-
-pub quiet_more : (len : ℕ) (whole : Bool) (old now new : Parsing Logged) (bytes : List ℕ) (count status : ℕ)
-    → HasReadQuietly len whole old bytes count now → ReadsParser now (take 1 (drop count bytes)) status new
-    → status ≡ ok → is_quiet len whole new.callbacks ≡ true → HasReadQuietly len whole old bytes (count + 1) new
-quiet_more len whole old now new bytes count status read last well quiet =
-    let good : old.is_failed ≡ false =
-    unfailed_at_first old now read.still (unfailed now new (take 1 (drop count bytes)) status last well) in
+pub quiet_more : (mark : Mark) (old now new : Parsing Logged) (bytes : List ℕ) (at count status : ℕ)
+    → HasReadQuietly mark old bytes at now → ReadsUnit now (drop at bytes) count status new
+    → status ≡ ok → is_quiet mark new.callbacks ≡ true → HasReadQuietly mark old bytes (at + count) new
+quiet_more mark old now new bytes at count status read unit well quiet =
+    let good : old.is_failed ≡ false = sym read.still ∙ (unit.goes_on well).0 in
     record {
-      ran = next_ran old now new bytes count read.ran (last.ran well);
+      ran = next_ran old now new bytes at count read.ran (unit.ran well);
       quiet = quiet;
-      still = last.goes_on well ∙ sym good;
-      nothing = λ e. absurd (cc (sym good ∙ e));
+      still = (unit.goes_on well).1 ∙ sym good;
+      nothing = λ e. absurd (false≢true (sym good ∙ e));
     }
 
-pub event_left : (len : ℕ) (whole : Bool) (old now new : Parsing Logged) (bytes : List ℕ) (count status : ℕ)
-    → HasReadQuietly len whole old bytes count now → count < length bytes
-    → ReadsParser now (take 1 (drop count bytes)) status new → status ≡ ok
-    → is_quiet len whole new.callbacks ≡ false → ReadsFrom len whole bytes (count + 1) old ok new
-event_left len whole old now new bytes count status read inside last well event = inr (inl (record {
-  count = count;
-  inside = inside;
-  between = now;
-  before = read.ran;
-  quiet = read.quiet;
-  last = subst (λ (s : ℕ). ReadsParser now (take 1 (drop count bytes)) s new) well last;
-  event = event;
-  status_is = refl;
-  used_is = refl;
-  ran = next_ran old now new bytes count read.ran (last.ran well);
-  sound = unfailed_at_first old now read.still (unfailed now new (take 1 (drop count bytes)) status last well);
+-- bytes without an event after a run: what all have done, and where the scanner is
+quiet_part : (mark : Mark) (old now : Parsing Logged) (bytes : List ℕ) (at more : ℕ)
+    → HasReadQuietly mark old bytes at now → HasNoEvent now.scanner (take more (drop at bytes))
+    → (s : State) → StandsFor old.scanner s
+    → FoldsTo (Performs Logs) (stage old) (run s (take (at + more) bytes)).events (stage now)
+    × ((run s (take (at + more) bytes)).state ≡ (run (run s (take at bytes)).state (take more (drop at bytes))).state)
+quiet_part mark old now bytes at more read none s stands =
+    let rest = drop at bytes in
+    let reached = read.ran s stands in
+    let middle = (run s (take at bytes)).state in
+    let whole_run : run s (take (at + more) bytes)
+    ≡ record {
+      state = (run middle (take more rest)).state;
+      events = (run s (take at bytes)).events ++ (run middle (take more rest)).events;
+    } =
+    ap (run s) (take-add at more bytes) ∙ run-append s (take at bytes) (take more rest) in
+    let same : (run s (take (at + more) bytes)).events ≡ (run s (take at bytes)).events =
+    ap (λ (step : Step). step.events) whole_run
+    ∙ ap (λ (events : List Event). (run s (take at bytes)).events ++ events) (none middle reached.0)
+    ∙ append-nil (run s (take at bytes)).events in (
+      subst (λ (events : List Event). FoldsTo (Performs Logs) (stage old) events (stage now)) (sym same) reached.1,
+      ap (λ (step : Step). step.state) whole_run,
+    )
+
+-- bytes without an event, between a run before them and one byte after them
+quiet_between : (mark : Mark) (old now new : Parsing Logged) (bytes : List ℕ) (at more : ℕ)
+    → HasReadQuietly mark old bytes at now → HasNoEvent now.scanner (take more (drop at bytes))
+    → Ran Logs now (take (more + 1) (drop at bytes)) new → (s : State) → StandsFor old.scanner s
+    → IsQuietBetween mark old (take (at + more) bytes) (take 1 (drop (at + more) bytes)) new s
+quiet_between mark old now new bytes at more read none ran s stands =
+    let rest = drop at bytes in
+    let reached = read.ran s stands in
+    let middle = (run s (take at bytes)).state in
+    let part = quiet_part mark old now bytes at more read none s stands in
+    let behind : take (more + 1) rest ≡ take more rest ++ take 1 (drop (at + more) bytes) =
+    take-add more 1 rest ∙ ap (λ (tail : List ℕ). take more rest ++ take 1 tail) (drop-drop more at bytes) in
+    let last : (run middle (take (more + 1) rest)).events
+    ≡ (run (run s (take (at + more) bytes)).state (take 1 (drop (at + more) bytes))).events =
+    ap (λ (text : List ℕ). (run middle text).events) behind
+    ∙ ap (λ (step : Step). step.events) (run-append middle (take more rest) (take 1 (drop (at + more) bytes)))
+    ∙ ap (λ (events : List Event). events
+    ++ (run (run middle (take more rest)).state (take 1 (drop (at + more) bytes))).events) (none middle reached.0)
+    ∙ ap (λ (z : State). (run z (take 1 (drop (at + more) bytes))).events) (sym part.1) in
+    record {
+      between = stage now;
+      first = part.0;
+      quiet = read.quiet;
+      then = subst (λ (events : List Event). FoldsTo (Performs Logs) (stage now) events (stage new)) last
+          (ran middle reached.0).1;
+    }
+
+-- a unit that is refused ends before the last byte
+unread_inside : (is_failed : Bool) (old now new : Parsing Logged) (bytes : List ℕ) (at count status : ℕ)
+    → now.is_failed ≡ is_failed → at < length bytes → ReadsUnit now (drop at bytes) count status new
+    → (status ≡ ok → ⊥) → at + count < length bytes
+unread_inside true old now new bytes at count status is inside unit refused =
+    omega (arith, inside, (unit.failed_before refused is).1)
+unread_inside false old now new bytes at count status is inside unit refused =
+    omega (arith, (unit.memory refused is).1.inside, length-drop at bytes)
+
+pub event_left : (mark : Mark) (old now new : Parsing Logged) (bytes : List ℕ) (at count status : ℕ)
+    → HasReadQuietly mark old bytes at now → ReadsUnit now (drop at bytes) count status new → status ≡ ok
+    → is_quiet mark new.callbacks ≡ false → ReadsFrom mark bytes (at + count) old ok new
+event_left mark old now new bytes at count status read unit well event = elim (unit.last well) [
+  | inl same ↦ absurd (false≢true (sym event ∙ ap (is_quiet mark) same ∙ read.quiet))
+  | inr some ↦
+      let more = count - 1 in
+      let one : more + 1 ≡ count = omega (arith, some.0) in
+      inr (inl (record {
+        count = at + more;
+        inside = omega (arith, some.0, unit.inside, length-drop at bytes);
+        before = quiet_between mark old now new bytes at more read some.1
+            (subst (λ (n : ℕ). Ran Logs now (take n (drop at bytes)) new) (sym one) (unit.ran well));
+        event = event;
+        status_is = refl;
+        used_is = omega (arith, some.0);
+        ran = next_ran old now new bytes at count read.ran (unit.ran well);
+        sound = sym read.still ∙ (unit.goes_on well).0;
+        goes_on = (unit.goes_on well).1;
+      }))
+]
+
+-- bytes without an event, between a run before them and a byte after them that is refused
+quiet_before : (mark : Mark) (old now new : Parsing Logged) (bytes : List ℕ) (at count : ℕ)
+    → HasReadQuietly mark old bytes at now → StoppedAt Logs now (drop at bytes) count new
+    → (s : State) → StandsFor old.scanner s → IsQuietBefore mark old bytes (at + count) new s
+quiet_before mark old now new bytes at count read stopped s stands =
+    let reached = read.ran s stands in
+    let part = quiet_part mark old now bytes at count read stopped.before s stands in
+    record {
+      between = stage now;
+      first = part.0;
+      quiet = read.quiet;
+      refused =
+          subst (λ (byte : ℕ). IsRefused Logs (stage now) (run s (take (at + count) bytes)).state byte (stage new))
+          (get_or-drop at bytes count 0)
+          (subst (λ (state : State). IsRefused Logs (stage now) state (slice_index_or (drop at bytes) count 0) (stage new))
+          (sym part.1) (stopped.refused (run s (take at bytes)).state reached.0));
+    }
+
+pub left_unread : (mark : Mark) (old now new : Parsing Logged) (bytes : List ℕ) (at count status : ℕ)
+    → HasReadQuietly mark old bytes at now → at < length bytes
+    → ReadsUnit now (drop at bytes) count status new → (status ≡ ok → ⊥)
+    → ReadsFrom mark bytes (at + count) old status new
+left_unread mark old now new bytes at count status read inside unit refused = inr (inr (record {
+  inside = unread_inside now.is_failed old now new bytes at count status refl inside unit refused;
+  memory = λ good.
+      let stopped = unit.memory refused (read.still ∙ good) in
+      (stopped.0, quiet_before mark old now new bytes at count read stopped.1);
+  failed_before = λ e.
+      let none = unit.failed_before refused (read.still ∙ e) in
+      let first = read.nothing e in
+      (none.0, omega (arith, none.1, first.0), none.2 ∙ first.1);
+  fails = unit.fails refused;
 }))
 
-pub left_unread : (len : ℕ) (whole : Bool) (old now new : Parsing Logged) (bytes : List ℕ) (count status : ℕ)
-    → HasReadQuietly len whole old bytes count now → count < length bytes
-    → ReadsParser now (take 1 (drop count bytes)) status new → (status ≡ ok → ⊥)
-    → ReadsFrom len whole bytes count old status new
-left_unread len whole old now new bytes count status read inside last refused = inr (inr (record {
-  inside = inside;
-  between = now;
-  before = read.ran;
-  quiet = read.quiet;
-  last = last;
-  refused = refused;
-  still = read.still;
-  nothing = read.nothing;
-}))
-
-pub all_quiet : (len : ℕ) (whole : Bool) (old now : Parsing Logged) (bytes : List ℕ)
-    → HasReadQuietly len whole old bytes (length bytes) now → ReadsFrom len whole bytes (length bytes) old ok now
-all_quiet len whole old now bytes read = inl (record {
+pub all_quiet : (mark : Mark) (old now : Parsing Logged) (bytes : List ℕ)
+    → HasReadQuietly mark old bytes (length bytes) now → ReadsFrom mark bytes (length bytes) old ok now
+all_quiet mark old now bytes read = inl (record {
   status_is = refl;
   used_is = refl;
   ran = subst (λ (all : List ℕ). Ran Logs old all now) (take-length bytes) read.ran;

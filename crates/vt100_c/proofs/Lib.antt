@@ -9,3 +9,4 @@ pub mod Showing
 pub mod Answering
 pub mod Reported
 pub mod Refused
+pub mod Walking

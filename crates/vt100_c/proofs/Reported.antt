@@ -1,5 +1,6 @@
 -- The rows that a log keeps.
-use Rattle.std.proofs.Common.{◌≡◌, ℕ, zero, suc, ◌<◌, List, [], ◌∷◌, length, get_or, ap, subst, arith}
+use Rattle.std.proofs.Common.{◌≡◌, ℕ, zero, suc, ◌<◌, List, [], ◌∷◌, length, get_or, take, ap, subst, arith}
+use Rattle.std.proofs.lemmas.List.Elements.{All-take}
 use Rattle.std.specs.Prelude.{All, Option, Some, None}
 use Rattle.std.specs.List.{slice_get}
 use Rattle.vt_rows.specs.Row.{IsRow, RowValue}
@@ -27,3 +28,11 @@ pub kept_sound : (rows : List RowValue) (index : ℕ) (row : RowValue) →
 kept_sound rows index row all e =
     let at = kept_at rows index row e in
     subst (λ (r : RowValue). IsRow (length r.cells) r) at.is (all index row at.inside)
+
+-- one of the first of them is a row
+pub first_sound : (rows : List RowValue) (count index : ℕ) (row : RowValue) →
+    All (λ (r : RowValue). IsRow (length r.cells) r) rows → slice_get (take count rows) index ≡ Some row
+    → IsRow (length row.cells) row
+first_sound rows count index row all =
+    kept_sound (take count rows) index row
+    (All-take (λ (r : RowValue). IsRow (length r.cells) r) count rows all)

@@ -11,6 +11,7 @@ pub mod Shown
 pub mod Texts
 pub mod Log
 pub mod Captures
+pub mod Walking
 pub mod Capturing
 pub mod Rows
 pub mod Mirrors

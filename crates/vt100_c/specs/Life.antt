@@ -2,7 +2,7 @@
 use Rattle.std.specs.Prelude.{◌≡◌, ℕ, Option, Some, None, unwrap_or}
 use Rattle.vt100.specs.Parser.{parsing}
 use Rattle.vt100_c.specs.Calls.{Either, Fills, is_size}
-use Rattle.vt100_c.specs.Records.{nothing_logged}
+use Rattle.vt100_c.specs.Records.{default_limit, nothing_logged}
 use Rattle.vt100_c.specs.Sources.{screen_in}
 use Rattle.vt100_c.specs.Status.{ok, out_of_memory, bad_argument, wrong_kind, no_object, in_use}
 use Rattle.vt100_c.specs.declared.object.Object.{Object}
@@ -16,7 +16,7 @@ use Rattle.vt_screen.specs.Screen.{ScreenValue, fresh_screen}
 abbrev pub IsNewParser : (rows cols capacity wanted : ℕ) → Source → Type 0
 IsNewParser rows cols capacity wanted (Parser parser) =
     StandsFor parser.scanner start
-    × (parser ≡ parsing parser.scanner (fresh_screen rows cols capacity) (nothing_logged wanted))
+    × (parser ≡ parsing parser.scanner (fresh_screen rows cols capacity) (nothing_logged wanted default_limit))
 IsNewParser rows cols capacity wanted (Screen screen) = ⊥
 IsNewParser rows cols capacity wanted (Mirror mirror) = ⊥
 IsNewParser rows cols capacity wanted (Capture written) = ⊥

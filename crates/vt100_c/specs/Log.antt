@@ -1,6 +1,6 @@
 -- The log of what a handle holds: a parser's.
 use Rattle.std.specs.Prelude.{◌≡◌, ℕ, List, [], Option, Some, None}
-use Rattle.vt100_c.specs.Records.{Logged, bit_of, emptied}
+use Rattle.vt100_c.specs.Records.{Logged, bit_of, emptied, nothing_logged}
 use Rattle.vt100_c.specs.Status.{ok, no_object, wrong_kind}
 use Rattle.vt100_c.specs.declared.object.Object.{Object}
 use Rattle.vt100_c.specs.declared.object.Source.{Source}
@@ -44,3 +44,14 @@ with_emptied (Capture written) = Capture written
 
 abbrev pub Empties : Source → ℕ → Source → Type 0
 Empties old status new = (status ≡ due_to (log_in old)) × (new ≡ with_emptied old)
+
+-- a source whose log was emptied and has another limit, if it has a log
+abbrev pub with_limit : (bytes : ℕ) → Source → Source
+with_limit bytes (Parser parser) =
+    Parser (record parser { callbacks = nothing_logged parser.callbacks.wanted bytes })
+with_limit bytes (Screen screen) = Screen screen
+with_limit bytes (Mirror mirror) = Mirror mirror
+with_limit bytes (Capture written) = Capture written
+
+abbrev pub Limits : (bytes : ℕ) → Source → ℕ → Source → Type 0
+Limits bytes old status new = (status ≡ due_to (log_in old)) × (new ≡ with_limit bytes old)

@@ -1,13 +1,20 @@
 -- What a source does with bytes.
-use Rattle.std.specs.Prelude.{◌≡◌, ◌⊎◌, ◌+◌, ◌==◌, ◌&&◌, ◌||◌, ◌<◌, ℕ, Bool, true, false, List}
-use Rattle.std.specs.Prelude.{length, take, drop, not}
+use Rattle.std.specs.Prelude.{◌≡◌, ◌⊎◌, ◌==◌, ◌&&◌, ◌||◌, ◌+◌, ◌<◌, ◌≤◌, ◌-◌, ◌/◌, ◌%◌, ℕ, Bool, true, false, List}
+use Rattle.std.specs.Prelude.{length, take, drop, nat_lt, not, slice_index_or}
 use Rattle.vt_mirror.specs.Calls.{MirrorProcesses}
 use Rattle.vt_mirror.specs.Mirror.{MirrorValue}
-use Rattle.vt100.specs.Parser.{IsHarmless, Parsing, Ran, Stopped}
+use Rattle.std.specs.List.{FoldsTo}
+use Rattle.vt_scan.specs.Automaton.{State}
+use Rattle.vt_scan.specs.Run as scan
+use Rattle.vt_scan.specs.Scanner.{StandsFor}
+use Rattle.vt_screen.specs.Run as screen
+use Rattle.vt_screen.specs.Run.{Performs}
+use Rattle.vt100.specs.Parser.{CallsByLast, IsHarmless, IsRefused, Parsing, Ran, Stopped, StoppedAt, stage}
 use Rattle.vt100_c.specs.Calls.{Refuses}
 use Rattle.vt100_c.specs.Records.{Logged, Logs}
 use Rattle.vt100_c.specs.Status.{ok, out_of_memory, failed, wrong_kind, answered}
 use Rattle.vt100_c.specs.declared.object.Source.{Source}
+use Rattle.vt100_c.specs.declared.reading.Mark.{Mark}
 use Rattle.vt100_c.specs.declared.object.Source.TheVariants.{Parser, Screen, Mirror, Capture}
 use Rattle.vt_cells.specs.declared.error.Error.{Error}
 use Rattle.std.specs.declared.result.Result.{Result}
@@ -40,57 +47,102 @@ Reads bytes old status new = ⊥
 
 -- ---- up to an event
 
--- whether a log says as much as one of this length, that was whole or not
-abbrev pub is_quiet : (len : ℕ) (whole : Bool) → Logged → Bool
-is_quiet len whole log = (length log.records == len) && (log.is_whole || not whole)
+-- after how many bytes of rows reading stops
+abbrev pub batch : ℕ
+batch = 65536
 
--- all bytes are read, and none leaves an event; a parser that failed before reads all only of no bytes
-pub record ReadsAll (len : ℕ) (whole : Bool) (old : Parsing Logged) (bytes : List ℕ) (used status : ℕ)
-    (new : Parsing Logged) : Type 0 where
+-- whether so many bytes of records are those of so many rows without texts, and of nothing else
+abbrev pub are_bare_rows : (bytes rows : ℕ) → Bool
+are_bare_rows bytes rows = (bytes / 17 == rows) && (bytes % 17 == 0)
+
+-- whether reading goes on: since the mark the log got only rows without texts, which take less than a batch, it has not
+-- reached its limit, and it has lost nothing
+abbrev pub is_quiet : Mark → Logged → Bool
+is_quiet mark log =
+    are_bare_rows (length log.records - mark.len) (length log.rows - mark.rows)
+    && (nat_lt (mark.room - log.room) batch
+    && ((not (log.room == 0) || mark.room == 0) && (log.is_whole || not mark.is_whole)))
+
+-- where a log is
+abbrev pub mark_of : Logged → Mark
+mark_of log = record { len = length log.records; rows = length log.rows; room = log.room; is_whole = log.is_whole }
+
+-- all bytes are read, and none leaves an event at which reading stops; a parser that failed before reads all only of no
+-- bytes
+pub record ReadsAll (mark : Mark) (old : Parsing Logged) (bytes : List ℕ) (used status : ℕ) (new : Parsing Logged) :
+    Type 0 where
   pub status_is : status ≡ ok
   pub used_is : used ≡ length bytes
   pub ran : Ran Logs old bytes new
-  pub quiet : is_quiet len whole new.callbacks ≡ true
+  pub quiet : is_quiet mark new.callbacks ≡ true
   pub still : new.is_failed ≡ old.is_failed
   pub nothing : old.is_failed ≡ true → (used ≡ 0) × (new ≡ old)
 
--- some bytes leave no event, and the next one leaves one, or loses one, and is the last that is read
-pub record ReadsEvent (len : ℕ) (whole : Bool) (old : Parsing Logged) (bytes : List ℕ) (used status : ℕ)
-    (new : Parsing Logged) : Type 0 where
+-- callbacks and screen between bytes that leave no event and those after them, from a state that the scanner may be in
+pub record IsQuietBetween (mark : Mark) (old : Parsing Logged) (before after : List ℕ) (new : Parsing Logged)
+    (start : State) : Type 0 where
+  pub between : screen.State Logged
+  pub first : FoldsTo (Performs Logs) (stage old) (scan.run start before).events between
+  pub quiet : is_quiet mark between.callbacks ≡ true
+  pub then : FoldsTo (Performs Logs) between (scan.run (scan.run start before).state after).events (stage new)
+
+-- some bytes leave no event at which reading stops, and the next one leaves one, or loses one, and is the last that is
+-- read
+pub record ReadsEvent (mark : Mark) (old : Parsing Logged) (bytes : List ℕ) (used status : ℕ) (new : Parsing Logged) :
+    Type 0 where
   pub count : ℕ
   pub inside : count < length bytes
-  pub between : Parsing Logged
-  pub before : Ran Logs old (take count bytes) between
-  pub quiet : is_quiet len whole between.callbacks ≡ true
-  pub last : ReadsParser between (take 1 (drop count bytes)) ok new
-  pub event : is_quiet len whole new.callbacks ≡ false
+  pub before : (start : State) → StandsFor old.scanner start
+      → IsQuietBetween mark old (take count bytes) (take 1 (drop count bytes)) new start
+  pub event : is_quiet mark new.callbacks ≡ false
   pub status_is : status ≡ ok
   pub used_is : used ≡ count + 1
   pub ran : Ran Logs old (take used bytes) new
   pub sound : old.is_failed ≡ false
+  pub goes_on : new.is_failed ≡ false
 
--- some bytes leave no event, and the next one is refused: memory for it is, or the parser failed before
-pub record StopsUnread (len : ℕ) (whole : Bool) (old : Parsing Logged) (bytes : List ℕ) (used status : ℕ)
-    (new : Parsing Logged) : Type 0 where
+-- callbacks and screen between bytes that leave no event and the byte after them, which memory is refused for, from a
+-- state that the scanner may be in
+pub record IsQuietBefore (mark : Mark) (old : Parsing Logged) (bytes : List ℕ) (used : ℕ) (new : Parsing Logged)
+    (start : State) : Type 0 where
+  pub between : screen.State Logged
+  pub first : FoldsTo (Performs Logs) (stage old) (scan.run start (take used bytes)).events between
+  pub quiet : is_quiet mark between.callbacks ≡ true
+  pub refused : IsRefused Logs between (scan.run start (take used bytes)).state (slice_index_or bytes used 0) (stage new)
+
+-- some bytes leave no event at which reading stops, and the next one is refused: memory for it is, or the parser failed
+-- before
+pub record StopsUnread (mark : Mark) (old : Parsing Logged) (bytes : List ℕ) (used status : ℕ) (new : Parsing Logged) :
+    Type 0 where
   pub inside : used < length bytes
-  pub between : Parsing Logged
-  pub before : Ran Logs old (take used bytes) between
-  pub quiet : is_quiet len whole between.callbacks ≡ true
-  pub last : ReadsParser between (take 1 (drop used bytes)) status new
-  pub refused : ¬ (status ≡ ok)
-  pub still : between.is_failed ≡ old.is_failed
-  pub nothing : old.is_failed ≡ true → (used ≡ 0) × (between ≡ old)
+  pub memory : old.is_failed ≡ false → (status ≡ out_of_memory)
+      × ((start : State) → StandsFor old.scanner start → IsQuietBefore mark old bytes used new start)
+  pub failed_before : old.is_failed ≡ true → (status ≡ failed) × (used ≡ 0) × (new ≡ old)
+  pub fails : new.is_failed ≡ true
 
--- bytes are read until the log says more than one of this length, that was whole or not
-abbrev pub ReadsFrom : (len : ℕ) (whole : Bool) → List ℕ → (used : ℕ) → Parsing Logged → ℕ → Parsing Logged → Type 0
-ReadsFrom len whole bytes used old status new =
-    ReadsAll len whole old bytes used status new
-    ⊎ (ReadsEvent len whole old bytes used status new ⊎ StopsUnread len whole old bytes used status new)
+-- ---- a unit
 
--- until it says more than at first
+-- so many bytes are read, of which only the last has events if any is left; or the byte after so many without an event
+-- is refused
+pub record ReadsUnit (old : Parsing Logged) (bytes : List ℕ) (count status : ℕ) (new : Parsing Logged) : Type 0 where
+  pub some : status ≡ ok → 0 < count
+  pub inside : count ≤ length bytes
+  pub last : status ≡ ok → CallsByLast old.callbacks old.scanner bytes count new.callbacks
+  pub ran : status ≡ ok → Ran Logs old (take count bytes) new
+  pub goes_on : status ≡ ok → (old.is_failed ≡ false) × (new.is_failed ≡ false)
+  pub memory : ¬ (status ≡ ok) → old.is_failed ≡ false → (status ≡ out_of_memory) × StoppedAt Logs old bytes count new
+  pub failed_before : ¬ (status ≡ ok) → old.is_failed ≡ true → (status ≡ failed) × (count ≡ 0) × (new ≡ old)
+  pub fails : ¬ (status ≡ ok) → new.is_failed ≡ true
+
+-- bytes are read until the log has an event since a mark at which reading stops
+abbrev pub ReadsFrom : Mark → List ℕ → (used : ℕ) → Parsing Logged → ℕ → Parsing Logged → Type 0
+ReadsFrom mark bytes used old status new =
+    ReadsAll mark old bytes used status new
+    ⊎ (ReadsEvent mark old bytes used status new ⊎ StopsUnread mark old bytes used status new)
+
+-- until it has one since reading began
 abbrev pub ReadsUntil : List ℕ → (used : ℕ) → Parsing Logged → ℕ → Parsing Logged → Type 0
-ReadsUntil bytes used old status new =
-    ReadsFrom (length old.callbacks.records) old.callbacks.is_whole bytes used old status new
+ReadsUntil bytes used old status new = ReadsFrom (mark_of old.callbacks) bytes used old status new
 
 -- that is for parsers
 abbrev pub ReadsUntilEvent : List ℕ → (used : ℕ) → Source → ℕ → Source → Type 0

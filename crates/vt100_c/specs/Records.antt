@@ -1,7 +1,7 @@
 -- The record of a call, as C reads it: its kind in a byte, two numbers of four bytes, the length of its text in eight
 -- bytes, and the text. The low byte of a number comes first.
-use Rattle.std.specs.Prelude.{◌≡◌, ◌⊎◌, ◌==◌, ◌&&◌, ◌/◌, ◌%◌, ◌^◌, ℕ, Bool, true, false}
-use Rattle.std.specs.Prelude.{List, [], ◌∷◌, ◌++◌, length, Option, Some, None}
+use Rattle.std.specs.Prelude.{◌≡◌, ◌⊎◌, ◌==◌, ◌&&◌, ◌<◌, ◌-◌, ◌*◌, ◌/◌, ◌%◌, ◌^◌, ℕ, Bool, true, false}
+use Rattle.std.specs.Prelude.{List, [], ◌∷◌, ◌++◌, length, min, Option, Some, None}
 use Rattle.std.specs.Int.{w16, w32, w64, to_le_bytes}
 use Rattle.std.specs.List.{flat_map}
 use Rattle.vt_rows.specs.Plain.{plain_text}
@@ -75,33 +75,41 @@ part_of bytes = to_le_bytes w64 (length bytes) ++ bytes
 abbrev pub group_of : List ℕ → List ℕ
 group_of numbers = to_le_bytes w64 (length numbers) ++ flat_map (to_le_bytes w16) numbers
 
-abbrev pub text_of : CallValue → List ℕ
-text_of AudibleBell = []
-text_of VisualBell = []
-text_of (Resize rows cols) = []
-text_of (SetWindowIconName name) = name
-text_of (SetWindowTitle title) = title
-text_of (CopyToClipboard kind text) = flat_map part_of (kind ∷ text ∷ [])
-text_of (PasteFromClipboard kind) = kind
-text_of (UnhandledChar code) = []
-text_of (UnhandledControl byte) = []
-text_of (UnhandledEscape first second byte) = byte ∷ []
-text_of (UnhandledCsi first second groups code) = to_le_bytes w32 code ++ flat_map group_of groups
-text_of (UnhandledOsc parts) = flat_map part_of parts
-text_of (OnScroll row alternate) = plain_text 0 (length row.cells) row.cells
+-- the plain text of a row, or none where rows are recorded without it
+abbrev pub row_text : (bare : Bool) → RowValue → List ℕ
+row_text true row = []
+row_text false row = plain_text 0 (length row.cells) row.cells
+
+abbrev pub text_of : (bare : Bool) → CallValue → List ℕ
+text_of bare AudibleBell = []
+text_of bare VisualBell = []
+text_of bare (Resize rows cols) = []
+text_of bare (SetWindowIconName name) = name
+text_of bare (SetWindowTitle title) = title
+text_of bare (CopyToClipboard kind text) = flat_map part_of (kind ∷ text ∷ [])
+text_of bare (PasteFromClipboard kind) = kind
+text_of bare (UnhandledChar code) = []
+text_of bare (UnhandledControl byte) = []
+text_of bare (UnhandledEscape first second byte) = byte ∷ []
+text_of bare (UnhandledCsi first second groups code) = to_le_bytes w32 code ++ flat_map group_of groups
+text_of bare (UnhandledOsc parts) = flat_map part_of parts
+text_of bare (OnScroll row alternate) = row_text bare row
 
 abbrev pub record_with : (kind first second : ℕ) → List ℕ → List ℕ
 record_with kind first second text =
     kind ∷ (to_le_bytes w32 first ++ (to_le_bytes w32 second ++ part_of text))
 
-abbrev pub record_of : CallValue → List ℕ
-record_of call = record_with (kind_of call) (first_of call) (second_of call) (text_of call)
+abbrev pub record_of : (bare : Bool) → CallValue → List ℕ
+record_of bare call = record_with (kind_of call) (first_of call) (second_of call) (text_of bare call)
 
 -- ---- the log
 
--- which kinds are wanted, the records so far, the rows of those that report one, and whether none is missing
+-- which kinds are wanted, how many bytes are kept before records are dropped, how many of these are left, the records
+-- so far, the rows of those that report one, and whether no record is missing
 pub record Logged : Type 0 where
   pub wanted : ℕ
+  pub limit : ℕ
+  pub room : ℕ
   pub records : List ℕ
   pub rows : List RowValue
   pub is_whole : Bool
@@ -110,9 +118,32 @@ pub record Logged : Type 0 where
 abbrev pub is_wanted : ℕ → ℕ → Bool
 is_wanted wanted kind = wanted / 2 ^ kind % 2 == 1
 
--- a call is kept if it is wanted, and none was lost before it
-abbrev pub is_kept : CallValue → Logged → Bool
-is_kept call log = log.is_whole && is_wanted log.wanted (kind_of call)
+-- the bit of `wanted` by which rows are recorded without their texts
+abbrev pub without_text : ℕ
+without_text = 13
+
+abbrev pub is_bare : Logged → Bool
+is_bare log = is_wanted log.wanted without_text
+
+-- a call is to be kept if it is wanted, and none was lost before it
+abbrev pub is_due : CallValue → Logged → Bool
+is_due call log = log.is_whole && is_wanted log.wanted (kind_of call)
+
+-- how many bytes the cells of a copied row take, as far as a word counts
+abbrev pub cells_size : CallValue → ℕ
+cells_size AudibleBell = 0
+cells_size VisualBell = 0
+cells_size (Resize height width) = 0
+cells_size (SetWindowIconName name) = 0
+cells_size (SetWindowTitle title) = 0
+cells_size (CopyToClipboard kind text) = 0
+cells_size (PasteFromClipboard kind) = 0
+cells_size (UnhandledChar code) = 0
+cells_size (UnhandledControl byte) = 0
+cells_size (UnhandledEscape first second byte) = 0
+cells_size (UnhandledCsi first second groups byte) = 0
+cells_size (UnhandledOsc parts) = 0
+cells_size (OnScroll row alternate) = min (length (trimmed_row row).cells * 40) (2 ^ 64 - 1)
 
 -- the rows behind those so far, without the default blanks at their ends
 abbrev pub rows_with : CallValue → List RowValue → List RowValue
@@ -133,24 +164,35 @@ rows_with (OnScroll row alternate) rows = rows ++ trimmed_row row ∷ []
 -- a log with the record of a call behind the others
 abbrev pub with_record : CallValue → Logged → Logged
 with_record call log =
-    record log { records = log.records ++ record_of call; rows = rows_with call log.rows }
+    record log {
+      records = log.records ++ record_of (is_bare log) call;
+      rows = rows_with call log.rows;
+      room = log.room - length (record_of (is_bare log) call) - cells_size call;
+    }
 
 -- a log that lost a record
 abbrev pub with_loss : Logged → Logged
 with_loss log = record log { is_whole = false }
 
--- an empty log, in which nothing is missing
+-- an empty log of a limit, in which nothing is missing
+abbrev pub nothing_logged : (wanted limit : ℕ) → Logged
+nothing_logged wanted limit =
+    record { wanted = wanted; limit = limit; room = limit; records = []; rows = []; is_whole = true }
+
 abbrev pub emptied : Logged → Logged
-emptied log = record { wanted = log.wanted; records = []; rows = []; is_whole = true }
+emptied log = nothing_logged log.wanted log.limit
 
-abbrev pub nothing_logged : ℕ → Logged
-nothing_logged wanted = record { wanted = wanted; records = []; rows = []; is_whole = true }
+-- the limit of a new parser's log: 1 MiB
+abbrev pub default_limit : ℕ
+default_limit = 1048576
 
--- a call that is kept leaves its record behind the others, or memory for that was refused, and then the log is not whole,
--- and nothing is added until it is emptied; any other call leaves the log
+-- a call that is to be kept leaves its record after the others; or it is lost, because its allocation failed or the log
+-- had reached its limit, and then the log is not whole, and nothing is added until it is emptied; any other call leaves
+-- the log unchanged
 pub record LogsIt (call : CallValue) (old new : Logged) : Type 0 where
-  pub kept : is_kept call old ≡ true → (new ≡ with_record call old) ⊎ (new ≡ with_loss old)
-  pub stays : is_kept call old ≡ false → new ≡ old
+  pub kept : is_due call old ≡ true → 0 < old.room → (new ≡ with_record call old) ⊎ (new ≡ with_loss old)
+  pub full : is_due call old ≡ true → old.room ≡ 0 → new ≡ with_loss old
+  pub stays : is_due call old ≡ false → new ≡ old
 
 -- the screen stays
 abbrev pub Logs : CallValue → Logged → ScreenValue → Logged → ScreenValue → Type 0

@@ -4,6 +4,7 @@ ghost use Rattle.std.specs.Prelude.{◌≡◌, ◌+◌, ◌<◌, ◌≤◌, ◌�
 ghost use Rattle.vt_rows.specs.CaptureRows.{AreRowsOf};
 ghost use Rattle.vt_rows.specs.Pieces.{ArePiecesOf, Piece};
 ghost use Rattle.vt100_c.specs.Captures.{IsFirstPiece, IsFirstRow, IsPlace, behind_line_end};
+ghost use Rattle.vt100_c.specs.Walking.{FindsPlain, FindsRow};
 
 use crate::status::{BAD_ARGUMENT, OK};
 use std::str;
@@ -19,8 +20,7 @@ pub extern "C" fn vt100_next_plain(text: &[u8], at: usize, start: &mut usize, en
     ensures status { result ≡ OK ↔ IsPlace text.now at }
     ensures other { ¬ (result ≡ OK) → result ≡ BAD_ARGUMENT }
     ensures refused { ¬ (result ≡ OK) → (start.new ≡ start.old) × (end.new ≡ end.old) }
-    ensures piece { result ≡ OK → (pieces : List Piece) × ArePiecesOf (drop at text.now) pieces
-        × IsFirstPiece (length text.now) at pieces start.new end.new }
+    ensures piece { result ≡ OK → FindsPlain text.now at start.new end.new }
 {
     let Some(rest) = text_from(text, at) else {
         return BAD_ARGUMENT;
@@ -45,8 +45,7 @@ pub extern "C" fn vt100_next_row(
     ensures status { result ≡ OK ↔ IsPlace text.now at }
     ensures other { ¬ (result ≡ OK) → result ≡ BAD_ARGUMENT }
     ensures refused { ¬ (result ≡ OK) → (end.new ≡ end.old) × (next.new ≡ next.old) }
-    ensures row { result ≡ OK → (rows : List Piece) × AreRowsOf width (drop at text.now) rows
-        × IsFirstRow at rows end.new next.new }
+    ensures row { result ≡ OK → FindsRow text.now width at end.new next.new }
 {
     let Some(rest) = text_from(text, at) else {
         return BAD_ARGUMENT;

@@ -1,6 +1,6 @@
 //! Captures that are written: texts of rows with SGR alone.
 
-ghost use Rattle.std.specs.Prelude.{◌≡◌, IfErr, IfOk, None, OnErr, OnOk, Some, string_bytes};
+ghost use Rattle.std.specs.Prelude.{◌≡◌, IfErr, IfOk, OnErr, OnOk, Some, string_bytes};
 ghost use Rattle.std.specs.List.{slice_get};
 ghost use Rattle.vt_rows.specs.Basic.{basic_text, unwritten, written_after};
 ghost use Rattle.vt_screen.specs.Capture.{all_rows, basic_texts, written_after_all};

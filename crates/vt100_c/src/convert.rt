@@ -1,8 +1,7 @@
 //! Colours, cells and states as C reads them.
 
-ghost use Rattle.std.specs.Prelude.{◌≡◌, ◌≤◌, if◌then◌else◌, length};
-ghost use Rattle.vt_cells.specs.Attrs.{is_bold, is_dim};
-ghost use Rattle.vt_cells.specs.Cell.{IsCell, attrs_of, text_of};
+ghost use Rattle.std.specs.Prelude.{◌≡◌, length};
+ghost use Rattle.vt_cells.specs.Cell.{text_of};
 ghost use Rattle.vt_cells.specs.CellInternals.{padded};
 ghost use Rattle.vt100_c.specs.Shown.{bit, cell_flags, cell_for_c, color_for_c, cursor_style_number};
 ghost use Rattle.vt100_c.specs.Shown.{mouse_encoding_number, mouse_mode_number, state_for_c, style_flags};

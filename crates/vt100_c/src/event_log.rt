@@ -2,8 +2,8 @@
 
 ghost use Rattle.std.specs.Prelude.{◌≡◌, IfSome, None, Some, drop, length, min, take};
 ghost use Rattle.vt100_c.specs.Calls.{OnSource};
-ghost use Rattle.vt100_c.specs.Log.{Empties, due_to, due_to_log, log_at, log_in, records_of, whole_of};
-ghost use Rattle.vt100_c.specs.Records.{emptied};
+ghost use Rattle.vt100_c.specs.Log.{Empties, Limits, due_to, due_to_log, log_at, log_in, records_of, whole_of};
+ghost use Rattle.vt100_c.specs.Records.{emptied, nothing_logged};
 ghost use Rattle.vt100_c.specs.Status.{ok};
 
 use crate::copying::copy;
@@ -73,6 +73,21 @@ pub extern "C" fn vt100_clear_events(alloc: Global, handle: &mut Handle) -> u8
     status
 }
 
+/// Sets after how many bytes of records and of cells of rows that scrolled off
+/// a parser loses records, and forgets the records.
+#[unsafe(no_mangle)]
+pub extern "C" fn vt100_set_event_limit(alloc: Global, handle: &mut Handle, bytes: usize) -> u8
+    ensures { OnSource (Limits bytes) handle.old.held result handle.new.held }
+{
+    if !handle.is_full() {
+        return NO_OBJECT;
+    }
+    let mut object = handle.take_out(alloc);
+    let status = set_limit(&mut object.source, bytes);
+    handle.put_back(object);
+    status
+}
+
 /// The log of a parser.
 pub(crate) fn log_of(source: &Source) -> Option<&Events>
     ensures some { IfSome result (λ log. log_in source.now ≡ Some log.now) }
@@ -131,6 +146,28 @@ fn clear(source: &mut Source) -> u8
         Source::Mirror(_) => WRONG_KIND,
         Source::Capture(_) => WRONG_KIND,
     }
+}
+
+/// Sets the limit of the log, if there is one.
+fn set_limit(source: &mut Source, bytes: usize) -> u8
+    ensures { Limits bytes source.old result source.new }
+{
+    match source {
+        Source::Parser(parser) => {
+            set_log_limit(parser, bytes);
+            OK
+        }
+        Source::Screen(_) => WRONG_KIND,
+        Source::Mirror(_) => WRONG_KIND,
+        Source::Capture(_) => WRONG_KIND,
+    }
+}
+
+/// Sets the limit of a parser's log.
+fn set_log_limit(parser: &mut Parser<Events>, bytes: usize)
+    ensures { parser.new ≡ record parser.old { callbacks = nothing_logged parser.old.callbacks.wanted bytes } }
+{
+    parser.callbacks_mut().set_limit(bytes);
 }
 
 /// Empties a parser's log.

@@ -1,6 +1,6 @@
 //! Calls of the terminal, kept until C fetches them.
 
-ghost use Rattle.std.specs.Prelude.{◌≡◌, ◌&&◌, ◌<◌, OnErr, OnOk};
+ghost use Rattle.std.specs.Prelude.{◌≡◌, ◌&&◌, ◌<◌, OnErr, OnOk, length};
 ghost use Rattle.std.specs.List.{slice_get};
 ghost use Rattle.vt100_c.specs.Records.{LogsIt, bit_of, emptied, is_wanted, nothing_logged, with_record};
 ghost use Rattle.vt_screen.specs.Calls as calls;
@@ -13,43 +13,68 @@ use vt_rows::Row;
 use vt100::capture::RowContents;
 use vt100::{Call, Callbacks, Screen};
 
-/// The calls since the log was cleared last, one record behind the other; which
-/// of them are kept; and a copy of each row that they report.
+/// After how many bytes a new log loses records: 1 MiB.
+pub(crate) const DEFAULT_LIMIT: usize = 1_048_576;
+
+/// The records of the calls since the log was cleared, in order, and a copy of
+/// each row that they report.
 ///
-/// Where memory for a record is refused the log isn't whole, and nothing is
-/// added until it is cleared, so that no call is ever out of order.
+/// If an allocation for a record fails, or the log has reached its limit, the
+/// record is lost. Then the log isn't whole, and nothing is added until it is
+/// cleared, so that no call is ever out of order.
 #[derive(Drop)]
 pub struct Events {
     alloc: Global,
     wanted: u16,
+
+    /// After how many bytes records are lost.
+    limit: usize,
+
+    /// How many of these bytes are left.
+    room: usize,
     records: Vec<u8>,
+
+    /// The rows that are kept come first. The memory of the others is for rows
+    /// to come, so that most rows take none.
     rows: Vec<Row>,
+    row_count: usize,
     is_whole: bool,
 }
 
 impl Model for Events {
-    ghost use Rattle.std.specs.Prelude.{All, length};
+    ghost use Rattle.std.specs.Prelude.{◌≤◌, length, take};
     ghost use Rattle.vt100_c.specs.Records.{Logged};
-    ghost use Rattle.vt_rows.specs.Row.{IsRow};
+    ghost use Rattle.vt_grid.specs.Spare.{AreRows};
 
     ghost Value = { Logged };
 
     ghost view = { λ e.
-        record { wanted = e.wanted; records = e.records.items; rows = e.rows.items; is_whole = e.is_whole } };
+        record {
+          wanted = e.wanted;
+          limit = e.limit;
+          room = e.room;
+          records = e.records.items;
+          rows = take e.row_count e.rows.items;
+          is_whole = e.is_whole;
+        } };
 
-    ghost invariant = { λ e. All (λ row. IsRow (length row.cells) row) e.rows.items };
+    ghost invariant = { λ e. AreRows e.rows.items × (e.row_count ≤ length e.rows.items) };
 }
 
 impl Events {
-    /// None yet; bit k of `wanted` says whether calls of kind k are kept.
-    pub(crate) fn new(alloc: Global, wanted: u16) -> Events
-        ensures { result ≡ nothing_logged wanted }
+    /// An empty log of a limit in bytes; bit k of `wanted` says whether calls of
+    /// kind k are kept.
+    pub(crate) fn new(alloc: Global, wanted: u16, limit: usize) -> Events
+        ensures { result ≡ nothing_logged wanted limit }
     {
         Events {
             alloc,
             wanted,
+            limit,
+            room: limit,
             records: Vec::new(alloc),
             rows: Vec::new(alloc),
+            row_count: 0,
             is_whole: true,
         }
     }
@@ -61,12 +86,26 @@ impl Events {
         self.records.as_slice()
     }
 
+    /// The number of rows that the records report.
+    pub(crate) fn row_count(&self) -> usize
+        ensures { result ≡ length self.now.rows }
+    {
+        self.row_count
+    }
+
+    /// How many bytes are left of the limit.
+    pub(crate) fn room(&self) -> usize
+        ensures { result ≡ self.now.room }
+    {
+        self.room
+    }
+
     /// A row that a record reports, counted from 0.
-    #[tactic(auto, using(crate::proofs::Reported::kept_sound))]
+    #[tactic(auto, using(crate::proofs::Reported::first_sound))]
     pub(crate) fn row(&self, index: usize) -> Option<RowContents<'_>>
         ensures { result ≡ slice_get self.now.rows index }
     {
-        match self.rows.get(index) {
+        match self.rows[..self.row_count].get(index) {
             Some(row) => Some(row.contents()),
             None => None,
         }
@@ -86,16 +125,29 @@ impl Events {
         if self.is_whole { 1 } else { 0 }
     }
 
-    /// Forgets the records, and that some are missing.
+    /// Forgets the records, and that some are missing. A log that had reached its
+    /// limit gives back the memory of its rows.
     pub(crate) fn clear(&mut self)
         ensures { self.new ≡ emptied self.old }
     {
         self.records.clear();
-        self.rows.clear();
+        if self.room == 0 {
+            self.rows.clear();
+        }
+        self.row_count = 0;
+        self.room = self.limit;
         self.is_whole = true;
     }
 
-    /// Whether a call of a kind is kept.
+    /// Forgets the records, and sets the limit in bytes.
+    pub(crate) fn set_limit(&mut self, limit: usize)
+        ensures { self.new ≡ nothing_logged self.old.wanted limit }
+    {
+        self.limit = limit;
+        self.clear();
+    }
+
+    /// Whether a call of a kind is to be kept.
     fn keeps(&self, kind: u8) -> bool
         requires { kind < 16 }
         ensures { result ≡ (self.now.is_whole && is_wanted self.now.wanted kind) }
@@ -110,28 +162,33 @@ impl Events {
         if !self.keeps(records::kind_of(call)) {
             return;
         }
-        if self.add(call).is_err() {
+        if self.room == 0 || self.add(call).is_err() {
             self.is_whole = false;
         }
     }
 
     /// Adds the record of a call, or leaves the log.
-    #[tactic(auto, using(crate::proofs::Logging::no_row))]
     fn add(&mut self, call: Call<'_>) -> Result<(), AllocError>
         ensures ok { OnOk result (self.new ≡ with_record (call_of call.entry) self.old) }
         ensures err { OnErr result (self.new ≡ self.old) }
     {
-        records::write_call(self.alloc, &mut self.records, call)
+        let before = self.records.len();
+        records::write_call(self.alloc, &mut self.records, call)?;
+        self.room = self
+            .room
+            .saturating_sub(self.records.len().saturating_sub(before));
+        Ok(())
     }
 
-    /// The same of a row.
+    /// Keeps the report of a row, or loses it, or leaves the log unchanged if it
+    /// isn't wanted.
     fn note_row(&mut self, row: &RowContents<'_>, alternate: bool)
         ensures { LogsIt (calls.OnScroll row.now alternate) self.old self.new }
     {
         if !self.keeps(ON_SCROLL) {
             return;
         }
-        if self.add_row(row, alternate).is_err() {
+        if self.room == 0 || self.add_row(row, alternate).is_err() {
             self.is_whole = false;
         }
     }
@@ -141,10 +198,15 @@ impl Events {
         ensures ok { OnOk result (self.new ≡ with_record (calls.OnScroll row.now alternate) self.old) }
         ensures err { OnErr result (self.new ≡ self.old) }
     {
-        let kept = records::kept_row(self.alloc, row)?;
-        self.rows.reserve(1)?;
-        records::write_row(self.alloc, &mut self.records, row, alternate)?;
-        let _ = self.rows.push(kept);
+        let before = self.records.len();
+        records::hold_row(self.alloc, &mut self.rows, self.row_count, row)?;
+        let is_bare = records::is_bare(self.wanted);
+        records::write_row(self.alloc, &mut self.records, row, alternate, is_bare)?;
+        self.row_count += 1;
+        let room = self
+            .room
+            .saturating_sub(self.records.len().saturating_sub(before));
+        self.room = room.saturating_sub(records::cells_size(row));
         Ok(())
     }
 }

@@ -10,6 +10,7 @@ mod differences;
 mod event_log;
 mod events;
 mod handle;
+pub mod laws;
 mod life;
 mod making;
 mod mirrors;

@@ -8,7 +8,7 @@ ghost use Rattle.vt100_c.specs.Sources.{kind_held, screen_in};
 ghost use Rattle.vt100_c.specs.Status.{out_of_memory};
 ghost use Rattle.vt100_c.specs.declared.object.Source.TheVariants as source;
 
-use crate::events::Events;
+use crate::events::{DEFAULT_LIMIT, Events};
 use crate::handle::Handle;
 use crate::object::{Object, Source, kind_of};
 use crate::status::{BAD_ARGUMENT, IN_USE, NO_OBJECT, OK, OUT_OF_MEMORY, WRONG_KIND};
@@ -36,7 +36,7 @@ pub extern "C" fn vt100_parser_new(
     let Some((some_rows, some_cols)) = size_of(rows, cols) else {
         return BAD_ARGUMENT;
     };
-    let events = Events::new(alloc, wanted);
+    let events = Events::new(alloc, wanted, DEFAULT_LIMIT);
     match Parser::new_with_callbacks(alloc, some_rows, some_cols, scrollback_capacity, events) {
         Ok(parser) => hold(alloc, Source::Parser(parser), out),
         Err(_) => OUT_OF_MEMORY,

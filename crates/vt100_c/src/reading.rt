@@ -1,17 +1,21 @@
 //! Bytes that parsers and mirrors read.
 
-ghost use Rattle.std.specs.Prelude.{◌≡◌, ◌<◌, None, drop, length, take, true};
+ghost use Rattle.std.specs.Prelude.{◌≡◌, ◌<◌, None, length, true};
 ghost use Rattle.vt100_c.specs.Calls.{OnSource};
 ghost use Rattle.vt100_c.specs.Reading.{Reads, ReadsMirror, ReadsParser, ReadsUntil, ReadsUntilEvent};
-ghost use Rattle.vt100_c.specs.Reading.{ReadsFrom, is_quiet};
+ghost use Rattle.vt100_c.specs.Reading.{ReadsFrom, ReadsUnit, are_bare_rows, is_quiet, mark_of};
 
 use crate::events::Events;
 use crate::handle::Handle;
 use crate::object::Source;
+use crate::records::HEAD_LEN;
 use crate::status::{NO_OBJECT, OK, WRONG_KIND, answered};
 use std::alloc::Global;
 use vt_mirror::Mirror;
 use vt100::Parser;
+
+/// After how many bytes of rows reading stops: 64 KiB.
+const BATCH: usize = 65_536;
 
 /// Reads bytes.
 #[unsafe(no_mangle)]
@@ -89,45 +93,87 @@ fn process_until(source: &mut Source, bytes: &[u8]) -> (u8, usize)
     }
 }
 
-/// A parser reads bytes up to an event; the status, and how many were read.
+/// Where a log is when reading begins.
+#[derive(Clone, Copy)]
+pub struct Mark {
+    pub(crate) len: usize,
+    pub(crate) rows: usize,
+    pub(crate) room: usize,
+    pub(crate) is_whole: bool,
+}
+
+/// Reads bytes with a parser up to an event. Returns the status, and how many
+/// bytes were read.
 #[tactic(auto, using(crate::proofs::Answering::quiet_now))]
 fn read_until(parser: &mut Parser<Events>, bytes: &[u8]) -> (u8, usize)
     ensures { ReadsUntil bytes.now result.1 parser.old result.0 parser.new }
 {
-    let len = parser.callbacks().records().len();
-    let is_whole = parser.callbacks().is_whole();
-    read_from(parser, bytes, len, is_whole)
+    let mark = mark_of(parser.callbacks());
+    read_from(parser, bytes, mark)
 }
 
-/// A parser reads bytes until its log says more than one of this length, that
-/// was whole or not; the status, and how many were read.
-fn read_from(parser: &mut Parser<Events>, bytes: &[u8], len: usize, is_whole: bool) -> (u8, usize)
-    requires { is_quiet len is_whole parser.old.callbacks ≡ true }
-    ensures { ReadsFrom len is_whole bytes.now result.1 parser.old result.0 parser.new }
+/// Reads bytes with a parser until its log has an event since a mark at which
+/// reading stops. Returns the status, and how many bytes were read.
+fn read_from(parser: &mut Parser<Events>, bytes: &[u8], mark: Mark) -> (u8, usize)
+    requires { is_quiet mark parser.old.callbacks ≡ true }
+    ensures { ReadsFrom mark bytes.now result.1 parser.old result.0 parser.new }
 {
-    for at in 0..bytes.len() {
-        let status = read(parser, byte_at(bytes, at));
+    let mut at = 0;
+    while at < bytes.len() {
+        let (status, count) = read_unit(parser, &bytes[at..]);
         if status != OK {
-            return (status, at);
+            return (status, at + count);
         }
-        if !is_quiet(parser.callbacks(), len, is_whole) {
-            return (OK, at + 1);
+        at += count;
+        if !is_quiet(mark, parser.callbacks()) {
+            return (OK, at);
         }
     }
-    (OK, bytes.len())
+    (OK, at)
 }
 
-/// The byte at a place.
-fn byte_at(bytes: &[u8], at: usize) -> &[u8]
-    requires { at < length bytes.now }
-    ensures { result.now ≡ take 1 (drop at bytes.now) }
+/// Reads the longest prefix of these bytes of which only the last byte can leave
+/// an event. Returns the status, and how many bytes were read.
+#[inline(always)]
+fn read_unit(parser: &mut Parser<Events>, bytes: &[u8]) -> (u8, usize)
+    requires { 0 < length bytes.now }
+    ensures { ReadsUnit parser.old bytes.now result.1 result.0 parser.new }
 {
-    &bytes[at..at + 1]
+    let (count, answer) = parser.process_unit(bytes);
+    (answered(answer), count)
 }
 
-/// Whether a log says as much as one of this length, that was whole or not.
-fn is_quiet(events: &Events, len: usize, is_whole: bool) -> bool
-    ensures { result ≡ is_quiet len is_whole events.now }
+/// Where a log is.
+fn mark_of(log: &Events) -> Mark
+    ensures { result ≡ mark_of log.now }
 {
-    events.records().len() == len && (events.is_whole() || !is_whole)
+    Mark {
+        len: log.records().len(),
+        rows: log.row_count(),
+        room: log.room(),
+        is_whole: log.is_whole(),
+    }
+}
+
+/// Whether reading goes on: a log got only rows without texts since a mark, has
+/// room, and has lost nothing.
+#[inline(always)]
+fn is_quiet(mark: Mark, log: &Events) -> bool
+    ensures { result ≡ is_quiet mark log.now }
+{
+    let bytes = log.records().len().saturating_sub(mark.len);
+    let rows = log.row_count().saturating_sub(mark.rows);
+    are_bare_rows(bytes, rows)
+        && mark.room.saturating_sub(log.room()) < BATCH
+        && (log.room() != 0 || mark.room == 0)
+        && (log.is_whole() || !mark.is_whole)
+}
+
+/// Whether so many bytes of records are those of so many rows without texts, and
+/// of nothing else.
+#[inline(always)]
+fn are_bare_rows(bytes: usize, rows: usize) -> bool
+    ensures { result ≡ are_bare_rows bytes rows }
+{
+    bytes / HEAD_LEN == rows && bytes % HEAD_LEN == 0
 }

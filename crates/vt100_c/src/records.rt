@@ -1,13 +1,15 @@
 //! The record of a call, as C reads it: its kind in a byte, two numbers of four bytes, the length
 //! of its text in eight bytes, and the text; the low byte of a number first.
 
-ghost use Rattle.std.specs.Prelude.{◌≡◌, ◌+◌, ◌<◌, ◌≤◌, ◌∷◌, ◌++◌, IfOk, OnErr, OnOk};
-ghost use Rattle.std.specs.Prelude.{length, map, string_bytes, vec_capacity, vec_len};
+ghost use Rattle.std.specs.Prelude.{◌≡◌, ◌+◌, ◌<◌, ◌≤◌, ◌++◌, IfOk, OnErr, OnOk};
+ghost use Rattle.std.specs.Prelude.{◌-◌, ◌*◌, ◌^◌, ◌∷◌, [], false, length, map, min, string_bytes, take};
+ghost use Rattle.std.specs.Prelude.{vec_capacity, vec_len};
 ghost use Rattle.std.specs.Int.{w32, to_le_bytes};
 ghost use Rattle.std.specs.List.{flat_map};
 ghost use Rattle.vt100_c.specs.Records.{bit_of, group_of, is_wanted, kind_of, number_of, part_of};
-ghost use Rattle.vt100_c.specs.Records.{record_of, record_with};
+ghost use Rattle.vt100_c.specs.Records.{record_of, record_with, without_text};
 ghost use Rattle.vt_rows.specs.Plain.{plain_text};
+ghost use Rattle.vt_grid.specs.Spare.{AreRows};
 ghost use Rattle.vt_rows.specs.Row.{IsRow, trimmed_row};
 ghost use Rattle.vt_screen.specs.Calls as calls;
 ghost use Rattle.vt_screen.specs.Meanings.{call_of};
@@ -19,7 +21,7 @@ use vt100::Call;
 use vt100::capture::RowContents;
 
 /// How many bytes a record has before its text.
-const HEAD_LEN: usize = 17;
+pub(crate) const HEAD_LEN: usize = 17;
 
 /// The kind of the report of a row.
 pub(crate) const ON_SCROLL: u8 = 12;
@@ -30,6 +32,20 @@ pub(crate) fn is_wanted(wanted: u16, kind: u8) -> bool
     ensures { result ≡ is_wanted wanted kind }
 {
     (wanted >> kind) % 2 == 1
+}
+
+/// Whether rows are recorded without their texts.
+pub(crate) fn is_bare(wanted: u16) -> bool
+    ensures { result ≡ is_wanted wanted without_text }
+{
+    is_wanted(wanted, 13)
+}
+
+/// How many bytes the cells of a copied row take.
+pub(crate) fn cells_size(row: &RowContents<'_>) -> usize
+    ensures { result ≡ min (length (trimmed_row row.now).cells * 40) (2 ^ 64 - 1) }
+{
+    trimmed(row).cells().len().saturating_mul(40)
 }
 
 /// The kind of a call.
@@ -61,7 +77,7 @@ pub(crate) fn write_call(
     records: &mut Vec<u8>,
     call: Call<'_>,
 ) -> Result<(), AllocError>
-    ensures ok { OnOk result (records.new.items ≡ records.old.items ++ record_of (call_of call.entry)) }
+    ensures ok { OnOk result (records.new.items ≡ records.old.items ++ record_of false (call_of call.entry)) }
     ensures err { OnErr result (records.new.items ≡ records.old.items) }
 {
     match call {
@@ -91,19 +107,27 @@ pub(crate) fn write_call(
     }
 }
 
-/// Writes the record of a row behind the others.
+/// Writes the record of a row after the others, with its plain text unless it
+/// is to be bare.
 ///
-/// Fails where memory is refused; then the records are as they were.
+/// # Errors
+///
+/// If an allocation fails; the records are unchanged then.
 pub(crate) fn write_row(
     alloc: Global,
     records: &mut Vec<u8>,
     row: &RowContents<'_>,
     alternate: bool,
+    is_bare: bool,
 ) -> Result<(), AllocError>
     ensures ok { OnOk result
-        (records.new.items ≡ records.old.items ++ record_of (calls.OnScroll row.now alternate)) }
+        (records.new.items ≡ records.old.items ++ record_of is_bare (calls.OnScroll row.now alternate)) }
     ensures err { OnErr result (records.new.items ≡ records.old.items) }
 {
+    if is_bare {
+        let (first, second) = (bit(alternate), bit(row.wrapped()));
+        return write(records, ON_SCROLL, first, second, &[]);
+    }
     let text = text_of(alloc, row)?;
     write(
         records,
@@ -114,10 +138,12 @@ pub(crate) fn write_row(
     )
 }
 
-/// A copy of a row, without the default blanks at its end.
+/// Copies a row without the default blanks at its end.
 ///
-/// Fails where memory is refused.
-pub(crate) fn kept_row(alloc: Global, row: &RowContents<'_>) -> Result<Row, AllocError>
+/// # Errors
+///
+/// If an allocation fails.
+fn kept_row(alloc: Global, row: &RowContents<'_>) -> Result<Row, AllocError>
     ensures copy { IfOk result (λ copy. copy ≡ trimmed_row row.now) }
     ensures sound { IfOk result (λ copy. IsRow (length copy.cells) copy) }
 {
@@ -126,6 +152,56 @@ pub(crate) fn kept_row(alloc: Global, row: &RowContents<'_>) -> Result<Row, Allo
     let _ = kept.cells();
     match Row::trimmed_copy(alloc, row.cells(), row.wrapped()) {
         Ok(copy) => Ok(copy),
+        Err(_) => Err(AllocError),
+    }
+}
+
+/// Puts a copy of a row, without the default blanks at its end, after so many
+/// rows; in the memory of the row that is there, if there is one.
+///
+/// # Errors
+///
+/// If an allocation fails; the rows are unchanged then.
+pub(crate) fn hold_row(
+    alloc: Global,
+    rows: &mut Vec<Row>,
+    count: usize,
+    row: &RowContents<'_>,
+) -> Result<(), AllocError>
+    requires inside { count ≤ length rows.old.items }
+    requires sound { AreRows rows.old.items }
+    ensures first { take count rows.new.items ≡ take count rows.old.items }
+    ensures inside { count ≤ length rows.new.items }
+    ensures row { OnOk result (take (count + 1) rows.new.items ≡ take count rows.old.items ++ trimmed_row row.now ∷ []) }
+    ensures more { OnOk result (count < length rows.new.items) }
+    ensures sound { AreRows rows.new.items }
+{
+    if count < rows.len() {
+        return replace(&mut rows[count], row);
+    }
+    let kept = kept_row(alloc, row)?;
+    rows.reserve(1)?;
+    let _ = rows.push(kept);
+    Ok(())
+}
+
+/// Makes a row a copy of another one, without the default blanks at its end, in
+/// the memory that it has.
+///
+/// # Errors
+///
+/// If it needs more memory and the allocation fails; the row is unchanged then.
+fn replace(place: &mut Row, row: &RowContents<'_>) -> Result<(), AllocError>
+    requires { IsRow (length place.old.cells) place.old }
+    ensures ok { OnOk result (place.new ≡ trimmed_row row.now) }
+    ensures err { OnErr result (place.new ≡ place.old) }
+    ensures sound { IsRow (length place.new.cells) place.new }
+{
+    let kept = trimmed(row);
+    // For the proof: a row that is lent is sound.
+    let _ = kept.cells();
+    match place.leave_for(row.cells(), row.wrapped(), &mut ()) {
+        Ok(()) => Ok(()),
         Err(_) => Err(AllocError),
     }
 }

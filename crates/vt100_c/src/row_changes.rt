@@ -1,6 +1,6 @@
 //! The texts of the rows that a screen shows where those of another one stand.
 
-ghost use Rattle.std.specs.Prelude.{◌≡◌, IfOk, Some, length, string_bytes};
+ghost use Rattle.std.specs.Prelude.{◌≡◌, IfOk, length, string_bytes};
 ghost use Rattle.vt100_c.specs.Due.{AnswersOrStays, IsAnswer, OnBoth, due_at_both, due_beside, due_on_both};
 ghost use Rattle.vt100_c.specs.KeptText.{KeepsBoth};
 ghost use Rattle.vt100_c.specs.Rows.{ChangesRows, HoldBeside, GivesRows, have_range};

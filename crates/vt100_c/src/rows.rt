@@ -1,6 +1,6 @@
 //! The texts of the rows that a screen shows, one behind the other.
 
-ghost use Rattle.std.specs.Prelude.{◌≡◌, ◌<◌, ◌≤◌, IfErr, IfOk, Some, length, string_bytes};
+ghost use Rattle.std.specs.Prelude.{◌≡◌, ◌<◌, ◌≤◌, IfErr, IfOk, length, string_bytes};
 ghost use Rattle.std.specs.Prelude.{drop, if◌then◌else◌, take, true};
 ghost use Rattle.vt100_c.specs.Due.{AnswersOrStays, IsAnswer, OnScreen, due_at, due_on};
 ghost use Rattle.vt100_c.specs.KeptText.{KeepsText};

@@ -1,6 +1,5 @@
 //! Another size, and scrollback.
 
-ghost use Rattle.std.specs.Prelude.{◌≡◌};
 ghost use Rattle.vt100_c.specs.Calls.{OnSource};
 ghost use Rattle.vt100_c.specs.Sizes.{Clears, OnScreen, ResizesMirror, ResizesParser, ResizesScreen};
 ghost use Rattle.vt100_c.specs.Sizes.{ResizesSource, ScrollsBack, SetsScreenSize, SetsSize};

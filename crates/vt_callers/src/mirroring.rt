@@ -34,6 +34,7 @@ pub fn show_late<CB: Callbacks>(
     ensures only { IfErr result (IsLateFailure mirror.old terminal.old) }
 {
     laws::viewers::<CB>();
+    // For the proof: every screen is whole.
     terminal.screen().size();
     mirror.process(output)?;
     let viewer = mirror.join()?;
@@ -82,6 +83,7 @@ fn read_text<CB: Callbacks>(terminal: &mut Parser<CB>, text: &str) -> Result<(),
     ensures only { IfErr result (IsFailure terminal.old) }
 {
     terminal.process(text.as_bytes())?;
+    // For the proof: every screen is whole.
     terminal.screen().size();
     Ok(())
 }

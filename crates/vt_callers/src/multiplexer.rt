@@ -23,6 +23,7 @@ pub fn send_redraw<CB: Callbacks>(screen: &Screen, remote: &mut Parser<CB>) -> R
     ensures fine { OnOk result (remote.new.is_failed ≡ false) }
     ensures only { IfErr result (IsFailure remote.old) }
 {
+    // For the proof: every screen is whole.
     remote.screen().size();
     let text = screen.contents_formatted()?;
     remote.process(text.as_bytes())?;
@@ -43,6 +44,7 @@ pub fn send_difference<CB: Callbacks>(
         (IsSteady (shown screen.now) → ShowsScreen prev.now remote.old → ShowsScreen screen.now remote.new) }
     ensures only { IfErr result (IsFailure remote.old) }
 {
+    // For the proof: every screen is whole.
     remote.screen().size();
     let text = screen.contents_diff(prev)?;
     remote.process(text.as_bytes())?;
@@ -82,6 +84,7 @@ pub fn send_redraw_cut<CB: Callbacks>(
         SamePictureSize (shown screen.now) (shown remote.old.screen) → ShowsScreen screen.now remote.new) }
     ensures only { IfErr result (IsFailure remote.old) }
 {
+    // For the proof: every screen is whole.
     remote.screen().size();
     let text = screen.contents_formatted()?;
     send_cut(text.as_bytes(), sizes, remote)?;
@@ -102,6 +105,7 @@ pub fn send_difference_cut<CB: Callbacks>(
         (IsSteady (shown screen.now) → ShowsScreen prev.now remote.old → ShowsScreen screen.now remote.new) }
     ensures only { IfErr result (IsFailure remote.old) }
 {
+    // For the proof: every screen is whole.
     remote.screen().size();
     let text = screen.contents_diff(prev)?;
     send_cut(text.as_bytes(), sizes, remote)?;
@@ -146,6 +150,7 @@ pub fn follow<CB: Callbacks>(
     ensures only { IfErr result (IsFailure remote.old) }
 {
     laws::chain::<CB>();
+    // For the proof: every screen is whole.
     remote.screen().size();
     first.size();
     let text = first.contents_formatted()?;

@@ -14,12 +14,13 @@ on_err (Err e) p = p
 
 -- the first piece of a text was refused
 pub stopped_first : (refuses : List ℕ → List ℕ → List ℕ → Type 0) (before offered rest after : List ℕ)
-    → refuses before offered after → IsStopped refuses before (offered ++ rest) after
-stopped_first refuses before offered rest after refused = record {
+    → 0 < length offered → refuses before offered after → IsStopped refuses before (offered ++ rest) after
+stopped_first refuses before offered rest after some refused = record {
   taken = [];
   offered = offered;
   rest = rest;
   parts = refl;
+  some = some;
   refused = subst (λ (xs : List ℕ). refuses xs offered after) (sym (append-nil before)) refused;
 }
 
@@ -56,6 +57,7 @@ stopped_in refuses old mid text rest whole after e le stopped =
           ∙ ap (λ (xs : List ℕ). front ++ xs) (append_assoc stopped.taken (stopped.offered ++ stopped.rest) rest
           ∙ ap (λ (xs : List ℕ). stopped.taken ++ xs) (append_assoc stopped.offered stopped.rest rest))
           ∙ sym (append_assoc front stopped.taken (stopped.offered ++ (stopped.rest ++ rest)));
+      some = stopped.some;
       refused =
           subst (λ (xs : List ℕ). refuses xs stopped.offered after)
           (ap (λ (xs : List ℕ). xs ++ stopped.taken) (sym part.0) ∙ append_assoc old front stopped.taken)

@@ -1,6 +1,6 @@
 //! One cell of a screen.
 
-ghost use Rattle.std.specs.Prelude.{◌≡◌, ◌&&◌, ◌↔◌, length, IsTrue, bytes_eq};
+ghost use Rattle.std.specs.Prelude.{◌≡◌, ◌↔◌, length, IsTrue, bytes_eq};
 ghost use Rattle.std.specs.Int.{to_le_bytes, w64};
 ghost use Rattle.vt_cells.specs.Attrs.{is_bold, is_dim, same_attrs};
 ghost use Rattle.vt_cells.specs.Cell.{is_wide, is_blank, is_glyph, is_right_half};

@@ -1,8 +1,8 @@
 //! What a cell is beside its text, in one word.
 
 ghost use Rattle.std.specs.Prelude.{◌≡◌, ◌<◌, false, IsTrue};
-ghost use Rattle.vt_cells.specs.Attrs.{default_attrs, same_attrs};
-ghost use Rattle.vt_cells.specs.CellInternals.{blank_shape, half_shape, same_head, same_shape};
+ghost use Rattle.vt_cells.specs.Attrs.{default_attrs};
+ghost use Rattle.vt_cells.specs.CellInternals.{half_shape, same_head};
 
 use crate::attrs::Attrs;
 use crate::shape::Shape;

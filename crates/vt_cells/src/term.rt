@@ -10,6 +10,7 @@ mod cursor;
 mod decimal;
 mod erasing;
 mod input;
+mod lines;
 mod moves;
 mod sgr;
 
@@ -20,6 +21,7 @@ pub use input::{
     ApplicationCursor, ApplicationKeypad, BracketedPaste, CursorStyle, MouseProtocolEncoding,
     MouseProtocolMode,
 };
+pub use lines::{DeleteLines, InsertLines};
 pub use moves::{MoveFromTo, MoveRight, MoveTo};
 
 /// A sequence that can be written to a sink.

@@ -1,4 +1,4 @@
-pub mod CellStores
+pub mod Flats
 pub mod Drawing
 pub mod Dispatch
 pub mod Carries
@@ -17,6 +17,7 @@ pub mod ShiftExamples
 pub mod Blanking
 pub mod Sized
 pub mod Texts
+pub mod WideTexts
 pub mod Stacking
 pub mod Growing
 pub mod Scrolling

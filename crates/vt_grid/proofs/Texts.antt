@@ -39,7 +39,7 @@ printed_put c attrs page low high h =
 -- ---- one character, and those behind it
 
 -- a row that goes on does so after a glyph more
-flags_twice : (w a b : Bool) → (w ≡ true → a ≡ false) → ((w && not a) && not b) ≡ (w && not b)
+pub flags_twice : (w a b : Bool) → (w ≡ true → a ≡ false) → ((w && not a) && not b) ≡ (w && not b)
 flags_twice true a b h = rw (h refl) refl
 flags_twice false a b h = refl
 

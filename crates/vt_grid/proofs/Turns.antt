@@ -5,72 +5,72 @@ use Rattle.std.specs.Prelude.{if◌then◌else◌}
 use Rattle.vt_cells.specs.Attrs.{default_attrs, Attrs}
 use Rattle.vt_rows.specs.Row.{RowValue, blank_row}
 use Rattle.vt_rows.specs.Internals.{turn_source}
-use Rattle.vt_grid.specs.declared.cell_store.CellStore.{CellStore}
-use Rattle.vt_grid.specs.CellStore.{rows_of, line_at}
+use Rattle.vt_grid.specs.declared.flat.Flat.{Flat}
+use Rattle.vt_grid.specs.Flat.{rows_of, line_at}
 use Rattle.vt_grid.specs.Page.{rows_up, moved_rows}
 use Rattle.vt_grid.specs.Shifts.{down_source}
 use Rattle.vt_grid.specs.PageRows.{PageRowsValue}
-use Rattle.vt_grid.proofs.CellStores.{rows_turned, rows_counted}
+use Rattle.vt_grid.proofs.Flats.{rows_turned, rows_counted}
 use Rattle.vt_grid.proofs.Scrolls.{scrolled_is, scrolled_down_is, cleared_is, cleared_before_is}
 
-pub counted_turned : (cell_store turned : CellStore) → length turned.lines.items ≡ length cell_store.lines.items →
-    length (rows_of turned) ≡ length (rows_of cell_store)
-counted_turned cell_store turned e = omega (
+pub counted_turned : (flat turned : Flat) → length turned.lines.items ≡ length flat.lines.items →
+    length (rows_of turned) ≡ length (rows_of flat)
+counted_turned flat turned e = omega (
   arith,
   e,
-  rows_counted cell_store.width cell_store.cells.items cell_store.lines.items,
+  rows_counted flat.width flat.cells.items flat.lines.items,
   rows_counted turned.width turned.cells.items turned.lines.items,
 )
 
 -- what the blank rows are, in the words of a page before the turn
-cleared_by : (from to : ℕ) (cell_store turned : CellStore) (attrs : Attrs) (cleared : PageRowsValue) →
-    turned.width ≡ cell_store.width → length turned.lines.items ≡ length cell_store.lines.items → attrs ≡ default_attrs →
+cleared_by : (from to : ℕ) (flat turned : Flat) (attrs : Attrs) (cleared : PageRowsValue) →
+    turned.width ≡ flat.width → length turned.lines.items ≡ length flat.lines.items → attrs ≡ default_attrs →
     ((k : ℕ) (d : RowValue) → k < length (rows_of turned) →
     get_or cleared.rows k d
     ≡ (if nat_le from k && nat_lt k to then blank_row attrs turned.width else get_or (rows_of turned) k d)) →
-    (k : ℕ) (d : RowValue) → k < length (rows_of cell_store) →
+    (k : ℕ) (d : RowValue) → k < length (rows_of flat) →
     get_or cleared.rows k d
-    ≡ (if nat_le from k && nat_lt k to then blank_row default_attrs cell_store.width else get_or (rows_of turned) k d)
-cleared_by from to cell_store turned attrs cleared w e a f k d h =
-    f k d (omega (arith, h, counted_turned cell_store turned e))
+    ≡ (if nat_le from k && nat_lt k to then blank_row default_attrs flat.width else get_or (rows_of turned) k d)
+cleared_by from to flat turned attrs cleared w e a f k d h =
+    f k d (omega (arith, h, counted_turned flat turned e))
     ∙ (λ z. if nat_le from k && nat_lt k to then blank_row (a z) (w z) else get_or (rows_of turned) k d)
 
-pub turned_up : (top bottom count n : ℕ) (cell_store turned : CellStore) (attrs : Attrs) (cleared : PageRowsValue) →
-    n ≡ min count (bottom + 1 - top) → top ≤ bottom → bottom < length (rows_of cell_store) →
-    turned.cells ≡ cell_store.cells → turned.width ≡ cell_store.width → length turned.lines.items ≡ length cell_store.lines.items →
-    ((k : ℕ) → line_at turned.lines.items k ≡ line_at cell_store.lines.items (turn_source top (bottom + 1) n k)) →
+pub turned_up : (top bottom count n : ℕ) (flat turned : Flat) (attrs : Attrs) (cleared : PageRowsValue) →
+    n ≡ min count (bottom + 1 - top) → top ≤ bottom → bottom < length (rows_of flat) →
+    turned.cells ≡ flat.cells → turned.width ≡ flat.width → length turned.lines.items ≡ length flat.lines.items →
+    ((k : ℕ) → line_at turned.lines.items k ≡ line_at flat.lines.items (turn_source top (bottom + 1) n k)) →
     attrs ≡ default_attrs → length cleared.rows ≡ length (rows_of turned) → cleared.width ≡ turned.width →
     ((k : ℕ) (d : RowValue) → k < length (rows_of turned) →
     get_or cleared.rows k d
     ≡ (if nat_le (bottom + 1 - n) k && nat_lt k (bottom + 1)
     then blank_row attrs turned.width else get_or (rows_of turned) k d)) →
-    cleared ≡ record { rows = rows_up cell_store.width top bottom count (rows_of cell_store); width = cell_store.width }
-turned_up top bottom count n cell_store turned attrs cleared m o i c w e f a l v g =
-    let rows = scrolled_is cell_store.width top bottom count n (rows_of cell_store)
-    (rows_of turned) cleared.rows m o i (l ∙ counted_turned cell_store turned e)
-    (rows_turned top (bottom + 1) n cell_store turned (omega arith) (omega arith) c w e f)
-    (cleared_by (bottom + 1 - n) (bottom + 1) cell_store turned attrs cleared w e a g) in
+    cleared ≡ record { rows = rows_up flat.width top bottom count (rows_of flat); width = flat.width }
+turned_up top bottom count n flat turned attrs cleared m o i c w e f a l v g =
+    let rows = scrolled_is flat.width top bottom count n (rows_of flat)
+    (rows_of turned) cleared.rows m o i (l ∙ counted_turned flat turned e)
+    (rows_turned top (bottom + 1) n flat turned (omega arith) (omega arith) c w e f)
+    (cleared_by (bottom + 1 - n) (bottom + 1) flat turned attrs cleared w e a g) in
     λ z. record { rows = rows z; width = (v ∙ w) z }
 
-pub turned_down : (top bottom count n : ℕ) (cell_store turned : CellStore) (attrs : Attrs) (cleared : PageRowsValue) →
-    n ≡ min count (bottom + 1 - top) → top ≤ bottom → bottom < length (rows_of cell_store) →
-    turned.cells ≡ cell_store.cells → turned.width ≡ cell_store.width → length turned.lines.items ≡ length cell_store.lines.items →
+pub turned_down : (top bottom count n : ℕ) (flat turned : Flat) (attrs : Attrs) (cleared : PageRowsValue) →
+    n ≡ min count (bottom + 1 - top) → top ≤ bottom → bottom < length (rows_of flat) →
+    turned.cells ≡ flat.cells → turned.width ≡ flat.width → length turned.lines.items ≡ length flat.lines.items →
     ((k : ℕ) →
-    line_at turned.lines.items k ≡ line_at cell_store.lines.items (turn_source top (bottom + 1) (bottom + 1 - top - n) k)) →
+    line_at turned.lines.items k ≡ line_at flat.lines.items (turn_source top (bottom + 1) (bottom + 1 - top - n) k)) →
     attrs ≡ default_attrs → length cleared.rows ≡ length (rows_of turned) → cleared.width ≡ turned.width →
     ((k : ℕ) (d : RowValue) → k < length (rows_of turned) →
     get_or cleared.rows k d
     ≡ (if nat_le top k && nat_lt k (top + n) then blank_row attrs turned.width else get_or (rows_of turned) k d)) →
     cleared
     ≡ record {
-      rows = moved_rows cell_store.width (down_source (length (rows_of cell_store)) top bottom count) (rows_of cell_store);
-      width = cell_store.width;
+      rows = moved_rows flat.width (down_source (length (rows_of flat)) top bottom count) (rows_of flat);
+      width = flat.width;
     }
-turned_down top bottom count n cell_store turned attrs cleared m o i c w e f a l v g =
-    let rows = scrolled_down_is cell_store.width top bottom count n (rows_of cell_store)
-    (rows_of turned) cleared.rows m o i (l ∙ counted_turned cell_store turned e)
-    (rows_turned top (bottom + 1) (bottom + 1 - top - n) cell_store turned (omega arith) (omega arith) c w e f)
-    (cleared_by top (top + n) cell_store turned attrs cleared w e a g) in
+turned_down top bottom count n flat turned attrs cleared m o i c w e f a l v g =
+    let rows = scrolled_down_is flat.width top bottom count n (rows_of flat)
+    (rows_of turned) cleared.rows m o i (l ∙ counted_turned flat turned e)
+    (rows_turned top (bottom + 1) (bottom + 1 - top - n) flat turned (omega arith) (omega arith) c w e f)
+    (cleared_by top (top + n) flat turned attrs cleared w e a g) in
     λ z. record { rows = rows z; width = (v ∙ w) z }
 
 -- ---- rows made blank

@@ -14,4 +14,5 @@ pub mod Canvas
 pub mod Internals
 pub mod PageRows
 pub mod Texts
-pub mod CellStore
+pub mod WideTexts
+pub mod Flat

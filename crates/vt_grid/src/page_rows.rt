@@ -1,8 +1,8 @@
 //! The rows of a page, without its cursor.
 
 ghost use Rattle.std.specs.Fn.{FnOnceReturnsAtMut, FnOnceTakesAtMut};
-ghost use Rattle.std.specs.Prelude.{◌≡◌, ◌≢◌, ◌+◌, ◌-◌, ◌^◌, ◌&&◌, ◌++◌, ◌<◌, ◌≤◌, ◌↔◌, ℕ, IfOk, IfSome};
-ghost use Rattle.std.specs.Prelude.{List, IsSome, Some, All, true, false, encode_utf8, if◌then◌else◌, length};
+ghost use Rattle.std.specs.Prelude.{◌≡◌, ◌≢◌, ◌+◌, ◌-◌, ◌*◌, ◌^◌, ◌&&◌, ◌++◌, ◌<◌, ◌≤◌, ℕ, IfOk, IfSome};
+ghost use Rattle.std.specs.Prelude.{List, Some, All, true, false, encode_utf8, if◌then◌else◌, length};
 ghost use Rattle.std.specs.Prelude.{min, nat_le, nat_lt, replicate, slice_index_or, slice_set, take, drop};
 ghost use Rattle.vt_cells.specs.Cell.{CellValue, IsCell, attrs_of, is_blank, is_right_half, is_wide, text_of, widened};
 ghost use Rattle.vt_cells.specs.Glyph.{columns_of};
@@ -11,13 +11,14 @@ ghost use Rattle.vt_rows.specs.Cells.{IsPaired, at, ends_blank, erased, marked_a
 ghost use Rattle.vt_rows.specs.Cells.{narrowed_at, put_narrow, put_wide, widened_at};
 ghost use Rattle.vt_rows.specs.Row.{RowValue, IsRow, blank_row, deleted_row, inserted_row};
 ghost use Rattle.vt_rows.specs.Texts.{IsPrintableAscii, put_text};
+ghost use Rattle.vt_rows.specs.WideTexts.{IsWideText, put_wide_text};
 ghost use Rattle.vt_grid.specs.Sending.{LetsRowsGo};
 ghost use Rattle.vt_grid.specs.PageRows.{CanLetRowsGo, blank_page_rows, page_row, page_rows_down, page_rows_up};
 ghost use Rattle.vt_grid.specs.PageRows.{with_page_row, with_page_row_flag, with_row_cells};
 
 mod resizing;
 
-use crate::cell_store::CellStore;
+use crate::flat::Flat;
 use crate::scrollback::Scrollback;
 use crate::size::Size;
 use std::alloc::Global;
@@ -32,18 +33,18 @@ use vt_rows::{Leaving, RowContents, cells, shifts};
 /// columns were inserted or deleted.
 #[derive(Debug, Drop)]
 pub struct PageRows {
-    cell_store: CellStore,
+    flat: Flat,
 }
 
 impl Model for PageRows {
-    ghost use Rattle.vt_grid.specs.CellStore.{IsCellStore, rows_of};
+    ghost use Rattle.vt_grid.specs.Flat.{IsFlat, rows_of};
     ghost use Rattle.vt_grid.specs.PageRows.{PageRowsValue};
 
     ghost Value = { PageRowsValue };
 
-    ghost view = { λ s. record { rows = rows_of s.cell_store; width = s.cell_store.width } };
+    ghost view = { λ s. record { rows = rows_of s.flat; width = s.flat.width } };
 
-    ghost invariant = { λ s. IsCellStore s.cell_store };
+    ghost invariant = { λ s. IsFlat s.flat };
 }
 
 impl PageRows {
@@ -54,8 +55,8 @@ impl PageRows {
         ensures ok { IfOk result (λ page_rows. page_rows ≡ blank_page_rows size.rows size.cols) }
         ensures memory { OnlyOutOfMemory result }
     {
-        let cell_store = CellStore::new(alloc, size)?;
-        Ok(PageRows { cell_store })
+        let flat = Flat::new(alloc, size)?;
+        Ok(PageRows { flat })
     }
 
     /// A copy of the page.
@@ -65,8 +66,8 @@ impl PageRows {
         ensures ok { IfOk result (λ page_rows. page_rows ≡ self.now) }
         ensures memory { OnlyOutOfMemory result }
     {
-        let cell_store = self.cell_store.try_clone(alloc)?;
-        Ok(PageRows { cell_store })
+        let flat = self.flat.try_clone(alloc)?;
+        Ok(PageRows { flat })
     }
 
     /// How many rows and columns the page has.
@@ -77,8 +78,8 @@ impl PageRows {
         ensures cols { result.cols ≡ self.now.width }
     {
         Size {
-            rows: self.cell_store.lines.len() as u16,
-            cols: self.cell_store.width,
+            rows: self.flat.lines.len() as u16,
+            cols: self.flat.width,
         }
     }
 
@@ -87,7 +88,7 @@ impl PageRows {
     pub fn len(&self) -> usize
         ensures { result ≡ length self.now.rows }
     {
-        self.cell_store.lines.len()
+        self.flat.lines.len()
     }
 
     /// A row, to be read where it lies.
@@ -97,11 +98,8 @@ impl PageRows {
         requires sound { All (IsRow self.now.width) self.now.rows }
         ensures { result ≡ page_row self.now row }
     {
-        let (start, end) = self.cell_store.part(row);
-        lent(
-            &self.cell_store.cells[start..end],
-            self.cell_store.wrapped(row),
-        )
+        let (start, end) = self.flat.part(row);
+        lent(&self.flat.cells[start..end], self.flat.wrapped(row))
     }
 
     /// Whether the text of a row goes on in the row below.
@@ -110,7 +108,7 @@ impl PageRows {
         requires { row < length self.now.rows }
         ensures { result ≡ (page_row self.now row).wrapped }
     {
-        self.cell_store.wrapped(usize::from(row))
+        self.flat.wrapped(usize::from(row))
     }
 
     /// The cell at a column of a row.
@@ -120,8 +118,8 @@ impl PageRows {
         requires column { col < length (page_row self.now row).cells }
         ensures { result.now ≡ at (page_row self.now row).cells col }
     {
-        let (start, end) = self.cell_store.part(usize::from(row));
-        &self.cell_store.cells[start..end][usize::from(col)]
+        let (start, end) = self.flat.part(usize::from(row));
+        &self.flat.cells[start..end][usize::from(col)]
     }
 
     /// Whether the last column of a row is blank.
@@ -130,18 +128,18 @@ impl PageRows {
         requires { row < length self.now.rows }
         ensures { result ≡ ends_blank (page_row self.now row).cells }
     {
-        let (start, end) = self.cell_store.part(usize::from(row));
-        cells::ends_blank(&self.cell_store.cells[start..end])
+        let (start, end) = self.flat.part(usize::from(row));
+        cells::ends_blank(&self.flat.cells[start..end])
     }
 
     /// Says whether a row goes on in the row below.
     #[inline]
-    #[tactic(auto, using(crate::proofs::CellStores::rows_counted))]
+    #[tactic(auto, using(crate::proofs::Flats::rows_counted))]
     pub fn wrap(&mut self, row: usize, wrapped: bool)
         requires { row < length self.old.rows }
         ensures { self.new ≡ with_page_row row (record (page_row self.old row) { wrapped = wrapped }) self.old }
     {
-        self.cell_store.wrap(row, wrapped);
+        self.flat.wrap(row, wrapped);
     }
 
     /// Says whether the row that a wrap left, if there is one, goes on below.
@@ -165,12 +163,12 @@ impl PageRows {
             × (self.new ≡ with_row_cells row cells self.old) }
     {
         let row = usize::from(row);
-        let goes_on = self.cell_store.wrapped(row);
-        let (start, end) = self.cell_store.part(row);
-        let cells = &mut self.cell_store.cells[start..end];
+        let goes_on = self.flat.wrapped(row);
+        let (start, end) = self.flat.part(row);
+        let cells = &mut self.flat.cells[start..end];
         let edited = edit(cells);
         let goes_on = cells::flag_left(cells, goes_on);
-        self.cell_store.wrap(row, goes_on);
+        self.flat.wrap(row, goes_on);
         edited
     }
 
@@ -183,9 +181,9 @@ impl PageRows {
             × FnOnceReturnsAtMut F.FnOnce edit (page_row self.old row).cells tt cells
             × (self.new ≡ with_page_row row (record { cells = cells; wrapped = goes_on }) self.old) }
     {
-        let (start, end) = self.cell_store.part(row);
-        edit(&mut self.cell_store.cells[start..end]);
-        self.cell_store.wrap(row, goes_on);
+        let (start, end) = self.flat.part(row);
+        edit(&mut self.flat.cells[start..end]);
+        self.flat.wrap(row, goes_on);
     }
 
     /// Puts a narrow glyph at a column of a row; see `cells::put_narrow`.
@@ -217,6 +215,23 @@ impl PageRows {
     {
         self.edit_row(row, |cells| {
             cells::put_text(cells, usize::from(col), text, attrs);
+        });
+    }
+
+    /// Puts a wide glyph for each character of a text, from a column of a row
+    /// on; see `cells::put_wide_text`.
+    #[inline]
+    pub fn put_wide_text(&mut self, row: u16, col: u16, text: &[char], attrs: Attrs)
+        requires inside { row < length self.old.rows }
+        requires paired { IsPaired (page_row self.old row).cells }
+        requires some { 0 < length text.now }
+        requires columns { col + 2 * length text.now ≤ length (page_row self.old row).cells }
+        requires wide { IsWideText text.now }
+        ensures { self.new
+            ≡ with_row_cells row (put_wide_text col text.now attrs (page_row self.old row).cells) self.old }
+    {
+        self.edit_row(row, |cells| {
+            cells::put_wide_text(cells, usize::from(col), text, attrs);
         });
     }
 
@@ -354,7 +369,7 @@ impl PageRows {
         requires inside { row < length self.old.rows }
         ensures { self.new ≡ with_page_row row (blank_row attrs self.old.width) self.old }
     {
-        self.cell_store.blank(row, attrs);
+        self.flat.blank(row, attrs);
     }
 
     /// Makes all rows blank.
@@ -363,7 +378,7 @@ impl PageRows {
         ensures { self.new
             ≡ record self.old { rows = replicate (length self.old.rows) (blank_row attrs self.old.width) } }
     {
-        self.cell_store.blank_all(attrs);
+        self.flat.blank_all(attrs);
     }
 
     /// Makes the rows above a row blank.
@@ -404,7 +419,7 @@ impl PageRows {
         let top = usize::from(top);
         let end = usize::from(bottom) + 1;
         let count = usize::from(count).min(end - top);
-        self.cell_store.rotate(top, end, count);
+        self.flat.rotate(top, end, count);
         self.clear_rows(end - count, end, Attrs::new());
     }
 
@@ -422,7 +437,7 @@ impl PageRows {
         let top = usize::from(top);
         let end = usize::from(bottom) + 1;
         let count = usize::from(count).min(end - top);
-        self.cell_store.rotate(top, end, end - top - count);
+        self.flat.rotate(top, end, end - top - count);
         self.clear_rows(top, top + count, Attrs::new());
         self.wrap(usize::from(bottom), false);
     }

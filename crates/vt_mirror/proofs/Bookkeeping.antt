@@ -3,8 +3,7 @@ use Rattle.std.proofs.Common.{◌≡◌, ◌≢◌, ℕ, ◌+◌, ◌≤◌, ◌
 use Rattle.std.proofs.Common.{Option, Some, None, refl, sym, ap, subst, ◌∙◌, arith}
 use Rattle.std.proofs.lemmas.Bool.{false≢true}
 use Rattle.std.proofs.lemmas.Bool.Decides.{nat_tests}
-use Rattle.std.specs.BTreeMap as map
-use Rattle.std.specs.BTreeMap.{BTreeMap, is_at}
+use Rattle.std.specs.BTreeMap.{is_at}
 use Rattle.std.specs.BTreeSet as set
 use Rattle.std.specs.BTreeSet.{BTreeSet}
 use Rattle.std.specs.Cmp.{unsigned_tied}
@@ -23,7 +22,7 @@ other_number v q n = by_test (v == q) refl where
   by_test false e = e
 
 -- the test of a key, as a map makes it
-at_other : (v q : ℕ) → q ≢ v → is_at (nat_cmp v) q ≡ false
+pub at_other : (v q : ℕ) → q ≢ v → is_at (nat_cmp v) q ≡ false
 at_other v q n = unsigned_tied v q ∙ other_number v q n
 
 own_number : (v : ℕ) → (v == v) ≡ true
@@ -90,47 +89,6 @@ pub joined_viewers : (old : ViewersValue) (v : ℕ) (was is : BTreeSet ℕ) →
 joined_viewers old v was is e u a n =
     put_viewers old (record old { last = Some v; numbers = is.keys }) v true None
     (joined old v was is e u a n) a (λ _. omega arith) (omega (arith, n)) (λ _. refl)
-
-pub left : (old : ViewersValue) (v : ℕ) (was is : BTreeSet ℕ) (had has : BTreeMap ℕ ScreenValue)
-    → old.numbers ≡ was.keys → old.notes ≡ had.entries
-    → set.UpdatesBy nat_cmp (nat_cmp v) was is false → map.UpdatesBy nat_cmp (nat_cmp v) had has None
-    → Puts old v false None (record old { numbers = is.keys; notes = has.entries })
-left old v was is had has e f u w = record {
-  here = u.1;
-  note_here = w.1;
-  others = λ q h. u.2 q (at_other v q h) ∙ ap (λ (keys : List ℕ). is_viewer (record old { numbers = keys }) q) (sym e);
-  other_notes =
-      λ q h. w.2 q (at_other v q h)
-      ∙ ap (λ (entries : List (ℕ × ScreenValue)). note_of (record old { notes = entries }) q) (sym f);
-}
-
-pub left_viewers : (old : ViewersValue) (v : ℕ) (was is : BTreeSet ℕ) (had has : BTreeMap ℕ ScreenValue)
-    → old.numbers ≡ was.keys → old.notes ≡ had.entries
-    → set.UpdatesBy nat_cmp (nat_cmp v) was is false → map.UpdatesBy nat_cmp (nat_cmp v) had has None
-    → AreViewers old → AreViewers (record old { numbers = is.keys; notes = has.entries })
-left_viewers old v was is had has e f u w a =
-    let new : ViewersValue = record old { numbers = is.keys; notes = has.entries } in
-    put_viewers old new v false None (left old v was is had has e f u w)
-    a (λ h. absurd (false≢true h)) (omega arith) (λ _. refl)
-
-pub noted : (old : ViewersValue) (v : ℕ) (screen : ScreenValue) (had has : BTreeMap ℕ ScreenValue) →
-    old.notes ≡ had.entries → map.Updates nat_cmp had has v (Some screen) →
-    is_viewer old v ≡ true → Puts old v true (Some screen) (record old { notes = has.entries })
-noted old v screen had has f w is = record {
-  here = is;
-  note_here = w.1;
-  others = λ q h. refl;
-  other_notes =
-      λ q h. w.2 q (at_other v q h)
-      ∙ ap (λ (entries : List (ℕ × ScreenValue)). note_of (record old { notes = entries }) q) (sym f);
-}
-
-pub noted_viewers : (old : ViewersValue) (v : ℕ) (screen : ScreenValue) (had has : BTreeMap ℕ ScreenValue) →
-    old.notes ≡ had.entries → map.Updates nat_cmp had has v (Some screen) →
-    is_viewer old v ≡ true → AreViewers old → AreViewers (record old { notes = has.entries })
-noted_viewers old v screen had has f w is a =
-    put_viewers old (record old { notes = has.entries }) v true (Some screen)
-    (noted old v screen had has f w is) a (λ _. a.numbers v is) (omega arith) (λ h. absurd (false≢true (sym h)))
 
 -- as it was, where memory is refused
 pub if_refused : {A E : Type 0} (r : Result A E) (P : Type 0) → is_err r ≡ true → OnErr r P → P

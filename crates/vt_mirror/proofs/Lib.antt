@@ -1,7 +1,13 @@
 pub mod Bookkeeping
+pub mod Keeping
 pub mod Noted
+pub mod Alikes
+pub mod Sharing
+pub mod Updates
 pub mod Processing
 pub mod Watching
+pub mod Healing
 pub mod Runs
 pub mod Updating
+pub mod Sending
 pub mod Following

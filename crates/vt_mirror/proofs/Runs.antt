@@ -8,10 +8,12 @@ use Rattle.vt_cells.specs.Op.{bytes_of_all}
 use Rattle.vt_redraw.specs.Redraw.{difference, redraw}
 use Rattle.vt_scan.specs.Automaton.{start}
 use Rattle.vt_screen.specs.Chain.{chain_text, last_screen, texts_behind}
-use Rattle.vt_screen.specs.Screen.{ScreenValue}
-use Rattle.vt_screen.specs.Shown.{shown}
+use Rattle.vt_screen.specs.MadeOf.{IsMadeOf, drawing_controls, drawing_finals}
+use Rattle.vt_screen.specs.Screen.{IsColored, ScreenValue}
+use Rattle.vt_screen.specs.Shown.{shown, shown_change, shown_text}
 use Rattle.vt_screen.specs.CallsOfRun.{screen_in}
-use Rattle.vt_mirror.specs.Runs.{multiples, screens_on_way}
+use Rattle.vt_screen.proofs.MadeOf.{difference_made, made_append, made_nothing, redraw_made}
+use Rattle.vt_mirror.specs.Runs.{IsUpdatedAfter, multiples, screens_on_way}
 
 -- ---- which screens
 
@@ -109,3 +111,19 @@ pub all_of_more : (P : ScreenValue → Type 0) (screens : List ScreenValue) (scr
     AllByRecursion P screens → P screen → AllByRecursion P (screens ++ (screen ∷ []))
 all_of_more P [] screen all one = (one, tt)
 all_of_more P (x ∷ xs) screen all one = (all.0, all_of_more P xs screen all.1 one)
+
+-- ---- what the texts contain
+
+changes_made : (first prev : ScreenValue) (nexts : List ScreenValue) → IsColored prev →
+    AllByRecursion (IsUpdatedAfter first) nexts → IsMadeOf drawing_finals drawing_controls (texts_behind prev nexts)
+changes_made first prev [] colored all = made_nothing drawing_finals drawing_controls
+changes_made first prev (x ∷ xs) colored all =
+    made_append drawing_finals drawing_controls (shown_change prev x) (texts_behind x xs)
+    (difference_made x prev all.0.sound all.0.colored colored) (changes_made first x xs all.0.colored all.1)
+
+pub chain_made : (first : ScreenValue) (nexts : List ScreenValue) →
+    AllByRecursion (IsUpdatedAfter first) (first ∷ nexts) →
+    IsMadeOf drawing_finals drawing_controls (chain_text first nexts)
+chain_made first nexts all =
+    made_append drawing_finals drawing_controls (shown_text first) (texts_behind first nexts)
+    (redraw_made first all.0.sound all.0.colored) (changes_made first first nexts all.0.colored all.1)

@@ -1,12 +1,12 @@
 -- A run goes on by an update, and where it stops.
-use Rattle.std.proofs.Common.{◌≡◌, ℕ, suc, ◌+◌, ◌<◌, ◌≤◌, Bool, true, false, List, [], ◌∷◌, ◌++◌}
+use Rattle.std.proofs.Common.{◌≡◌, ◌⊎◌, inl, inr, ℕ, suc, ◌+◌, ◌<◌, ◌≤◌, Bool, true, false, List, [], ◌∷◌, ◌++◌}
 use Rattle.std.proofs.Common.{length, take, Option, Some, None, Result, Ok, Err, refl, sym, ap, subst, ◌∙◌, arith}
-use Rattle.std.proofs.KnownBytes.{Appends-kept, Appends-trans, Consumes-kept, Consumes-nil, Consumes-trans}
+use Rattle.std.proofs.KnownBytes.{Appends-kept, Appends-trans, Consumes-kept, Consumes-nil, Consumes-trans, Keeps-refl}
 use Rattle.std.proofs.lemmas.Bool.{false≢true}
 use Rattle.std.proofs.lemmas.List.{append-nil, length-append, take-append-le}
 use Rattle.std.specs.Io.KnownBytes.{Appends, Consumes, IsAtEnd, Keeps}
 use Rattle.std.specs.List.{AllByRecursion}
-use Rattle.std.specs.Prelude.{OnOk, is_err}
+use Rattle.std.specs.Prelude.{OnErr, OnOk, is_err}
 use Rattle.vt_cells.specs.Op.{bytes_of_all}
 use Rattle.vt_cells.specs.declared.error.Error.{Error}
 use Rattle.vt_grid.specs.Page.{SameSize}
@@ -14,25 +14,29 @@ use Rattle.vt_redraw.specs.Redraw.{difference, redraw}
 use Rattle.vt_scan.specs.Automaton.{start}
 use Rattle.vt_scan.specs.Scanner.{StandsFor}
 use Rattle.vt_screen.specs.Chain.{chain_text, last_screen}
+use Rattle.vt_screen.specs.MadeOf.{IsMadeOf, drawing_controls, drawing_finals}
 use Rattle.vt_screen.specs.Screen.{ScreenValue}
-use Rattle.vt_screen.specs.Shown.{shown}
+use Rattle.vt_screen.specs.Shown.{shown, shown_change}
 use Rattle.vt_screen.specs.CallsOfRun.{screen_in}
+use Rattle.vt_screen.proofs.MadeOf.{made_append}
 use Rattle.vt100.specs.Parser.{Parsing, Ran, quietly}
 use Rattle.vt100.proofs.Running.{ran_then}
 use Rattle.vt100.proofs.Sizes.{quiet_leaves}
 use Rattle.vt100.proofs.Streams.{ran_called}
 use Rattle.vt_mirror.specs.Calls.{Drawn, IsUpdate, MirrorProcesses, GivesUpdate}
 use Rattle.vt_mirror.specs.Internals.{InStretch, IsBegun, IsWritten, ReadsAtMost, ReadsBytes, ReadsFewer, ReadsStretch}
-use Rattle.vt_mirror.specs.Internals.{WritesUpdate, text_of_update}
+use Rattle.vt_mirror.specs.Internals.{WritesUpdate, WritesUpdatePart, text_of_update}
 use Rattle.vt_mirror.specs.Mirror.{MirrorValue}
-use Rattle.vt_mirror.specs.Runs.{IsUpdatedAfter, WritesBehind, WritesOnWay, WritesToEnd}
+use Rattle.vt_mirror.specs.Runs.{FailsAtFirst, FailsLater, IsUpdatedAfter, WritesBehind, WritesOnWay, WritesToEnd}
 use Rattle.vt_mirror.specs.Runs.{screens_on_way, screens_to_end, text_on_way}
 use Rattle.vt_mirror.specs.Viewers.{ViewersValue, is_viewer, note_of}
 use Rattle.vt_mirror.specs.declared.update.Update.{Update}
 use Rattle.vt_mirror.specs.declared.update.Update.TheVariants.{Diff, Full}
+use Rattle.vt_show.specs.Shown.{AppendsPart}
 use Rattle.vt_show.specs.declared.faults.Fault.{Fault}
+use Rattle.vt_show.specs.declared.faults.Fault.TheVariants.{Write}
 use Rattle.vt_mirror.proofs.Noted.{own_size, size_through}
-use Rattle.vt_mirror.proofs.Runs.{all_of_more, fewer_on_way, last_of_more, more_on_way, next_length, none_on_way, text_of_more}
+use Rattle.vt_mirror.proofs.Runs.{all_of_more, chain_made, fewer_on_way, last_of_more, more_on_way, next_length, none_on_way, text_of_more}
 
 -- ---- what is read
 
@@ -153,6 +157,13 @@ diff_text self prev (Some other) (Diff text) e is =
 diff_text self prev (Some other) (Full rows cols text) e is = absurd is
 diff_text self prev None update e is = absurd (no_some prev (sym e))
 
+update_made : (self : ScreenValue) (noted : Option ScreenValue) (update : Update) → IsUpdate Drawn self noted update →
+    IsMadeOf drawing_finals drawing_controls (text_of_update update)
+update_made self None (Full rows cols text) is = is.controls
+update_made self None (Diff text) is = absurd is
+update_made self (Some prev) (Diff text) is = is.controls
+update_made self (Some prev) (Full rows cols text) is = absurd is
+
 ran_shows : (p q : Parsing (Unit {0})) (bytes : List ℕ) → StandsFor p.scanner start → Ran quietly p bytes q →
     q.screen ≡ screen_in start p.screen bytes
 ran_shows p q bytes stands ran = (ran_called quietly quiet_leaves p q bytes start stands ran).shown
@@ -269,12 +280,14 @@ written_all every viewer old mid read new left at rest written grown more stands
     (ap (λ (v : ViewersValue). note_of v viewer) s.reads.viewers ∙ before.note)
     (size_through read.parser.screen.page mid.parser.screen.page first.page s.reads.size before.size)
     before.updated before.appends w in
+    let updated =
+    subst (λ (xs : List ScreenValue). AllByRecursion (IsUpdatedAfter first) (first ∷ xs)) (sym screens) one.updated in
     record {
       input = all;
       reads = Consumes-trans left at rest before.input s.bytes before.reads s.reads.reads;
       appends = subst (λ (xs : List ScreenValue). Appends written more (chain_text first xs)) (sym screens) one.appends;
-      updated =
-          subst (λ (xs : List ScreenValue). AllByRecursion (IsUpdatedAfter first) (first ∷ xs)) (sym screens) one.updated;
+      updated = updated;
+      controls = chain_made first (screens_to_end first every all) updated;
     }
 
 -- ---- where it stops
@@ -284,7 +297,12 @@ pub stops_written : (every viewer : ℕ) (old new : MirrorValue) (left rest writ
     IsWritten every viewer old new left rest written grown →
     WritesOnWay old.parser.screen every left rest written grown
 stops_written every viewer old new left rest written grown w =
-    record { input = w.input; reads = w.reads; appends = w.appends }
+    record {
+      input = w.input;
+      reads = w.reads;
+      appends = w.appends;
+      controls = chain_made old.parser.screen (screens_on_way old.parser.screen every w.input) w.updated;
+    }
 
 -- a read failed
 pub stops_reading : (every viewer : ℕ) (old mid : MirrorValue) (left at rest written grown : Option (List ℕ)) →
@@ -296,6 +314,10 @@ stops_reading every viewer old mid left at rest written grown w r = record {
   appends =
       subst (λ (xs : List ScreenValue). Appends written grown (chain_text old.parser.screen xs))
       (sym (fewer_on_way old.parser.screen every w.count w.input r.bytes w.length_is r.fewer)) w.appends;
+  controls =
+      subst (λ (xs : List ScreenValue). IsMadeOf drawing_finals drawing_controls (chain_text old.parser.screen xs))
+      (sym (fewer_on_way old.parser.screen every w.count w.input r.bytes w.length_is r.fewer))
+      (chain_made old.parser.screen (screens_on_way old.parser.screen every w.input) w.updated);
 }
 
 -- memory was refused for what was read
@@ -308,6 +330,7 @@ stops_refused every viewer old mid left at rest written grown more w r keeps = r
   few = r.few;
   reads = Consumes-trans left at rest w.input r.bytes w.reads r.reads;
   appends = Appends-kept written grown more (text_on_way old.parser.screen every w.input) w.appends keeps;
+  controls = chain_made old.parser.screen (screens_on_way old.parser.screen every w.input) w.updated;
 }
 
 -- or for an update behind it
@@ -355,3 +378,75 @@ next_written every viewer true old mid read new left at rest written grown more 
     written_more every viewer old mid read new left at rest written grown more some stands before s w
 next_written every viewer false old mid read new left at rest written grown more e some stands before s w =
     absurd (false≢true e)
+
+-- ---- where writing fails
+
+-- an update was returned, and a beginning of its text was written
+pub update_part : (old : MirrorValue) (viewer : ℕ) (new : MirrorValue) (update : Update) (text : List ℕ)
+    (written grown : Option (List ℕ)) (answer : Result (Unit {0}) Fault)
+    → GivesUpdate Drawn old viewer update new → text ≡ text_of_update update
+    → OnErr answer (AppendsPart written grown text)
+    → answer ≡ Err Write → WritesUpdatePart old viewer new written grown
+update_part old viewer new update text written grown (Ok u) gives is part e = cc
+update_part old viewer new update text written grown (Err fault) gives is part e =
+    record { update = update; gives = gives; part = subst (AppendsPart written grown) is part }
+
+-- at the first update
+pub fails_first : (viewer : ℕ) (old new : MirrorValue) (left written grown : Option (List ℕ)) →
+    IsBegun old viewer → WritesUpdatePart old viewer new written grown →
+    FailsAtFirst old.parser.screen left left written grown
+fails_first viewer old new left written grown b w =
+    let text = full_text old.parser.screen (note_of old.viewers viewer) w.update b.note w.gives.text in
+    record {
+      reads = Keeps-refl left;
+      part = subst (AppendsPart written grown) text w.part;
+      controls =
+          subst (IsMadeOf drawing_finals drawing_controls) text
+          (update_made old.parser.screen (note_of old.viewers viewer) w.update w.gives.text);
+    }
+
+stretch_due : (every : ℕ) (is_whole : Bool) (old new : MirrorValue) (left rest : Option (List ℕ)) →
+    (s : ReadsStretch every is_whole old new left rest) →
+    (length s.bytes ≡ every) ⊎ ((length s.bytes < every) × IsAtEnd rest)
+stretch_due every true old new left rest s = inl (s.whole refl)
+stretch_due every false old new left rest s = inr (s.fewer refl, s.end refl)
+
+-- at a later one
+pub fails_later : (every viewer : ℕ) (is_whole : Bool) (old mid read new : MirrorValue)
+    (left at rest written grown more : Option (List ℕ))
+    → StandsFor old.parser.scanner start → IsWritten every viewer old mid left at written grown
+    → ReadsStretch every is_whole mid read at rest → WritesUpdatePart read viewer new grown more
+    → FailsLater old.parser.screen every left rest written more
+fails_later every viewer is_whole old mid read new left at rest written grown more stands before s w =
+    let first = old.parser.screen in
+    let all = before.input ++ s.bytes in
+    let ran : Ran quietly old.parser all read.parser =
+    ran_then quietly old.parser mid.parser read.parser before.input s.bytes before.ran s.reads.ran in
+    let text : text_of_update w.update ≡ shown_change (screen_in start first before.input) (screen_in start first all) =
+    diff_text read.parser.screen mid.parser.screen (note_of read.viewers viewer) w.update
+    (ap (λ (v : ViewersValue). note_of v viewer) s.reads.viewers ∙ before.note) w.gives.text
+    ∙ (ap (λ (x : ScreenValue). shown_change mid.parser.screen x) (ran_shows old.parser read.parser all stands ran)
+    ∙ ap (λ (x : ScreenValue). shown_change x (screen_in start first all))
+    (ran_shows old.parser mid.parser before.input stands before.ran)) in
+    record {
+      input = before.input;
+      count = before.count;
+      whole = before.length_is;
+      last = s.bytes;
+      due = stretch_due every is_whole mid read at rest s;
+      reads = Consumes-trans left at rest before.input s.bytes before.reads s.reads.reads;
+      part = record {
+        taken = w.part.taken;
+        lost = w.part.lost;
+        parts = sym text ∙ w.part.parts;
+        appends =
+            Appends-trans written grown more (text_on_way first every before.input) w.part.taken before.appends
+            w.part.appends;
+      };
+      controls =
+          made_append drawing_finals drawing_controls (text_on_way first every before.input)
+          (shown_change (screen_in start first before.input) (screen_in start first all))
+          (chain_made first (screens_on_way first every before.input) before.updated)
+          (subst (IsMadeOf drawing_finals drawing_controls) text
+          (update_made read.parser.screen (note_of read.viewers viewer) w.update w.gives.text));
+    }

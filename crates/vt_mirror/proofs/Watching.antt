@@ -16,7 +16,7 @@ use Rattle.vt_screen.proofs.Viewing.{same_shown}
 use Rattle.vt100.specs.Parser.{Parsing}
 use Rattle.vt100.specs.Pieces.{HasRead, IsPlainParser}
 use Rattle.vt100.proofs.Pieces.{read_pieces}
-use Rattle.vt_mirror.specs.Calls.{Asks, Drawn, IsDiff, IsFull, IsOfKind, IsUpdate, JoinsMirror, Kind}
+use Rattle.vt_mirror.specs.Calls.{Asks, Drawn, IsDiff, IsFull, IsFullAfter, IsOfKind, IsUpdate, JoinsMirror, Kind}
 use Rattle.vt_mirror.specs.Calls.{Scrolling, Resizes, GivesUpdate}
 use Rattle.vt_mirror.specs.Mirror.{MirrorValue}
 use Rattle.vt_mirror.specs.Viewers.{Puts, ViewersValue, next_number, note_of}
@@ -30,24 +30,24 @@ use Rattle.vt_screen.proofs.Sizing.{resized_is, resized_plain, resized_size}
 
 -- ---- what is noted for a number whose viewer is told nothing: what was, or nothing
 
-abbrev NotedBefore : ℕ → MirrorValue → MirrorValue → Type 0
+abbrev pub NotedBefore : ℕ → MirrorValue → MirrorValue → Type 0
 NotedBefore number old new =
     (screen : ScreenValue) → note_of new.viewers number ≡ Some screen → note_of old.viewers number ≡ Some screen
 
-before_same : (number : ℕ) (old new : MirrorValue) → new.viewers ≡ old.viewers → NotedBefore number old new
+pub before_same : (number : ℕ) (old new : MirrorValue) → new.viewers ≡ old.viewers → NotedBefore number old new
 before_same number old new same screen e = ap (λ (v : ViewersValue). note_of v number) (sym same) ∙ e
 
-before_equal : (number : ℕ) (old new : MirrorValue) → new ≡ old → NotedBefore number old new
+pub before_equal : (number : ℕ) (old new : MirrorValue) → new ≡ old → NotedBefore number old new
 before_equal number old new same = before_same number old new (ap (λ (m : MirrorValue). m.viewers) same)
 
-before_none : (number viewer : ℕ) (is : Bool) (old new : MirrorValue) →
+pub before_none : (number viewer : ℕ) (is : Bool) (old new : MirrorValue) →
     Puts old.viewers viewer is None new.viewers → NotedBefore number old new
 before_none number viewer is old new p screen e =
     by_number viewer number
     (λ here. absurd (none_some screen (sym p.note_here ∙ (ap (note_of new.viewers) (sym here) ∙ e))))
     (λ other. sym (p.other_notes number other) ∙ e)
 
-before_resize : (number : ℕ) (old new : MirrorValue) (rows cols : ℕ) (answer : Result (Unit {0}) Error) →
+pub before_resize : (number : ℕ) (old new : MirrorValue) (rows cols : ℕ) (answer : Result (Unit {0}) Error) →
     Resizes old rows cols answer new → NotedBefore number old new
 before_resize number old new rows cols answer r = by_test (has_size rows cols old.parser.screen) refl answer r where
   by_test : (b : Bool) → has_size rows cols old.parser.screen ≡ b →
@@ -58,7 +58,7 @@ before_resize number old new rows cols answer r = by_test (has_size rows cols ol
       (none_some screen (ap (λ (m : MirrorValue). note_of m.viewers number) (sym (r.other e)) ∙ noted))
   by_test false e (Err error) r = before_equal number old new r.refused.1
 
-before_join : (number : ℕ) (old new : MirrorValue) (answer : Result ℕ Error) →
+pub before_join : (number : ℕ) (old new : MirrorValue) (answer : Result ℕ Error) →
     JoinsMirror old.viewers answer new.viewers → NotedBefore number old new
 before_join number old new (Ok viewer) j = before_none number viewer true old new j.puts
 before_join number old new (Err error) j = before_same number old new j.refused
@@ -103,13 +103,13 @@ reads_diff self prev text p q diff steady sound plain shows t =
     }) t
 
 -- a plain terminal that takes the size of a full update
-record Sized {S : Type 0} (rows cols : ℕ) (q : Parsing S) : Type 0 where
+pub record Sized {S : Type 0} (rows cols : ℕ) (q : Parsing S) : Type 0 where
   pub sound : IsScreen q.screen
   pub plain : IsPlainParser q
   pub wide : q.screen.page.width ≡ cols
   pub tall : length q.screen.page.rows ≡ rows
 
-takes_size : {S : Type 0} (self : ScreenValue) (rows cols : ℕ) (text : List ℕ) (p q : Parsing S) →
+pub takes_size : {S : Type 0} (self : ScreenValue) (rows cols : ℕ) (text : List ℕ) (p q : Parsing S) →
     IsFull self rows cols text → TakesSize rows cols p q → IsScreen p.screen → IsPlainParser p → Sized rows cols q
 takes_size {S} self rows cols text p q full t sound plain =
     let size = resized_size rows cols p.screen in
@@ -149,6 +149,11 @@ of_kind : (kind : Kind) (self prev : ScreenValue) (text : List ℕ) → IsOfKind
 of_kind Drawn self prev text is = is.diff
 of_kind Scrolling self prev text is = is.diff
 
+full_after : (kind : Kind) (self prev : ScreenValue) (rows cols : ℕ) (text : List ℕ) →
+    IsFullAfter kind self prev rows cols text → IsFull self rows cols text
+full_after Drawn self prev rows cols text is = absurd is
+full_after Scrolling self prev rows cols text is = is.1
+
 -- by what is noted, which the viewer shows
 takes_update : {S : Type 0} (kind : Kind) (self : ScreenValue) (noted : Option ScreenValue)
     (update : Update) (p q : Parsing S)
@@ -160,7 +165,9 @@ takes_update kind self (Some prev) (Diff text) p q shows is steady sound plain t
     (shows prev refl) t
 takes_update kind self None (Full rows cols text) p q shows is steady sound plain t =
     reads_full self rows cols (string_bytes text) p t.0 q is steady sound plain t.1 t.2
-takes_update kind self (Some prev) (Full rows cols text) p q shows is steady sound plain t = absurd is
+takes_update kind self (Some prev) (Full rows cols text) p q shows is steady sound plain t =
+    reads_full self rows cols (string_bytes text) p t.0 q (full_after kind self prev rows cols (string_bytes text) is)
+    steady sound plain t.1 t.2
 takes_update kind self None (Diff text) p q shows is steady sound plain t = absurd is
 
 -- ---- one call

@@ -10,6 +10,8 @@ use Rattle.vt_redraw.specs.Locality.{IsLocal}
 use Rattle.vt_redraw.specs.Moved.{IsScrolling}
 use Rattle.vt_redraw.specs.Redraw.{difference, redraw}
 use Rattle.vt_redraw.specs.Steady.{IsSteady}
+use Rattle.vt_screen.specs.Again.{KeepsPlain}
+use Rattle.vt_screen.specs.MadeOf.{IsMadeOf, drawing_controls, drawing_finals, scrolling_finals}
 use Rattle.vt_screen.specs.Pages.{has_size, resized}
 use Rattle.vt_screen.specs.Screen.{IsColored, IsScreen, ScreenValue}
 use Rattle.vt_screen.specs.Shown.{IsReader, IsReaderOf, KeepsRest, Redraws, shown}
@@ -70,6 +72,8 @@ pub record IsFull (self : ScreenValue) (rows cols : ℕ) (text : List ℕ) : Typ
   pub few_columns : cols < 2 ^ 16
   pub is : text ≡ bytes_of_all (redraw (shown self))
   pub redraws : Redraws (shown self) (IsReader (shown self)) KeepsRest text
+  pub controls : IsMadeOf drawing_finals drawing_controls text
+  pub again : KeepsPlain text
 
 -- a difference from a screen of the same size: it is empty where both show the same, and only there
 pub record IsDiff (self prev : ScreenValue) (text : List ℕ) : Type 0 where
@@ -77,6 +81,7 @@ pub record IsDiff (self prev : ScreenValue) (text : List ℕ) : Type 0 where
   pub redraws : Redraws (shown self) (IsReaderOf (shown self) (shown prev)) KeepsRest text
   pub none : shown self ≡ shown prev → text ≡ []
   pub empty : IsSteady (shown self) → text ≡ [] → shown self ≡ shown prev
+  pub again : KeepsPlain text
 
 -- how a difference is made: drawn alone, or behind rows that move first
 pub data Kind : Type 0 where
@@ -87,13 +92,16 @@ pub data Kind : Type 0 where
 pub record IsDrawn (self prev : ScreenValue) (text : List ℕ) : Type 0 where
   pub diff : IsDiff self prev text
   pub is : text ≡ bytes_of_all (difference (shown self) (shown prev))
+  pub controls : IsMadeOf drawing_finals drawing_controls text
   pub touches : IsSteady (shown self)
       → TouchesOnly (IsReaderOf (shown self) (shown prev)) text (IsLocal (shown self) (shown prev))
 
--- one that scrolls is never longer
+-- one that scrolls starts from a steady screen, and is never longer
 pub record Scrolls (self prev : ScreenValue) (text : List ℕ) : Type 0 where
   pub diff : IsDiff self prev text
+  pub from_steady : IsSteady (shown prev)
   pub is : IsScrolling (shown self) (shown prev) text
+  pub controls : IsMadeOf scrolling_finals drawing_controls text
   pub shorter : length text ≤ length (bytes_of_all (difference (shown self) (shown prev)))
 
 abbrev pub IsOfKind : Kind → (self prev : ScreenValue) → (text : List ℕ) → Type 0
@@ -104,10 +112,16 @@ abbrev pub IsFullUpdate : (self : ScreenValue) → Update → Type 0
 IsFullUpdate self (Full rows cols text) = IsFull self rows cols (string_bytes text)
 IsFullUpdate self (Diff text) = ⊥
 
--- a full redraw where nothing is noted, and else the difference, of this kind, from the screen that is
+-- where a screen is noted, a full redraw of a kind that scrolls alone, and only if that screen is not steady
+abbrev pub IsFullAfter : Kind → (self prev : ScreenValue) → (rows cols : ℕ) → (text : List ℕ) → Type 0
+IsFullAfter Drawn self prev rows cols text = ⊥
+IsFullAfter Scrolling self prev rows cols text = (IsSteady (shown prev) → ⊥) × IsFull self rows cols text
+
+-- a full redraw where nothing is noted, and else the difference, of this kind, from the screen that is, if one may
+-- start from it
 abbrev pub IsUpdate : Kind → (self : ScreenValue) → Option ScreenValue → Update → Type 0
 IsUpdate kind self (Some prev) (Diff text) = IsOfKind kind self prev (string_bytes text)
-IsUpdate kind self (Some prev) (Full rows cols text) = ⊥
+IsUpdate kind self (Some prev) (Full rows cols text) = IsFullAfter kind self prev rows cols (string_bytes text)
 IsUpdate kind self None update = IsFullUpdate self update
 
 -- a viewer gets an update, and the mirror's screen, which is a screen, is noted for it

@@ -12,6 +12,7 @@ use Rattle.vt_mirror.specs.Calls.{Drawn, GivesUpdate}
 use Rattle.vt_mirror.specs.Mirror.{MirrorValue}
 use Rattle.vt_mirror.specs.Runs.{IsUpdatedAfter, screens_on_way, text_on_way}
 use Rattle.vt_mirror.specs.Viewers.{is_viewer, note_of}
+use Rattle.vt_show.specs.Shown.{AppendsPart}
 use Rattle.vt_mirror.specs.declared.update.Update.{Update}
 use Rattle.vt_mirror.specs.declared.update.Update.TheVariants.{Diff, Full}
 
@@ -26,6 +27,13 @@ pub record WritesUpdate (old : MirrorValue) (viewer : ℕ) (new : MirrorValue)
   pub update : Update
   pub gives : GivesUpdate Drawn old viewer update new
   pub appends : Appends written grown (text_of_update update)
+
+-- a viewer got an update, and a beginning of the text was written
+pub record WritesUpdatePart (old : MirrorValue) (viewer : ℕ) (new : MirrorValue)
+    (written grown : Option (List ℕ)) : Type 0 where
+  pub update : Update
+  pub gives : GivesUpdate Drawn old viewer update new
+  pub part : AppendsPart written grown (text_of_update update)
 
 -- bytes were read by the mirror; its viewers and its size are as before
 pub record ReadsBytes (bytes : List ℕ) (old new : MirrorValue) (left rest : Option (List ℕ)) : Type 0 where

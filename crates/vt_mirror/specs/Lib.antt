@@ -1,7 +1,11 @@
 pub mod Viewers
+pub mod Alike
+pub mod Kept
 pub mod Mirror
 pub mod Calls
+pub mod Sharing
 pub mod Watching
+pub mod Healing
 pub mod Arguments
 pub mod Endings
 pub mod Runs

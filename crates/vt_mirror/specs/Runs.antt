@@ -1,6 +1,6 @@
 -- What a run over an input writes for its one viewer: the text of an update at the start, one after each so many bytes,
 -- and one at the end.
-use Rattle.std.specs.Prelude.{◌≡◌, ℕ, zero, suc, ◌*◌, ◌/◌, ◌≤◌, ◌⊎◌, List, [], ◌∷◌, ◌++◌, length, map, take, Err, OnOk}
+use Rattle.std.specs.Prelude.{◌≡◌, ℕ, zero, suc, ◌*◌, ◌/◌, ◌<◌, ◌≤◌, ◌⊎◌, List, [], ◌∷◌, ◌++◌, length, map, take, Err, OnOk}
 use Rattle.std.specs.Io.KnownBytes.{Appends, Consumes, IsAtEnd, Keeps}
 use Rattle.std.specs.List.{AllByRecursion}
 use Rattle.std.specs.declared.option.Option.{Option}
@@ -8,10 +8,13 @@ use Rattle.std.specs.declared.result.Result.{Result}
 use Rattle.vt_grid.specs.Page.{SameSize}
 use Rattle.vt_scan.specs.Automaton.{start}
 use Rattle.vt_screen.specs.Chain.{chain_text}
+use Rattle.vt_screen.specs.MadeOf.{IsMadeOf, drawing_controls, drawing_finals}
 use Rattle.vt_screen.specs.Screen.{IsColored, IsScreen, ScreenValue}
 use Rattle.vt_screen.specs.CallsOfRun.{screen_in}
+use Rattle.vt_screen.specs.Shown.{shown_change, shown_text}
 use Rattle.vt_show.specs.declared.faults.Fault.{Fault}
-use Rattle.vt_show.specs.declared.faults.Fault.TheVariants.{Memory, Read}
+use Rattle.vt_show.specs.declared.faults.Fault.TheVariants.{Memory, Read, Write}
+use Rattle.vt_show.specs.Shown.{AppendsPart}
 
 -- ---- of which screens the viewer gets an update, after the first one
 
@@ -35,7 +38,8 @@ pub record IsUpdatedAfter (first screen : ScreenValue) : Type 0 where
   pub colored : IsColored screen
   pub size : SameSize screen.page first.page
 
--- ---- their texts: the redraw of the first one, and the difference of each next one
+-- ---- their texts: what `Screen::contents_formatted` returns for the first one, and `Screen::contents_diff` for each
+-- next one against the one before it
 
 abbrev pub text_on_way : (first : ScreenValue) (every : ℕ) → List ℕ → List ℕ
 text_on_way first every input = chain_text first (screens_on_way first every input)
@@ -50,6 +54,7 @@ pub record WritesToEnd (first : ScreenValue) (every : ℕ) (left rest written gr
   pub input : List ℕ
   pub reads : Consumes left rest input
   pub appends : Appends written grown (text_to_end first every input)
+  pub controls : IsMadeOf drawing_finals drawing_controls (text_to_end first every input)
   pub updated : AllByRecursion (IsUpdatedAfter first) (first ∷ screens_to_end first every input)
 
 -- for bytes behind which a read failed: all updates that were due
@@ -57,6 +62,7 @@ pub record WritesOnWay (first : ScreenValue) (every : ℕ) (left rest written gr
   pub input : List ℕ
   pub reads : Consumes left rest input
   pub appends : Appends written grown (text_on_way first every input)
+  pub controls : IsMadeOf drawing_finals drawing_controls (text_on_way first every input)
 
 -- for bytes at whose end memory was refused: all updates but that for the last bytes, at most as many as are read
 -- between two updates
@@ -66,17 +72,52 @@ pub record WritesBehind (first : ScreenValue) (every : ℕ) (left rest written g
   pub few : length last ≤ every
   pub reads : Consumes left rest (input ++ last)
   pub appends : Appends written grown (text_on_way first every input)
+  pub controls : IsMadeOf drawing_finals drawing_controls (text_on_way first every input)
 
 -- memory was refused, before the first update or later
 abbrev pub WritesSome : (first : ScreenValue) (every : ℕ) → (left rest written grown : Option (List ℕ)) → Type 0
 WritesSome first every left rest written grown =
     (Keeps left rest × Keeps written grown) ⊎ WritesBehind first every left rest written grown
 
+-- writing the first update failed, before anything was read: a beginning of its text was written
+pub record FailsAtFirst (first : ScreenValue) (left rest written grown : Option (List ℕ)) : Type 0 where
+  pub reads : Keeps left rest
+  pub part : AppendsPart written grown (shown_text first)
+  pub controls : IsMadeOf drawing_finals drawing_controls (shown_text first)
+
+-- these texts were written, and a beginning of the next one
+pub record AppendsThenPart (earlier next : List ℕ) (written grown : Option (List ℕ)) : Type 0 where
+  pub taken : List ℕ
+  pub lost : List ℕ
+  pub parts : next ≡ taken ++ lost
+  pub appends : Appends written grown (earlier ++ taken)
+
+-- writing a later update failed: the one before it was due after `input`, and this one after the bytes `last` behind
+-- that, which are as many as are read between two updates, or fewer and none is left. All updates before it were
+-- written, and a beginning of its text: the difference between the screens after the two
+pub record FailsLater (first : ScreenValue) (every : ℕ) (left rest written grown : Option (List ℕ)) : Type 0 where
+  pub input : List ℕ
+  pub count : ℕ
+  pub whole : length input ≡ count * every
+  pub last : List ℕ
+  pub due : (length last ≡ every) ⊎ ((length last < every) × IsAtEnd rest)
+  pub reads : Consumes left rest (input ++ last)
+  pub part : AppendsThenPart (text_on_way first every input)
+      (shown_change (screen_in start first input) (screen_in start first (input ++ last))) written grown
+  pub controls : IsMadeOf drawing_finals drawing_controls (text_on_way first every input
+      ++ shown_change (screen_in start first input) (screen_in start first (input ++ last)))
+
+-- the text of one update was not written whole, and nothing after it
+abbrev pub WritesPart : (first : ScreenValue) (every : ℕ) → (left rest written grown : Option (List ℕ)) → Type 0
+WritesPart first every left rest written grown =
+    FailsAtFirst first left rest written grown ⊎ FailsLater first every left rest written grown
+
 -- the input is read to its end, or up to a fault, and the updates are written that were due. `error` is how a fault is
--- answered
+-- returned
 pub record UpdatesOrFails {E : Type 0} (error : Fault → E) (first : ScreenValue) (every : ℕ)
     (left rest written grown : Option (List ℕ)) (result : Result (Unit {0}) E) : Type 0 where
   pub end : OnOk result (IsAtEnd rest)
   pub text : OnOk result (WritesToEnd first every left rest written grown)
   pub read : result ≡ Err (error Read) → WritesOnWay first every left rest written grown
   pub memory : result ≡ Err (error Memory) → WritesSome first every left rest written grown
+  pub write : result ≡ Err (error Write) → WritesPart first every left rest written grown

@@ -3,7 +3,8 @@
 ghost use Rattle.std.specs.Io.KnownBytes.{Keeps};
 ghost use Rattle.std.specs.Prelude.{◌≡◌, ◌≢◌, ◌<◌, ◌↔◌, Err, IfErr, IfOk, None, OnOk, Some, map, string_bytes, true};
 ghost use Rattle.vt_mirror.specs.Arguments.{AskFor, AskForNothing};
-ghost use Rattle.vt_mirror.specs.Internals.{IsBegun, ReadsAtMost, ReadsFewer, ReadsStretch, WritesUpdate};
+ghost use Rattle.vt_mirror.specs.Internals.{IsBegun, ReadsAtMost, ReadsFewer, ReadsStretch};
+ghost use Rattle.vt_mirror.specs.Internals.{WritesUpdate, WritesUpdatePart};
 ghost use Rattle.vt_mirror.specs.Runs.{UpdatesOrFails};
 ghost use Rattle.vt_mirror.specs.Viewers.{is_viewer};
 ghost use Rattle.vt_screen.specs.Screen.{fresh_screen};
@@ -25,12 +26,18 @@ const BUFFER_SIZE: usize = 8192;
 /// that a fresh terminal of this size that reads what is written shows the
 /// screen as it was at the last update, if it was steady at each.
 ///
-/// Any error of a read is `Read`, an interrupted one as well; any error of
-/// writing or flushing is `Write`; and where memory is refused, the fault is
-/// `Memory`. What was written before a fault stays, and nothing more is
-/// written: after `Read` that is all that was due for what was read, and after
-/// `Memory` at most one update less. After `Write` it is not said how much of
-/// the last text was written.
+/// # Errors
+///
+/// What was written before a fault stays, and nothing more is written.
+///
+/// - `Read` after any error of a read, also an interrupted one. All updates
+///   that were due for what was read were written.
+/// - `Memory` if an allocation fails. At most one update that was due was not
+///   written.
+/// - `Write` after any error of a write or a flush, or if the writer takes no
+///   bytes; an interrupted write is tried again. All updates before the one
+///   that failed were written, and a beginning of that one's text, or all of
+///   it. Nothing was read after the bytes that it was due for.
 pub fn run<R: Read, W: Write>(
     alloc: Global,
     reader: &mut R,
@@ -39,7 +46,7 @@ pub fn run<R: Read, W: Write>(
     cols: NonZeroU16,
     every: NonZeroU16,
 ) -> Result<(), Fault>
-    ensures { UpdatesOrFails (λ fault. fault) (fresh_screen rows.value cols.value 0) every.value
+    ensures call { UpdatesOrFails (λ fault. fault) (fresh_screen rows.value cols.value 0) every.value
         (R.remaining reader.old) (R.remaining reader.new) (W.contents writer.old) (W.contents writer.new) result }
 {
     let Ok(mut mirror) = Mirror::new(alloc, rows, cols, 0) else {
@@ -143,6 +150,8 @@ fn write_update<W: Write>(mirror: &mut Mirror, viewer: u64, writer: &mut W) -> R
     ensures writes { OnOk result
         (WritesUpdate mirror.old viewer mirror.new (W.contents writer.old) (W.contents writer.new)) }
     ensures memory { result ≡ Err Fault.Memory → Keeps (W.contents writer.old) (W.contents writer.new) }
+    ensures part { result ≡ Err Fault.Write →
+        WritesUpdatePart mirror.old viewer mirror.new (W.contents writer.old) (W.contents writer.new) }
     ensures fault { IfErr result (λ fault. fault ≢ Fault.Read) }
 {
     let Ok(answer) = mirror.update(viewer) else {

@@ -4,6 +4,7 @@
 ghost use Rattle.std.specs.List.{AllByRecursion, FoldsTo};
 ghost use Rattle.std.specs.Prelude.{◌≡◌, ◌∷◌, ℕ, List};
 ghost use Rattle.vt_grid.specs.Page.{SameSize};
+ghost use Rattle.vt_mirror.specs.Healing.{GoesAny, ShowsSteady};
 ghost use Rattle.vt_mirror.specs.Mirror.{MirrorValue};
 ghost use Rattle.vt_mirror.specs.Runs.{IsUpdatedAfter, screens_to_end, text_to_end};
 ghost use Rattle.vt_mirror.specs.Viewers.{next_number};
@@ -45,6 +46,19 @@ pub fn viewers<CB: Callbacks>()
         FoldsTo MirrorDoes old calls new → CountUp (next_number old.viewers.last) (numbers_given calls) }
 {}
 
+/// A viewer whose updates are all of
+/// [`update_scrolling`](crate::Mirror::update_scrolling) heals: after any list of
+/// calls of a fresh [`Mirror`](crate::Mirror) it shows the screen as it was at
+/// its last update, if that screen was steady, whatever screens came before.
+/// Steady or not, it is a plain terminal.
+///
+/// The viewer is as that of [`viewers`], and all its calls of `process` and
+/// `set_size` answer Ok.
+pub fn heals<CB: Callbacks>()
+    ensures { (number : ℕ) (calls : List MirrorCall) (old new : Watching CB) →
+        IsFresh old.mirror → IsNew old → FoldsTo (GoesAny CB.does number) old calls new → ShowsSteady new }
+{}
+
 /// What [`run`](crate::run) writes for an input, read in any pieces by a plain
 /// terminal of its size, leaves it plain and showing the screen after the
 /// input. Each call answers Ok; callbacks, scrollback, the other page and the
@@ -54,7 +68,7 @@ pub fn viewers<CB: Callbacks>()
 /// `Screen::contents_formatted`). That each of them is whole and of one size
 /// (`IsUpdatedAfter`) is said where the run answers Ok.
 pub fn runs<CB: Callbacks>()
-    ensures { (first : ScreenValue) (every : ℕ) (input : List ℕ) (p q : Parsing CB) (calls : List Processing) →
+    ensures shows { (first : ScreenValue) (every : ℕ) (input : List ℕ) (p q : Parsing CB) (calls : List Processing) →
         IsScreen p.screen → IsPlainParser p → SameSize first.page p.screen.page →
         AllByRecursion (IsUpdatedAfter first) (first ∷ screens_to_end first every input) →
         AllByRecursion (λ screen. IsSteady (shown screen)) (first ∷ screens_to_end first every input) →

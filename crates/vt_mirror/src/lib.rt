@@ -2,10 +2,12 @@
 //! by texts; and the engine of the program `vtmirror`.
 #![tactic(auto)]
 
+mod copies;
 mod endings;
 mod engine;
 pub mod laws;
 mod mirror;
+mod texts;
 mod update;
 mod viewers;
 mod words;

@@ -1,10 +1,11 @@
 //! A terminal and its viewers.
 
-ghost use Rattle.std.specs.Prelude.{◌≡◌, IfOk, None, OnErr, OnOk, Some, [], true};
+ghost use Rattle.std.specs.Prelude.{◌≡◌, IfOk, IsTrue, None, OnErr, OnOk, Some, [], string_bytes, true};
 ghost use Rattle.vt_cells.specs.Refusals.{OnlyOutOfMemory};
 ghost use Rattle.vt_mirror.specs.Calls.{Asks, Drawn, IsFullUpdate, IsUpdate, JoinsMirror, Leaves};
 ghost use Rattle.vt_mirror.specs.Calls.{MirrorProcesses, Resizes, Scrolling};
 ghost use Rattle.vt_mirror.specs.Mirror.{ShowsFreshScreen};
+ghost use Rattle.vt_mirror.specs.Sharing.{IsRedraw};
 ghost use Rattle.vt_mirror.specs.Viewers.{Puts, is_viewer, note_of};
 ghost use Rattle.vt_scan.specs.Automaton.{start};
 ghost use Rattle.vt_scan.specs.Scanner.{StandsFor};
@@ -17,13 +18,20 @@ use std::marker::Model;
 use std::num::NonZeroU16;
 use vt100::{Error, Parser, Screen};
 
-/// A terminal in memory, and viewers of it: terminals elsewhere, each of which
-/// is kept equal to it by texts.
+/// A terminal in memory with any number of viewers: terminals elsewhere that
+/// are kept equal to it by escape sequences.
 ///
-/// A viewer has a number, and the mirror keeps a copy of the screen for it: the
-/// one of its last update. So a viewer may fall behind by any number of calls,
-/// and its next update makes up for all of them. What follows for viewers over
-/// any list of calls is [`laws::viewers`](crate::laws::viewers).
+/// A viewer has a number, and the mirror keeps for it what the screen displayed
+/// at its last update. So a viewer may miss any number of calls, and its next
+/// update makes up for all of them. What follows for viewers over any list of
+/// calls is [`laws::viewers`](crate::laws::viewers).
+///
+/// Viewers that were updated to the same screen share one copy of it, and those
+/// of them that are updated next share the text. So a further viewer that keeps
+/// up takes little memory and time; only a viewer whose last update was to a
+/// screen of its own needs a copy and a difference of its own. A copy has
+/// neither scrollback nor the page that is not displayed (see
+/// `Screen::shown_copy`).
 ///
 /// ```text
 /// let mut mirror = Mirror::new(rt.alloc(), rows, cols, 0)?;
@@ -34,24 +42,27 @@ use vt100::{Error, Parser, Screen};
 /// }
 /// ```
 pub struct Mirror {
+    alloc: Global,
     parser: Parser,
     viewers: Viewers,
 }
 
 impl Model for Mirror {
-    ghost use Rattle.vt_mirror.specs.Mirror.{IsMirror, MirrorValue};
+    ghost use Rattle.vt_mirror.specs.Mirror.{MirrorValue};
+    ghost use Rattle.vt_mirror.specs.Sharing.{IsSharing};
 
     ghost Value = { MirrorValue };
 
-    ghost view = { λ m. record { parser = m.parser; viewers = m.viewers } };
+    ghost view = { λ m. record { parser = m.parser; viewers = m.viewers.viewers } };
 
-    ghost invariant = { λ m. IsMirror (record { parser = m.parser; viewers = m.viewers }) };
+    ghost invariant = { λ m. IsSharing m.parser m.viewers };
 }
 
 // One call wherever it is given up, as of a screen.
 impl Drop for Mirror {
     fn drop(self) {
         let Mirror {
+            alloc: _,
             parser: _,
             viewers: _,
         } = self;
@@ -59,10 +70,12 @@ impl Drop for Mirror {
 }
 
 impl Mirror {
-    /// A mirror with a fresh screen and no viewer. Of the rows that leave the
-    /// page at its top at most `scrollback_capacity` are kept, the last ones.
+    /// Creates a mirror with a fresh screen and no viewer. Of the rows that
+    /// scroll off the top, the last `scrollback_capacity` are kept.
     ///
-    /// Fails where memory for the screen is refused.
+    /// # Errors
+    ///
+    /// `OutOfMemory` if the screen cannot be allocated.
     pub fn new(
         alloc: Global,
         rows: NonZeroU16,
@@ -77,30 +90,37 @@ impl Mirror {
         ensures memory { OnlyOutOfMemory result }
     {
         Ok(Mirror {
+            alloc,
             parser: Parser::new(alloc, rows, cols, scrollback_capacity)?,
             viewers: Viewers::new(alloc),
         })
     }
 
-    /// Reads bytes, as `Parser::process` does. The viewers are told at their
-    /// next updates.
+    /// Parses `bytes` and applies them to the screen, as `Parser::process` does.
+    /// The viewers get the changes with their next updates.
     ///
-    /// Where memory is refused, the answer is `OutOfMemory`: all steps before
-    /// the refused one were taken, and from then on the mirror reads nothing
-    /// and answers `Failed`. Its viewers still join, leave and are updated.
+    /// # Errors
+    ///
+    /// `OutOfMemory` if an allocation fails: all steps before it were taken, and
+    /// from then on the mirror reads nothing and returns `Failed`. Viewers can
+    /// still join, leave and be updated.
     pub fn process(&mut self, bytes: &[u8]) -> Result<(), Error>
         ensures call { MirrorProcesses self.old bytes.now result self.new }
     {
+        // For the proof alone: the contract of `size` says that every screen is
+        // whole, and bytes leave the size of a whole screen.
         self.parser.screen().size();
+        self.viewers.discard_current();
         self.parser.process(bytes)
     }
 
-    /// Gives the screen another number of rows and columns, as
-    /// `Parser::set_size` does. Then nothing is noted for any viewer, so that
-    /// its next update is a full one. An equal size changes nothing and is
-    /// never refused.
+    /// Changes the size of the screen, as `Parser::set_size` does. After that
+    /// nothing is noted for any viewer, so that its next update is a full one.
+    /// The size that the screen has changes nothing and never fails.
     ///
-    /// Fails where memory is refused; then nothing has changed.
+    /// # Errors
+    ///
+    /// `OutOfMemory` if an allocation fails; then nothing has changed.
     pub fn set_size(&mut self, rows: NonZeroU16, cols: NonZeroU16) -> Result<(), Error>
         ensures call { Resizes self.old rows.value cols.value result self.new }
     {
@@ -108,16 +128,17 @@ impl Mirror {
             return Ok(());
         }
         self.parser.set_size(rows, cols)?;
-        self.viewers.forget();
+        self.viewers.discard_all();
         Ok(())
     }
 
-    /// Adds a viewer, and answers its number: 0 for the first one, and for
-    /// each later one the number behind the last that was given. None is given
-    /// twice.
+    /// Adds a viewer and returns its number: 0 for the first one, and one more
+    /// than the last number for each later one. No number is given twice.
     ///
-    /// Fails with `NoNumber` exactly where `u64::MAX` was given, and else where
-    /// memory is refused; then nothing has changed.
+    /// # Errors
+    ///
+    /// `NoNumber` if and only if `u64::MAX` was given, `OutOfMemory` if an
+    /// allocation fails; then nothing has changed.
     pub fn join(&mut self) -> Result<u64, Error>
         ensures parser { self.new.parser ≡ self.old.parser }
         ensures call { JoinsMirror self.old.viewers result self.new.viewers }
@@ -125,7 +146,7 @@ impl Mirror {
         self.viewers.join()
     }
 
-    /// Removes a viewer, and answers whether the number was one's.
+    /// Removes a viewer. Returns whether there was one of this number.
     pub fn leave(&mut self, viewer: u64) -> bool
         ensures parser { self.new.parser ≡ self.old.parser }
         ensures call { Leaves self.old.viewers viewer result self.new.viewers }
@@ -133,24 +154,26 @@ impl Mirror {
         self.viewers.leave(viewer)
     }
 
-    /// The viewer's next update: a full one where nothing is noted for it,
-    /// which is so at first and after a resize, and else the difference from
-    /// the screen of its last update. `None` is answered exactly for a number
-    /// that is no viewer's.
+    /// Returns the viewer's next update: a full one if nothing is noted for it,
+    /// as at first and after a resize, and otherwise the difference from the
+    /// screen of its last update. The result is `None` if and only if there is no
+    /// viewer of this number.
     ///
-    /// A full one has at least one row and one column. A difference is empty
-    /// where the screen shows what it showed at the viewer's last update, and,
-    /// if it is steady, only there; reading it touches only what is near a
-    /// difference, as that of `Screen::contents_diff` does.
+    /// A full update has at least one row and one column. A difference is empty
+    /// if the screen displays what it displayed at the viewer's last update, and,
+    /// if it is steady, only then; reading it touches only what is near a
+    /// change, as that of `Screen::contents_diff` does.
     ///
     /// A plain terminal that takes the size of each full update before it reads
-    /// it, and that reads all updates of one viewer in order, shows the
+    /// it, and that reads all updates of one viewer in order, displays the
     /// mirror's screen as it was at the last of them, if it was steady at each
     /// (see `Screen::contents_formatted`).
     ///
-    /// Fails where memory for the text, or for the copy of the screen that is
-    /// noted, is refused; then nothing has changed, and the same update can be
-    /// asked for again.
+    /// # Errors
+    ///
+    /// `OutOfMemory` if the text, or the copy of the screen that is noted,
+    /// cannot be allocated; then nothing has changed, and the same update can be
+    /// requested again.
     pub fn update(&mut self, viewer: u64) -> Result<Option<Update>, Error>
         ensures call { Asks Drawn self.old viewer result self.new }
     {
@@ -162,15 +185,21 @@ impl Mirror {
         Ok(Some(update))
     }
 
-    /// The viewer's next update, as [`update`](Mirror::update) gives it, with a
-    /// difference that may move rows first, as that of
-    /// `Screen::contents_diff_scrolling` does: it is never longer, where text
-    /// has scrolled it may be much shorter, and it may touch any row.
+    /// Returns the viewer's next update, as [`update`](Mirror::update) does, with
+    /// a difference that may move rows first, as that of
+    /// `Screen::contents_diff_scrolling` does: it is never longer, after text has
+    /// scrolled it may be much shorter, and it may touch any row.
+    ///
+    /// Where the screen of the viewer's last update was not steady, the update is
+    /// a full one. So a viewer that gets updates of this function alone displays
+    /// each steady screen, whatever came before (`laws::heals`).
     ///
     /// A viewer may get either kind from one update to the next.
     ///
-    /// Fails where memory is refused, as `update` does; then nothing has
-    /// changed, and the same update can be asked for again.
+    /// # Errors
+    ///
+    /// `OutOfMemory` if an allocation fails, as `update` does; then nothing has
+    /// changed, and the same update can be requested again.
     pub fn update_scrolling(&mut self, viewer: u64) -> Result<Option<Update>, Error>
         ensures call { Asks Scrolling self.old viewer result self.new }
     {
@@ -182,41 +211,117 @@ impl Mirror {
         Ok(Some(update))
     }
 
-    /// The difference from what is noted for a viewer, or a full redraw.
-    fn drawn_update(&self, viewer: u64) -> Result<Update, Error>
-        ensures whole { IsScreen self.now.parser.screen }
-        ensures colored { IsColored self.now.parser.screen }
-        ensures ok { IfOk result
-            (λ update. IsUpdate Drawn self.now.parser.screen (note_of self.now.viewers viewer) update) }
+    /// Returns whether the viewer's last update is known to be up to date: true
+    /// means that the screen has not changed since then, so that its next update
+    /// is an empty difference, or a full one if it is one of `update_scrolling`
+    /// and the screen is not steady. The test takes no allocation and reads no
+    /// cell.
+    ///
+    /// It returns false for a number that is no viewer's, for a viewer that had
+    /// no update since the last resize, and for every viewer whose last update
+    /// was before the last call of [`process`](Mirror::process), even if the
+    /// bytes changed nothing that is displayed.
+    pub fn is_current(&self, viewer: u64) -> bool
+        ensures { IsTrue result → note_of self.now.viewers viewer ≡ Some self.now.parser.screen }
+    {
+        self.viewers.is_current(viewer)
+    }
+
+    /// Returns the full redraw of the screen.
+    ///
+    /// # Errors
+    ///
+    /// `OutOfMemory` if its text cannot be allocated.
+    fn full(&mut self) -> Result<Update, Error>
+        ensures same { self.new ≡ self.old }
+        ensures ok { IfOk result (λ update. IsFullUpdate self.old.parser.screen update) }
         ensures memory { OnlyOutOfMemory result }
     {
         let screen = self.parser.screen();
-        // For the proof: every screen is whole.
-        screen.size();
-        let Some(prev) = self.viewers.note(viewer) else {
-            return full(screen);
-        };
-        Ok(Update::Diff(screen.contents_diff(prev)?))
+        if let Some(kept) = self.viewers.kept_redraw() {
+            let copy = String::from_str(self.alloc, kept)?;
+            return Ok(full_of(screen, copy));
+        }
+        let text = screen.contents_formatted()?;
+        self.viewers.keep_redraw(text.as_str(), self.alloc);
+        Ok(full_of(screen, text))
     }
 
-    /// The same with a difference that may move rows first.
-    fn scrolling_update(&self, viewer: u64) -> Result<Update, Error>
-        ensures whole { IsScreen self.now.parser.screen }
-        ensures colored { IsColored self.now.parser.screen }
+    /// Returns the difference from the screen noted for a viewer, or the full
+    /// redraw if nothing is noted.
+    ///
+    /// # Errors
+    ///
+    /// `OutOfMemory` if its text cannot be allocated.
+    fn drawn_update(&mut self, viewer: u64) -> Result<Update, Error>
+        ensures same { self.new ≡ self.old }
+        ensures whole { IsScreen self.new.parser.screen }
+        ensures colored { IsColored self.new.parser.screen }
         ensures ok { IfOk result
-            (λ update. IsUpdate Scrolling self.now.parser.screen (note_of self.now.viewers viewer) update) }
+            (λ update. IsUpdate Drawn self.old.parser.screen (note_of self.old.viewers viewer) update) }
         ensures memory { OnlyOutOfMemory result }
     {
         let screen = self.parser.screen();
-        // For the proof: every screen is whole.
+        // For the proof alone: its contract says that every screen is whole.
         screen.size();
-        let Some(prev) = self.viewers.note(viewer) else {
-            return full(screen);
+        let Some(prev) = self.viewers.noted(viewer) else {
+            return self.full();
         };
-        Ok(Update::Diff(screen.contents_diff_scrolling(prev)?))
+        if self.viewers.is_current(viewer) {
+            let text = String::new(self.alloc);
+            return Ok(Update::Diff(text));
+        }
+        if let Some(kept) = self.viewers.kept_diff(viewer) {
+            let copy = String::from_str(self.alloc, kept)?;
+            return Ok(Update::Diff(copy));
+        }
+        let text = screen.contents_diff(prev)?;
+        self.viewers.keep_diff(viewer, text.as_str(), self.alloc);
+        Ok(Update::Diff(text))
     }
 
-    /// Notes a copy of the screen for a viewer.
+    /// Returns the difference from the screen noted for a viewer, which may move
+    /// rows first, or the full redraw if nothing is noted.
+    ///
+    /// # Errors
+    ///
+    /// `OutOfMemory` if its text cannot be allocated.
+    fn scrolling_update(&mut self, viewer: u64) -> Result<Update, Error>
+        ensures same { self.new ≡ self.old }
+        ensures whole { IsScreen self.new.parser.screen }
+        ensures colored { IsColored self.new.parser.screen }
+        ensures ok { IfOk result
+            (λ update. IsUpdate Scrolling self.old.parser.screen (note_of self.old.viewers viewer) update) }
+        ensures memory { OnlyOutOfMemory result }
+    {
+        let screen = self.parser.screen();
+        // For the proof alone: its contract says that every screen is whole.
+        screen.size();
+        let Some(prev) = self.viewers.noted(viewer) else {
+            return self.full();
+        };
+        if !prev.is_steady() {
+            return self.full();
+        }
+        if self.viewers.is_current(viewer) {
+            let text = String::new(self.alloc);
+            return Ok(Update::Diff(text));
+        }
+        if let Some(kept) = self.viewers.kept_scrolling(viewer) {
+            let copy = String::from_str(self.alloc, kept)?;
+            return Ok(Update::Diff(copy));
+        }
+        let text = screen.contents_diff_scrolling(prev)?;
+        self.viewers
+            .keep_scrolling(viewer, text.as_str(), self.alloc);
+        Ok(Update::Diff(text))
+    }
+
+    /// Notes the screen for a viewer.
+    ///
+    /// # Errors
+    ///
+    /// `OutOfMemory` if an allocation fails; then nothing has changed.
     fn note(&mut self, viewer: u64) -> Result<(), Error>
         requires { is_viewer self.old.viewers viewer ≡ true }
         ensures parser { self.new.parser ≡ self.old.parser }
@@ -226,22 +331,21 @@ impl Mirror {
         ensures err { OnErr result (self.new ≡ self.old) }
         ensures memory { OnlyOutOfMemory result }
     {
-        let screen = self.parser.screen().clone()?;
-        self.viewers.put(viewer, screen)?;
+        let screen = self.parser.screen();
+        self.viewers.note(viewer, screen, self.alloc)?;
         Ok(())
     }
 }
 
-/// A full redraw.
-fn full(screen: &Screen) -> Result<Update, Error>
-    ensures ok { IfOk result (λ update. IsFullUpdate screen.now update) }
-    ensures memory { OnlyOutOfMemory result }
+/// Returns the full update of this text.
+fn full_of(screen: &Screen, text: String) -> Update
+    requires { IsRedraw screen.now (string_bytes text) }
+    ensures { IsFullUpdate screen.now result }
 {
     let (rows, cols) = screen.size();
-    let text = screen.contents_formatted()?;
-    Ok(Update::Full {
+    Update::Full {
         rows: rows.get(),
         cols: cols.get(),
         text,
-    })
+    }
 }

@@ -1,53 +1,99 @@
 //! The viewers of a mirror.
 
-ghost use Rattle.std.specs.Prelude.{◌≡◌, ◌≢◌, IfNone, IfOk, IfSome, None, OnErr, OnOk, Some, [], option_copied, true};
+ghost use Rattle.std.specs.Prelude.{◌≡◌, ◌≢◌, ◌⊎◌, IfNone, IfOk, IfSome, IsTrue, None, OnErr, OnOk, Some, [], option_copied, true};
 ghost use Rattle.vt_cells.specs.Refusals.{OnlyOutOfMemory};
+ghost use Rattle.vt_mirror.specs.Alike.{ShowsAlike};
 ghost use Rattle.vt_mirror.specs.Calls.{JoinsMirror, Leaves, greatest};
+ghost use Rattle.vt_mirror.specs.Kept.{IsCurrentNote, IsRenewed};
 ghost use Rattle.vt_mirror.specs.Viewers.{Puts, is_viewer, next_number, note_of};
+ghost use Rattle.vt_screen.specs.Screen.{ScreenValue};
 
+use crate::copies::{Note, SharedCopy};
+use crate::texts::DiffCache;
 use std::alloc::Global;
 use std::collections::{BTreeMap, BTreeSet};
 use std::marker::Model;
 use vt100::{Error, Screen};
 
-/// Who views, and the screen that each was told of last.
+/// The viewers, the screen of each one's last update, and the texts that they
+/// share.
 #[derive(Drop)]
 pub(crate) struct Viewers {
     /// The number that was given last.
     last: Option<u64>,
     numbers: BTreeSet<u64>,
-    /// The screen of each viewer's last update since the last resize.
-    notes: BTreeMap<u64, Screen>,
+
+    /// The screen of each viewer's last update since the last resize. Viewers
+    /// that were updated to one screen share a copy of it.
+    notes: BTreeMap<u64, Note>,
+
+    /// The last version that a copy got.
+    version: u64,
+
+    /// A copy of the current screen, if one was made since it changed.
+    current: Option<Note>,
+
+    /// The last difference to the current screen.
+    diff: DiffCache,
+
+    /// The last difference to the current screen that may scroll.
+    scrolling: DiffCache,
+
+    /// The text of the current screen's redraw.
+    redraw: Option<String>,
 }
 
 impl Model for Viewers {
-    ghost use Rattle.vt_mirror.specs.Viewers.{AreViewers, ViewersValue};
+    ghost use Rattle.std.specs.Prelude.{option_map, string_bytes};
+    ghost use Rattle.vt_mirror.specs.Kept.{AreKept, KeptValue, copies_of, diff_of, screen_of, screens_of};
 
-    ghost Value = { ViewersValue };
+    ghost Value = { KeptValue };
 
-    ghost view = { λ v. record { last = v.last; numbers = v.numbers.keys; notes = v.notes.entries } };
+    ghost view = { λ v. record {
+      viewers = record { last = v.last; numbers = v.numbers.keys; notes = screens_of v.notes.entries };
+      current = screen_of v.current;
+      diff = diff_of v.diff.last;
+      scrolling = diff_of v.scrolling.last;
+      redraw = option_map (λ text. string_bytes text) v.redraw;
+    } };
 
-    ghost invariant = { λ v. AreViewers (record { last = v.last; numbers = v.numbers.keys; notes = v.notes.entries }) };
+    ghost invariant = { λ v. AreKept
+        (record { last = v.last; numbers = v.numbers.keys; notes = screens_of v.notes.entries })
+        (copies_of v.notes.entries v.current v.diff v.scrolling) v.version };
 }
 
 impl Viewers {
-    /// No viewer.
+    /// Creates a set of no viewers.
     pub(crate) fn new(alloc: Global) -> Viewers
-        ensures last { result.last ≡ None }
-        ensures nobody { result.numbers ≡ [] }
-        ensures nothing { result.notes ≡ [] }
+        ensures last { result.viewers.last ≡ None }
+        ensures nobody { result.viewers.numbers ≡ [] }
+        ensures nothing { result.viewers.notes ≡ [] }
+        ensures current { result.current ≡ None }
+        ensures diff { result.diff ≡ None }
+        ensures scrolling { result.scrolling ≡ None }
+        ensures redraw { result.redraw ≡ None }
     {
         Viewers {
             last: None,
             numbers: BTreeSet::new(alloc),
             notes: BTreeMap::new(alloc),
+            version: 0,
+            current: None,
+            diff: DiffCache::new(),
+            scrolling: DiffCache::new(),
+            redraw: None,
         }
     }
 
-    /// A new viewer, with the next number.
-    #[tactic(auto, using(crate::proofs::Bookkeeping::joined, crate::proofs::Bookkeeping::joined_viewers))]
+    /// Adds a viewer and returns its number, the next one.
+    ///
+    /// # Errors
+    ///
+    /// `NoNumber` if the greatest number was given, `OutOfMemory` if an
+    /// allocation fails; then nothing has changed.
     pub(crate) fn join(&mut self) -> Result<u64, Error>
-        ensures { JoinsMirror self.old result self.new }
+        ensures call { JoinsMirror self.old.viewers result self.new.viewers }
+        ensures rest { self.new ≡ record self.old { viewers = self.new.viewers } }
     {
         let Some(viewer) = next_after(self.last) else {
             return Err(Error::NoNumber);
@@ -59,53 +105,230 @@ impl Viewers {
         Ok(viewer)
     }
 
-    /// A viewer goes, if it is one.
-    #[tactic(auto, using(crate::proofs::Bookkeeping::left, crate::proofs::Bookkeeping::left_viewers))]
+    /// Removes a viewer. Returns whether there was one of this number.
     pub(crate) fn leave(&mut self, viewer: u64) -> bool
-        ensures { Leaves self.old viewer result self.new }
+        ensures call { Leaves self.old.viewers viewer result self.new.viewers }
+        ensures rest { self.new ≡ record self.old { viewers = self.new.viewers } }
     {
         self.notes.remove(&viewer);
         self.numbers.remove(&viewer)
     }
 
-    /// Whether the number is a viewer's.
+    /// Returns whether the number is a viewer's.
     pub(crate) fn has(&self, viewer: u64) -> bool
-        ensures { result ≡ is_viewer self.now viewer }
+        ensures { result ≡ is_viewer self.now.viewers viewer }
     {
         self.numbers.contains(&viewer)
     }
 
-    /// The screen that is noted for a viewer.
-    pub(crate) fn note(&self, viewer: u64) -> Option<&Screen>
-        ensures { option_copied result ≡ note_of self.now viewer }
+    /// Returns a screen that displays what the screen noted for a viewer does.
+    pub(crate) fn noted(&self, viewer: u64) -> Option<&Screen>
+        ensures some { IfSome result (λ copy. (screen : ScreenValue)
+            × (note_of self.now.viewers viewer ≡ Some screen) × ShowsAlike screen copy.now) }
+        ensures none { IfNone result (note_of self.now.viewers viewer ≡ None) }
     {
-        self.notes.get(&viewer)
+        match self.notes.get(&viewer) {
+            Some(note) => Some(note.screen.screen()),
+            None => None,
+        }
     }
 
-    /// Notes a screen for a viewer.
-    #[tactic(auto, using(crate::proofs::Bookkeeping::noted, crate::proofs::Bookkeeping::noted_viewers))]
-    pub(crate) fn put(&mut self, viewer: u64, screen: Screen) -> Result<(), Error>
-        requires { is_viewer self.old viewer ≡ true }
-        ensures ok { OnOk result (Puts self.old viewer true (Some screen) self.new) }
-        ensures last { self.new.last ≡ self.old.last }
-        ensures err { OnErr result (self.new ≡ self.old) }
+    /// Returns whether the screen noted for a viewer is the current one. It may
+    /// be so even if the result is false.
+    pub(crate) fn is_current(&self, viewer: u64) -> bool
+        ensures { IsTrue result → (screen : ScreenValue)
+            × (note_of self.now.viewers viewer ≡ Some screen) × (self.now.current ≡ Some screen) }
+    {
+        let Some(current) = &self.current else {
+            return false;
+        };
+        match self.notes.get(&viewer) {
+            Some(note) => note.is_of_version(current),
+            None => false,
+        }
+    }
+
+    /// Returns the text of the difference from the screen noted for a viewer, if
+    /// it is kept.
+    pub(crate) fn kept_diff(&self, viewer: u64) -> Option<&str>
+        ensures { IfSome result (λ text. (screen : ScreenValue)
+            × (note_of self.now.viewers viewer ≡ Some screen) × (self.now.diff ≡ Some (screen, text.now))) }
+    {
+        let note = self.notes.get(&viewer)?;
+        let text = self.diff.get(note)?;
+        Some(text)
+    }
+
+    /// Keeps the text of the difference from the screen noted for a viewer, if
+    /// other viewers may ask for it and memory can be allocated.
+    pub(crate) fn keep_diff(&mut self, viewer: u64, text: &str, alloc: Global)
+        ensures rest { self.new ≡ record self.old { diff = self.new.diff } }
+        ensures diff { (self.new.diff ≡ self.old.diff) ⊎ ((screen : ScreenValue)
+            × (note_of self.old.viewers viewer ≡ Some screen) × (self.new.diff ≡ Some (screen, text.now))) }
+    {
+        let Some(note) = self.notes.get(&viewer) else {
+            return;
+        };
+        self.diff.keep(note, text, alloc);
+    }
+
+    /// Returns the text of the difference that may scroll from the screen noted
+    /// for a viewer, if it is kept.
+    pub(crate) fn kept_scrolling(&self, viewer: u64) -> Option<&str>
+        ensures { IfSome result (λ text. (screen : ScreenValue)
+            × (note_of self.now.viewers viewer ≡ Some screen) × (self.now.scrolling ≡ Some (screen, text.now))) }
+    {
+        let note = self.notes.get(&viewer)?;
+        let text = self.scrolling.get(note)?;
+        Some(text)
+    }
+
+    /// Keeps the text of the difference that may scroll from the screen noted
+    /// for a viewer, if other viewers may ask for it and memory can be allocated.
+    pub(crate) fn keep_scrolling(&mut self, viewer: u64, text: &str, alloc: Global)
+        ensures rest { self.new ≡ record self.old { scrolling = self.new.scrolling } }
+        ensures scrolling { (self.new.scrolling ≡ self.old.scrolling) ⊎ ((screen : ScreenValue)
+            × (note_of self.old.viewers viewer ≡ Some screen) × (self.new.scrolling ≡ Some (screen, text.now))) }
+    {
+        let Some(note) = self.notes.get(&viewer) else {
+            return;
+        };
+        self.scrolling.keep(note, text, alloc);
+    }
+
+    /// Returns the text of the current screen's redraw, if it is kept.
+    pub(crate) fn kept_redraw(&self) -> Option<&str>
+        ensures { option_copied result ≡ self.now.redraw }
+    {
+        match &self.redraw {
+            Some(text) => Some(text.as_str()),
+            None => None,
+        }
+    }
+
+    /// Keeps the text of the current screen's redraw, if there are other viewers
+    /// and memory can be allocated.
+    pub(crate) fn keep_redraw(&mut self, text: &str, alloc: Global)
+        ensures { (self.new ≡ self.old) ⊎ (self.new ≡ record self.old { redraw = Some text.now }) }
+    {
+        if self.numbers.len() < 2 {
+            return;
+        }
+        let Ok(text) = String::from_str(alloc, text) else {
+            return;
+        };
+        self.redraw = Some(text);
+    }
+
+    /// Notes the current screen for a viewer.
+    ///
+    /// # Errors
+    ///
+    /// `OutOfMemory` if an allocation fails; then the notes are unchanged.
+    pub(crate) fn note(&mut self, viewer: u64, screen: &Screen, alloc: Global) -> Result<(), Error>
+        requires viewer { is_viewer self.old.viewers viewer ≡ true }
+        requires current { IfSome self.old.current (λ current. current ≡ screen.now) }
+        ensures ok { OnOk result (Puts self.old.viewers viewer true (Some screen.now) self.new.viewers) }
+        ensures last { self.new.viewers.last ≡ self.old.viewers.last }
+        ensures err { OnErr result (self.new.viewers ≡ self.old.viewers) }
+        ensures current { IfSome self.new.current (λ current. current ≡ screen.now) }
+        ensures diff { self.new.diff ≡ self.old.diff }
+        ensures scrolling { self.new.scrolling ≡ self.old.scrolling }
+        ensures redraw { self.new.redraw ≡ self.old.redraw }
         ensures memory { OnlyOutOfMemory result }
     {
-        if self.notes.insert(viewer, screen).is_err() {
+        if self.is_current(viewer) {
+            return Ok(());
+        }
+        let note = current_note(alloc, screen, &mut self.version, &mut self.current)?;
+        if self.notes.insert(viewer, note).is_err() {
             return Err(Error::OutOfMemory);
         }
         Ok(())
     }
 
-    /// Notes nothing any more.
-    pub(crate) fn forget(&mut self)
-        ensures { self.new ≡ record self.old { notes = [] } }
+    /// Drops the copy of the current screen and all texts, since it changes.
+    pub(crate) fn discard_current(&mut self)
+        ensures { self.new ≡ record self.old { current = None; diff = None; scrolling = None; redraw = None } }
     {
+        self.current = None;
+        self.diff.clear();
+        self.scrolling.clear();
+        self.redraw = None;
+    }
+
+    /// Drops all that is kept of screens, notes too, since the size changes.
+    pub(crate) fn discard_all(&mut self)
+        ensures { self.new ≡ record {
+          viewers = record (self.old.viewers) { notes = [] };
+          current = None;
+          diff = None;
+          scrolling = None;
+          redraw = None;
+        } }
+    {
+        self.discard_current();
         self.notes.clear();
     }
 }
 
-/// The number behind the one that was given last.
+/// Returns a copy of the current screen for a viewer: the one that is kept, or
+/// else a new one with the next version, which is kept too. If there is no next
+/// version, or the copy has as many holders as can be counted, it is a copy
+/// without a version, for this viewer alone.
+///
+/// # Errors
+///
+/// `OutOfMemory` if a copy is needed and cannot be allocated.
+fn current_note(
+    alloc: Global,
+    screen: &Screen,
+    version: &mut u64,
+    current: &mut Option<Note>,
+) -> Result<Note, Error>
+    requires { IfSome current.old (λ note. note.screen ≡ screen.now) }
+    ensures ok { IfOk result (IsCurrentNote screen.now current.new) }
+    ensures renewed { IsRenewed screen.now version.old current.old version.new current.new }
+    ensures memory { OnlyOutOfMemory result }
+{
+    if let Some(note) = current {
+        return match note.share() {
+            Some(note) => Ok(note),
+            None => own_note(alloc, screen),
+        };
+    }
+    let note = own_note(alloc, screen)?;
+    let Some(next) = version.checked_add(1) else {
+        return Ok(note);
+    };
+    let Some(copy) = note.screen.share() else {
+        return Ok(note);
+    };
+    *version = next;
+    *current = Some(Note {
+        version: next,
+        screen: copy,
+    });
+    Ok(Note {
+        version: next,
+        screen: note.screen,
+    })
+}
+
+/// Returns a copy of the screen without a version, for one viewer alone.
+///
+/// # Errors
+///
+/// `OutOfMemory` if it cannot be allocated.
+fn own_note(alloc: Global, screen: &Screen) -> Result<Note, Error>
+    ensures ok { IfOk result (λ note. (note.screen ≡ screen.now) × (note.version ≡ 0)) }
+    ensures memory { OnlyOutOfMemory result }
+{
+    let screen = SharedCopy::new(alloc, screen)?;
+    Ok(Note { version: 0, screen })
+}
+
+/// Returns the number after the one that was given last.
 fn next_after(last: Option<u64>) -> Option<u64>
     ensures some { IfSome result (λ viewer. (viewer ≡ next_number last) × (last ≢ Some greatest)) }
     ensures none { IfNone result (last ≡ Some greatest) }

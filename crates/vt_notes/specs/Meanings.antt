@@ -1,8 +1,9 @@
 -- What the code's notes mean.
-use Rattle.std.specs.Prelude.{map}
+use Rattle.std.specs.Prelude.{◌≡◌, map, string_bytes}
 use Rattle.vt_notes.specs.declared.note.KeptRow.{KeptRow}
 use Rattle.vt_notes.specs.declared.note.Note.{Note}
 use Rattle.vt_notes.specs.declared.note.Note.TheVariants as note
+use Rattle.vt_rows.specs.Basic.{basic_text, unwritten}
 use Rattle.vt_rows.specs.Row.{RowValue}
 use Rattle.vt_screen.specs.Calls as value
 use Rattle.vt_screen.specs.Calls.{CallValue}
@@ -26,3 +27,8 @@ value_of (note.UnhandledCsi first second groups byte) =
     value.UnhandledCsi first second (map (λ group. group.items) groups.items) byte
 value_of (note.UnhandledOsc parts) = value.UnhandledOsc (map (λ part. part.items) parts.items)
 value_of (note.OnScroll row alternate) = value.OnScroll (row_of row) alternate
+
+-- a row is noted with its basic text, as that of a first row
+abbrev pub HasText : Note → Type 0
+HasText (note.OnScroll row alternate) = string_bytes row.text ≡ basic_text unwritten (row_of row)
+HasText _ = Unit {0}

@@ -1,7 +1,7 @@
 //! Calls that are kept.
 
 ghost use Rattle.std.specs.Prelude.{◌≡◌, map, IfOk};
-ghost use Rattle.vt_notes.specs.Meanings.{row_of, value_of};
+ghost use Rattle.vt_notes.specs.Meanings.{HasText, value_of};
 ghost use Rattle.vt_screen.specs.Calls as calls;
 ghost use Rattle.vt_screen.specs.Meanings.{call_of};
 
@@ -44,7 +44,8 @@ pub enum Note {
 impl Note {
     /// The note of a call. Fails where memory for a copy of what it lends is refused.
     pub fn of_call(alloc: Global, call: Call<'_>) -> Result<Self, AllocError>
-        ensures { IfOk result (λ note. value_of note ≡ call_of call.entry) }
+        ensures call { IfOk result (λ note. value_of note ≡ call_of call.entry) }
+        ensures text { IfOk result HasText }
     {
         match call {
             Call::AudibleBell => Ok(Note::AudibleBell),
@@ -82,7 +83,8 @@ impl Note {
         row: &RowContents<'_>,
         alternate: bool,
     ) -> Result<Self, AllocError>
-        ensures { IfOk result (λ note. value_of note ≡ calls.OnScroll row.now alternate) }
+        ensures call { IfOk result (λ note. value_of note ≡ calls.OnScroll row.now alternate) }
+        ensures text { IfOk result HasText }
     {
         let cells = row.cells().to_vec(alloc)?;
         let wrapped = row.wrapped();

@@ -1,7 +1,7 @@
 //! Callbacks that note each call.
 
-ghost use Rattle.std.specs.Prelude.{◌≡◌, ◌⊎◌, map, true, IfOk, OnErr, OnOk};
-ghost use Rattle.vt_notes.specs.Meanings.{value_of};
+ghost use Rattle.std.specs.Prelude.{◌≡◌, ◌⊎◌, map, true, All, IfOk, OnErr, OnOk};
+ghost use Rattle.vt_notes.specs.Meanings.{HasText, value_of};
 ghost use Rattle.vt_notes.specs.Noting.{nothing_noted, with_call, with_gap};
 
 use crate::note::Note;
@@ -18,13 +18,15 @@ pub struct Notes {
 }
 
 impl Model for Notes {
-    ghost use Rattle.std.specs.Prelude.{map};
-    ghost use Rattle.vt_notes.specs.Meanings.{value_of};
+    ghost use Rattle.std.specs.Prelude.{map, All};
+    ghost use Rattle.vt_notes.specs.Meanings.{HasText, value_of};
     ghost use Rattle.vt_notes.specs.Noting.{Noted};
 
     ghost Value = { Noted };
 
     ghost view = { λ n. record { calls = map value_of n.calls.items; is_complete = n.is_complete } };
+
+    ghost invariant = { λ n. All HasText n.calls.items };
 }
 
 // One call wherever it is given up, as of a screen.
@@ -50,9 +52,11 @@ impl Notes {
         }
     }
 
-    /// The calls so far, in order.
+    /// Returns the calls so far, in order. Each row is noted with its basic
+    /// text (`texts`).
     pub fn calls(&self) -> &[Note]
-        ensures { map value_of result.now ≡ self.now.calls }
+        ensures calls { map value_of result.now ≡ self.now.calls }
+        ensures texts { All HasText result.now }
     {
         self.calls.as_slice()
     }
@@ -84,6 +88,7 @@ impl Notes {
 
     /// Adds a note that was made, or remembers that one is missing.
     fn add(&mut self, note: Result<Note, AllocError>)
+        requires { IfOk note HasText }
         ensures made { IfOk note
             (λ note. (self.new ≡ with_call (value_of note) self.old) ⊎ (self.new ≡ with_gap self.old)) }
         ensures missing { OnErr note (self.new ≡ with_gap self.old) }

@@ -1,6 +1,6 @@
 //! Bytes read with notes of all calls.
 
-ghost use Rattle.std.specs.Prelude.{◌≡◌, map, true, IfErr, IfOk};
+ghost use Rattle.std.specs.Prelude.{◌≡◌, map, true, IfOk};
 ghost use Rattle.vt100.specs.Parser.{pieces_joined};
 ghost use Rattle.vt_scan.specs.Automaton.{start};
 ghost use Rattle.vt_screen.specs.Screen.{fresh_screen};

@@ -7,6 +7,8 @@ mod asking_tests;
 #[cfg(test)]
 mod caller_tests;
 #[cfg(test)]
+mod healing_tests;
+#[cfg(test)]
 mod mirror_tests;
 #[cfg(test)]
 mod numbers;

@@ -20,6 +20,9 @@ enum Call {
     /// The viewer of this number leaves, if there is one.
     Leave(u64, bool),
 
+    /// Whether the viewer of this number is up to date.
+    Current(u64, bool),
+
     /// The number is nobody's.
     Nobody(u64),
 
@@ -132,6 +135,55 @@ const MIXED: [Call; 21] = [
     Call::NobodyScrolling(0),
 ];
 
+/// A viewer is up to date from its update to the next bytes or the next resize. A resize to the size that
+/// the mirror has is none.
+#[rattlefmt::skip]
+const CURRENT: [Call; 22] = [
+    Call::Current(0, false),
+    Call::Join(0),
+    Call::Join(1),
+    Call::Current(0, false),
+    Call::Full(0, (2, 4), ""),
+    Call::Current(0, true),
+    Call::Current(1, false),
+    Call::Diff(0, ""),
+    Call::Current(0, true),
+    Call::Process("a"),
+    Call::Current(0, false),
+    Call::Full(1, (2, 4), "a"),
+    Call::Current(1, true),
+    Call::DiffScrolling(0, "a"),
+    Call::Current(0, true),
+    Call::SetSize(2, 4),
+    Call::Current(0, true),
+    Call::SetSize(2, 5),
+    Call::Current(0, false),
+    Call::Full(0, (2, 5), "a"),
+    Call::Leave(0, true),
+    Call::Current(0, false),
+];
+
+/// Viewers that keep up get the same texts as one that is alone, by either call.
+#[rattlefmt::skip]
+const TOGETHER: [Call; 16] = [
+    Call::Join(0),
+    Call::Join(1),
+    Call::Join(2),
+    Call::Full(0, (4, 10), ""),
+    Call::FullScrolling(1, (4, 10), ""),
+    Call::Process("alpha-one\r\nbeta-two\r\ngamma-six\r\n$"),
+    Call::Diff(0, "alpha-one\r\nbeta-two\r\ngamma-six\r\n$"),
+    Call::Diff(1, "alpha-one\r\nbeta-two\r\ngamma-six\r\n$"),
+    Call::Full(2, (4, 10), "alpha-one\r\nbeta-two\r\ngamma-six\r\n$"),
+    Call::Process("\r\ndelta-ten"),
+    Call::DiffScrolling(0, "\x1b[H\x1b[M\x1b[4;1Hdelta-ten"),
+    Call::DiffScrolling(1, "\x1b[H\x1b[M\x1b[4;1Hdelta-ten"),
+    Call::DiffScrolling(2, "\x1b[H\x1b[M\x1b[4;1Hdelta-ten"),
+    Call::Diff(0, ""),
+    Call::DiffScrolling(1, ""),
+    Call::Diff(2, ""),
+];
+
 /// A mirror of this size, without scrollback.
 fn mirror(alloc: Global, rows_and_cols: (u16, u16)) -> Result<Mirror, Fail> {
     let (rows, cols) = size(rows_and_cols)?;
@@ -158,6 +210,7 @@ fn answers(mirror: &mut Mirror, call: Call) -> Result<bool, Fail> {
         }
         Call::Join(viewer) => Ok(mirror.join()? == viewer),
         Call::Leave(viewer, was) => Ok(mirror.leave(viewer) == was),
+        Call::Current(viewer, is) => Ok(mirror.is_current(viewer) == is),
         Call::Nobody(viewer) => Ok(mirror.update(viewer)?.is_none()),
         Call::Diff(viewer, text) => is_diff(mirror.update(viewer)?, text),
         Call::Full(viewer, size, text) => is_full(mirror.update(viewer)?, size, text),
@@ -203,4 +256,14 @@ fn tells_all_of_a_resize(rt: HostRuntime) -> Result<(), Fail> {
 #[test]
 fn tells_a_viewer_by_both_kinds_of_difference(rt: HostRuntime) -> Result<(), Fail> {
     expect_all(&mut mirror(rt.alloc(), (4, 10))?, &MIXED)
+}
+
+#[test]
+fn tells_whether_a_viewer_is_up_to_date(rt: HostRuntime) -> Result<(), Fail> {
+    expect_all(&mut mirror(rt.alloc(), (2, 4))?, &CURRENT)
+}
+
+#[test]
+fn tells_viewers_that_share_texts(rt: HostRuntime) -> Result<(), Fail> {
+    expect_all(&mut mirror(rt.alloc(), (4, 10))?, &TOGETHER)
 }

@@ -60,3 +60,44 @@ impl Write for Unflushed {
         Err(io::Error::from(io::ErrorKind::Other))
     }
 }
+
+/// Takes this many bytes, and none after them.
+#[derive(Drop)]
+pub(crate) struct Full {
+    pub(crate) bytes: Vec<u8>,
+    pub(crate) room: usize,
+}
+
+impl Write for Full {
+    fn write(&mut self, buf: &[u8]) -> io::Result<usize> {
+        let size = buf.len().min(self.room);
+        self.room -= size;
+        self.bytes.write(&buf[..size])
+    }
+
+    fn flush(&mut self) -> io::Result<()> {
+        Ok(())
+    }
+}
+
+/// Takes one byte at a write, and interrupts every other write.
+#[derive(Drop)]
+pub(crate) struct Interrupting {
+    pub(crate) bytes: Vec<u8>,
+    pub(crate) interrupts: bool,
+}
+
+impl Write for Interrupting {
+    fn write(&mut self, buf: &[u8]) -> io::Result<usize> {
+        self.interrupts = !self.interrupts;
+        if self.interrupts {
+            return Err(io::Error::from(io::ErrorKind::Interrupted));
+        }
+        let size = buf.len().min(1);
+        self.bytes.write(&buf[..size])
+    }
+
+    fn flush(&mut self) -> io::Result<()> {
+        Ok(())
+    }
+}

@@ -1,7 +1,7 @@
 //! Runs of the engine of `vtmirror` on 2 rows and 4 columns, and what they write.
 
 use crate::numbers::number;
-use crate::streams::{Broken, Closed, Slow, Unflushed};
+use crate::streams::{Broken, Closed, Full, Slow, Unflushed};
 use std::alloc::Global;
 use std::io;
 use std::io::{Read, Write};
@@ -98,6 +98,20 @@ fn fails_where_a_write_is_refused(rt: HostRuntime) -> Result<(), Fail> {
     assert_eq!(rt; done, Err(Fault::Write));
     assert_eq!(rt; closed.0, 1);
     Ok(())
+}
+
+#[test]
+fn reads_no_further_than_the_update_that_fails(rt: HostRuntime) -> Result<(), Fail> {
+    let mut input = b"abc".as_slice();
+    let mut full = Full {
+        bytes: Vec::new(rt.alloc()),
+        // The 15 bytes of the first text, and one more.
+        room: 16,
+    };
+    let done = run_every(rt.alloc(), &mut input, &mut full, 1)?;
+    assert_eq!(rt; done, Err(Fault::Write));
+    assert_eq!(rt; input, b"c".as_slice());
+    expect_written(full.bytes.as_slice(), "a")
 }
 
 #[test]

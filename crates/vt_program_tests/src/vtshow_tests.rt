@@ -1,7 +1,7 @@
 //! Runs of the engine of `vtshow`, and what they write.
 
 use crate::numbers::number;
-use crate::streams::{Broken, Closed, Unflushed};
+use crate::streams::{Broken, Closed, Full, Interrupting, Unflushed};
 use std::alloc::Global;
 use std::io;
 use std::io::{Read, Write};
@@ -79,6 +79,33 @@ fn fails_where_a_write_is_refused(rt: HostRuntime) -> Result<(), Fail> {
     let done = run_small(rt.alloc(), &mut b"ab".as_slice(), &mut closed)?;
     assert_eq!(rt; done, Err(Fault::Write));
     assert_eq!(rt; closed.0, 1);
+    Ok(())
+}
+
+#[test]
+fn leaves_a_beginning_where_a_write_takes_nothing(rt: HostRuntime) -> Result<(), Fail> {
+    let mut full = Full {
+        bytes: Vec::new(rt.alloc()),
+        room: 9,
+    };
+    let done = run_small(rt.alloc(), &mut b"ab".as_slice(), &mut full)?;
+    assert_eq!(rt; done, Err(Fault::Write));
+    assert_eq!(rt; full.bytes.as_slice(), b"\x1b[?25h\x1b[m".as_slice());
+    Ok(())
+}
+
+#[test]
+fn tries_an_interrupted_write_again(rt: HostRuntime) -> Result<(), Fail> {
+    let mut slow = Interrupting {
+        bytes: Vec::new(rt.alloc()),
+        interrupts: false,
+    };
+    let done = run_small(rt.alloc(), &mut b"ab".as_slice(), &mut slow)?;
+    assert_eq!(rt; done, Ok(()));
+    assert_eq!(rt;
+        slow.bytes.as_slice(),
+        b"\x1b[?25h\x1b[m\x1b[H\x1b[Jab".as_slice()
+    );
     Ok(())
 }
 

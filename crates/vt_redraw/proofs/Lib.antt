@@ -26,6 +26,7 @@ pub mod Clear
 pub mod Redrawing
 pub mod Refusals
 pub mod Fitting
+pub mod Saving
 pub mod CursorAlone
 pub mod RangeDraws
 pub mod WholeItems
@@ -34,6 +35,7 @@ pub mod ItemDraws
 pub mod ItemEmpty
 pub mod ItemFits
 pub mod SteadyWithout
+pub mod SteadyTests
 pub mod Cuts
 pub mod Chain
 pub mod Touched

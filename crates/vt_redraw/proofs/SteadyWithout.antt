@@ -119,7 +119,7 @@ heart_steady n attrs =
 -- ---- rows and pictures without U+FE0F
 
 -- a cell without it, that fits, is steady
-without_cell : (n : ℕ) (text : List ℕ) (wide : Bool) (attrs : Attrs) → IsGlyphText text wide →
+pub without_cell : (n : ℕ) (text : List ℕ) (wide : Bool) (attrs : Attrs) → IsGlyphText text wide →
     has_selector (glyph text wide attrs) ≡ false → glyph_columns wide ≤ suc n → IsSteadyGlyph (suc n) text wide attrs
 without_cell n text wide attrs g none le =
     let spelled : list_any is_selector (g.first ∷ g.marks) ≡ false =
@@ -143,7 +143,7 @@ without_cells n (glyph text true a ∷ right_half ∷ cells) p le is none =
     (All-cons (IsSteadyCell (suc n)) right_half cells tt (without_cells n cells p (omega arith) is.1.1 none.1.1))
 without_cells n (right_half ∷ cells) p le is none = absurd p
 
-plain_row : (width : ℕ) (row : RowValue) → 0 < width → IsRow width row →
+pub plain_row : (width : ℕ) (row : RowValue) → 0 < width → IsRow width row →
     All (λ cell. has_selector cell ≡ false) row.cells → All (IsSteadyCell width) row.cells
 plain_row zero row some is none = absurd (omega arith)
 plain_row (suc n) row some is none =

@@ -58,6 +58,10 @@ pub record IsRowOver (cells over : List CellValue) : Type 0 where
   pub same : length cells ≡ length over
   pub paired : IsPaired cells
 
+-- a cell of a row of this many columns: a wide glyph has both of its columns there
+abbrev pub FitsColumns : ℕ → CellValue → Type 0
+FitsColumns width cell = glyph_columns (is_wide cell) ≤ width
+
 -- what is asked of the cells of row r + 1, of those above them, and of those that the reader shows there
 pub record IsRowUnder (r : ℕ) (upper cells over : List CellValue) : Type 0 where
   pub short : r + 1 < 65536

@@ -14,13 +14,15 @@ pub mod pen;
 pub mod picture_row;
 pub mod redraw;
 mod script;
+pub mod steadiness;
 pub mod view;
 
 pub use band::Band;
 pub use guess::likely_band;
 pub use items::{write_row_diff, write_row_formatted};
-pub use lines::{DeleteLines, InsertLines, write_moves};
+pub use lines::write_moves;
 pub use pen::Pen;
 pub use picture_row::PictureRow;
 pub use redraw::{write_contents_diff, write_contents_formatted, write_cursor_state};
+pub use steadiness::is_steady;
 pub use view::View;

@@ -1,71 +1,14 @@
 //! The sequences by which a terminal moves a band of its rows.
 
-ghost use Rattle.std.specs.Prelude.{◌≡◌, ◌++◌, OnOk, decimal, length};
-ghost use Rattle.vt_cells.specs.Op.{counted};
+ghost use Rattle.std.specs.Prelude.{◌≡◌, ◌++◌, OnOk, length};
 ghost use Rattle.vt_redraw.specs.Moved.{IsBand, band_text, down_text, lines_deleted_text};
 ghost use Rattle.vt_redraw.specs.Moved.{lines_inserted_text, moving_text, up_text};
 
 use crate::band::Band;
 use crate::pen::write_change;
 use crate::view::View;
-use vt_cells::term::{BufWrite, MoveTo};
+use vt_cells::term::{BufWrite, DeleteLines, InsertLines, MoveTo};
 use vt_cells::{Attrs, Pos, Sink};
-
-/// Takes rows away from the cursor's row on; those below go up (DL). Nothing for
-/// no row.
-#[derive(Clone, Copy, Debug)]
-pub struct DeleteLines {
-    /// How many rows.
-    pub count: u16,
-}
-
-impl BufWrite for DeleteLines {
-    ghost bytes = { λ it. counted it.count 0x4D };
-
-    fn write_buf<S: Sink>(&self, sink: &mut S) -> Result<(), S::Error> {
-        match self.count {
-            0 => Ok(()),
-            1 => sink.write_str("\x1b[M"),
-            count => {
-                sink.write_str("\x1b[")?;
-                write_decimal(sink, count)?;
-                sink.write_str("M")
-            }
-        }
-    }
-}
-
-/// Brings blank rows in at the cursor's row; it and those below go down (IL).
-/// Nothing for no row.
-#[derive(Clone, Copy, Debug)]
-pub struct InsertLines {
-    /// How many rows.
-    pub count: u16,
-}
-
-impl BufWrite for InsertLines {
-    ghost bytes = { λ it. counted it.count 0x4C };
-
-    fn write_buf<S: Sink>(&self, sink: &mut S) -> Result<(), S::Error> {
-        match self.count {
-            0 => Ok(()),
-            1 => sink.write_str("\x1b[L"),
-            count => {
-                sink.write_str("\x1b[")?;
-                write_decimal(sink, count)?;
-                sink.write_str("L")
-            }
-        }
-    }
-}
-
-/// Appends a number in decimal.
-fn write_decimal<S: Sink>(sink: &mut S, number: u16) -> Result<(), S::Error>
-    ensures { OnOk result (S.text sink.new ≡ S.text sink.old ++ decimal number) }
-{
-    let mut buffer = itoa::Buffer::new();
-    sink.write_str(buffer.format(number))
-}
 
 /// Takes rows away from this row on.
 fn write_deleted<S: Sink>(sink: &mut S, row: u16, count: u16) -> Result<(), S::Error>

@@ -1,13 +1,13 @@
 //! Links of rows with the rows above them, and breaks between them.
 
-ghost use Rattle.std.specs.Prelude.{◌≡◌, ◌+◌, ◌<◌, ◌&&◌, ◌||◌, [], ◌∷◌, not, nat_le, false, true, IfOk, OnOk, length};
+ghost use Rattle.std.specs.Prelude.{◌≡◌, ◌<◌, ◌&&◌, ◌||◌, [], ◌∷◌, not, nat_le, true, IfOk, OnOk, length};
 ghost use Rattle.vt_cells.specs.Cell.{is_blank, is_glyph};
 ghost use Rattle.vt_cells.specs.Op.{bytes_of_all};
 ghost use Rattle.vt_rows.specs.Cells.{IsPaired};
 ghost use Rattle.vt_redraw.specs.Internals.{AppendsOrStops, IsRowOver, IsRowUnder, LinksOrStops, Writes, break_of};
 ghost use Rattle.vt_redraw.specs.Redraw.{link_of};
 ghost use Rattle.vt_redraw.specs.Refusals.{RefusedOnlyIfSome};
-ghost use Rattle.vt_redraw.specs.Script.{row_break, first_written, behind_last_glyph, is_at, starts_other};
+ghost use Rattle.vt_redraw.specs.Script.{first_written, behind_last_glyph, is_at, starts_other};
 
 use crate::cells::{columns, flag_behind, print_at, write_text};
 use crate::pen::Pen;

@@ -1,9 +1,9 @@
 //! The rows of a picture, read where they lie.
 
-ghost use Rattle.std.specs.Prelude.{◌≡◌, ◌-◌, ◌+◌, ◌<◌, ◌≤◌, ◌&&◌, ◌==◌, ℕ, drop, false};
-ghost use Rattle.std.specs.Prelude.{length, not, take, if◌then◌else◌};
+ghost use Rattle.std.specs.Prelude.{◌≡◌, ◌+◌, ◌<◌, ◌≤◌, ◌&&◌, ℕ, drop, false};
+ghost use Rattle.std.specs.Prelude.{All, length, not, take, true};
 ghost use Rattle.vt_cells.specs.Attrs.{default_attrs};
-ghost use Rattle.vt_cells.specs.Cell.{blank, default_blank, is_blank, is_wide};
+ghost use Rattle.vt_cells.specs.Cell.{is_blank};
 ghost use Rattle.vt_rows.specs.Cells.{IsPaired, at, ends_blank, resized};
 ghost use Rattle.vt_rows.specs.Row.{RowValue, blank_row};
 ghost use Rattle.vt_redraw.specs.Internals.{cut_row, cell_past_cut, kept_len};
@@ -123,6 +123,17 @@ impl<'a> PictureRow<'a> {
         ensures { result ≤ length self.now.cells }
     {
         self.cells.len()
+    }
+
+    /// The cells that lie in the row it was cut from; all columns after them are
+    /// blanks.
+    #[inline]
+    pub fn own_cells(&self) -> &'a [Cell]
+        ensures inside { length result.now ≤ length self.now.cells }
+        ensures first { result.now ≡ take (length result.now) self.now.cells }
+        ensures blank { All (λ cell. is_blank cell ≡ true) (drop (length result.now) self.now.cells) }
+    {
+        self.cells
     }
 
     /// The cell at a column.

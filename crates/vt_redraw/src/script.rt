@@ -1,6 +1,6 @@
 //! The rows of a picture, from the top, and the whole script.
 
-ghost use Rattle.std.specs.Prelude.{◌≡◌, ◌+◌, ◌<◌, IfOk, OnOk};
+ghost use Rattle.std.specs.Prelude.{◌≡◌, IfOk, OnOk};
 ghost use Rattle.vt_cells.specs.Op.{bytes_of_all};
 ghost use Rattle.vt_redraw.specs.Internals.{AppendsOrStops, IsRowOver, Writes, row_behind};
 ghost use Rattle.vt_redraw.specs.Picture.{SamePictureSize};

@@ -78,7 +78,8 @@ fn run_scenes<R: AllocGlobal + Print>(rt: &R) -> io::Result<()> {
     users::run_recorder(rt)?;
     users::run_mirror(rt)?;
     run_pair(rt, "differences behind rows that move", &MOVED)?;
-    mirrors::run_scrolling(rt)
+    mirrors::run_scrolling(rt)?;
+    mirrors::run_sharing(rt)
 }
 
 /// Makes a parser, and then its calls.

@@ -91,6 +91,27 @@ const SCROLLING_CALLS: [Call; 9] = [
     Call::UpdateScrolling(0),
 ];
 
+/// Calls of a mirror whose viewers share texts and copies. The second viewer of each text needs none of
+/// the memory that keeping it for others takes; where that is refused, nothing is.
+#[rattlefmt::skip]
+const SHARING_CALLS: [Call; 15] = [
+    Call::Join,
+    Call::Join,
+    Call::Join,
+    Call::Update(0),
+    Call::Update(0),
+    Call::Update(1),
+    Call::Update(1),
+    Call::Process("ab"),
+    Call::Update(0),
+    Call::Update(0),
+    Call::Update(1),
+    Call::Update(1),
+    Call::Process("c"),
+    Call::UpdateScrolling(0),
+    Call::UpdateScrolling(1),
+];
+
 /// A mirror and viewers that come and go.
 pub fn run<R: AllocGlobal + Print>(rt: &R) -> io::Result<()> {
     println!(rt; "-- a mirror and its viewers")?;
@@ -101,6 +122,12 @@ pub fn run<R: AllocGlobal + Print>(rt: &R) -> io::Result<()> {
 pub fn run_scrolling<R: AllocGlobal + Print>(rt: &R) -> io::Result<()> {
     println!(rt; "-- a mirror whose rows move")?;
     run_calls(rt, &SCROLLING_CALLS)
+}
+
+/// A mirror whose viewers keep up with it.
+pub fn run_sharing<R: AllocGlobal + Print>(rt: &R) -> io::Result<()> {
+    println!(rt; "-- a mirror whose viewers share")?;
+    run_calls(rt, &SHARING_CALLS)
 }
 
 /// Makes a mirror of 2 rows and 4 columns, with room for one row in scrollback, and then its calls.

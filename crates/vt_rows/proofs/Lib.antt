@@ -4,6 +4,7 @@ pub mod Sound
 pub mod Rows
 pub mod Steps
 pub mod Texts
+pub mod WideTexts
 pub mod Moves
 pub mod ShiftSteps
 pub mod Trims

@@ -137,7 +137,7 @@ IsPaired-put_cells c n o new cells e h ow or q p =
 
 -- ---- what is put
 
-paired_from : (cells : List CellValue) → is_right_half (at cells 0) ≡ false →
+pub paired_from : (cells : List CellValue) → is_right_half (at cells 0) ≡ false →
     ((k : ℕ) → is_wide (at cells k) ≡ is_right_half (at cells (suc k))) → IsPaired cells
 paired_from cells r f =
     record { halves = λ k. f k ∙ ap (λ (j : ℕ). is_right_half (at cells j)) (sym (add-one k)); first = r }

@@ -1,6 +1,7 @@
 pub mod Row
 pub mod Cells
 pub mod Texts
+pub mod WideTexts
 pub mod Basic
 pub mod Plain
 pub mod Stretches

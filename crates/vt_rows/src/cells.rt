@@ -4,7 +4,7 @@
 //! a half alone: each one says what becomes of the partner of a half that it
 //! overwrites.
 
-ghost use Rattle.std.specs.Prelude.{◌≡◌, ◌≢◌, ◌<◌, ◌≤◌, ◌+◌, ◌-◌, ◌&&◌, ◌∷◌, [], All};
+ghost use Rattle.std.specs.Prelude.{◌≡◌, ◌≢◌, ◌<◌, ◌≤◌, ◌+◌, ◌-◌, ◌*◌, ◌&&◌, ◌∷◌, [], All};
 ghost use Rattle.std.specs.Prelude.{Some, encode_utf8, false, true, length, not};
 ghost use Rattle.vt_cells.specs.Attrs.{default_attrs};
 ghost use Rattle.vt_cells.specs.Cell.{IsCell, attrs_of, blank, glyph, is_blank};
@@ -14,6 +14,7 @@ ghost use Rattle.vt_rows.specs.Cells.{IsPaired, at, blanks, ends_blank, erased, 
 ghost use Rattle.vt_rows.specs.Cells.{narrowed_at, put_narrow, put_wide, widened_at};
 ghost use Rattle.vt_rows.specs.Internals.{HasRoom, left_blanked, right_replaced};
 ghost use Rattle.vt_rows.specs.Texts.{IsPrintableAscii, glyphs_of, put_text};
+ghost use Rattle.vt_rows.specs.WideTexts.{IsWideText, put_wide_text, wide_glyphs_of};
 
 use std::mem;
 use vt_cells::{Attrs, Cell, cell};
@@ -133,6 +134,43 @@ pub fn put_wide_cell(cells: &mut [Cell], column: usize, cell: Cell)
     blank_right(cells, column + 1, cell::attrs(&cell));
     cells[column] = cell;
     cells[column + 1] = cell::right_half();
+}
+
+/// Puts a wide glyph for each character of a text, from a column on, one after
+/// the other.
+///
+/// The row is what `put_wide` makes of it character by character. Of a wide
+/// glyph whose right half stood at the first column the left half becomes
+/// blank, in its own attributes. Of one whose left half stood at the last the
+/// right half becomes blank, in `attrs`.
+#[inline]
+pub fn put_wide_text(cells: &mut [Cell], column: usize, text: &[char], attrs: Attrs)
+    requires paired { IsPaired cells.old }
+    requires some { 0 < length text.now }
+    requires inside { column + 2 * length text.now ≤ length cells.old }
+    requires wide { IsWideText text.now }
+    ensures value { cells.new ≡ put_wide_text column text.now attrs cells.old }
+    ensures paired { IsPaired cells.new }
+    ensures sound { All IsCell cells.old → All IsCell cells.new }
+{
+    let end = column + 2 * text.len();
+    blank_left(cells, column);
+    blank_right(cells, end - 1, attrs);
+    write_wide(&mut cells[column..end], text, attrs);
+}
+
+/// Makes each two cells the halves of the wide glyph of a character.
+#[inline]
+fn write_wide(cells: &mut [Cell], text: &[char], attrs: Attrs)
+    requires same { length cells.old ≡ 2 * length text.now }
+    requires wide { IsWideText text.now }
+    ensures { cells.new ≡ wide_glyphs_of attrs text.now }
+{
+    let count = text.len().min(cells.len() / 2);
+    for k in 0..count {
+        cells[2 * k] = cell::glyph(text[k], true, attrs);
+        cells[2 * k + 1] = cell::right_half();
+    }
 }
 
 /// Takes the cell at a column out, and leaves a blank; a half whose partner

@@ -10,7 +10,7 @@ use Rattle.std.proofs.lemmas.Bool.{cases_lt}
 use Rattle.std.proofs.lemmas.Bool.Decides.{nat_tests}
 use Rattle.vt_scan.specs.declared.table.Class.{Class}
 use Rattle.vt_scan.specs.Automaton as automaton
-use Rattle.vt_scan.specs.Automaton.{State, Step, is_parameter, step_after, step_in}
+use Rattle.vt_scan.specs.Automaton.{Step, is_parameter, step_after, step_in}
 use Rattle.vt_scan.specs.Internals.{Begins, Fits, IsUnended, Opens}
 use Rattle.vt_scan.specs.Parameters.{table_of}
 use Rattle.vt_scan.specs.Run.{run}

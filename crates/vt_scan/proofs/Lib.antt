@@ -19,3 +19,4 @@ pub mod Written
 pub mod Scalars
 pub mod Selectors
 pub mod Lanes
+pub mod WideTexts

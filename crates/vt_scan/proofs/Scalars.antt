@@ -49,7 +49,7 @@ four_bytes : (a b c d : ℕ) → is_character (a ∷ b ∷ c ∷ d ∷ []) ≡ t
 unfolding is_character
 four_bytes a b c d e = grind (arith, nat_tests, low_scalar, high_scalar)
 
-coded_character : (bytes : List ℕ) → is_character bytes ≡ true → IsScalar (character_of bytes)
+pub coded_character : (bytes : List ℕ) → is_character bytes ≡ true → IsScalar (character_of bytes)
 coded_character [] e = low_scalar 0 (omega arith)
 coded_character (a ∷ []) e = low_scalar 0 (omega arith)
 coded_character (a ∷ b ∷ []) e = two_bytes a b e

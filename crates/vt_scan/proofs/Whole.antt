@@ -1,14 +1,14 @@
 -- Characters of more than one byte that are read at once.
-use Rattle.std.proofs.Common.{◌≡◌, ℕ, ◌≤◌, true, false, List, [], ◌∷◌, ◌++◌, Option, Some, None}
+use Rattle.std.proofs.Common.{◌≡◌, ℕ, ◌≤◌, ◌<◌, ◌-◌, true, false, List, [], ◌∷◌, ◌++◌, Option, Some, None}
 use Rattle.std.proofs.Common.{length, take, drop, get_or, refl, sym, subst, ◌∙◌, ap, arith}
 use Rattle.std.specs.Prelude.{IfSome}
 use Rattle.std.proofs.lemmas.Bool.{false≢true}
 use Rattle.std.proofs.lemmas.Bool.Decides.{nat_tests}
-use Rattle.std.proofs.lemmas.List.{take-append-drop}
-use Rattle.vt_scan.specs.Automaton.{State, Character, start}
+use Rattle.std.proofs.lemmas.List.{length-take-le, take-append-drop, take-take}
+use Rattle.vt_scan.specs.Automaton.{State, Step, Character, start}
 use Rattle.vt_scan.specs.Characters.{character_of, continues, is_beginning, is_character, is_second}
 use Rattle.vt_scan.specs.Run.{run}
-use Rattle.vt_scan.specs.Scanner.{FeedsAll, Held, Reads}
+use Rattle.vt_scan.specs.Scanner.{FeedsAll, HasNoEvent, Held, Reads, StandsFor}
 use Rattle.vt_scan.specs.Texts.{back_with}
 use Rattle.vt_scan.specs.declared.table.Kind.{Kind}
 use Rattle.vt_scan.specs.declared.table.Kind.TheVariants.{Ground}
@@ -60,7 +60,7 @@ read_whole (a ∷ b ∷ c ∷ []) e = three a b c e
 read_whole (a ∷ b ∷ c ∷ d ∷ []) e = four a b c d e
 read_whole (a ∷ b ∷ c ∷ d ∷ x ∷ xs) e = absurd (false≢true e)
 
-whole_fed : (held : Held) (text : List ℕ) (code : ℕ) → held.kind ≡ Ground → held.unfinished ≡ [] →
+pub whole_fed : (held : Held) (text : List ℕ) (code : ℕ) → held.kind ≡ Ground → held.unfinished ≡ [] →
     is_character text ≡ true → code ≡ character_of text → FeedsAll held text held (Character code ∷ [])
 whole_fed held text code is none e means = λ s stands.
     let kind : s.kind ≡ Ground = sym stands.kind ∙ is in
@@ -75,6 +75,59 @@ pub found_fed : (held : Held) (bytes : List ℕ) (found : Option (ℕ × ℕ)) �
     → IfSome found (λ f. FeedsAll held (take f.1 bytes) held (Character f.0 ∷ []))
 found_fed held bytes None is none e means = tt
 found_fed held bytes (Some f) is none e means = whole_fed held (take f.1 bytes) f.0 is none e means
+
+-- ---- only its last byte has an event
+
+read_before : (text : List ℕ) → is_character text ≡ true → (run start (take (length text - 1) text)).events ≡ []
+unfolding is_character is_beginning
+read_before [] e = absurd (false≢true e)
+read_before (a ∷ []) e = absurd (false≢true e)
+read_before (a ∷ b ∷ []) e =
+    let b1 : is_beginning (a ∷ []) ≡ true = grind (arith, nat_tests) in
+    let high : 0x80 ≤ a = grind (arith, nat_tests) in
+    ap (λ (step : Step). step.events) (read_first a [] high b1)
+read_before (a ∷ b ∷ c ∷ []) e =
+    let b1 : is_beginning (a ∷ []) ≡ true = grind (arith, nat_tests) in
+    let high : 0x80 ≤ a = grind (arith, nat_tests) in
+    let n2 : is_character (a ∷ b ∷ []) ≡ false = grind (arith, nat_tests) in
+    let b2 : is_beginning (a ∷ b ∷ []) ≡ true = grind (arith, nat_tests) in
+    ap (λ (step : Step). step.events) (read_first a (b ∷ []) high b1 ∙ read_next [] a b [] n2 b2)
+read_before (a ∷ b ∷ c ∷ d ∷ []) e =
+    let b1 : is_beginning (a ∷ []) ≡ true = grind (arith, nat_tests) in
+    let high : 0x80 ≤ a = grind (arith, nat_tests) in
+    let n2 : is_character (a ∷ b ∷ []) ≡ false = grind (arith, nat_tests) in
+    let b2 : is_beginning (a ∷ b ∷ []) ≡ true = grind (arith, nat_tests) in
+    let n3 : is_character (a ∷ b ∷ c ∷ []) ≡ false = grind (arith, nat_tests) in
+    let b3 : is_beginning (a ∷ b ∷ c ∷ []) ≡ true = grind (arith, nat_tests) in
+    ap (λ (step : Step). step.events)
+    (read_first a (b ∷ c ∷ []) high b1 ∙ read_next [] a b (c ∷ []) n2 b2 ∙ read_next (b ∷ []) a c [] n3 b3)
+read_before (a ∷ b ∷ c ∷ d ∷ x ∷ xs) e = absurd (false≢true e)
+
+at_start : (held : Held) (s : State) → held.kind ≡ Ground → held.unfinished ≡ [] → StandsFor held s → s ≡ start
+at_start held s is none stands =
+    let kind : s.kind ≡ Ground = sym stands.kind ∙ is in
+    let read : Reads held Ground s.collected = subst (λ (k : Kind). Reads held k s.collected) is stands.reads in
+    let collected : s.collected ≡ [] = sym read ∙ none in
+    λ i. record { kind = kind i; collected = collected i }
+
+before_fed : (held : Held) (bytes : List ℕ) (n : ℕ) → held.kind ≡ Ground → held.unfinished ≡ []
+    → is_character (take n bytes) ≡ true → n ≤ length bytes → HasNoEvent held (take (n - 1) bytes)
+before_fed held bytes n is none e inside = λ s stands.
+    let size : length (take n bytes) ≡ n = length-take-le n bytes inside in
+    let less : n - 1 ≤ n = omega arith in
+    let cut : take (n - 1) (take n bytes) ≡ take (n - 1) bytes = take-take (n - 1) n bytes less in
+    let same : take (length (take n bytes) - 1) (take n bytes) ≡ take (n - 1) bytes =
+    ap (λ (k : ℕ). take (k - 1) (take n bytes)) size ∙ cut in
+    subst (λ (text : List ℕ). (run s text).events ≡ []) same
+    (subst (λ (z : State). (run z (take (length (take n bytes) - 1) (take n bytes))).events ≡ [])
+    (sym (at_start held s is none stands)) (read_before (take n bytes) e))
+
+pub found_before : (held : Held) (bytes : List ℕ) (found : Option (ℕ × ℕ)) → held.kind ≡ Ground → held.unfinished ≡ []
+    → IfSome found (λ f. is_character (take f.1 bytes) ≡ true)
+    → IfSome found (λ f. (1 < f.1) × (f.1 ≤ length bytes))
+    → IfSome found (λ f. HasNoEvent held (take (f.1 - 1) bytes))
+found_before held bytes None is none e inside = tt
+found_before held bytes (Some f) is none e inside = before_fed held bytes f.1 is none e inside.1
 
 -- ---- what a text has that begins with a whole character
 

@@ -1,3 +1,4 @@
+pub mod WideTexts
 pub mod Table
 pub mod Parameters
 pub mod Characters

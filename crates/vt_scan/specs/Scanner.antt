@@ -83,6 +83,10 @@ abbrev pub FeedsAll : Held → List ℕ → Held → List automaton.Event → Ty
 FeedsAll old bytes new events =
     (state : State) → StandsFor old state → StandsFor new (run state bytes).state × ((run state bytes).events ≡ events)
 
+-- these bytes have no event, whatever state the scanner was in
+abbrev pub HasNoEvent : Held → List ℕ → Type 0
+HasNoEvent held bytes = (state : State) → StandsFor held state → (run state bytes).events ≡ []
+
 -- an intermediate byte (ECMA-48, section 5.4, and ECMA-35)
 abbrev pub is_intermediate : ℕ → Bool
 is_intermediate b = nat_le 0x20 b && nat_le b 0x2F

@@ -1,22 +1,13 @@
 //! The scanner: from bytes to events.
 
-ghost use Rattle.std.specs.Prelude.{◌≡◌, ◌≢◌, ◌≤◌, ◌<◌, ◌==◌, ◌&&◌, ◌↔◌, ◌⊎◌, ℕ};
-ghost use Rattle.std.specs.Prelude.{List, [], ◌∷◌, ◌++◌, All, IfOk, IfSome};
-ghost use Rattle.std.specs.Prelude.{IsErr, IsSome, IsTrue, None, OnErr, OnOk, Some};
-ghost use Rattle.std.specs.Prelude.{false, length, slice_index_or, take};
-ghost use Rattle.std.specs.Prelude.{map, true};
-ghost use Rattle.std.specs.Simd.Lanes.{mask_l};
-ghost use Rattle.vt_scan.specs.Printable.{is_odd};
+ghost use Rattle.std.specs.Prelude.{◌≡◌, ◌≢◌, ℕ};
+ghost use Rattle.std.specs.Prelude.{List, [], ◌∷◌, ◌++◌, IfOk};
+ghost use Rattle.std.specs.Prelude.{IsErr, None, OnErr, OnOk};
 ghost use Rattle.vt_cells.specs.Refusals.{OnlyOutOfMemory};
-ghost use Rattle.vt_scan.specs.Automaton.{Character, State, fresh_step, is_parameter, parts_of, start, step_in};
-ghost use Rattle.vt_scan.specs.Characters.{is_character};
+ghost use Rattle.vt_scan.specs.Automaton.{State, fresh_step, parts_of, start, step_in};
 ghost use Rattle.vt_scan.specs.Internals.{Begins, Fits, answer_of};
-ghost use Rattle.vt_scan.specs.Scanner.{Feeds, FeedsAll, Follows, IsPrintableByte, Reads, ReadsItself, StandsFor};
-ghost use Rattle.std.specs.List.{AllByRecursion};
-ghost use Rattle.vt_scan.specs.Scanner.{EndsEscape, ends_sequence, is_final, is_intermediate, leads_in};
-ghost use Rattle.vt_scan.specs.Internals.{IsUnended, Opens};
+ghost use Rattle.vt_scan.specs.Scanner.{Feeds, Follows, Reads, StandsFor};
 ghost use Rattle.vt_scan.specs.Table.{class_of, turn_of};
-ghost use Rattle.vt_scan.specs.declared.event.Event.{Event};
 ghost use Rattle.vt_scan.specs.declared.table.Kind.{Kind};
 ghost use Rattle.vt_scan.specs.declared.table.Turn.{Turn};
 

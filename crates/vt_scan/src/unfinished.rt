@@ -1,12 +1,14 @@
 //! The bytes of a character that isn't finished.
 #![tactic(auto, unfolding(crate::specs::Characters::is_character, crate::specs::Characters::is_beginning))]
 
-ghost use Rattle.std.specs.Prelude.{◌≡◌, ◌≢◌, ℕ, ◌<◌, ◌≤◌, ◌==◌, true, List, [], ◌∷◌};
+ghost use Rattle.std.specs.Prelude.{◌≡◌, ◌≢◌, ℕ, ◌*◌, ◌<◌, ◌≤◌, ◌==◌, true, List, [], ◌∷◌};
 ghost use Rattle.std.specs.Prelude.{IfSome, IsSome, length, take, if◌then◌else◌};
 ghost use Rattle.vt_scan.specs.Characters.{character_of, continues, is_beginning, is_character, is_second};
 ghost use Rattle.vt_scan.specs.Internals.{Extends, bytes_in, is_unfinished};
+ghost use Rattle.vt_scan.specs.WideTexts.{AreWideThrees, IsWideThree};
 
 use std::marker::Model;
+use vt_cells::columns;
 
 /// The bytes so far.
 #[derive(Clone, Copy, PartialEq, Eq, Debug)]
@@ -120,6 +122,44 @@ pub fn first_character(bytes: &[u8]) -> Option<(char, usize)>
         return None;
     }
     Some((join_four(bytes[0], bytes[1], bytes[2], bytes[3]), 4))
+}
+
+/// How many of the characters that these bytes begin with have three bytes and
+/// two columns each, from the first on, as far as there is room for them; they
+/// are left in `text`. There may be more.
+#[inline]
+pub fn wide_characters(bytes: &[u8], text: &mut [char]) -> usize
+    ensures same { length text.new ≡ length text.old }
+    ensures room { result ≤ length text.new }
+    ensures inside { 3 * result ≤ length bytes.now }
+    ensures threes { AreWideThrees result bytes.now text.new }
+{
+    let count = text.len().min(bytes.len() / 3);
+    let mut done = 0;
+    while done < count {
+        let Some(c) = wide_character(bytes[3 * done], bytes[3 * done + 1], bytes[3 * done + 2])
+        else {
+            return done;
+        };
+        text[done] = c;
+        done += 1;
+    }
+    done
+}
+
+/// The character of three bytes, if it takes two columns: one from U+3000 on.
+#[inline(always)]
+fn wide_character(a: u8, b: u8, c: u8) -> Option<char>
+    ensures { IfSome result (IsWideThree (a ∷ b ∷ c ∷ [])) }
+{
+    if a < 0xE3 || a > 0xED || !may_be_second(a, b) || !may_continue(c) {
+        return None;
+    }
+    let found = join_three(a, b, c);
+    match columns(found) {
+        Some(2) => Some(found),
+        _ => None,
+    }
 }
 
 /// One more byte behind those of a character.

@@ -29,10 +29,10 @@ use Rattle.vt_screen.proofs.EqualTexts.{redraws_tell}
 -- ---- the two sequences
 
 -- a page with origin mode off, all of it as region, and the cursor in the corner
-abbrev whole_page : Page → Page
+abbrev pub whole_page : Page → Page
 whole_page page = record page { top = 0; bottom = last_row page; origin = false; row = 0; column = 0 }
 
-abbrev in_whole : ScreenValue → ScreenValue
+abbrev pub in_whole : ScreenValue → ScreenValue
 in_whole screen = with_page (whole_page screen.page) screen
 
 origin_read : (screen : ScreenValue) →
@@ -61,7 +61,7 @@ whole_is page =
     let last = last_row page in
     whole_when (nat_lt 0 (min last last)) (origin_set false page) (min last last) last (omega arith)
 
-whole_read : (screen : ScreenValue) → ReadsTo whole_region_text screen (in_whole screen)
+pub whole_read : (screen : ScreenValue) → ReadsTo whole_region_text screen (in_whole screen)
 whole_read screen =
     let middle = display_after (OnPage (UseOrigin false)) screen in
     let end = display_after (OnPage (SetRegion 0 (last_row screen.page))) middle in
@@ -90,7 +90,7 @@ in_whole_is screen is = record {
   last = is.last;
 }
 
-whole_end : (page : Page) → IsPage page → last_row page + 1 ≡ length page.rows
+pub whole_end : (page : Page) → IsPage page → last_row page + 1 ≡ length page.rows
 whole_end page is = let some = is.cursor_row in omega arith
 
 plain_reader : (picture : Picture) (reader : ScreenValue) →

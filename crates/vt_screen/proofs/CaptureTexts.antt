@@ -1,79 +1,45 @@
 -- Basic texts of rows have no controls but line ends and SGR changes.
 use Rattle.std.proofs.Common.{◌≡◌, inl, ℕ, zero, suc, Bool, true, false, List, [], ◌∷◌, ◌++◌}
-use Rattle.std.proofs.Common.{replicate, refl, sym, ap, ap₂, subst, ◌∙◌, append_assoc, append-nil, arith, if◌then◌else◌}
-use Rattle.std.specs.List.{AllByRecursion, flat_map}
+use Rattle.std.proofs.Common.{replicate, refl, ap, ◌∙◌, arith, if◌then◌else◌}
+use Rattle.std.specs.List.{AllByRecursion}
 use Rattle.std.proofs.lemmas.List.Elements.{recursion_from_All}
 use Rattle.vt_cells.specs.Attrs.{default_attrs, same_attrs, same_color, Attrs}
 use Rattle.vt_cells.specs.Cell.{CellValue, IsCell, blank, glyph, right_half, is_default_blank}
-use Rattle.vt_cells.specs.Op.{csi, change_text, change_numbers}
+use Rattle.vt_cells.specs.Op.{change_text}
 use Rattle.std.specs.Char.{encode_utf8}
 use Rattle.std.specs.List.{list_all}
 use Rattle.vt_rows.specs.Basic.{Written, unwritten, shown_text, attrs_after, cells_text, basic_text, written_after}
 use Rattle.vt_rows.specs.Cells.{blanks}
 use Rattle.vt_rows.specs.Row.{RowValue, blank_row, trimmed}
 use Rattle.vt_grid.specs.Scrollback.{no_scrollback}
-use Rattle.vt_redraw.specs.Fits.{IsDrawn, IsDrawnText}
 use Rattle.vt_redraw.proofs.Cuts.{IsAnyRow}
 use Rattle.vt_redraw.proofs.Printable.{printable_text}
 use Rattle.vt_screen.specs.Capture.{basic_texts}
-use Rattle.vt_screen.specs.CaptureText.{IsGraphic, Part, LineEnd, Change, Text, part_text, IsPart, IsCaptureText}
+use Rattle.vt_screen.specs.MadeOf.{Characters, Control, IsMadeOf, capture_finals, plain_controls}
 use Rattle.vt_screen.specs.Screen.{ScreenValue, IsScreen, fresh_screen, visible_rows}
-use Rattle.vt_screen.proofs.Readback.{shown_range}
+use Rattle.vt_screen.proofs.MadeOf.{made_append, made_change, made_drawn, made_if, made_nothing, made_piece}
 use Rattle.vt_screen.proofs.Shown.{any_visible, none_above}
 
--- ---- texts one behind the other
-
-all_append : (ps qs : List Part) → AllByRecursion IsPart ps →
-    AllByRecursion IsPart qs → AllByRecursion IsPart (ps ++ qs)
-all_append [] qs h k = k
-all_append (p ∷ ps) qs h k = (h.0, all_append ps qs h.1 k)
-
-texts_append : (ps qs : List Part) → flat_map part_text (ps ++ qs) ≡ flat_map part_text ps ++ flat_map part_text qs
-texts_append [] qs = refl
-texts_append (p ∷ ps) qs =
-    ap (λ (rest : List ℕ). part_text p ++ rest) (texts_append ps qs)
-    ∙ sym (append_assoc (part_text p) (flat_map part_text ps) (flat_map part_text qs))
+abbrev IsCaptureText : List ℕ → Type 0
+IsCaptureText text = IsMadeOf capture_finals plain_controls text
 
 captured_append : (text rest : List ℕ) → IsCaptureText text → IsCaptureText rest → IsCaptureText (text ++ rest)
-captured_append text rest t r = record {
-  parts = t.parts ++ r.parts;
-  are_parts = all_append t.parts r.parts t.are_parts r.are_parts;
-  spelled = ap₂ (λ (x y : List ℕ). x ++ y) t.spelled r.spelled ∙ sym (texts_append t.parts r.parts);
-}
+captured_append text rest t r = made_append capture_finals plain_controls text rest t r
 
 captured_nothing : IsCaptureText []
-captured_nothing = record { parts = []; are_parts = tt; spelled = refl }
-
-captured_part : (part : Part) → IsPart part → IsCaptureText (part_text part)
-captured_part part is = record { parts = part ∷ []; are_parts = (is, tt); spelled = sym (append-nil (part_text part)) }
+captured_nothing = made_nothing capture_finals plain_controls
 
 -- ---- cells
 
-graphic : (cs : List ℕ) → AllByRecursion IsDrawn cs → AllByRecursion IsGraphic cs
-graphic [] h = tt
-graphic (c ∷ cs) h = (shown_range c h.0.shown, graphic cs h.1)
-
-captured_glyph : (text : List ℕ) → IsDrawnText text → IsCaptureText text
-captured_glyph text is =
-    subst IsCaptureText is.spelled (captured_part (Text is.characters) (graphic is.characters is.printable))
-
 captured_shown : (cell : CellValue) → IsCell cell → IsCaptureText (shown_text cell)
 unfolding encode_utf8
-captured_shown (blank attrs) is = captured_part (Text (0x20 ∷ [])) (inl (omega arith, omega arith), tt)
-captured_shown (glyph text wide attrs) is = captured_glyph text (printable_text text wide is)
+captured_shown (blank attrs) is =
+    made_piece capture_finals plain_controls (Characters (0x20 ∷ [])) ((refl, inl (omega arith, omega arith)), tt)
+captured_shown (glyph text wide attrs) is = made_drawn capture_finals plain_controls text (printable_text text wide is)
 captured_shown right_half is = captured_nothing
 
-captured_if : (b : Bool) (text rest : List ℕ) → IsCaptureText text →
-    IsCaptureText rest → IsCaptureText (if b then text else rest)
-captured_if true text rest t r = t
-captured_if false text rest t r = r
-
 captured_change : (was new : Attrs) → IsCaptureText (change_text was new)
-unfolding change_text
-captured_change was new =
-    captured_if (same_attrs was new) [] _ captured_nothing
-    (captured_if (same_attrs new default_attrs) (csi [] 0x6D) _
-    (captured_part (Change []) tt) (captured_part (Change (change_numbers was new)) tt))
+captured_change was new = made_change capture_finals plain_controls was new (inl refl)
 
 captured_cells : (attrs : Attrs) (cells : List CellValue) →
     AllByRecursion IsCell cells → IsCaptureText (cells_text attrs cells)
@@ -102,11 +68,13 @@ captured_rows written (row ∷ rows) are =
     let cells = trimmed_are row.cells (recursion_from_All IsCell row.cells are.0.sound) in
     captured_append (basic_text written row) (basic_texts (written_after written row) rows)
     (captured_append _ (cells_text written.attrs (trimmed row.cells))
-    (captured_if written.is_due (0x0A ∷ []) [] (captured_part LineEnd tt) captured_nothing)
+    (made_if capture_finals plain_controls written.is_due (0x0A ∷ []) []
+    (made_piece capture_finals plain_controls (Control (0x0A ∷ [])) (inl refl)) captured_nothing)
     (captured_cells written.attrs (trimmed row.cells) cells))
     (captured_rows (written_after written row) rows are.1)
 
-pub capture_is : (screen : ScreenValue) → IsScreen screen → IsCaptureText (basic_texts unwritten (visible_rows screen))
+pub capture_is : (screen : ScreenValue) → IsScreen screen →
+    IsMadeOf capture_finals plain_controls (basic_texts unwritten (visible_rows screen))
 capture_is screen is =
     captured_rows unwritten (visible_rows screen)
     (recursion_from_All IsAnyRow (visible_rows screen) (any_visible screen is))

@@ -6,7 +6,7 @@ use Rattle.vt_redraw.specs.Redraw.{redraw, difference}
 use Rattle.vt_redraw.specs.Steady.{IsSteady}
 use Rattle.vt_redraw.proofs.Difference.{difference_draws}
 use Rattle.vt_redraw.proofs.Fitting.{difference_fits, redraw_fits}
-use Rattle.vt_redraw.proofs.EmptyDifference.{showing_plain, same_picture, difference_self}
+use Rattle.vt_redraw.proofs.EmptyDifference.{showing_plain, difference_self}
 use Rattle.vt_redraw.proofs.EmptyDifference as canvas
 use Rattle.vt_redraw.proofs.Redrawing.{redraw_draws}
 use Rattle.vt_scan.specs.Automaton.{start}

@@ -72,3 +72,17 @@ pub kept_restored : (page : Page) (last : Option ℕ) (aside : Aside) →
 kept_restored page last aside k =
     kept_page page (cursor_restored page) last aside
     (page_cursor_restored page k.sound) k.colored (same_cursor_restored page) k
+
+-- a page alone
+pub kept_alone : (page : Page) (last : Option ℕ) (aside : Aside) → IsKept page last aside
+    → IsKept page last
+    (record { other = None; is_alternate = false; active = no_scrollback 0; idle = no_scrollback 0 })
+kept_alone page last aside k = record {
+  sound = k.sound;
+  colored = k.colored;
+  printable = k.printable;
+  other = tt;
+  entered = λ e. cc;
+  nothing = record { capacity = refl; rows = refl; offset = refl };
+  above = above_none 0;
+}

@@ -29,6 +29,7 @@ mod Resized
 mod Reporting
 mod Kept
 pub mod TextSteps
+pub mod WideSteps
 pub mod ContentTexts
 pub mod RowTexts
 pub mod RowItemsRead
@@ -37,6 +38,9 @@ pub mod Tops
 pub mod TouchedReads
 pub mod TouchedTexts
 mod Captures
+pub mod MadeOf
+pub mod MadePlain
+pub mod Escapes
 pub mod CaptureTexts
 pub mod TrailingBlanks
 pub mod TrailingBlanksScrollback
@@ -50,3 +54,8 @@ pub mod CallsOfRun
 pub mod StepLists
 pub mod Sizing
 mod WideFlags
+mod Framing
+mod QuietSteps
+pub mod PlainAgain
+mod MovedAgain
+pub mod NoCallbacks

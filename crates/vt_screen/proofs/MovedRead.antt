@@ -40,12 +40,12 @@ use Rattle.vt_screen.proofs.EqualTexts.{difference_none, difference_tells}
 
 -- ---- lines deleted and inserted
 
-deleted_read : (n : ℕ) (screen : ScreenValue) → suc n < 2 ^ 16 →
+pub deleted_read : (n : ℕ) (screen : ScreenValue) → suc n < 2 ^ 16 →
     ReadsTo (counted (suc n) 0x4D) screen (display_after (OnPage (DeleteLines (suc n))) screen)
 unfolding counted_step
 deleted_read n screen h = counted_read n 0x4D DeleteLines screen h (omega arith, omega arith) (λ groups. refl)
 
-inserted_read : (n : ℕ) (screen : ScreenValue) → suc n < 2 ^ 16 →
+pub inserted_read : (n : ℕ) (screen : ScreenValue) → suc n < 2 ^ 16 →
     ReadsTo (counted (suc n) 0x4C) screen (display_after (OnPage (InsertLines (suc n))) screen)
 unfolding counted_step
 inserted_read n screen h = counted_read n 0x4C InsertLines screen h (omega arith, omega arith) (λ groups. refl)

@@ -22,7 +22,7 @@ sent_all_then (x ∷ xs) ys s =
     ∙ sym
     (append_assoc (sent_off x s) (sent_off_all xs (screen_after x s)) (sent_off_all ys (screen_after_all xs (screen_after x s))))
 
-steps_then : (events more : List Event) (s : ScreenValue) →
+pub steps_then : (events more : List Event) (s : ScreenValue) →
     steps_of_all (events ++ more) s ≡ steps_of_all events s ++ steps_of_all more (screen_after_all (steps_of_all events s) s)
 steps_then [] more s = refl
 steps_then (event ∷ events) more s =
@@ -33,7 +33,7 @@ steps_then (event ∷ events) more s =
     ∙ (sym (append_assoc steps rest (steps_of_all more (screen_after_all rest there)))
     ∙ ap (λ (t : ScreenValue). (steps ++ rest) ++ steps_of_all more t) (sym (stepped_then steps rest s)))
 
-steps_in_then : (scan : State) (s : ScreenValue) (a b : List ℕ) →
+pub steps_in_then : (scan : State) (s : ScreenValue) (a b : List ℕ) →
     steps_in scan s (a ++ b) ≡ steps_in scan s a ++ steps_in (run scan a).state (screen_in scan s a) b
 steps_in_then scan s a b =
     ap (λ (o : Outcome). steps_of_all o.events s) (run-append scan a b)

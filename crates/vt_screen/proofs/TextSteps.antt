@@ -80,7 +80,7 @@ nothing_out : (c : ℕ) (attrs : Attrs) (page : Page) → 0x20 ≤ c →
     c < 0x7F → page.column < page.width → printed_out c attrs page ≡ []
 nothing_out c attrs page low high h = out_narrow c attrs page (columns_of-ascii c low high) ∙ rw (has_room page h) refl
 
-sent_nothing : (b : Bool) (c : ℕ) (screen : ScreenValue) (gone : List RowValue) → gone ≡ [] →
+pub sent_nothing : (b : Bool) (c : ℕ) (screen : ScreenValue) (gone : List RowValue) → gone ≡ [] →
     display_after (Print c) screen
     ≡ (if b then display_after (Print c) screen
     else record (display_after (Print c) screen)

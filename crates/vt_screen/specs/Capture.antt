@@ -6,8 +6,8 @@ use Rattle.std.specs.List.{fold}
 use Rattle.vt_cells.specs.Sinks.{IsStopped}
 use Rattle.vt_rows.specs.Basic.{Written, unwritten, basic_text, written_after}
 use Rattle.vt_rows.specs.Row.{RowValue}
-use Rattle.vt_rows.specs.declared.capture.BasicFormattedCaptureRange.{BasicFormattedCaptureRange}
-use Rattle.vt_rows.specs.declared.capture.BasicFormattedCaptureRange.TheVariants.{Full, Visible}
+use Rattle.vt_rows.specs.declared.capture.range.BasicFormattedCaptureRange.{BasicFormattedCaptureRange}
+use Rattle.vt_rows.specs.declared.capture.range.BasicFormattedCaptureRange.TheVariants.{Full, Visible}
 use Rattle.vt_screen.specs.Screen.{ScreenValue, above_page, visible_rows}
 
 -- the basic texts of rows behind what was written before

@@ -24,5 +24,7 @@ pub mod RowItems
 pub mod InputTexts
 pub mod States
 pub mod Capture
-pub mod CaptureText
+pub mod MadeOf
+pub mod Escapes
+pub mod Again
 pub mod Streamed

@@ -1,7 +1,7 @@
 //! What holds of what screens show. These functions do nothing: their clauses
 //! are what a proof may cite.
 
-ghost use Rattle.std.specs.Prelude.{◌≡◌, ◌+◌, ◌<◌, ◌≤◌, ◌↔◌, ℕ, List, suc, ◌++◌, length, replicate};
+ghost use Rattle.std.specs.Prelude.{[], codes, ◌≡◌, ◌+◌, ◌<◌, ◌≤◌, ◌↔◌, ℕ, List, suc, ◌++◌, length, replicate};
 ghost use Rattle.vt_grid.specs.Page.{SameSize};
 ghost use Rattle.vt_redraw.specs.Locality.{row_of_picture};
 ghost use Rattle.vt_redraw.specs.Picture.{IsPicture, SamePictureSize};
@@ -12,6 +12,9 @@ ghost use Rattle.vt_scan.specs.Automaton.{State};
 ghost use Rattle.vt_scan.specs.Selectors.{ReadsNoSelector};
 ghost use Rattle.vt_screen.specs.Capture.{basic_texts};
 ghost use Rattle.vt_screen.specs.Contents.{between_of, contents_of};
+ghost use Rattle.vt_screen.specs.Escapes.{HasOnlyEscapes};
+ghost use Rattle.vt_screen.specs.MadeOf.{IsMadeOf, capture_finals, drawing_controls, drawing_finals, plain_controls};
+ghost use Rattle.vt_screen.specs.MadeOf.{reset_controls, scrolling_finals, state_controls};
 ghost use Rattle.vt_screen.specs.Pages.{resized};
 ghost use Rattle.vt_screen.specs.Screen.{IsScreen, ScreenValue, fresh_screen, scrolled_back, visible_row, visible_rows};
 ghost use Rattle.vt_screen.specs.Selectors.{HasNoSelectors};
@@ -129,4 +132,20 @@ pub fn wide_flags()
     ensures cleared { (screen : ScreenValue) → HasWideFlags screen → HasWideFlags (screen_after EraseScrollback screen) }
     ensures resized { (rows cols : ℕ) (screen : ScreenValue) → IsScreen screen → cols ≤ screen.page.width →
         HasWideFlags screen → HasWideFlags (resized rows cols screen) }
+{}
+
+/// Decoded, each character of a text that a clause `controls` is about is either
+/// no control (of C0 or C1, or DEL) or one of BS, LF, CR and ESC, and each ESC is
+/// followed by one of a few characters: by `[`, `7` or `8` in texts that draw
+/// (`drawing`, `scrolling`, `reset`), also by `=` or `>` in texts of states
+/// (`state`), by `[` alone in captures. Plain texts have no ESC.
+pub fn escapes()
+    ensures drawing { (text : List ℕ) → IsMadeOf drawing_finals drawing_controls text →
+        HasOnlyEscapes (codes "[78") text }
+    ensures scrolling { (text : List ℕ) → IsMadeOf scrolling_finals drawing_controls text →
+        HasOnlyEscapes (codes "[78") text }
+    ensures reset { (text : List ℕ) → IsMadeOf drawing_finals reset_controls text → HasOnlyEscapes (codes "[78") text }
+    ensures state { (text : List ℕ) → IsMadeOf drawing_finals state_controls text → HasOnlyEscapes (codes "[78=>") text }
+    ensures capture { (text : List ℕ) → IsMadeOf capture_finals plain_controls text → HasOnlyEscapes (codes "[") text }
+    ensures plain { (text : List ℕ) → IsMadeOf [] plain_controls text → HasOnlyEscapes [] text }
 {}

@@ -13,4 +13,5 @@ pub mod sgr;
 pub use callbacks::{Call, Callbacks};
 pub use rows::{Rows, RowsDiff, RowsFormatted};
 pub use screen::Screen;
+pub use vt_cells::{CursorStyle, MouseProtocolEncoding, MouseProtocolMode, Pos};
 pub use vt_rows::RowContents;

@@ -1,64 +1,67 @@
 -- Reading an input bit by bit.
-use Rattle.std.proofs.Common.{◌≡◌, ℕ, Ok, Err, false, List, [], ◌++◌, Option, Some}
-use Rattle.std.proofs.Common.{None, refl, sym, subst, ap, ◌∙◌, append_assoc}
+use Rattle.std.proofs.Common.{◌≡◌, ℕ, Ok, Err, false, List, [], ◌++◌, Option}
+use Rattle.std.proofs.Common.{refl, subst, ap, ◌∙◌}
+use Rattle.std.proofs.KnownBytes.{Consumes-nil, Consumes-trans}
 use Rattle.std.proofs.lemmas.List.{append-nil}
-use Rattle.std.specs.Prelude.{IfOk, IfSome, OnOk, is_err}
+use Rattle.std.specs.Prelude.{IfOk, OnErr, OnOk, is_err}
 use Rattle.std.specs.List.{FoldsTo}
 use Rattle.vt_scan.specs.Automaton.{start}
 use Rattle.vt_scan.specs.Run.{run}
 use Rattle.vt_scan.specs.Scanner.{StandsFor}
 use Rattle.vt_screen.specs.Run.{Performs, state}
 use Rattle.vt_screen.specs.Screen.{ScreenValue, fresh_screen}
-use Rattle.vt_show.specs.declared.faults.Fault.{Fault}
 use Rattle.vt_show.specs.declared.mode.Mode.{Mode}
 use Rattle.std.specs.declared.result.Result.{Result}
-use Rattle.std.specs.Io.KnownBytes.{Appends, Consumes, IsAtEnd}
+use Rattle.std.specs.Io.KnownBytes.{Consumes}
 use Rattle.vt100.specs.Parser.{Parsing, Ran, parsing, quietly}
 use Rattle.vt100.proofs.Running.{ran_then}
-use Rattle.vt_show.specs.Internals.{ReadSoFar}
-use Rattle.vt_show.specs.Shown.{Writes, screen_text}
+use Rattle.vt_show.specs.Internals.{HasReadBytes}
+use Rattle.vt_show.specs.Shown.{IsOfMode, ReadsForText, screen_text}
 
-pub read_none : (a : Option (List ℕ)) (p : Parsing (Unit {0})) → ReadSoFar a a p p
-read_none None p = tt
-read_none (Some input) p = ([], refl, λ s stands. (stands, refl))
+pub read_none : (left : Option (List ℕ)) (p : Parsing (Unit {0})) → HasReadBytes left left p p
+read_none left p = record { bytes = []; reads = Consumes-nil left; ran = λ s stands. (stands, refl) }
 
-pub read_on : (a b c : Option (List ℕ)) (bytes : List ℕ) (p q r : Parsing (Unit {0})) →
-    ReadSoFar a b p q → Consumes b c bytes → Ran quietly q bytes r → ReadSoFar a c p r
-read_on None b c bytes p q r so takes ran = tt
-read_on (Some input) None c bytes p q r so takes ran = absurd so
-read_on (Some input) (Some xs) None bytes p q r so takes ran = absurd takes
-read_on (Some input) (Some xs) (Some ys) bytes p q r so takes ran = (
-  so.0 ++ bytes,
-  so.1 ∙ (ap (λ (zs : List ℕ). so.0 ++ zs) takes ∙ sym (append_assoc so.0 bytes ys)),
-  ran_then quietly p q r so.0 bytes so.2 ran,
-)
+pub read_on : (left at rest : Option (List ℕ)) (bytes : List ℕ) (p q r : Parsing (Unit {0})) →
+    HasReadBytes left at p q → Consumes at rest bytes → Ran quietly q bytes r → HasReadBytes left rest p r
+read_on left at rest bytes p q r so reads ran = record {
+  bytes = so.bytes ++ bytes;
+  reads = Consumes-trans left at rest so.bytes bytes so.reads reads;
+  ran = ran_then quietly p q r so.bytes bytes so.ran ran;
+}
 
-pub read_whole : (a b c : Option (List ℕ)) (p q : Parsing (Unit {0})) → ReadSoFar a b p q →
-    Consumes b c [] → IsAtEnd c → IfSome a (λ input. Ran quietly p input q)
-read_whole None b c p q so takes end = tt
-read_whole (Some input) None c p q so takes end = absurd so
-read_whole (Some input) (Some xs) None p q so takes end = absurd takes
-read_whole (Some input) (Some xs) (Some ys) p q so takes end =
-    subst (λ (bytes : List ℕ). Ran quietly p bytes q)
-    (sym (so.1 ∙ (ap (λ (zs : List ℕ). so.0 ++ zs) (takes ∙ end) ∙ append-nil so.0))) so.2
+pub read_end : (left at rest : Option (List ℕ)) (p q : Parsing (Unit {0})) → HasReadBytes left at p q →
+    Consumes at rest [] → HasReadBytes left rest p q
+read_end left at rest p q so reads = record {
+  bytes = so.bytes;
+  reads = subst (Consumes left rest) (append-nil so.bytes) (Consumes-trans left at rest so.bytes [] so.reads reads);
+  ran = so.ran;
+}
 
 pub ok_ran : {E : Type 0} (r : Result (Unit {0}) E) (P : Type 0) → is_err r ≡ false → IfOk r (λ _. P) → P
 ok_ran (Ok x) P e h = h
 ok_ran (Err x) P e h = cc
 
--- what was written is the text of the screen after the input
-pub wrote : (mode : Mode) (rows cols : ℕ) (known : Option (List ℕ)) (p q : Parsing (Unit {0}))
-    (screen : ScreenValue) (written : List ℕ) (old new : Option (List ℕ)) (r : Result (Unit {0}) Fault)
+-- what holds of a text holds of that of the screen after the bytes that were read
+pub for_text : (mode : Mode) (rows cols : ℕ) (left rest : Option (List ℕ)) (p q : Parsing (Unit {0}))
+    (screen : ScreenValue) (text : List ℕ) (Holds : List ℕ → Type 0)
     → StandsFor p.scanner start → p ≡ parsing p.scanner (fresh_screen rows cols 0) p.callbacks
-    → IfSome known (λ input. Ran quietly p input q)
-    → screen ≡ q.screen → written ≡ screen_text mode screen → OnOk r (Appends old new written)
-    → OnOk r (IfSome known (λ input. Writes mode rows cols input old new))
-wrote mode rows cols known p q screen written old new (Err e) stands fresh ran shown text appends = tt
-wrote mode rows cols None p q screen written old new (Ok x) stands fresh ran shown text appends = tt
-wrote mode rows cols (Some input) p q screen written old new (Ok x) stands fresh ran shown text appends = record {
+    → HasReadBytes left rest p q → screen ≡ q.screen → text ≡ screen_text mode screen → IsOfMode mode text → Holds text
+    → ReadsForText mode rows cols left rest Holds
+for_text mode rows cols left rest p q screen text Holds stands fresh so shown is made holds = record {
+  input = so.bytes;
+  reads = so.reads;
   screen = q.screen;
   shows =
-      subst (λ (s : ScreenValue). FoldsTo (Performs quietly) (state tt s) (run start input).events (state tt q.screen))
-      (ap (λ (z : Parsing (Unit {0})). z.screen) fresh) (ran start stands).1;
-  appends = subst (λ (bytes : List ℕ). Appends old new bytes) (text ∙ ap (screen_text mode) shown) appends;
+      subst (λ (s : ScreenValue). FoldsTo (Performs quietly) (state tt s) (run start so.bytes).events (state tt q.screen))
+      (ap (λ (z : Parsing (Unit {0})). z.screen) fresh) (so.ran start stands).1;
+  text = subst Holds (is ∙ ap (screen_text mode) shown) holds;
+  controls = subst (IsOfMode mode) (is ∙ ap (screen_text mode) shown) made;
 }
+
+pub on_ok_then : {E : Type 0} (r : Result (Unit {0}) E) (P Q : Type 0) → (P → Q) → OnOk r P → OnOk r Q
+on_ok_then (Ok x) P Q f p = f p
+on_ok_then (Err x) P Q f p = tt
+
+pub on_err_of : {E : Type 0} (r : Result (Unit {0}) E) (e : E) (P : Type 0) → r ≡ Err e → OnErr r P → P
+on_err_of (Ok x) e P is p = cc
+on_err_of (Err x) e P is p = p

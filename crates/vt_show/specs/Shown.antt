@@ -1,19 +1,18 @@
 -- What is written for an input: the text, by the mode, of the screen that a fresh terminal shows after reading it.
-use Rattle.std.specs.Prelude.{◌≡◌, ◌≢◌, ℕ, List, Err, IfSome, IsErr, OnOk}
+use Rattle.std.specs.Prelude.{◌≡◌, ◌≢◌, ℕ, List, [], ◌++◌, Err, IsErr, OnOk}
 use Rattle.std.specs.List.{FoldsTo}
-use Rattle.std.specs.Io.KnownBytes.{Appends, IsAtEnd, Keeps}
+use Rattle.std.specs.Io.KnownBytes.{Appends, Consumes, IsAtEnd, Keeps}
 use Rattle.std.specs.declared.option.Option.{Option}
 use Rattle.std.specs.declared.result.Result.{Result}
-use Rattle.vt_cells.specs.Op.{bytes_of_all}
-use Rattle.vt_redraw.specs.Redraw.{redraw}
 use Rattle.vt_rows.specs.Basic.{unwritten}
 use Rattle.vt_scan.specs.Automaton.{start}
 use Rattle.vt_scan.specs.Run as scan
 use Rattle.vt_screen.specs.Capture.{basic_texts}
 use Rattle.vt_screen.specs.Contents.{contents_of}
+use Rattle.vt_screen.specs.MadeOf.{IsMadeOf, capture_finals, drawing_controls, drawing_finals, plain_controls}
 use Rattle.vt_screen.specs.Run.{Performs, state}
 use Rattle.vt_screen.specs.Screen.{ScreenValue, fresh_screen, visible_rows}
-use Rattle.vt_screen.specs.Shown.{shown}
+use Rattle.vt_screen.specs.Shown.{shown_text}
 use Rattle.vt100.specs.Parser.{quietly}
 use Rattle.vt_show.specs.declared.faults.Fault.{Fault}
 use Rattle.vt_show.specs.declared.faults.Fault.TheVariants.{Write}
@@ -25,22 +24,42 @@ abbrev pub ShowsAfter : ℕ → ℕ → List ℕ → ScreenValue → Type 0
 ShowsAfter rows cols input screen =
     FoldsTo (Performs quietly) (state tt (fresh_screen rows cols 0)) (scan.run start input).events (state tt screen)
 
+-- the text that `Screen::contents`, `Screen::contents_formatted` or `Screen::contents_formatted_basic` returns
 abbrev pub screen_text : Mode → ScreenValue → List ℕ
 screen_text Plain screen = contents_of screen
-screen_text Formatted screen = bytes_of_all (redraw (shown screen))
+screen_text Formatted screen = shown_text screen
 screen_text Basic screen = basic_texts unwritten (visible_rows screen)
 
--- what is written grew by the text for the input, and by nothing else
-pub record Writes (mode : Mode) (rows cols : ℕ) (input : List ℕ) (old new : Option (List ℕ)) : Type 0 where
+-- what the text of a mode may contain: line ends; what draws; line ends and SGR
+abbrev pub IsOfMode : Mode → List ℕ → Type 0
+IsOfMode Plain text = IsMadeOf [] plain_controls text
+IsOfMode Formatted text = IsMadeOf drawing_finals drawing_controls text
+IsOfMode Basic text = IsMadeOf capture_finals plain_controls text
+
+-- what is written grew by the beginning of a text, or by all of it
+pub record AppendsPart (old new : Option (List ℕ)) (text : List ℕ) : Type 0 where
+  pub taken : List ℕ
+  pub lost : List ℕ
+  pub parts : text ≡ taken ++ lost
+  pub appends : Appends old new taken
+
+-- an input was read, all of it where it is known and none is left, and this holds of the text for it
+pub record ReadsForText (mode : Mode) (rows cols : ℕ) (left rest : Option (List ℕ))
+    (Holds : List ℕ → Type 0) : Type 0 where
+  pub input : List ℕ
+  pub reads : Consumes left rest input
   pub screen : ScreenValue
   pub shows : ShowsAfter rows cols input screen
-  pub appends : Appends old new (screen_text mode screen)
+  pub text : Holds (screen_text mode screen)
+  pub controls : IsOfMode mode (screen_text mode screen)
 
--- the input is read to its end, and the text for it is written where it is known; after another fault than that of
--- writing nothing was written, and after that one all was read. `error` is how a fault is answered
+-- the input is read to its end, and the text for it is written and nothing else; after a fault of writing the input was
+-- read to its end as well and a beginning of the text is written, and after any other fault nothing is. `error` is how
+-- a fault is returned
 pub record ShowsOrFails {E : Type 0} (error : Fault → E) (mode : Mode) (rows cols : ℕ)
     (left rest written grown : Option (List ℕ)) (result : Result (Unit {0}) E) : Type 0 where
   pub end : OnOk result (IsAtEnd rest)
-  pub text : OnOk result (IfSome left (λ input. Writes mode rows cols input written grown))
+  pub text : OnOk result (ReadsForText mode rows cols left rest (Appends written grown))
   pub nothing : IsErr result → result ≢ Err (error Write) → Keeps written grown
   pub read_first : result ≡ Err (error Write) → IsAtEnd rest
+  pub part : result ≡ Err (error Write) → ReadsForText mode rows cols left rest (AppendsPart written grown)

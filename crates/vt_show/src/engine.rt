@@ -2,18 +2,18 @@
 
 ghost use Rattle.std.specs.Int.NonZero.{non_zero_u16_get};
 ghost use Rattle.std.specs.Io.KnownBytes.{Appends, IsAtEnd, Keeps};
-ghost use Rattle.std.specs.Prelude.{◌≡◌, ◌≢◌, ◌↔◌, map, true, None, Some, IfOk, IfSome, IsErr, OnErr, OnOk, Err};
+ghost use Rattle.std.specs.Prelude.{◌≡◌, ◌≢◌, ◌↔◌, map, true, None, Some, IfOk, IsErr, OnErr, OnOk, Err};
 ghost use Rattle.std.specs.Prelude.{string_bytes};
-ghost use Rattle.vt100.specs.Parser.{Ran, quietly};
 ghost use Rattle.vt_show.specs.Arguments.{AskFor, AskForNothing};
-ghost use Rattle.vt_show.specs.Shown.{ShowsOrFails, screen_text};
+ghost use Rattle.vt_show.specs.Internals.{HasReadBytes};
+ghost use Rattle.vt_show.specs.Shown.{AppendsPart, IsOfMode, ShowsOrFails, screen_text};
 ghost use Rattle.vt_show.specs.declared.faults.Fault.{Fault};
 
 use crate::faults::Fault;
 use crate::mode::Mode;
 use crate::words::asked;
 use std::alloc::Global;
-use std::io::{Read, Write};
+use std::io::{ErrorKind, Read, Write};
 use std::num::NonZeroU16;
 use vt100::{Parser, Screen};
 
@@ -23,11 +23,14 @@ const BUFFER_SIZE: usize = 8192;
 /// Reads the input to its end into a fresh terminal of this size without
 /// scrollback, and writes the text that the mode names, and nothing else.
 ///
-/// Any error of a read is `Read`, an interrupted one as well. Any error of
-/// `write_all`, which tries an interrupted write again, is `Write`, and so is
-/// any error of the flush at the end. After `Memory` and `Read` nothing was
-/// written; after `Write` the whole input was read, and it is not said how much
-/// was written.
+/// # Errors
+///
+/// - `Memory` if an allocation fails. Nothing was written.
+/// - `Read` after any error of a read, also an interrupted one. Nothing was
+///   written.
+/// - `Write` after any error of a write or of the flush at the end, or if the
+///   writer takes no bytes. An interrupted write is tried again. The input was
+///   read to its end, and a beginning of the text, or all of it, was written.
 pub fn run<R: Read, W: Write>(
     alloc: Global,
     reader: &mut R,
@@ -36,7 +39,7 @@ pub fn run<R: Read, W: Write>(
     cols: NonZeroU16,
     mode: Mode,
 ) -> Result<(), Fault>
-    ensures { ShowsOrFails (λ fault. fault) mode (non_zero_u16_get rows) (non_zero_u16_get cols)
+    ensures call { ShowsOrFails (λ fault. fault) mode (non_zero_u16_get rows) (non_zero_u16_get cols)
         (R.remaining reader.old) (R.remaining reader.new) (W.contents writer.old) (W.contents writer.new) result }
 {
     let Ok(mut parser) = Parser::new(alloc, rows, cols, 0) else {
@@ -75,7 +78,7 @@ pub fn run_words<R: Read, W: Write>(
 /// Reads the input to its end into the parser; `Memory` only where the parser failed.
 fn read_all<R: Read>(parser: &mut Parser, reader: &mut R) -> Result<(), Fault>
     ensures end { OnOk result (IsAtEnd (R.remaining reader.new)) }
-    ensures ran { OnOk result (IfSome (R.remaining reader.old) (λ input. Ran quietly parser.old input parser.new)) }
+    ensures ran { OnOk result (HasReadBytes (R.remaining reader.old) (R.remaining reader.new) parser.old parser.new) }
     ensures whole { OnErr result (result ≢ Err Fault.Write) }
     ensures memory { result ≡ Err Fault.Memory → parser.new.is_failed ≡ true }
 {
@@ -97,6 +100,7 @@ fn read_all<R: Read>(parser: &mut Parser, reader: &mut R) -> Result<(), Fault>
 /// The text that the mode names.
 fn text(screen: &Screen, mode: Mode) -> Result<String, Fault>
     ensures text { IfOk result (λ text. string_bytes text ≡ screen_text mode screen.now) }
+    ensures controls { IfOk result (λ text. IsOfMode mode (string_bytes text)) }
     ensures memory { IsErr result → result ≡ Err Fault.Memory }
 {
     let text = match mode {
@@ -107,16 +111,43 @@ fn text(screen: &Screen, mode: Mode) -> Result<String, Fault>
     text.map_err(|_| Fault::Memory)
 }
 
-/// Writes the text, and flushes it; any error of that is `Write`.
+/// Writes and flushes `text`.
+///
+/// # Errors
+///
+/// `Write` if a write or the flush fails, or if the writer takes no bytes: a
+/// beginning of the text, or all of it, was written. An interrupted write is
+/// tried again.
 pub fn write_text<W: Write>(writer: &mut W, text: &str) -> Result<(), Fault>
     ensures text { OnOk result (Appends (W.contents writer.old) (W.contents writer.new) text.now) }
+    ensures part { OnErr result (AppendsPart (W.contents writer.old) (W.contents writer.new) text.now) }
     ensures write { IsErr result → result ≡ Err Fault.Write }
 {
-    if writer.write_all(text.as_bytes()).is_err() {
-        return Err(Fault::Write);
-    }
+    write_bytes(writer, text.as_bytes())?;
     if writer.flush().is_err() {
         return Err(Fault::Write);
     }
     Ok(())
+}
+
+/// Writes all of `bytes`, as `Write::write_all`, whose clauses say nothing of
+/// what a writer holds after an error.
+fn write_bytes<W: Write>(writer: &mut W, bytes: &[u8]) -> Result<(), Fault>
+    ensures all { OnOk result (Appends (W.contents writer.old) (W.contents writer.new) bytes.now) }
+    ensures part { OnErr result (AppendsPart (W.contents writer.old) (W.contents writer.new) bytes.now) }
+    ensures write { IsErr result → result ≡ Err Fault.Write }
+{
+    let mut rest = bytes;
+    for _ in 0..u64::MAX {
+        if rest.is_empty() {
+            return Ok(());
+        }
+        match writer.write(rest) {
+            Ok(0) => return Err(Fault::Write),
+            Ok(count) => rest = &rest[count..],
+            Err(error) if error.kind() == ErrorKind::Interrupted => {}
+            Err(_) => return Err(Fault::Write),
+        }
+    }
+    Err(Fault::Write)
 }

@@ -5,7 +5,7 @@ use crate::dice::Dice;
 use std::alloc::AllocError;
 
 /// Characters of one column and of two, marks, and characters that draw nothing.
-const CHARACTERS: [&str; 24] = [
+const CHARACTERS: [&str; 28] = [
     "é",
     "中",
     "文",
@@ -30,6 +30,10 @@ const CHARACTERS: [&str; 24] = [
     "\u{2764}\u{fe0f}",
     "#\u{fe0f}",
     "\u{fe0f}",
+    "\u{fe0e}",
+    "\u{231a}\u{fe0e}",
+    "\u{231a}\u{fe0e}\u{fe0f}",
+    "中\u{fe0f}",
 ];
 
 const CONTROLS: [u8; 10] = [b'\r', b'\n', b'\r', b'\n', 8, 9, 7, 11, 14, 5];

@@ -1,6 +1,7 @@
 //! `vt_soak SEED STEPS`: a long random run. Two terminals read the same random bytes in other pieces,
 //! and get the same calls in between; a third one is kept equal to them by differences, and a fourth
-//! one by redraws.
+//! one by redraws. Both read the texts of unsteady screens, too, after which nothing is expected of what
+//! they show until the next steady screen.
 //!
 //! A line with the counts is printed at the end, or one that says what differs first, after which
 //! step. The status is 1 where something differs. Where standard error is a terminal, a line there
@@ -10,12 +11,14 @@
 mod bytes;
 mod dice;
 mod digest;
+mod output;
 mod part;
 mod pieces;
 mod reader;
 mod round;
 mod shown;
 mod soundness;
+mod steadiness;
 mod step;
 mod tally;
 

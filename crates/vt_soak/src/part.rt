@@ -44,6 +44,12 @@ pub enum Part {
 
     /// The redraw of a terminal that shows the same.
     Text,
+
+    /// A control in a text that is written for terminals.
+    Output,
+
+    /// Whether the screen is steady.
+    Steadiness,
 }
 
 impl fmt::Display for Part {
@@ -62,6 +68,8 @@ impl fmt::Display for Part {
             Part::Difference => "what differences show",
             Part::Redraw => "what a redraw shows",
             Part::Text => "text of a redraw",
+            Part::Output => "a control in a text",
+            Part::Steadiness => "whether the screen is steady",
         })
     }
 }

@@ -1,6 +1,7 @@
 //! Terminals that are kept equal to another one by texts alone.
 
 use crate::dice::Dice;
+use crate::output::is_drawn;
 use crate::part::{Part, have_same_modes};
 use crate::pieces::feed;
 use crate::shown::shows;
@@ -22,6 +23,9 @@ pub fn read_difference(
         return read_redraw(dice, tally, reader, screen);
     }
     let text = difference(tally, screen, prev)?;
+    if !is_drawn(text.as_str()) {
+        return Ok(Some(Part::Output));
+    }
     feed(reader, dice, text.as_bytes())?;
     Ok(missing(reader.screen(), screen, Part::Difference))
 }
@@ -43,6 +47,31 @@ pub fn read_redraw(
         return Ok(Some(Part::Text));
     }
     Ok(missing(reader.screen(), screen, Part::Redraw))
+}
+
+/// Has two terminals read a difference and a redraw of a screen that is not steady, so that they may
+/// show anything afterwards. They are plain again all the same: the next redraws are as expected.
+pub fn read_unsteady(
+    dice: &mut Dice,
+    tally: &mut Tally,
+    mirror: &mut Parser,
+    painter: &mut Parser,
+    screen: &Screen,
+    prev: &Screen,
+) -> Result<Option<Part>> {
+    tally.unsteady = tally.unsteady.saturating_add(1);
+    if mirror.screen().is_sized_as(screen) && prev.is_sized_as(screen) {
+        let text = difference(tally, screen, prev)?;
+        if !is_drawn(text.as_str()) {
+            return Ok(Some(Part::Output));
+        }
+        feed(mirror, dice, text.as_bytes())?;
+    }
+    if painter.screen().is_sized_as(screen) {
+        let text = screen.contents_formatted()?;
+        feed(painter, dice, text.as_bytes())?;
+    }
+    Ok(None)
 }
 
 /// Has a terminal that has the modes of `prev` read what differs in the modes, and answers whether it

@@ -2,10 +2,11 @@
 
 use crate::dice::Dice;
 use crate::digest::Digest;
+use crate::output::is_drawn;
 use crate::part::{Part, differing};
-use crate::reader::{read_difference, read_modes, read_redraw};
-use crate::shown::is_surely_steady;
+use crate::reader::{read_difference, read_modes, read_redraw, read_unsteady};
 use crate::soundness::is_sound;
+use crate::steadiness::prints_itself;
 use crate::step::{Terminal, size, take_step};
 use crate::tally::Tally;
 use anyhow::Result;
@@ -72,6 +73,10 @@ impl Round {
         if found.is_some() {
             return Ok(found);
         }
+        let found = screen_part(alloc, self.one.screen())?;
+        if found.is_some() {
+            return Ok(found);
+        }
         let (mirror, painter) = (&mut self.mirror, &mut self.painter);
         readers_part(dice, tally, mirror, painter, self.one.screen(), &prev)
     }
@@ -110,6 +115,17 @@ fn all_rows(alloc: Global, screen: &Screen) -> Result<String> {
     Ok(text)
 }
 
+/// What is wrong with the redraw of the screen, or with what it says of its steadiness.
+fn screen_part(alloc: Global, screen: &Screen) -> Result<Option<Part>> {
+    if !is_drawn(screen.contents_formatted()?.as_str()) {
+        return Ok(Some(Part::Output));
+    }
+    if prints_itself(alloc, screen)? != screen.is_steady() {
+        return Ok(Some(Part::Steadiness));
+    }
+    Ok(None)
+}
+
 /// What differs in terminals that read texts of the screen, from what it shows.
 fn readers_part(
     dice: &mut Dice,
@@ -123,9 +139,8 @@ fn readers_part(
     if modes.is_some() {
         return Ok(modes);
     }
-    if !is_surely_steady(screen) {
-        tally.unsteady = tally.unsteady.saturating_add(1);
-        return Ok(None);
+    if !screen.is_steady() {
+        return read_unsteady(dice, tally, mirror, painter, screen, prev);
     }
     let shown = read_difference(dice, tally, mirror, screen, prev)?;
     if shown.is_some() {

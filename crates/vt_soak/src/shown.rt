@@ -56,20 +56,3 @@ fn attributes_of(cell: &Cell) -> (Color, Color, [bool; 5]) {
     ];
     (cell.fgcolor(), cell.bgcolor(), switches)
 }
-
-/// Whether each glyph that is shown, printed again on a blank row, gives just itself. Those without
-/// U+FE0F do, and so does one that it made wide. Of a narrow one that has it nothing is said.
-pub fn is_surely_steady(screen: &Screen) -> bool {
-    let (rows, cols) = screen.size();
-    for row in 0..rows.get() {
-        for col in 0..cols.get() {
-            if let Some(cell) = screen.cell(row, col)
-                && !cell.is_wide()
-                && cell.contents().contains('\u{fe0f}')
-            {
-                return false;
-            }
-        }
-    }
-    true
-}

@@ -21,8 +21,7 @@ pub struct Tally {
     /// How many of these moved rows first.
     pub moved: u64,
 
-    /// How many screens were passed over, since a glyph on them may be another one if it is printed
-    /// again.
+    /// How many screens were not steady: a glyph on them is a different one if it is printed again.
     pub unsteady: u64,
 
     /// What differs first.
@@ -49,7 +48,7 @@ impl fmt::Display for Tally {
     fn fmt<W: fmt::Write>(&self, f: &mut fmt::Formatter<W>) -> fmt::Result {
         write!(
             f,
-            "seed {}: {} steps, {} bytes read, {} redraws and {} differences read back, {} of them behind rows that moved, {} screens passed over",
+            "seed {}: {} steps, {} bytes read, {} redraws and {} differences read back, {} of them behind rows that moved, {} screens unsteady",
             self.seed,
             self.steps,
             self.bytes,

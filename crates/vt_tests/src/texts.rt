@@ -8,3 +8,4 @@ mod plain_tests;
 mod redraw_tests;
 mod row_items_tests;
 mod state_tests;
+mod steady_tests;

@@ -1,7 +1,7 @@
 //! The text of SGR, the sequence that changes attributes.
 
 ghost use Rattle.std.specs.Prelude.{◌≡◌, ◌+◌, ◌≤◌, ◌<◌, ℕ, List, [], ◌∷◌, ◌++◌};
-ghost use Rattle.std.specs.Prelude.{decimal, flat_map, length, if◌then◌else◌};
+ghost use Rattle.std.specs.Prelude.{length, if◌then◌else◌};
 ghost use Rattle.vt_cells.specs.Attrs.{same_bool, same_color, same_intensity};
 ghost use Rattle.vt_cells.specs.ChangeInternals.{separated, separated_all, style_part, without_separator};
 ghost use Rattle.vt_cells.specs.Op.{background_numbers, change_numbers, csi};

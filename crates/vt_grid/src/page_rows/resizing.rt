@@ -34,12 +34,12 @@ impl PageRows {
         fill(&mut fresh, self, usize::from(down), usize::from(up), above);
         let last = fresh.len() - 1;
         fresh.wrap(last, false);
-        self.cell_store = fresh.cell_store;
+        self.flat = fresh.flat;
     }
 
     /// Gives a blank row cells and a flag, as far as they fit; see `cuts::refit`.
     /// The flag stays where they are as many as the row's columns.
-    #[tactic(auto, using(crate::proofs::CellStores::columns_counted))]
+    #[tactic(auto, using(crate::proofs::Flats::columns_counted))]
     pub fn fit_row(&mut self, row: usize, from: &[Cell], wrapped: bool)
         requires inside { row < length self.old.rows }
         requires blank { page_row self.old row ≡ blank_row default_attrs (length (page_row self.old row).cells) }
@@ -49,7 +49,7 @@ impl PageRows {
             (resized_row (length (page_row self.old row).cells) (record { cells = from.now; wrapped = wrapped }))
             self.old }
     {
-        let goes_on = flag_kept(wrapped, from.len() == usize::from(self.cell_store.width));
+        let goes_on = flag_kept(wrapped, from.len() == usize::from(self.flat.width));
         self.edit_row_and_flag(row, goes_on, |cells| cuts::refit(cells, from));
     }
 

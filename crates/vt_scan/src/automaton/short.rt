@@ -1,28 +1,29 @@
 //! Short ways: bytes that need not be fed one by one.
 
-ghost use Rattle.std.specs.Prelude.{◌≡◌, ◌≢◌, ◌≤◌, ◌<◌, ◌==◌, ◌&&◌, ◌↔◌, ◌⊎◌, ℕ};
-ghost use Rattle.std.specs.Prelude.{List, [], ◌∷◌, ◌++◌, All, IfOk, IfSome};
-ghost use Rattle.std.specs.Prelude.{IsErr, IsSome, IsTrue, None, OnErr, OnOk, Some};
+ghost use Rattle.std.specs.Prelude.{◌≡◌, ◌≢◌, ◌≤◌, ◌<◌, ◌-◌, ◌*◌, ◌==◌, ◌&&◌, ◌↔◌, ◌⊎◌, ℕ};
+ghost use Rattle.std.specs.Prelude.{[], ◌∷◌, All, IfOk, IfSome};
+ghost use Rattle.std.specs.Prelude.{IsErr, IsSome, IsTrue, None, OnErr, Some};
 ghost use Rattle.std.specs.Prelude.{false, length, slice_index_or, take};
 ghost use Rattle.std.specs.Prelude.{map, true};
 ghost use Rattle.std.specs.Simd.Lanes.{mask_l};
 ghost use Rattle.vt_scan.specs.Printable.{is_odd};
 ghost use Rattle.vt_cells.specs.Refusals.{OnlyOutOfMemory};
-ghost use Rattle.vt_scan.specs.Automaton.{Character, State, fresh_step, is_parameter, parts_of, start, step_in};
+ghost use Rattle.vt_scan.specs.Automaton.{Character};
 ghost use Rattle.vt_scan.specs.Characters.{is_character};
-ghost use Rattle.vt_scan.specs.Internals.{Begins, Fits, answer_of};
-ghost use Rattle.vt_scan.specs.Scanner.{ExecutesItself, Feeds, FeedsAll, Follows, IsPrintableByte, Reads, ReadsItself, StandsFor};
+ghost use Rattle.vt_scan.specs.Internals.{Begins};
+ghost use Rattle.vt_scan.specs.Scanner.{ExecutesItself, Feeds, FeedsAll, HasNoEvent, IsPrintableByte, ReadsItself};
 ghost use Rattle.std.specs.List.{AllByRecursion};
 ghost use Rattle.vt_scan.specs.Scanner.{EndsEscape, ends_sequence, is_final, is_intermediate, leads_in};
 ghost use Rattle.vt_scan.specs.Internals.{IsUnended, Opens};
 ghost use Rattle.vt_scan.specs.Table.{class_of, turn_of};
+ghost use Rattle.vt_scan.specs.WideTexts.{IsWideCharacter};
 ghost use Rattle.vt_scan.specs.declared.event.Event.{Event};
 ghost use Rattle.vt_scan.specs.declared.table.Kind.{Kind};
 ghost use Rattle.vt_scan.specs.declared.table.Turn.{Turn};
 
 use super::Scanner;
 use crate::table::{Ending, Kind, Turn, turn_at};
-use crate::unfinished::first_character;
+use crate::unfinished::{first_character, wide_characters};
 use std::simd::prelude::*;
 use vt_cells::Error;
 
@@ -169,13 +170,14 @@ impl Scanner {
 
     /// The character of more than one byte that these bytes begin with, and
     /// how many bytes it takes, if nothing is unfinished and all its bytes are
-    /// here (Unicode 3.9, Table 3-7). Reading them gives that character and
-    /// leaves the scanner as it is, so that they need not be fed.
+    /// here (Unicode 3.9, Table 3-7). Reading them gives that character, by the
+    /// last one, and leaves the scanner as it is, so that they need not be fed.
     #[inline(always)]
     pub fn whole_character(&self, bytes: &[u8]) -> Option<(char, usize)>
         ensures inside { IfSome result (λ found. (1 < found.1) × (found.1 ≤ length bytes.now)) }
         ensures fed { IfSome result
             (λ found. FeedsAll self.now (take found.1 bytes.now) self.now (Character found.0 ∷ [])) }
+        ensures before { IfSome result (λ found. HasNoEvent self.now (take (found.1 - 1) bytes.now)) }
         ensures all { (n : ℕ) → self.now.kind ≡ Kind.Ground → self.now.unfinished ≡ [] →
             is_character (take n bytes.now) ≡ true → IsSome result }
     {
@@ -183,6 +185,25 @@ impl Scanner {
             first_character(bytes)
         } else {
             None
+        }
+    }
+
+    /// How many characters of three bytes and two columns these bytes begin
+    /// with, if nothing is unfinished and as far as there is room for them; they
+    /// are left in `text`. Reading them gives these characters and leaves the
+    /// scanner as it is, so that they need not be fed.
+    #[inline]
+    pub fn wide_text(&self, bytes: &[u8], text: &mut [char]) -> usize
+        ensures room { result ≤ length text.new }
+        ensures same { length text.new ≡ length text.old }
+        ensures inside { 3 * result ≤ length bytes.now }
+        ensures fed { FeedsAll self.now (take (3 * result) bytes.now) self.now (map Character (take result text.new)) }
+        ensures wide { All IsWideCharacter (take result text.new) }
+    {
+        if self.is_fresh() {
+            wide_characters(bytes, text)
+        } else {
+            0
         }
     }
 

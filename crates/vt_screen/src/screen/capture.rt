@@ -7,8 +7,8 @@ ghost use Rattle.vt_rows.specs.Basic.{Written, unwritten};
 ghost use Rattle.vt_redraw.specs.Refusals.{RefusedOnlyIfSome};
 ghost use Rattle.vt_screen.specs.Capture.{IfGiven, StopsBehind, all_rows, basic_texts};
 ghost use Rattle.vt_screen.specs.Capture.{captured_rows, captured_text, given_state, written_after_all};
-ghost use Rattle.vt_screen.specs.CaptureText.{IsCaptureText};
 ghost use Rattle.vt_screen.specs.Internals.{WritesRows};
+ghost use Rattle.vt_screen.specs.MadeOf.{IsMadeOf, capture_finals, plain_controls};
 ghost use Rattle.vt_screen.specs.Screen.{visible_rows};
 ghost use Rattle.vt_screen.specs.TextResults.{IfText};
 
@@ -31,7 +31,7 @@ impl Screen {
     /// Fails where memory for the text is refused; an empty text needs none.
     pub fn contents_formatted_basic(&self) -> Result<String, Error>
         ensures text { IfText result (λ text. text ≡ basic_texts unwritten (visible_rows self.now)) }
-        ensures controls { IfText result IsCaptureText }
+        ensures controls { IfText result (IsMadeOf capture_finals plain_controls) }
         ensures memory { OnlyOutOfMemory result }
         ensures some { RefusedOnlyIfSome result (basic_texts unwritten (visible_rows self.now)) }
     {

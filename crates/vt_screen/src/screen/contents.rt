@@ -2,13 +2,14 @@
 
 ghost use Rattle.std.specs.Prelude.{◌≡◌, ◌≤◌, ◌<◌, ◌+◌, ◌-◌, ◌++◌, ◌↔◌, IfErr, IfSome};
 ghost use Rattle.std.specs.Prelude.{IsSome, OnOk, false, length, min, string_bytes, if◌then◌else◌};
-ghost use Rattle.std.specs.Prelude.{[], IsTrue, IsFalse, slice_index, string_len};
-ghost use Rattle.std.specs.List.{flat_map, range_with_len};
+ghost use Rattle.std.specs.Prelude.{[], ℕ, IsTrue, IsFalse, slice_index, string_len};
 ghost use Rattle.vt_cells.specs.Refusals.{OnlyOutOfMemory};
 ghost use Rattle.vt_rows.specs.Plain.{plain_text};
 ghost use Rattle.vt_redraw.specs.Refusals.{RefusedOnlyIfSome};
 ghost use Rattle.vt_screen.specs.Contents.{between_of, contents_of, gap_line, line_end, lines_of};
 ghost use Rattle.vt_screen.specs.Contents.{part_of, row_texts, rows_left, without_line_ends};
+ghost use Rattle.vt_screen.specs.MadeOf.{IsMadeOf, plain_controls};
+ghost use Rattle.vt_screen.specs.RowsShown.{text_at};
 ghost use Rattle.vt_screen.specs.Screen.{visible_row, visible_rows};
 ghost use Rattle.vt_screen.specs.TextResults.{AnswersText, IfText};
 
@@ -30,6 +31,7 @@ impl Screen {
     /// Fails where memory for the text is refused.
     pub fn contents(&self) -> Result<String, Error>
         ensures text { IfText result (λ text. text ≡ contents_of self.now) }
+        ensures controls { IfText result (IsMadeOf [] plain_controls) }
         ensures memory { OnlyOutOfMemory result }
     {
         let mut text = String::new(self.alloc);
@@ -63,6 +65,7 @@ impl Screen {
     ) -> Result<String, Error>
         requires { start_row < end_row → start_col ≤ self.now.page.width }
         ensures text { IfText result (λ text. text ≡ between_of start_row start_col end_row end_col self.now) }
+        ensures controls { IfText result (IsMadeOf [] plain_controls) }
         ensures memory { OnlyOutOfMemory result }
         ensures some { RefusedOnlyIfSome result (between_of start_row start_col end_row end_col self.now) }
     {
@@ -98,8 +101,11 @@ impl Screen {
     #[tactic(auto, using(crate::proofs::ContentTexts::shown_rows))]
     pub fn rows(&self, start: u16, width: u16) -> Rows<'_>
         ensures texts { rows_left result ≡ row_texts start (start + width) (visible_rows self.now) }
+        ensures controls { (r : ℕ) → IsMadeOf [] plain_controls (text_at (rows_left result) r) }
         ensures count { length (rows_left result) ≡ length self.now.page.rows }
     {
+        // For the proof: every screen is whole.
+        self.sound();
         Rows::new(self, start, width)
     }
 

@@ -5,6 +5,7 @@ ghost use Rattle.vt_cells.specs.InputModes.{application_cursor_text, bracketed_p
 ghost use Rattle.vt_cells.specs.Refusals.{OnlyOutOfMemory};
 ghost use Rattle.vt_redraw.specs.Refusals.{RefusedOnlyIfSome};
 ghost use Rattle.vt_screen.specs.InputTexts.{input_change, input_text, mouse_and_style_text, where_changed};
+ghost use Rattle.vt_screen.specs.MadeOf.{IsMadeOf, input_controls};
 ghost use Rattle.vt_screen.specs.States.{HasDefaultMouseAndStyle, SetsModes};
 ghost use Rattle.vt_screen.specs.TextResults.{IfText};
 
@@ -34,6 +35,7 @@ impl Screen {
     /// ```
     pub fn input_mode_formatted(&self) -> Result<String, Error>
         ensures text { IfText result (λ text. text ≡ input_text self.now.modes) }
+        ensures controls { IfText result (IsMadeOf [] input_controls) }
         ensures sets { IfText result (SetsModes HasDefaultMouseAndStyle self.now.modes) }
         ensures memory { OnlyOutOfMemory result }
     {
@@ -55,6 +57,7 @@ impl Screen {
     /// where memory for the text is refused, and by `never` not there.
     pub fn input_mode_diff(&self, prev: &Screen) -> Result<String, Error>
         ensures text { IfText result (λ text. text ≡ input_change prev.now.modes self.now.modes) }
+        ensures controls { IfText result (IsMadeOf [] input_controls) }
         ensures sets { IfText result (SetsModes (λ had. had ≡ prev.now.modes) self.now.modes) }
         ensures empty { IfText result (λ text. text ≡ [] → self.now.modes ≡ prev.now.modes) }
         ensures none { IfText result (λ text. self.now.modes ≡ prev.now.modes → text ≡ []) }

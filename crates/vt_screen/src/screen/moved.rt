@@ -9,6 +9,8 @@ ghost use Rattle.vt_grid.specs.Page.{SameSize};
 ghost use Rattle.vt_redraw.specs.Moved.{IsBand, IsScrolling, moved, scrolling_text};
 ghost use Rattle.vt_redraw.specs.Refusals.{RefusedOnlyIfSome};
 ghost use Rattle.vt_redraw.specs.Steady.{IsSteady};
+ghost use Rattle.vt_screen.specs.Again.{KeepsPlain};
+ghost use Rattle.vt_screen.specs.MadeOf.{IsMadeOf, drawing_controls, scrolling_finals};
 ghost use Rattle.vt_screen.specs.Screen.{IsColored, IsScreen};
 ghost use Rattle.vt_screen.specs.Shown.{RedrawsFrom, shown, shown_change};
 ghost use Rattle.vt_screen.specs.TextResults.{IfText};
@@ -29,7 +31,8 @@ impl Screen {
     /// By `redraws`, for a screen whose picture is steady, such a terminal
     /// reads the text as that of [`Screen::contents_formatted`], to the same
     /// end. The text is empty where both show the same, and by `empty` only
-    /// there. It may touch any row.
+    /// there. It may touch any row. By `again` a plain terminal that has read it
+    /// is plain again, also where the picture is not steady.
     ///
     /// Fails where memory for the text, or for the plain difference that it is
     /// compared with, is refused, and by `never` not where both screens show the
@@ -42,6 +45,8 @@ impl Screen {
     pub fn contents_diff_scrolling(&self, prev: &Screen) -> Result<String, Error>
         requires { SameSize self.now.page prev.now.page }
         ensures text { IfText result (IsScrolling (shown self.now) (shown prev.now)) }
+        ensures controls { IfText result (IsMadeOf scrolling_finals drawing_controls) }
+        ensures again { IfText result KeepsPlain }
         ensures shorter { IfText result (λ text. length text ≤ length (shown_change prev.now self.now)) }
         ensures redraws { IfText result (RedrawsFrom prev.now self.now) }
         ensures empty { IfText result

@@ -1,9 +1,10 @@
 //! Characters that are printed, one by one or as one edit of their row.
 
-ghost use Rattle.std.specs.Prelude.{◌≡◌, ◌≢◌, ◌+◌, ◌-◌, ◌<◌, ◌≤◌, IfSome, OnErr, OnOk, Some, length};
+ghost use Rattle.std.specs.Prelude.{◌≡◌, ◌≢◌, ◌+◌, ◌-◌, ◌*◌, ◌<◌, ◌≤◌, IfSome, OnErr, OnOk, Some, length};
 ghost use Rattle.vt_cells.specs.Glyph.{columns_of};
 ghost use Rattle.vt_cells.specs.Refusals.{OnlyOutOfMemory};
 ghost use Rattle.vt_rows.specs.Texts.{IsPrintableAscii};
+ghost use Rattle.vt_rows.specs.WideTexts.{IsWideText};
 ghost use Rattle.vt_screen.specs.Run.{Refuses, Takes, state};
 ghost use Rattle.vt_screen.specs.Screen.{IsPrintable};
 ghost use Rattle.vt_screen.specs.Steps as step;
@@ -89,6 +90,21 @@ pub fn print_text(screen: &mut Screen, text: &[u8])
 {
     screen.grid.print_text(text, screen.attrs);
     screen.last = Some(char::from(text[text.len() - 1]));
+}
+
+/// Prints a text of wide characters for which the cursor's row has room: what
+/// [`text`] does with one character after the other, as one edit of the row. No
+/// row leaves the page, and no callback is called.
+#[inline]
+pub fn print_wide_text(screen: &mut Screen, text: &[char])
+    requires some { 0 < length text.now }
+    requires room { screen.old.page.column + 2 * length text.now ≤ screen.old.page.width }
+    requires wide { IsWideText text.now }
+    ensures { screen.new ≡ screen_after_text text.now screen.old }
+{
+    let last = text[text.len() - 1];
+    screen.grid.print_wide_text(text, screen.attrs);
+    screen.last = Some(last);
 }
 
 /// The last character that was printed in columns of its own, which REP

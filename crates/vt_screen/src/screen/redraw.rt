@@ -11,7 +11,7 @@
 //! just itself. All without U+FE0F are, and U+2764 U+FE0F on two columns or
 //! more.
 
-ghost use Rattle.std.specs.Prelude.{◌≡◌, ◌++◌, [], IsOk, OnOk};
+ghost use Rattle.std.specs.Prelude.{◌≡◌, ◌↔◌, ◌++◌, [], IfOk, IsOk, IsTrue, OnOk};
 ghost use Rattle.vt_cells.specs.Op.{bytes_of_all};
 ghost use Rattle.vt_cells.specs.Refusals.{OnlyOutOfMemory};
 ghost use Rattle.vt_grid.specs.Page.{SameSize};
@@ -20,8 +20,10 @@ ghost use Rattle.vt_redraw.specs.Picture.{SamePictureSize};
 ghost use Rattle.vt_redraw.specs.Redraw.{cursor_state};
 ghost use Rattle.vt_redraw.specs.Refusals.{RefusedOnlyIfSome};
 ghost use Rattle.vt_redraw.specs.Steady.{IsSteady};
+ghost use Rattle.vt_screen.specs.Again.{KeepsPlain, MakesPlain};
 ghost use Rattle.vt_screen.specs.AnyRegion.{IsReaderInAnyRegion, KeepsRestButRegion, reset_text};
-ghost use Rattle.vt_screen.specs.Screen.{IsColored, IsScreen, ScreenValue};
+ghost use Rattle.vt_screen.specs.MadeOf.{IsMadeOf, drawing_controls, drawing_finals, reset_controls};
+ghost use Rattle.vt_screen.specs.Screen.{IsColored, IsScreen, ScreenValue, above_page};
 ghost use Rattle.vt_screen.specs.Touched.{TouchesOnly};
 ghost use Rattle.vt_screen.specs.Shown.{IsReader, IsReaderOf, IsReaderOfRows, KeepsRest, Redraws, RedrawsFrom};
 ghost use Rattle.vt_screen.specs.Shown.{SetsAttrs, TakesCursor, Turns, attributes_text, shown};
@@ -31,9 +33,79 @@ ghost use Rattle.vt_screen.specs.TextResults.{IfText};
 use crate::screen::Screen;
 use vt_cells::term::{BufWrite, ChangeAttrs, ClearAttrs};
 use vt_cells::{Attrs, Error, Sink};
-use vt_redraw::{View, write_contents_diff, write_contents_formatted, write_cursor_state};
+use vt_grid::Scrollback;
+use vt_redraw::{
+    View, is_steady, write_contents_diff, write_contents_formatted, write_cursor_state,
+};
 
 impl Screen {
+    /// Returns a screen of the same size that displays the same: a copy of the
+    /// active page, without scrollback and without the other page. It serves as
+    /// `prev` of [`Screen::contents_diff`] in less memory than a clone.
+    ///
+    /// While scrollback is displayed, the result is a copy of the whole screen,
+    /// as `Screen::clone` returns it.
+    ///
+    /// # Errors
+    ///
+    /// `OutOfMemory` if an allocation fails.
+    pub fn shown_copy(&self) -> Result<Screen, Error>
+        ensures shown { IfOk result (λ screen. shown screen ≡ shown self.now) }
+        ensures size { IfOk result (λ screen. SameSize screen.page self.now.page) }
+        ensures memory { OnlyOutOfMemory result }
+    {
+        if self.scrollback.offset() == 0 {
+            return self.page_copy();
+        }
+        let copy = self.clone()?;
+        Ok(copy)
+    }
+
+    /// Returns a screen with a copy of the active page alone.
+    #[tactic(auto, using(crate::proofs::Kept::kept_alone))]
+    fn page_copy(&self) -> Result<Screen, Error>
+        ensures shown { (above_page self.now).offset ≡ 0 → IfOk result (λ screen. shown screen ≡ shown self.now) }
+        ensures size { IfOk result (λ screen. SameSize screen.page self.now.page) }
+        ensures memory { OnlyOutOfMemory result }
+    {
+        let grid = self.grid.try_clone(self.alloc)?;
+        Ok(Screen {
+            alloc: self.alloc,
+            grid,
+            attrs: self.attrs,
+            saved_attrs: self.saved_attrs,
+            hidden: self.hidden,
+            modes: self.modes,
+            last: self.last,
+            scrollback: Scrollback::new(self.alloc, 0),
+            other: None,
+            other_scrollback: Scrollback::new(self.alloc, 0),
+            is_alternate: false,
+        })
+    }
+
+    /// Returns whether the screen's picture is *steady*: whether each displayed
+    /// glyph, printed character by character on a blank row of the screen's
+    /// width, gives just itself.
+    ///
+    /// A steady screen is displayed exactly by a terminal that reads its redraw
+    /// or its difference. A glyph may fail to be steady only if its text
+    /// contains U+FE0F, which may make it wide or narrow.
+    ///
+    /// Only cells whose text contains U+FE0F are looked at closely. Of a row
+    /// whose texts all have fewer than four bytes, only their lengths are read.
+    ///
+    /// ```text
+    /// // U+2764 U+FE0F is a wide glyph, on a screen of two columns or more
+    /// parser.process("\u{2764}\u{fe0f}".as_bytes())?;
+    /// assert!(parser.screen().is_steady());
+    /// ```
+    pub fn is_steady(&self) -> bool
+        ensures { IsTrue result ↔ IsSteady (shown self.now) }
+    {
+        is_steady(&self.view())
+    }
+
     /// A text that redraws the screen on any plain terminal of the same size,
     /// whatever that showed before.
     ///
@@ -52,6 +124,11 @@ impl Screen {
     /// others. Screens that show the same give the same text, and by `same`
     /// only those.
     ///
+    /// Of every screen, steady or not, the text contains no control but those
+    /// that draw (`controls`), and by `again` a plain terminal that has read it is
+    /// plain again: no callback but `on_scroll` was invoked, and its other page,
+    /// input modes, cursor style and size are as before.
+    ///
     /// Fails where memory for the text is refused.
     ///
     /// ```text
@@ -61,6 +138,8 @@ impl Screen {
     pub fn contents_formatted(&self) -> Result<String, Error>
         ensures colored { IsColored self.now }
         ensures text { IfText result (λ text. text ≡ shown_text self.now) }
+        ensures controls { IfText result (IsMadeOf drawing_finals drawing_controls) }
+        ensures again { IfText result KeepsPlain }
         ensures redraws { IfText result (Redraws (shown self.now) (IsReader (shown self.now)) KeepsRest) }
         ensures same { IfText result (λ text. (other : ScreenValue) → IsScreen other → IsColored other →
             SamePictureSize (shown self.now) (shown other) → IsSteady (shown self.now) → IsSteady (shown other) →
@@ -89,6 +168,10 @@ impl Screen {
     /// attributes and last character may be others. Screens that show the same
     /// give the same text, and by `same` only those.
     ///
+    /// Of every screen, steady or not, by `again` such a terminal that has read the
+    /// text is plain: no callback but `on_scroll` was invoked, and its other page,
+    /// input modes, cursor style and size are as before.
+    ///
     /// Fails where memory for the text is refused.
     ///
     /// ```text
@@ -101,6 +184,8 @@ impl Screen {
     pub fn contents_formatted_reset(&self) -> Result<String, Error>
         ensures colored { IsColored self.now }
         ensures text { IfText result (λ text. text ≡ reset_text (shown self.now)) }
+        ensures controls { IfText result (IsMadeOf drawing_finals reset_controls) }
+        ensures again { IfText result MakesPlain }
         ensures redraws { IfText result
             (Redraws (shown self.now) (IsReaderInAnyRegion (shown self.now)) KeepsRestButRegion) }
         ensures same { IfText result (λ text. (other : ScreenValue) → IsScreen other → IsColored other →
@@ -126,6 +211,9 @@ impl Screen {
     /// one in the first column and one in the last; and, to make a pending
     /// wrap, the end of one row.
     ///
+    /// Of every screen, steady or not, by `again` a plain terminal that has read
+    /// the text is plain again, as after [`Screen::contents_formatted`].
+    ///
     /// Fails where memory for the text is refused. An empty text needs none: by
     /// `never` this does not fail where both screens show the same.
     ///
@@ -136,6 +224,8 @@ impl Screen {
     pub fn contents_diff(&self, prev: &Screen) -> Result<String, Error>
         requires { SameSize self.now.page prev.now.page }
         ensures text { IfText result (λ text. text ≡ shown_change prev.now self.now) }
+        ensures controls { IfText result (IsMadeOf drawing_finals drawing_controls) }
+        ensures again { IfText result KeepsPlain }
         ensures redraws { IfText result (RedrawsFrom prev.now self.now) }
         ensures empty { IfText result
             (λ text. IsSteady (shown self.now) → text ≡ [] → shown self.now ≡ shown prev.now) }
@@ -161,9 +251,13 @@ impl Screen {
     /// the text without calling anybody and without taking memory. Its cells,
     /// its flags and its attributes are as before, and it is plain again. By
     /// `touches` it touches nothing, but the end of one row where a wrap is
-    /// pending. Fails where memory for the text is refused.
+    /// pending. By `again` a plain terminal that has read it is plain again, also
+    /// where the picture is not steady. Fails where memory for the text is
+    /// refused.
     pub fn cursor_state_formatted(&self) -> Result<String, Error>
         ensures text { IfText result (λ text. text ≡ bytes_of_all (cursor_state (shown self.now))) }
+        ensures controls { IfText result (IsMadeOf drawing_finals drawing_controls) }
+        ensures again { IfText result KeepsPlain }
         ensures turns { IfText result (λ text. IsSteady (shown self.now) →
             Turns (IsReaderOfRows (shown self.now)) text (TakesCursor (shown self.now))) }
         ensures touches { IfText result (λ text. IsSteady (shown self.now) →
@@ -185,6 +279,7 @@ impl Screen {
     /// text is refused.
     pub fn attributes_formatted(&self) -> Result<String, Error>
         ensures text { IfText result (λ text. text ≡ attributes_text self.now.attrs) }
+        ensures controls { IfText result (IsMadeOf drawing_finals drawing_controls) }
         ensures sets { IfText result (SetsAttrs self.now.attrs) }
         ensures memory { OnlyOutOfMemory result }
     {

@@ -7,6 +7,7 @@ ghost use Rattle.vt_grid.specs.Page.{SameSize};
 ghost use Rattle.vt_redraw.specs.Items.{CutsNone};
 ghost use Rattle.vt_redraw.specs.Steady.{IsSteady};
 ghost use Rattle.vt_screen.specs.Internals.{IsColumns};
+ghost use Rattle.vt_screen.specs.MadeOf.{IsMadeOf, drawing_controls, drawing_finals};
 ghost use Rattle.vt_screen.specs.RowsShown.{DrawsRow, EachLinked, EachOff, EachUncut, HasLinked, IsBlankReader};
 ghost use Rattle.vt_screen.specs.RowsShown.{IsOff, IsRowReader, IsWholeRow, IsWrapReader, changed_rows, changed_text};
 ghost use Rattle.vt_screen.specs.RowsShown.{formatted_rows, formatted_text, range_end, shown_row, text_at};
@@ -44,6 +45,8 @@ impl Screen {
     pub fn rows_formatted(&self, start: u16, width: u16) -> RowsFormatted<'_>
         requires { start < self.now.page.width }
         ensures texts { result ≡ formatted_rows start width self.now }
+        ensures controls { (r : ℕ) → r < length self.now.page.rows →
+            IsMadeOf drawing_finals drawing_controls (text_at result r) }
         ensures count { length result ≡ length self.now.page.rows }
         ensures draws { IsSteady (shown self.now) → EachUncut start width self.now
             (λ r. DrawsRow start width self.now r (blank_row default_attrs self.now.page.width) (text_at result r)) }
@@ -85,6 +88,8 @@ impl Screen {
         requires start { start < self.now.page.width }
         requires size { SameSize self.now.page prev.now.page }
         ensures texts { result ≡ changed_rows start width self.now prev.now }
+        ensures controls { (r : ℕ) → r < length self.now.page.rows →
+            IsMadeOf drawing_finals drawing_controls (text_at result r) }
         ensures count { length result ≡ length self.now.page.rows }
         ensures draws { IsSteady (shown self.now) → EachUncut start width self.now
             (λ r. CutsNone start (range_end start width self.now.page.width) (shown_row prev.now r).cells →

@@ -8,6 +8,7 @@ ghost use Rattle.vt_cells.specs.Refusals.{OnlyOutOfMemory};
 ghost use Rattle.vt_grid.specs.Page.{SameSize};
 ghost use Rattle.vt_redraw.specs.Refusals.{RefusedOnlyIfSome};
 ghost use Rattle.vt_redraw.specs.Steady.{IsSteady};
+ghost use Rattle.vt_screen.specs.MadeOf.{IsMadeOf, drawing_finals, state_controls};
 ghost use Rattle.vt_screen.specs.Screen.{IsColored, IsScreen};
 ghost use Rattle.vt_screen.specs.Shown.{shown};
 ghost use Rattle.vt_screen.specs.States.{GivesState, IsStateReader, IsStateReaderOf, state_change, state_text};
@@ -40,6 +41,7 @@ impl Screen {
     /// ```
     pub fn state_formatted(&self) -> Result<String, Error>
         ensures text { IfText result (λ text. text ≡ state_text self.now) }
+        ensures controls { IfText result (IsMadeOf drawing_finals state_controls) }
         ensures gives { IfText result (GivesState (IsStateReader self.now) self.now) }
         ensures memory { OnlyOutOfMemory result }
     {
@@ -70,6 +72,7 @@ impl Screen {
     pub fn state_diff(&self, prev: &Screen) -> Result<String, Error>
         requires { SameSize self.now.page prev.now.page }
         ensures text { IfText result (λ text. text ≡ state_change prev.now self.now) }
+        ensures controls { IfText result (IsMadeOf drawing_finals state_controls) }
         ensures gives { IfText result (GivesState (IsStateReaderOf self.now prev.now) self.now) }
         ensures empty { IfText result (λ text. IsSteady (shown self.now) → text ≡ [] →
             (shown self.now ≡ shown prev.now) × (self.now.modes ≡ prev.now.modes)) }

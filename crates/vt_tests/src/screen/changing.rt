@@ -1,6 +1,6 @@
 //! Callbacks that change the screen that they are lent, each with its relation.
 
-ghost use Rattle.std.specs.Prelude.{◌≡◌, IfOk};
+ghost use Rattle.std.specs.Prelude.{IfOk};
 ghost use Rattle.vt_tests.specs.Changing.{Becomes, Exchanges, LooksBack, Resizes};
 ghost use Rattle.vt_screen.specs.Pages.{resized};
 ghost use Rattle.vt_screen.specs.Screen.{scrolled_back};

@@ -116,3 +116,23 @@ fn a_copy_is_alike_and_goes_its_own_way(rt: HostRuntime) -> Result<(), Fail> {
     }
     Ok(())
 }
+
+/// Fails where the copy of what a screen displays displays something else, has another size, or keeps rows
+/// though none are in view.
+fn expect_displayed(one: &Screen, copy: &Screen) -> Result<(), Fail> {
+    let (text, copied) = (one.contents_formatted()?, copy.contents_formatted()?);
+    let is_like = copy.size() == one.size() && copied.as_str() == text.as_str();
+    if is_like && (one.scrollback() > 0 || counts(copy) == (0, 0, 0)) {
+        return Ok(());
+    }
+    Err(Fail::new(format_args!("{text} is copied as {copied}")))
+}
+
+#[test]
+fn a_copy_of_what_is_displayed_is_one_page(rt: HostRuntime) -> Result<(), Fail> {
+    for (size, capacity, steps) in &CLONED {
+        let parser = taken(rt.alloc(), *size, *capacity, steps, Pieces::Single)?;
+        expect_displayed(parser.screen(), &parser.screen().shown_copy()?)?;
+    }
+    Ok(())
+}

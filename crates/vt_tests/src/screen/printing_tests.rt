@@ -5,7 +5,7 @@ use crate::aids::steps::Step::Text;
 use std::test::Fail;
 
 #[rattlefmt::skip]
-const PRINTED: [((u16, u16), &str, &str); 47] = [
+const PRINTED: [((u16, u16), &str, &str); 55] = [
     // A pending wrap.
     ((2, 4), "abcd", "0:abcd @0,4\n"),
     ((2, 4), "abcd\n", "0:abcd @1,4\n"),
@@ -20,6 +20,16 @@ const PRINTED: [((u16, u16), &str, &str); 47] = [
     ((1, 4), "\x1b[1;2H中\x1b[H中", "0:[中] @0,2\n"),
     ((1, 6), "中ab\x1b[1;2Hx", "0:.xab @0,2\n"),
     ((1, 6), "中ab\x1b[Hx", "0:x ab @0,1\n"),
+
+    // Runs of wide characters: up to the last column, with a column to spare, and through glyphs.
+    ((2, 6), "中文字中", "0:[中][文][字]/ 1:[中] @1,2\n"),
+    ((2, 5), "中文字", "0:[中][文] 1:[字] @1,2\n"),
+    ((2, 1), "中文", "@0,0\n"),
+    ((1, 2), "中文", "0:[文] @0,2\nscroll e4b8ad 0\n"),
+    ((1, 8), "中中中\x1b[1;2H文文", "0:.[文][文] @0,5\n"),
+    ((1, 6), "한글あ", "0:[한][글][あ] @0,6\n"),
+    ((1, 5), "中↑文", "0:[中]↑[文] @0,5\n"),
+    ((1, 4), "中文\u{301}", "0:[中][文\u{301}] @0,4\n"),
 
     // Marks: a text takes them while it is below 26 bytes.
     ((1, 4), "e\u{301}", "0:e\u{301} @0,1\n"),

@@ -2,4 +2,4 @@ use Rattle.vt100.proofs.Pieces.{chain_pieces}
 use Rattle.vt100.proofs.laws.chain.Goals as goal
 
 pub returns : goal.returns
-returns g c = chain_pieces
+returns g c = record { shows = chain_pieces }

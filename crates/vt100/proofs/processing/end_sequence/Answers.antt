@@ -1,29 +1,32 @@
 -- The byte that ends a control sequence or an escape sequence.
-use Rattle.std.proofs.Common.{[], List, ℕ, get_or, inl, inr, refl, subst, sym, rules}
+use Rattle.std.proofs.Common.{[], List, ℕ, get_or, inl, inr, refl, subst, sym, arith}
 use Rattle.std.proofs.lemmas.List.{take_more}
 use Rattle.vt_scan.specs.Scanner.{Feeds, Held}
 use Rattle.vt_scan.specs.declared.event.Event.TheVariants.{Csi, Escape}
 use Rattle.vt_scan.proofs.Feeding.{one_event}
 use Rattle.vt_scan.proofs.Leading.{feeds_none}
 use Rattle.vt100.specs.Parser.{Ran, parsing, stage}
+use Rattle.vt100.proofs.Refusing.{stopped_at_first}
 use Rattle.vt100.proofs.Running.{byte_ran, known_ran, some_read, stopped_in, stopped_within}
 use Rattle.vt100.proofs.processing.end_sequence.Goals as goal
 
-pub returns-in_err-control_sequence : goal.returns-in_err-control_sequence
-returns-in_err-control_sequence g c =
+pub returns-in-Err-clause-read : goal.returns-in-Err-clause-read
+returns-in-Err-clause-read g c =
     let does = g.CB.Callbacks.does in
     let bytes = c.args.bytes.now in
     let byte = get_or bytes 0 0 in
     let held = c.args.scanner.now in
     let before = parsing held c.args.screen.now c.args.callbacks.now in
     let now = parsing c.final_byte.new.self c.control_sequence.new.screen c.control_sequence.new.callbacks in
-    stopped_in does before now bytes c.from_residual.result (inr (stopped_within does before before now c.final_byte.new.self bytes 0 (one_event (Csi byte)) c.requires
-    (known_ran does before before [] [] (feeds_none held) refl)
-    (c.final_byte.ensures.fed c.if-final_byte.true) (inl (c.in_err-control_sequence.ensures.stopped refl))))
-    c.from_residual.ensures.0 (search rules)
+    let fed = c.final_byte.ensures.fed c.if-final_byte.true in
+    let stops = inl (c.in-Err.ensures.stopped refl) in
+    stopped_in does before now bytes 0
+    (inr (stopped_within does before before now c.final_byte.new.self bytes 0 (one_event (Csi byte)) c.requires
+    (known_ran does before before [] [] (feeds_none held) refl) fed stops))
+    (stopped_at_first does before now c.final_byte.new.self bytes (one_event (Csi byte)) c.requires fed stops)
 
-pub returns-then-final_byte : goal.returns-then-final_byte
-returns-then-final_byte g c =
+pub returns-in-Ok-clause-read : goal.returns-in-Ok-clause-read
+returns-in-Ok-clause-read g c =
     let does = g.CB.Callbacks.does in
     let bytes = c.args.bytes.now in
     let byte = get_or bytes 0 0 in
@@ -32,10 +35,10 @@ returns-then-final_byte g c =
     some_read does before now bytes 1 c.requires
     (subst (λ (text : List ℕ). Ran does before text now) (sym (take_more bytes 0 0 c.requires))
     (byte_ran does before now byte (one_event (Csi byte)) (c.final_byte.ensures.fed c.if-final_byte.true)
-    (stage now, c.in_ok-control_sequence.ensures.done, refl)))
+    (stage now, c.in-Ok.ensures.done, refl)))
 
-pub returns-then-escape_byte : goal.returns-then-escape_byte
-returns-then-escape_byte g c =
+pub returns-then-escape_byte-clause-read : goal.returns-then-escape_byte-clause-read
+returns-then-escape_byte-clause-read g c =
     let does = g.CB.Callbacks.does in
     let bytes = c.args.bytes.now in
     let byte = get_or bytes 0 0 in
@@ -47,3 +50,12 @@ returns-then-escape_byte g c =
     some_read does before now bytes 1 c.requires
     (subst (λ (text : List ℕ). Ran does before text now) (sym (take_more bytes 0 0 c.requires))
     (byte_ran does before now byte (one_event (Escape byte)) fed (stage now, c.escape_sequence.ensures, refl)))
+
+pub returns-in-Ok-clause-last : goal.returns-in-Ok-clause-last
+returns-in-Ok-clause-last g c = inr (omega arith, λ s stands. refl)
+
+pub returns-then-escape_byte-clause-last : goal.returns-then-escape_byte-clause-last
+returns-then-escape_byte-clause-last g c = inr (omega arith, λ s stands. refl)
+
+pub returns-clause-last : goal.returns-clause-last
+returns-clause-last g c = inl refl

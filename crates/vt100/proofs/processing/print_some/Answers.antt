@@ -1,4 +1,4 @@
-use Rattle.std.proofs.Common.{◌+◌, ◌≤◌, ℕ, List, length, get_or, take, inl, inr, refl, subst, sym, arith, rules}
+use Rattle.std.proofs.Common.{◌+◌, ◌≤◌, ℕ, List, length, get_or, take, inl, inr, refl, subst, sym, arith}
 use Rattle.std.specs.Prelude.{All}
 use Rattle.std.proofs.lemmas.List.{length-take, take-take, take_more}
 use Rattle.vt_scan.specs.Scanner.{ReadsItself}
@@ -6,27 +6,32 @@ use Rattle.vt_scan.proofs.Feeding.{text_feeds}
 use Rattle.vt_screen.specs.Screen.{ScreenValue}
 use Rattle.vt100.specs.Parser.{Ran, parsing, stage}
 use Rattle.vt100.proofs.Plain.{printable_of, text_ran}
+use Rattle.vt100.proofs.Refusing.{stopped_at_first}
 use Rattle.vt100.proofs.Running.{byte_ran, one_character, text_answer, some_read, stopped_in, stopped_within}
 use Rattle.vt100.proofs.processing.print_some.Given as given
 use Rattle.vt100.proofs.processing.print_some.Goals as goal
 use Rattle.vt100.proofs.processing.print_some.Goals.{After-text_len-count}
 
-pub returns-in_err-print_apart-clause-read : goal.returns-in_err-print_apart-clause-read
-returns-in_err-print_apart-clause-read g c =
+pub returns-in-Err-clause-read : goal.returns-in-Err-clause-read
+returns-in-Err-clause-read g c =
+    let does = g.CB.Callbacks.does in
+    let bytes = c.args.bytes.now in
     let held = c.args.scanner.now in
     let before = parsing held c.args.screen.now c.args.callbacks.now in
-    let byte = get_or c.args.bytes.now 0 0 in
+    let now = parsing held c.print_apart.new.screen c.print_apart.new.callbacks in
+    let byte = get_or bytes 0 0 in
     let code = c.from-then-count-eq0.result in
     let itself = c.requires.itself in
-    let feeds = text_feeds held byte itself.0 itself.1 itself.2 (omega (arith, itself.3)) in
-    let now = parsing held c.print_apart.new.screen c.print_apart.new.callbacks in
-    stopped_in g.CB.Callbacks.does before now c.args.bytes.now c.from_residual.result (inr (stopped_within g.CB.Callbacks.does before before now
-    held c.args.bytes.now 0 (one_character code) c.requires.some (λ s stands. (stands, refl))
-    (text_answer held byte code feeds c.from-then-count-eq0.ensures) (inl (c.in_err-print_apart.ensures.stopped refl))))
-    c.from_residual.ensures.0 (search rules)
+    let feeds = text_answer held byte code (text_feeds held byte itself.0 itself.1 itself.2 (omega (arith, itself.3)))
+    c.from-then-count-eq0.ensures in
+    let stops = inl (c.in-Err.ensures.stopped refl) in
+    stopped_in does before now bytes 0
+    (inr (stopped_within does before before now held bytes 0 (one_character code) c.requires.some
+    (λ s stands. (stands, refl)) feeds stops))
+    (stopped_at_first does before now held bytes (one_character code) c.requires.some feeds stops)
 
-pub returns-then-count-eq0-clause-read : goal.returns-then-count-eq0-clause-read
-returns-then-count-eq0-clause-read g c =
+pub returns-in-Ok-clause-read : goal.returns-in-Ok-clause-read
+returns-in-Ok-clause-read g c =
     let held = c.args.scanner.now in
     let before = parsing held c.args.screen.now c.args.callbacks.now in
     let now = parsing held c.print_apart.new.screen c.print_apart.new.callbacks in
@@ -38,7 +43,7 @@ returns-then-count-eq0-clause-read g c =
     (subst (λ (bytes : List ℕ). Ran g.CB.Callbacks.does before bytes now)
     (sym (take_more c.args.bytes.now 0 0 c.requires.some))
     (byte_ran g.CB.Callbacks.does before now byte (one_character code)
-    (text_answer held byte code feeds c.from-then-count-eq0.ensures) (stage now, c.in_ok-print_apart.ensures.done, refl)))
+    (text_answer held byte code feeds c.from-then-count-eq0.ensures) (stage now, c.in-Ok.ensures.done, refl)))
 
 -- the bytes that are printed are plain
 plain_text : (g : given.Over) (c : After-text_len-count g) →
@@ -74,3 +79,9 @@ returns-clause-read g c =
     (sym c.print_text.ensures)
     (text_ran g.CB.Callbacks.does text held c.args.callbacks.now screen
     (plain_text g (goal.at.returns-clause-read g c).After-text_len-count) room))
+
+pub returns-in-Ok-clause-last : goal.returns-in-Ok-clause-last
+returns-in-Ok-clause-last g c = inr (omega arith, λ s stands. refl)
+
+pub returns-clause-last : goal.returns-clause-last
+returns-clause-last g c = inl refl

@@ -11,7 +11,7 @@ all_left bytes k = take_all (length bytes - k) (drop k bytes) (omega (arith, len
 pub loop-at-preserved : goal.loop-at-preserved
 loop-at-preserved g c =
     let at = c.loop-at.at in
-    let count = c.in_ok-count.count in
+    let count = c.in-Ok.count in
     let bytes = c.args.bytes.now in
     let before = parsing c.args.scanner.now c.args.screen.now c.args.callbacks.now in
     let so_far = parsing c.loop-at.scanner c.loop-at.screen c.loop-at.callbacks in
@@ -19,20 +19,20 @@ loop-at-preserved g c =
     let rest = all_left bytes at in
     let size = length-drop at bytes in
     let more =
-    subst (λ (left : List ℕ). Ran g.CB.Callbacks.does so_far (take count left) now) rest c.in_ok-count.ensures.read.ran in
+    subst (λ (left : List ℕ). Ran g.CB.Callbacks.does so_far (take count left) now) rest c.in-Ok.ensures.read.ran in
     record {
-      inside = omega (arith, size, ap length rest, c.in_ok-count.ensures.read.inside, c.loop-at.invariant.inside);
+      inside = omega (arith, size, ap length rest, c.in-Ok.ensures.read.inside, c.loop-at.invariant.inside);
       ran =
           ran_on g.CB.Callbacks.does before so_far now bytes at count
           c.loop-at.invariant.inside c.loop-at.invariant.ran more;
     }
 
-pub returns-in_err-count-clause-stopped : goal.returns-in_err-count-clause-stopped
-returns-in_err-count-clause-stopped g c e =
+pub returns-in-Err-clause-stopped : goal.returns-in-Err-clause-stopped
+returns-in-Err-clause-stopped g c e =
     let bytes = c.args.bytes.now in
     let before = parsing c.args.scanner.now c.args.screen.now c.args.callbacks.now in
     let so_far = parsing c.loop-at.scanner c.loop-at.screen c.loop-at.callbacks in
     let now = parsing c.process_some.new.scanner c.process_some.new.screen c.process_some.new.callbacks in
     stopped_then g.CB.Callbacks.does before so_far now bytes c.loop-at.at c.loop-at.invariant.ran
     (subst (λ (left : List ℕ). Stopped g.CB.Callbacks.does so_far left now)
-    (all_left bytes c.loop-at.at) (c.in_err-count.ensures.read.stopped refl))
+    (all_left bytes c.loop-at.at) (c.in-Err.ensures.read.stopped refl))

@@ -1,29 +1,36 @@
 -- What led in, and the byte behind it where that ends the sequence.
-use Rattle.std.proofs.Common.{[], ◌≤◌, ◌+◌, List, ℕ, length, refl, subst, take, rules}
+use Rattle.std.proofs.Common.{[], ◌≤◌, ◌+◌, List, ℕ, drop, length, refl, subst, take, rules}
 use Rattle.vt_scan.proofs.Lists.{all_left}
-use Rattle.vt100.specs.Parser.{Ran, Stopped, parsing}
-use Rattle.vt100.proofs.Running.{known_ran, ran_on, some_read, stopped_in, stopped_then}
+use Rattle.vt100.specs.Parser.{CallsByLast, Ran, Stopped, StoppedAt, parsing}
+use Rattle.vt100.proofs.Refusing.{stopped_at_then}
+use Rattle.vt100.proofs.Running.{known_ran, led_by_last, ran_on, some_read, stopped_in, stopped_then}
 use Rattle.vt100.proofs.processing.process_sequence.Goals as goal
 
-pub returns-in_err-last : goal.returns-in_err-last
-returns-in_err-last g c =
+pub returns-in-Err-clause-read : goal.returns-in-Err-clause-read
+returns-in-Err-clause-read g c =
     let does = g.CB.Callbacks.does in
     let bytes = c.args.bytes.now in
     let leading = c.lead_in-leading.result in
-    let before = parsing c.args.scanner.now c.args.screen.now c.args.callbacks.now in
     let led = parsing c.lead_in-leading.new.self c.args.screen.now c.args.callbacks.now in
+    let before = parsing c.args.scanner.now c.args.screen.now c.args.callbacks.now in
     let now = parsing c.end_sequence.new.scanner c.end_sequence.new.screen c.end_sequence.new.callbacks in
-    stopped_in does before now bytes c.from_residual.result (stopped_then does before led now bytes leading
-    (known_ran does before led (take leading bytes) [] c.lead_in-leading.ensures.fed refl)
+    let fed = c.lead_in-leading.ensures.fed in
+    let there : StoppedAt does led (drop leading bytes) c.in-Err.before now =
+    subst (λ (left : List ℕ). StoppedAt does led left c.in-Err.before now) (all_left bytes leading)
+    c.in-Err.ensures.read.where_stopped in
+    stopped_in does before now bytes (leading + c.in-Err.before)
+    (stopped_then does before led now bytes leading
+    (known_ran does before led (take leading bytes) [] fed refl)
     (subst (λ (left : List ℕ). Stopped does led left now) (all_left bytes leading)
-    (c.in_err-last.ensures.stopped refl))) c.from_residual.ensures.0 (search rules)
+    (c.in-Err.ensures.read.stopped refl)))
+    (stopped_at_then does before led now bytes leading c.in-Err.before fed refl there)
 
-pub returns : goal.returns
-returns g c =
+pub returns-in-Ok-clause-read : goal.returns-in-Ok-clause-read
+returns-in-Ok-clause-read g c =
     let does = g.CB.Callbacks.does in
     let bytes = c.args.bytes.now in
     let leading = c.lead_in-leading.result in
-    let count = c.in_ok-last.last in
+    let count = c.in-Ok.last in
     let before = parsing c.args.scanner.now c.args.screen.now c.args.callbacks.now in
     let led = parsing c.lead_in-leading.new.self c.args.screen.now c.args.callbacks.now in
     let now = parsing c.end_sequence.new.scanner c.end_sequence.new.screen c.end_sequence.new.callbacks in
@@ -32,4 +39,13 @@ returns g c =
     (ran_on does before led now bytes leading count c.lead_in-leading.ensures.inside
     (known_ran does before led (take leading bytes) [] c.lead_in-leading.ensures.fed refl)
     (subst (λ (left : List ℕ). Ran does led (take count left) now) (all_left bytes leading)
-    c.in_ok-last.ensures.ran))
+    c.in-Ok.ensures.read.ran))
+
+pub returns-in-Ok-clause-last : goal.returns-in-Ok-clause-last
+returns-in-Ok-clause-last g c =
+    let bytes = c.args.bytes.now in
+    let leading = c.lead_in-leading.result in
+    led_by_last c.args.callbacks.now c.end_sequence.new.callbacks c.args.scanner.now c.lead_in-leading.new.self
+    bytes leading c.in-Ok.last c.lead_in-leading.ensures.fed
+    (subst (λ (left : List ℕ). CallsByLast c.args.callbacks.now c.lead_in-leading.new.self left c.in-Ok.last
+    c.end_sequence.new.callbacks) (all_left bytes leading) c.in-Ok.ensures.last)

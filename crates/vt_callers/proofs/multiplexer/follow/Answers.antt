@@ -26,7 +26,7 @@ loop-next-preserved g c =
 
 pub returns-clause-shows : goal.returns-clause-shows
 returns-clause-shows g c = λ steady plain size.
-    follows_all c.chain.ensures c.args.first.now c.args.nexts.now c.loop-next.prev.now c.args.remote.now
+    follows_all c.chain.ensures.shows c.args.first.now c.args.nexts.now c.loop-next.prev.now c.args.remote.now
     c.loop-next.remote (subst (λ (s : ScreenValue). IsScreen s) c.screen.ensures.value c.size.ensures.whole)
     plain size c.requires steady
     (subst (λ (xs : List ScreenValue). HasFollowed c.args.first.now xs c.loop-next.prev.now

@@ -1,7 +1,7 @@
-use Rattle.std.proofs.Common.{inr, rules}
+use Rattle.std.proofs.Common.{inl, inr, rules}
 use Rattle.std.proofs.KnownBytes.{Keeps-refl}
-use Rattle.vt_mirror.proofs.Updating.{begun_written, ended_written, next_written}
-use Rattle.vt_mirror.proofs.Updating.{stops_reading, stops_refused, stretch_few}
+use Rattle.vt_mirror.proofs.Updating.{begun_written, ended_written, fails_first, fails_later, next_written}
+use Rattle.vt_mirror.proofs.Updating.{stops_reading, stops_refused, stops_written, stretch_few}
 use Rattle.vt_mirror.proofs.engine.run_viewer.Goals as goal
 
 pub loop-init : goal.loop-init
@@ -9,6 +9,19 @@ loop-init g c =
     begun_written c.args.every c.args.viewer c.args.mirror.now c.write_update.new.mirror
     (g.R.Read.remaining c.args.reader.now) (g.W.Write.contents c.args.writer.now)
     (g.W.Write.contents c.write_update.new.writer) c.requires.some c.requires.begun c.in_ok-write_update.ensures.writes
+
+pub returns-in_err-write_update : goal.returns-in_err-write_update
+returns-in_err-write_update g c = record {
+  end = search rules;
+  text = search rules;
+  read = search rules;
+  memory = search rules;
+  write = λ e.
+      inl (fails_first c.args.viewer c.args.mirror.now c.write_update.new.mirror
+      (g.R.Read.remaining c.args.reader.now) (g.W.Write.contents c.args.writer.now)
+      (g.W.Write.contents c.write_update.new.writer) c.requires.begun
+      (c.in_err-write_update.ensures.part (search rules)));
+}
 
 pub returns-in_err-is_whole : goal.returns-in_err-is_whole
 returns-in_err-is_whole g c = record {
@@ -25,6 +38,7 @@ returns-in_err-is_whole g c = record {
       (g.R.Read.remaining c.read_stretch.new.reader) (g.W.Write.contents c.args.writer.now)
       (g.W.Write.contents c.loop.writer) (g.W.Write.contents c.loop.writer) c.loop.invariant
       (c.in_err-is_whole.ensures.memory (search rules)) (Keeps-refl (g.W.Write.contents c.loop.writer)));
+  write = search rules;
 }
 
 pub returns-in_err-write_update-2 : goal.returns-in_err-write_update-2
@@ -41,6 +55,14 @@ returns-in_err-write_update-2 g c = record {
       (g.R.Read.remaining c.loop.reader) (g.R.Read.remaining c.read_stretch.new.reader)
       c.in_ok-is_whole.ensures.stretch)
       (c.in_err-write_update-2.ensures.memory (search rules)));
+  write = λ e.
+      inr (fails_later c.args.every c.args.viewer c.in_ok-is_whole.is_whole c.args.mirror.now c.loop.mirror
+      c.read_stretch.new.mirror c.write_update-in-loop.new.mirror
+      (g.R.Read.remaining c.args.reader.now) (g.R.Read.remaining c.loop.reader)
+      (g.R.Read.remaining c.read_stretch.new.reader) (g.W.Write.contents c.args.writer.now)
+      (g.W.Write.contents c.loop.writer) (g.W.Write.contents c.write_update-in-loop.new.writer)
+      c.requires.begun.scanner c.loop.invariant c.in_ok-is_whole.ensures.stretch
+      (c.in_err-write_update-2.ensures.part (search rules)));
 }
 
 pub returns-then-not-is_whole : goal.returns-then-not-is_whole
@@ -56,6 +78,7 @@ returns-then-not-is_whole g c = record {
       c.in_ok-write_update-2.ensures.writes;
   read = search rules;
   memory = search rules;
+  write = search rules;
 }
 
 pub loop-preserved : goal.loop-preserved
@@ -67,3 +90,15 @@ loop-preserved g c =
     (g.W.Write.contents c.loop.writer) (g.W.Write.contents c.write_update-in-loop.new.writer)
     (search rules) c.requires.some c.requires.begun.scanner c.loop.invariant c.in_ok-is_whole.ensures.stretch
     c.in_ok-write_update-2.ensures.writes
+
+pub returns : goal.returns
+returns g c = record {
+  end = search rules;
+  text = search rules;
+  read = λ e.
+      stops_written c.args.every c.args.viewer c.args.mirror.now c.loop.mirror (g.R.Read.remaining c.args.reader.now)
+      (g.R.Read.remaining c.loop.reader) (g.W.Write.contents c.args.writer.now) (g.W.Write.contents c.loop.writer)
+      c.loop.invariant;
+  memory = search rules;
+  write = search rules;
+}

@@ -8,10 +8,11 @@ returns-in-Ok-clause-asked g c = λ _. record {
   every = c.in-Some.every.value;
   asks = c.in-Some.ensures.some;
   holds = record {
-    end = c.in-Ok.ensures.end;
-    text = c.in-Ok.ensures.text;
+    end = c.in-Ok.ensures.call.end;
+    text = c.in-Ok.ensures.call.text;
     read = search rules;
     memory = search rules;
+    write = search rules;
   };
 }
 
@@ -24,7 +25,8 @@ returns-in-Err-clause-asked g c = λ _. record {
   holds = record {
     end = tt;
     text = tt;
-    read = λ e. c.in-Err.ensures.read (search rules);
-    memory = λ e. c.in-Err.ensures.memory (search rules);
+    read = λ e. c.in-Err.ensures.call.read (search rules);
+    memory = λ e. c.in-Err.ensures.call.memory (search rules);
+    write = λ e. c.in-Err.ensures.call.write (search rules);
   };
 }

@@ -2,4 +2,4 @@ use Rattle.vt_mirror.proofs.Following.{follows}
 use Rattle.vt_mirror.proofs.laws.runs.Goals as goal
 
 pub returns : goal.returns
-returns g c = follows
+returns g c = record { shows = follows }

@@ -9,10 +9,11 @@ returns-in-Ok-clause-asked g c = λ _. record {
   mode = c.in-Some.mode;
   asks = c.in-Some.ensures.some;
   holds = record {
-    end = c.in-Ok.ensures.end;
-    text = c.in-Ok.ensures.text;
+    end = c.in-Ok.ensures.call.end;
+    text = c.in-Ok.ensures.call.text;
     nothing = search rules;
     read_first = search rules;
+    part = search rules;
   };
 }
 
@@ -22,5 +23,11 @@ returns-in-Err-clause-asked g c = λ _. record {
   cols = non_zero_u16_get c.in-Some.cols;
   mode = c.in-Some.mode;
   asks = c.in-Some.ensures.some;
-  holds = record { end = tt; text = tt; nothing = search rules; read_first = search rules };
+  holds = record {
+    end = tt;
+    text = tt;
+    nothing = search rules;
+    read_first = search rules;
+    part = λ e. c.in-Err.ensures.call.part (search rules);
+  };
 }

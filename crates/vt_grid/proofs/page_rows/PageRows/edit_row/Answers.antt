@@ -2,16 +2,16 @@ use Rattle.std.proofs.Common.{List, refl, ap, ◌∙◌}
 use Rattle.std.specs.List.{slice_range}
 use Rattle.vt_cells.specs.Cell.{CellValue}
 use Rattle.vt_grid.specs.PageRows.{page_row, with_row_cells}
-use Rattle.vt_grid.proofs.CellStores.{row_printed}
+use Rattle.vt_grid.proofs.Flats.{row_printed}
 use Rattle.vt_grid.proofs.page_rows.PageRows.edit_row.Goals as goal
 
 pub returns : goal.returns
 returns g c =
     let r = c.from-row.result in
-    let cell_store = c.self.inside.cell_store in
+    let flat = c.self.inside.flat in
     let new = c.edit-edited.new.arg2 in
     let edited = row_printed r c.part-start.result.0 c.part-start.result.1
-    cell_store c.wrap.new.self c.deref_mut.result.now new
+    flat c.wrap.new.self c.deref_mut.result.now new
     c.wrapped-goes_on.result c.flag_left-goes_on.result c.self.invariant c.part-start.ensures.line
     c.wrap.ensures.cells c.deref_mut.ensures.value c.part-start.ensures.start
     c.part-start.ensures.end c.part-start.ensures.inside c.edit-edited.auto.arg2 c.wrap.ensures.width

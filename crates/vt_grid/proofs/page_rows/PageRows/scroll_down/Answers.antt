@@ -1,22 +1,22 @@
 use Rattle.std.proofs.Common.{false, ◌+◌, ◌-◌, ◌<◌, length, ap, ◌∙◌, arith}
-use Rattle.vt_grid.specs.CellStore.{rows_of}
+use Rattle.vt_grid.specs.Flat.{rows_of}
 use Rattle.vt_grid.specs.Page.{moved_rows}
 use Rattle.vt_grid.specs.Shifts.{down_source}
 use Rattle.vt_grid.specs.PageRows.{PageRowsValue, page_row, with_page_row}
-use Rattle.vt_grid.proofs.CellStores.{cell_store_turned}
+use Rattle.vt_grid.proofs.Flats.{flat_turned}
 use Rattle.vt_grid.proofs.Turns.{counted_turned, turned_down}
 use Rattle.vt_grid.proofs.page_rows.PageRows.scroll_down.Goals as goal
 
 pub invariant_of-self : goal.invariant_of-self
 invariant_of-self c =
-    let cell_store = c.self.inside.cell_store in
+    let flat = c.self.inside.flat in
     let all = ap (λ (s : PageRowsValue). length s.rows) c.self.view_is in
-    let bottom : c.from-end.result < length (rows_of cell_store) =
+    let bottom : c.from-end.result < length (rows_of flat) =
     omega (arith, all, c.requires.inside, c.from-end.ensures) in
     let order = c.requires.in_order in
     let few = c.min-count.ensures in
-    cell_store_turned c.from-top.result (c.from-end.result + 1)
-    (c.from-end.result + 1 - c.from-top.result - c.min-count.result) cell_store c.rotate.new.self c.self.invariant
+    flat_turned c.from-top.result (c.from-end.result + 1)
+    (c.from-end.result + 1 - c.from-top.result - c.min-count.result) flat c.rotate.new.self c.self.invariant
     (omega (arith, few, order, c.from-top.ensures, c.from-end.ensures)) (omega (arith, bottom))
     c.rotate.ensures.cells c.rotate.ensures.width c.rotate.ensures.len c.rotate.ensures.lines
 
@@ -31,7 +31,7 @@ clear_rows-requires-clause-inside c =
       c.from-end.ensures,
       c.from-top.ensures,
       c.min-count.ensures,
-      counted_turned c.self.inside.cell_store c.rotate.new.self c.rotate.ensures.len,
+      counted_turned c.self.inside.flat c.rotate.new.self c.rotate.ensures.len,
     )
 
 pub wrap-requires : goal.wrap-requires
@@ -43,15 +43,15 @@ wrap-requires c =
       c.requires.inside,
       c.from-2.ensures,
       c.clear_rows.ensures.len,
-      counted_turned c.self.inside.cell_store c.rotate.new.self c.rotate.ensures.len,
+      counted_turned c.self.inside.flat c.rotate.new.self c.rotate.ensures.len,
     )
 
 pub returns : goal.returns
 returns c =
-    let cell_store = c.self.inside.cell_store in
+    let flat = c.self.inside.flat in
     let all = ap (λ (s : PageRowsValue). length s.rows) c.self.view_is in
     let moved = turned_down c.from-top.result c.from-end.result c.from.result c.min-count.result
-    cell_store c.rotate.new.self c.new.result c.clear_rows.new.self c.min-count.ensures
+    flat c.rotate.new.self c.new.result c.clear_rows.new.self c.min-count.ensures
     (omega (arith, c.requires.in_order, c.from-top.ensures, c.from-end.ensures))
     (omega (arith, all, c.requires.inside, c.from-end.ensures))
     c.rotate.ensures.cells c.rotate.ensures.width c.rotate.ensures.len c.rotate.ensures.lines

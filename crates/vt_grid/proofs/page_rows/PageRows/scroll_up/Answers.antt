@@ -1,20 +1,20 @@
 use Rattle.std.proofs.Common.{◌+◌, ◌<◌, length, ap, ◌∙◌, arith}
-use Rattle.vt_grid.specs.CellStore.{rows_of}
+use Rattle.vt_grid.specs.Flat.{rows_of}
 use Rattle.vt_grid.specs.Page.{rows_up}
 use Rattle.vt_grid.specs.PageRows.{PageRowsValue}
-use Rattle.vt_grid.proofs.CellStores.{cell_store_turned}
+use Rattle.vt_grid.proofs.Flats.{flat_turned}
 use Rattle.vt_grid.proofs.Turns.{counted_turned, turned_up}
 use Rattle.vt_grid.proofs.page_rows.PageRows.scroll_up.Goals as goal
 
 pub invariant_of-self : goal.invariant_of-self
 invariant_of-self c =
-    let cell_store = c.self.inside.cell_store in
+    let flat = c.self.inside.flat in
     let all = ap (λ (s : PageRowsValue). length s.rows) c.self.view_is in
-    let bottom : c.from-end.result < length (rows_of cell_store) =
+    let bottom : c.from-end.result < length (rows_of flat) =
     omega (arith, all, c.requires.inside, c.from-end.ensures) in
     let order = c.requires.in_order in
     let few = c.min-count.ensures in
-    cell_store_turned c.from-top.result (c.from-end.result + 1) c.min-count.result cell_store c.rotate.new.self
+    flat_turned c.from-top.result (c.from-end.result + 1) c.min-count.result flat c.rotate.new.self
     c.self.invariant (omega (arith, few, order, c.from-top.ensures, c.from-end.ensures)) (omega (arith, bottom))
     c.rotate.ensures.cells c.rotate.ensures.width c.rotate.ensures.len c.rotate.ensures.lines
 
@@ -29,15 +29,15 @@ clear_rows-requires-clause-inside c =
       c.from-end.ensures,
       c.from-top.ensures,
       c.min-count.ensures,
-      counted_turned c.self.inside.cell_store c.rotate.new.self c.rotate.ensures.len,
+      counted_turned c.self.inside.flat c.rotate.new.self c.rotate.ensures.len,
     )
 
 pub returns : goal.returns
 returns c =
-    let cell_store = c.self.inside.cell_store in
+    let flat = c.self.inside.flat in
     let all = ap (λ (s : PageRowsValue). length s.rows) c.self.view_is in
     turned_up c.from-top.result c.from-end.result c.from.result c.min-count.result
-    cell_store c.rotate.new.self c.new.result c.clear_rows.new.self c.min-count.ensures
+    flat c.rotate.new.self c.new.result c.clear_rows.new.self c.min-count.ensures
     (omega (arith, c.requires.in_order, c.from-top.ensures, c.from-end.ensures))
     (omega (arith, all, c.requires.inside, c.from-end.ensures))
     c.rotate.ensures.cells c.rotate.ensures.width c.rotate.ensures.len c.rotate.ensures.lines

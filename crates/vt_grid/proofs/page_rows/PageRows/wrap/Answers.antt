@@ -1,18 +1,18 @@
 use Rattle.std.proofs.Common.{◌<◌, length, ap, ◌∙◌, arith}
 use Rattle.vt_grid.specs.PageRows.{PageRowsValue, page_row, with_page_row}
-use Rattle.vt_grid.proofs.CellStores.{row_flagged, rows_counted}
+use Rattle.vt_grid.proofs.Flats.{row_flagged, rows_counted}
 use Rattle.vt_grid.proofs.page_rows.PageRows.wrap.Goals as goal
 
 pub returns : goal.returns
 returns c =
-    let cell_store = c.self.inside.cell_store in
-    let inside : c.args.row < length cell_store.lines.items = omega (
+    let flat = c.self.inside.flat in
+    let inside : c.args.row < length flat.lines.items = omega (
       arith,
       c.requires,
-      rows_counted cell_store.width cell_store.cells.items cell_store.lines.items,
+      rows_counted flat.width flat.cells.items flat.lines.items,
       ap (λ (s : PageRowsValue). length s.rows) c.self.view_is,
     ) in
-    row_flagged c.args.row c.args.wrapped cell_store c.wrap.new.self inside
+    row_flagged c.args.row c.args.wrapped flat c.wrap.new.self inside
     c.wrap.ensures.cells c.wrap.ensures.width c.wrap.ensures.lines
     ∙ ap
     (λ (s : PageRowsValue). with_page_row c.args.row (record (page_row s c.args.row) { wrapped = c.args.wrapped }) s)

@@ -1,9 +1,12 @@
 use Rattle.std.proofs.Common.{refl}
 use Rattle.vt_mirror.proofs.Noted.{noted_join}
+use Rattle.vt_mirror.proofs.Sharing.{sharing_viewers}
 use Rattle.vt_mirror.proofs.mirror.Mirror.join.Goals as goal
 
 pub invariant_of-self : goal.invariant_of-self
 invariant_of-self c =
-    noted_join (record { parser = c.self.inside.parser; viewers = c.self.inside.viewers })
-    (record { parser = c.self.inside.parser; viewers = c.join.new.self })
-    c.join.result refl c.join.ensures c.self.invariant
+    sharing_viewers c.self.inside.parser c.self.inside.viewers c.join.new.self c.join.ensures.rest
+    (noted_join (record { parser = c.self.inside.parser; viewers = c.self.inside.viewers.viewers })
+    (record { parser = c.self.inside.parser; viewers = c.join.new.self.viewers })
+    c.join.result refl c.join.ensures.call c.self.invariant.sized)
+    c.self.invariant

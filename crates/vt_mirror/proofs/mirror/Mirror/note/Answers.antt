@@ -1,14 +1,26 @@
-use Rattle.std.proofs.Common.{refl, ◌∙◌}
+use Rattle.std.proofs.Common.{refl, subst, ◌≡◌}
+use Rattle.std.specs.Prelude.{IfSome}
+use Rattle.vt_screen.specs.Screen.{ScreenValue}
 use Rattle.vt_mirror.proofs.Noted.{noted_copy, noted_same}
+use Rattle.vt_mirror.proofs.Sharing.{sharing_noted}
 use Rattle.vt_mirror.proofs.mirror.Mirror.note.Goals as goal
 
 pub invariant_of-self : goal.invariant_of-self
 invariant_of-self c =
-    noted_same (record { parser = c.self.inside.parser; viewers = c.self.inside.viewers })
-    (record { parser = c.self.inside.parser; viewers = c.put.new.self }) refl c.in_err-put.ensures.err c.self.invariant
+    sharing_noted c.self.inside.parser c.self.inside.viewers c.note.new.self
+    (noted_same (record { parser = c.self.inside.parser; viewers = c.self.inside.viewers.viewers })
+    (record { parser = c.self.inside.parser; viewers = c.note.new.self.viewers })
+    refl c.in_err-note.ensures.err c.self.invariant.sized)
+    (subst (λ (s : ScreenValue). IfSome c.note.new.self.current (λ copy. copy ≡ s)) c.screen-screen.ensures.value
+    c.in_err-note.ensures.current)
+    c.in_err-note.ensures.diff c.in_err-note.ensures.scrolling c.in_err-note.ensures.redraw c.self.invariant
 
 pub invariant_of-self-2 : goal.invariant_of-self-2
 invariant_of-self-2 c =
-    noted_copy (record { parser = c.self.inside.parser; viewers = c.self.inside.viewers })
-    (record { parser = c.self.inside.parser; viewers = c.put.new.self }) c.args.viewer c.in_ok-screen.screen
-    refl c.in_ok-put.ensures.ok (c.in_ok-screen.ensures.ok ∙ c.screen.ensures.value) c.self.invariant
+    sharing_noted c.self.inside.parser c.self.inside.viewers c.note.new.self
+    (noted_copy (record { parser = c.self.inside.parser; viewers = c.self.inside.viewers.viewers })
+    (record { parser = c.self.inside.parser; viewers = c.note.new.self.viewers }) c.args.viewer c.screen-screen.result.now
+    refl c.in_ok-note.ensures.ok c.screen-screen.ensures.value c.self.invariant.sized)
+    (subst (λ (s : ScreenValue). IfSome c.note.new.self.current (λ copy. copy ≡ s)) c.screen-screen.ensures.value
+    c.in_ok-note.ensures.current)
+    c.in_ok-note.ensures.diff c.in_ok-note.ensures.scrolling c.in_ok-note.ensures.redraw c.self.invariant

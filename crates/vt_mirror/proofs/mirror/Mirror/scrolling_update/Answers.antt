@@ -1,33 +1,70 @@
-use Rattle.std.proofs.Common.{Some, Option, subst, sym}
-use Rattle.vt_grid.specs.Page.{SameSize}
-use Rattle.vt_screen.specs.Screen.{ScreenValue}
-use Rattle.vt_mirror.specs.Calls.{IsUpdate, Scrolling}
-use Rattle.vt_mirror.specs.Mirror.{MirrorValue}
+use Rattle.std.proofs.Common.{ℕ, List, ◌≡◌, subst, sym, ◌∙◌}
+use Rattle.std.proofs.lemmas.Bool.{false≢true}
+use Rattle.std.specs.Prelude.{string_bytes}
+use Rattle.vt_redraw.specs.Steady.{IsSteady}
+use Rattle.vt_screen.specs.Screen.{IsColored, IsScreen, ScreenValue}
+use Rattle.vt_screen.specs.Shown.{shown}
+use Rattle.vt_mirror.specs.Calls.{Scrolling, Scrolls}
 use Rattle.vt_mirror.specs.Viewers.{note_of}
-use Rattle.vt_mirror.specs.declared.update.Update.TheVariants.{Diff}
+use Rattle.vt_mirror.proofs.Sharing.{CopiesScreen, sharing_scrolled, unchanged_scrolling}
+use Rattle.vt_mirror.proofs.Updates.{copy_size, diff_update, full_update, of_noted, scrolled_from}
 use Rattle.vt_mirror.proofs.mirror.Mirror.scrolling_update.Goals as goal
 
 pub contents_diff_scrolling-requires : goal.contents_diff_scrolling-requires
 contents_diff_scrolling-requires c =
-    subst (λ (s : ScreenValue). SameSize s.page c.in-Some.prev.now.page) (sym c.screen-screen.ensures.value)
-    (c.self.invariant c.args.viewer c.in-Some.prev.now (sym c.in-Some.ensures))
+    let it = c.in-Some.ensures.some in
+    copy_size c.self.inside.parser.screen c.screen-screen.result.now it.0 c.in-Some.prev.now
+    c.screen-screen.ensures.value it.2 (c.self.invariant.sized c.args.viewer it.0 it.1)
+
+-- for a viewer whose noted screen is not steady
+pub returns-then-not-is_steady-clause-ok : goal.returns-then-not-is_steady-clause-ok
+returns-then-not-is_steady-clause-ok c =
+    let it = c.in-Some.ensures.some in
+    full_update _ _ c.args.viewer it.0 _ c.self.view_is it.1
+    (λ steady. false≢true
+    (sym c.if-not-is_steady.true ∙ c.is_steady.ensures.1 (subst IsSteady (sym it.2.shown) steady)))
+    c.full-then-not-is_steady.ensures.ok
+
+-- for a viewer that is up to date
+pub returns-then-is_current-clause-ok : goal.returns-then-is_current-clause-ok
+returns-then-is_current-clause-ok c =
+    let it = c.is_current.ensures c.if-is_current.true in
+    let screen = c.self.inside.parser.screen in
+    let is = subst (λ (s : ScreenValue). IsScreen s) c.screen-screen.ensures.value c.size.ensures.whole in
+    let colored = subst (λ (s : ScreenValue). IsColored s) c.screen-screen.ensures.value c.size.ensures.colored in
+    let same : it.0 ≡ screen = subst (CopiesScreen c.self.inside.parser) it.2 c.self.invariant.current in
+    let noted = c.in-Some.ensures.some in
+    let steady : IsSteady (shown screen) =
+    subst (λ (s : ScreenValue). IsSteady (shown s)) same
+    (of_noted (λ (s : ScreenValue). IsSteady (shown s)) (note_of c.self.inside.viewers.viewers c.args.viewer)
+    noted.0 noted.1 (subst IsSteady noted.2.shown (c.is_steady.ensures.0 c.if-not-is_steady.false)) it.0 it.1) in
+    diff_update Scrolling _ _ c.args.viewer it.0 c.new-text.result c.self.view_is it.1
+    (subst (λ (s : ScreenValue). Scrolls screen s (string_bytes c.new-text.result)) (sym same)
+    (subst (λ (t : List ℕ). Scrolls screen screen t) (sym c.new-text.ensures.bytes) (unchanged_scrolling screen is colored steady)))
 
 pub returns-clause-ok : goal.returns-clause-ok
 returns-clause-ok c =
-    let text = c.in_ok-contents_diff_scrolling.field-0 in
-    let e = c.in_ok-contents_diff_scrolling.ensures in
-    subst (λ (m : MirrorValue). IsUpdate Scrolling m.parser.screen (note_of m.viewers c.args.viewer) (Diff text)) c.self.view_is
-    (subst (λ (o : Option ScreenValue). IsUpdate Scrolling c.self.inside.parser.screen o (Diff text)) c.in-Some.ensures
-    (subst (λ (s : ScreenValue). IsUpdate Scrolling s (Some c.in-Some.prev.now) (Diff text))
-    c.screen-screen.ensures.value (record {
-      diff = record {
-        size =
-            subst (λ (s : ScreenValue). SameSize s.page c.in-Some.prev.now.page) (sym c.screen-screen.ensures.value)
-            (c.self.invariant c.args.viewer c.in-Some.prev.now (sym c.in-Some.ensures));
-        redraws = e.redraws;
-        none = e.none;
-        empty = e.empty;
-      };
-      is = e.text;
-      shorter = e.shorter;
-    })))
+    let it = c.in-Some.ensures.some in
+    let e = c.in_ok-text.ensures in
+    diff_update Scrolling _ _ c.args.viewer it.0 c.in_ok-text.text c.self.view_is it.1
+    (scrolled_from c.self.inside.parser.screen c.screen-screen.result.now it.0 c.in-Some.prev.now
+    (string_bytes c.in_ok-text.text) c.screen-screen.ensures.value it.2
+    (c.self.invariant.sized c.args.viewer it.0 it.1)
+    (c.is_steady.ensures.0 c.if-not-is_steady.false) e.text e.shorter e.redraws e.empty e.none e.controls e.again)
+
+pub invariant_of-self : goal.invariant_of-self
+invariant_of-self c =
+    let screen = c.self.inside.parser.screen in
+    let it = c.in-Some.ensures.some in
+    let e = c.in_ok-text.ensures in
+    let is : Scrolls screen it.0 (string_bytes c.in_ok-text.text) =
+    scrolled_from screen c.screen-screen.result.now it.0 c.in-Some.prev.now
+    (string_bytes c.in_ok-text.text) c.screen-screen.ensures.value it.2
+    (c.self.invariant.sized c.args.viewer it.0 it.1)
+    (c.is_steady.ensures.0 c.if-not-is_steady.false) e.text e.shorter e.redraws e.empty e.none e.controls e.again in
+    sharing_scrolled c.self.inside.parser c.self.inside.viewers c.keep_scrolling.new.self c.args.viewer c.as_str.result.now
+    c.keep_scrolling.ensures.rest c.keep_scrolling.ensures.scrolling
+    (of_noted (λ (s : ScreenValue). Scrolls screen s c.as_str.result.now)
+    (note_of c.self.inside.viewers.viewers c.args.viewer) it.0 it.1
+    (subst (λ (t : List ℕ). Scrolls screen it.0 t) (sym c.as_str.ensures.value) is))
+    c.self.invariant

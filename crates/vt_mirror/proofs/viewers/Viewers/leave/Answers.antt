@@ -1,10 +1,38 @@
-use Rattle.std.proofs.Common.{refl}
-use Rattle.vt_mirror.proofs.Bookkeeping.{left_viewers}
+use Rattle.std.proofs.Common.{refl, subst}
+use Rattle.vt_mirror.specs.Calls.{Leaves}
+use Rattle.vt_mirror.specs.Kept.{KeptValue, copies_of, screens_of}
+use Rattle.vt_mirror.specs.Viewers.{ViewersValue}
+use Rattle.vt_mirror.proofs.Keeping.{fewer_kept, kept_left, note_left, note_left_viewers}
 use Rattle.vt_mirror.proofs.viewers.Viewers.leave.Goals as goal
 
 pub invariant_of-self : goal.invariant_of-self
-invariant_of-self c =
-    left_viewers
-    (record { last = c.self.inside.last; numbers = c.self.inside.numbers.keys; notes = c.self.inside.notes.entries })
-    c.args.viewer c.self.inside.numbers c.remove-2.new.self c.self.inside.notes c.remove.new.self
-    refl refl c.remove-2.ensures.updates c.remove.ensures.updates c.self.invariant
+invariant_of-self c = record {
+  viewers =
+      note_left_viewers
+      (record { last = c.self.inside.last; numbers = c.self.inside.numbers.keys; notes = screens_of c.self.inside.notes.entries })
+      c.args.viewer c.self.inside.numbers c.remove-2.new.self c.self.inside.notes c.remove.new.self
+      refl refl c.remove-2.ensures.updates c.remove.ensures.updates c.self.invariant.viewers;
+  shared =
+      fewer_kept
+      (copies_of c.self.inside.notes.entries c.self.inside.current c.self.inside.diff c.self.inside.scrolling)
+      (copies_of c.remove.new.self.entries c.self.inside.current c.self.inside.diff c.self.inside.scrolling)
+      c.self.inside.version
+      (λ note is. kept_left c.args.viewer c.self.inside.notes c.remove.new.self
+      (copies_of c.self.inside.notes.entries c.self.inside.current c.self.inside.diff c.self.inside.scrolling) note refl
+      c.remove.ensures.updates is)
+      c.self.invariant.shared;
+}
+
+pub returns-clause-call : goal.returns-clause-call
+returns-clause-call c =
+    let old : ViewersValue =
+    record { last = c.self.inside.last; numbers = c.self.inside.numbers.keys; notes = screens_of c.self.inside.notes.entries } in
+    subst (λ (k : KeptValue). Leaves k.viewers c.args.viewer c.remove-2.result
+    (record { last = c.self.inside.last; numbers = c.remove-2.new.self.keys; notes = screens_of c.remove.new.self.entries }))
+    c.self.view_is (record {
+      was = c.remove-2.ensures.test;
+      last = refl;
+      puts =
+          note_left old c.args.viewer c.self.inside.numbers c.remove-2.new.self c.self.inside.notes c.remove.new.self
+          refl refl c.remove-2.ensures.updates c.remove.ensures.updates;
+    })

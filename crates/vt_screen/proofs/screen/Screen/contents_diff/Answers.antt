@@ -1,10 +1,14 @@
-use Rattle.std.proofs.Common.{◌≡◌, ℕ, List, ◌++◌, string_bytes, ap, sym, ◌∙◌}
+use Rattle.std.proofs.Common.{◌≡◌, ℕ, List, ◌++◌, string_bytes, ap, sym, ◌∙◌, subst}
 use Rattle.vt_screen.specs.Shown.{shown, shown_change}
 use Rattle.vt_screen.proofs.Became.{difference_redraws}
 use Rattle.vt_screen.proofs.EqualTexts.{difference_none, difference_tells}
 use Rattle.vt_screen.proofs.TouchedTexts.{difference_touches}
 use Rattle.vt_screen.proofs.Viewing.{same_shown}
 use Rattle.vt_screen.proofs.ContentTexts.{none_refused}
+use Rattle.vt_screen.specs.MadeOf.{IsMadeOf, drawing_finals, drawing_controls}
+use Rattle.vt_screen.proofs.MadeOf.{difference_made}
+use Rattle.vt_screen.specs.Again.{KeepsPlain}
+use Rattle.vt_screen.proofs.PlainAgain.{difference_keeps}
 use Rattle.vt_screen.proofs.screen.Screen.contents_diff.Goals as goal
 
 pub returns-in-Ok-clause-redraws : goal.returns-in-Ok-clause-redraws
@@ -44,3 +48,19 @@ returns-in-Ok-clause-touches c steady =
 pub returns-in-Err-clause-never : goal.returns-in-Err-clause-never
 returns-in-Err-clause-never c same =
     absurd (none_refused _ (difference_none (shown c.args.self.now) (shown c.args.prev.now) same) c.in-Err.ensures.some)
+
+pub returns-in-Ok-clause-controls : goal.returns-in-Ok-clause-controls
+returns-in-Ok-clause-controls c =
+    let bytes = shown_change c.args.prev.now c.args.self.now in
+    let told : string_bytes c.write_contents_diff.new.sink ≡ bytes =
+    c.in-Ok.ensures.text ∙ ap (λ (before : List ℕ). before ++ bytes) c.new-text.ensures.bytes in
+    subst (IsMadeOf drawing_finals drawing_controls) (sym told)
+    (difference_made c.args.self.now c.args.prev.now c.in-Ok.ensures.whole c.in-Ok.ensures.colored c.in-Ok.ensures.other_colored)
+
+pub returns-in-Ok-clause-again : goal.returns-in-Ok-clause-again
+returns-in-Ok-clause-again c =
+    let bytes = shown_change c.args.prev.now c.args.self.now in
+    let told : string_bytes c.write_contents_diff.new.sink ≡ bytes =
+    c.in-Ok.ensures.text ∙ ap (λ (before : List ℕ). before ++ bytes) c.new-text.ensures.bytes in
+    subst KeepsPlain (sym told)
+    (difference_keeps c.args.self.now c.args.prev.now c.in-Ok.ensures.whole c.in-Ok.ensures.colored c.in-Ok.ensures.other_colored)

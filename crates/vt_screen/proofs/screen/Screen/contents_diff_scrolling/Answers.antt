@@ -4,6 +4,8 @@ use Rattle.vt_screen.proofs.Viewing.{same_shown}
 use Rattle.vt_screen.specs.Shown.{shown}
 use Rattle.vt_screen.proofs.ContentTexts.{none_refused}
 use Rattle.vt_screen.proofs.EqualTexts.{difference_none}
+use Rattle.vt_screen.proofs.MadeOf.{scrolling_made}
+use Rattle.vt_screen.proofs.MovedAgain.{scrolling_keeps}
 use Rattle.vt_screen.proofs.screen.Screen.contents_diff_scrolling.Goals as goal
 
 pub returns-clause-redraws : goal.returns-clause-redraws
@@ -39,3 +41,15 @@ pub returns-in_err-shorter-clause-never : goal.returns-in_err-shorter-clause-nev
 returns-in_err-shorter-clause-never c same =
     absurd (none_refused _ (difference_none (shown c.args.self.now) (shown c.args.prev.now) same)
     c.in_err-shorter.ensures.some)
+
+pub returns-clause-controls : goal.returns-clause-controls
+returns-clause-controls c =
+    let is = c.in_ok-shorter.ensures in
+    scrolling_made c.args.self.now c.args.prev.now (string_bytes c.in_ok-shorter.shorter)
+    is.whole is.colored is.other_colored is.text
+
+pub returns-clause-again : goal.returns-clause-again
+returns-clause-again c =
+    let is = c.in_ok-shorter.ensures in
+    scrolling_keeps c.args.self.now c.args.prev.now (string_bytes c.in_ok-shorter.shorter)
+    is.whole is.colored is.other is.other_colored is.text

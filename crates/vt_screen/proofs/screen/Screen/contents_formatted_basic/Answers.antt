@@ -1,7 +1,7 @@
 use Rattle.std.proofs.Common.{rules, ◌≡◌, ◌++◌, List, ℕ, string_bytes, ap, sym, subst, ◌∙◌}
 use Rattle.vt_rows.specs.Basic.{unwritten}
 use Rattle.vt_screen.specs.Capture.{basic_texts}
-use Rattle.vt_screen.specs.CaptureText.{IsCaptureText}
+use Rattle.vt_screen.specs.MadeOf.{IsMadeOf, capture_finals, plain_controls}
 use Rattle.vt_screen.specs.Screen.{IsScreen, visible_rows}
 use Rattle.vt_screen.proofs.CaptureTexts.{capture_is}
 use Rattle.vt_screen.proofs.screen.Screen.contents_formatted_basic.Goals as goal
@@ -12,4 +12,4 @@ returns-in-Ok-clause-controls c =
     let text = basic_texts unwritten (visible_rows c.args.self.now) in
     let told : string_bytes c.write_contents_formatted_basic.new.sink ≡ text =
     c.in-Ok.ensures.text ∙ ap (λ (before : List ℕ). before ++ text) c.new-text.ensures.bytes in
-    subst IsCaptureText (sym told) (capture_is c.args.self.now whole)
+    subst (IsMadeOf capture_finals plain_controls) (sym told) (capture_is c.args.self.now whole)

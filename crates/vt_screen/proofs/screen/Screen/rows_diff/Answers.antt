@@ -1,8 +1,12 @@
-use Rattle.std.proofs.Common.{ℕ, List, length, ap, ◌∙◌}
+use Rattle.std.proofs.Common.{ℕ, List, length, ap, ◌∙◌, subst, sym}
 use Rattle.vt_screen.specs.RowsShown.{changed_text, texts_from}
 use Rattle.vt_screen.specs.Shown.{shown}
 use Rattle.vt_screen.proofs.RowItemsTold.{changed_empty, changed_leaves, changed_turns}
 use Rattle.vt_screen.proofs.RowTexts.{texts_count}
+use Rattle.vt_screen.specs.MadeOf.{IsMadeOf, drawing_controls, drawing_finals}
+use Rattle.vt_screen.specs.RowsShown.{text_at}
+use Rattle.vt_screen.proofs.MadeOf.{row_change_made}
+use Rattle.vt_screen.proofs.RowTexts.{texts_at}
 use Rattle.vt_screen.proofs.screen.Screen.rows_diff.Goals as goal
 
 pub returns-clause-count : goal.returns-clause-count
@@ -40,3 +44,12 @@ returns-clause-empty c =
     c.range_end.ensures.value in
     changed_empty s c.args.prev.now c.args.start c.args.width c.new.result
     told c.sound.ensures.whole c.sound-2.ensures.whole c.requires.size
+
+pub returns-clause-controls : goal.returns-clause-controls
+returns-clause-controls c r low =
+    let s = c.args.self.now in
+    let told = ap (λ (t : List (List ℕ)). text_at t r) c.new.ensures
+    ∙ texts_at (changed_text c.args.start c.range_end.result (shown s) (shown c.args.prev.now)) r (length s.page.rows) low in
+    subst (IsMadeOf drawing_finals drawing_controls) (sym told)
+    (row_change_made s c.args.prev.now r c.args.start c.range_end.result c.sound.ensures.whole c.sound.ensures.colored
+    low c.range_end.ensures.order c.range_end.ensures.inside)

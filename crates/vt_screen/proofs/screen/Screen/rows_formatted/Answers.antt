@@ -1,8 +1,12 @@
-use Rattle.std.proofs.Common.{ℕ, List, length, ap, ◌∙◌}
+use Rattle.std.proofs.Common.{ℕ, List, length, ap, ◌∙◌, subst, sym}
 use Rattle.vt_screen.specs.RowsShown.{formatted_text, texts_from}
 use Rattle.vt_screen.specs.Shown.{shown}
 use Rattle.vt_screen.proofs.RowItemsTold.{formatted_linked, formatted_off, formatted_turns}
 use Rattle.vt_screen.proofs.RowTexts.{texts_count}
+use Rattle.vt_screen.specs.MadeOf.{IsMadeOf, drawing_controls, drawing_finals}
+use Rattle.vt_screen.specs.RowsShown.{text_at}
+use Rattle.vt_screen.proofs.MadeOf.{row_made}
+use Rattle.vt_screen.proofs.RowTexts.{texts_at}
 use Rattle.vt_screen.proofs.screen.Screen.rows_formatted.Goals as goal
 
 pub returns-clause-count : goal.returns-clause-count
@@ -35,3 +39,12 @@ returns-clause-linked c =
     ∙ ap (λ (stop : ℕ). texts_from (formatted_text c.args.start stop (shown s)) 0 (length s.page.rows))
     c.range_end.ensures.value in
     formatted_linked s c.args.start c.args.width c.new.result told c.sound.ensures.whole c.sound.ensures.colored
+
+pub returns-clause-controls : goal.returns-clause-controls
+returns-clause-controls c r low =
+    let s = c.args.self.now in
+    let told = ap (λ (t : List (List ℕ)). text_at t r) c.new.ensures
+    ∙ texts_at (formatted_text c.args.start c.range_end.result (shown s)) r (length s.page.rows) low in
+    subst (IsMadeOf drawing_finals drawing_controls) (sym told)
+    (row_made s r c.args.start c.range_end.result c.sound.ensures.whole c.sound.ensures.colored
+    low c.range_end.ensures.order c.range_end.ensures.inside)

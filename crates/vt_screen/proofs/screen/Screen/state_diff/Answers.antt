@@ -1,8 +1,10 @@
-use Rattle.std.proofs.Common.{◌≡◌, ℕ, List, ◌++◌, string_bytes, ap, sym, ◌∙◌}
+use Rattle.std.proofs.Common.{◌≡◌, ℕ, List, ◌++◌, string_bytes, ap, sym, ◌∙◌, subst}
 use Rattle.vt_screen.specs.States.{state_change}
 use Rattle.vt_screen.proofs.StateRead.{change_gives, state_none, state_tells}
 use Rattle.vt_screen.proofs.Viewing.{same_shown}
 use Rattle.vt_screen.proofs.ContentTexts.{none_refused}
+use Rattle.vt_screen.specs.MadeOf.{IsMadeOf, drawing_finals, state_controls}
+use Rattle.vt_screen.proofs.MadeOf.{state_change_made}
 use Rattle.vt_screen.proofs.screen.Screen.state_diff.Goals as goal
 
 pub returns-in-Ok-clause-gives : goal.returns-in-Ok-clause-gives
@@ -33,3 +35,11 @@ returns-in-Ok-clause-none c same same_modes =
 pub returns-in-Err-clause-never : goal.returns-in-Err-clause-never
 returns-in-Err-clause-never c same same_modes =
     absurd (none_refused _ (state_none c.args.self.now c.args.prev.now same same_modes) c.in-Err.ensures.some)
+
+pub returns-in-Ok-clause-controls : goal.returns-in-Ok-clause-controls
+returns-in-Ok-clause-controls c =
+    let bytes = state_change c.args.prev.now c.args.self.now in
+    let told : string_bytes c.write_state_diff.new.sink ≡ bytes =
+    c.in-Ok.ensures.text ∙ ap (λ (before : List ℕ). before ++ bytes) c.new-text.ensures.bytes in
+    subst (IsMadeOf drawing_finals state_controls) (sym told)
+    (state_change_made c.args.self.now c.args.prev.now c.in-Ok.ensures.whole c.in-Ok.ensures.colored c.in-Ok.ensures.other_colored)

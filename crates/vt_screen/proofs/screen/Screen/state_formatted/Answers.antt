@@ -1,6 +1,8 @@
-use Rattle.std.proofs.Common.{◌≡◌, ℕ, List, ◌++◌, string_bytes, ap, ◌∙◌}
+use Rattle.std.proofs.Common.{◌≡◌, ℕ, List, ◌++◌, string_bytes, ap, ◌∙◌, sym, subst}
 use Rattle.vt_screen.specs.States.{state_text}
 use Rattle.vt_screen.proofs.StateRead.{state_gives}
+use Rattle.vt_screen.specs.MadeOf.{IsMadeOf, drawing_finals, state_controls}
+use Rattle.vt_screen.proofs.MadeOf.{state_made}
 use Rattle.vt_screen.proofs.screen.Screen.state_formatted.Goals as goal
 
 pub returns-in-Ok-clause-gives : goal.returns-in-Ok-clause-gives
@@ -10,3 +12,11 @@ returns-in-Ok-clause-gives c =
     c.in-Ok.ensures.text ∙ ap (λ (before : List ℕ). before ++ bytes) c.new-text.ensures.bytes in
     state_gives c.args.self.now (string_bytes c.write_state_formatted.new.sink)
     told c.in-Ok.ensures.whole c.in-Ok.ensures.colored
+
+pub returns-in-Ok-clause-controls : goal.returns-in-Ok-clause-controls
+returns-in-Ok-clause-controls c =
+    let bytes = state_text c.args.self.now in
+    let told : string_bytes c.write_state_formatted.new.sink ≡ bytes =
+    c.in-Ok.ensures.text ∙ ap (λ (before : List ℕ). before ++ bytes) c.new-text.ensures.bytes in
+    subst (IsMadeOf drawing_finals state_controls) (sym told)
+    (state_made c.args.self.now c.in-Ok.ensures.whole c.in-Ok.ensures.colored)

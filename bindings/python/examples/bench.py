@@ -1,0 +1,44 @@
+"""bench.py: prints how many milliseconds it takes to read a colored screen of 24x80, in each way."""
+
+import time
+
+import vt100
+
+
+def screen():
+    """A screen of words in colors, as a program draws it."""
+    parser = vt100.Parser(24, 80)
+    for row in range(24):
+        words = (b"\x1b[%dmword %d\x1b[m " % (30 + col % 8, row + col) for col in range(9))
+        parser.process(b"\x1b[%dH%b" % (row + 1, b"".join(words)))
+    return parser
+
+
+def best_of(function, runs=20):
+    """Returns the least number of milliseconds of processor time that some runs take."""
+    times = []
+    for _ in range(runs):
+        begin = time.process_time()
+        function()
+        times.append(time.process_time() - begin)
+    return min(times) * 1e3
+
+
+def main():
+    parser = screen()
+    saved = parser.save()
+    for name, function in (
+        ("cell(row, col)", lambda: [parser.cell(y, x) for y in range(24) for x in range(80)]),
+        ("cells(row)", lambda: [parser.cells(row) for row in range(24)]),
+        ("buffer", lambda: parser.buffer),
+        ("display", lambda: parser.display),
+        ("rows()", parser.rows),
+        ("find(text)", lambda: parser.find("word 20")),
+        ("dirty()", parser.dirty),
+        ("==", lambda: parser == saved),
+    ):
+        print(f"{name:15} {best_of(function):6.2f} ms")
+
+
+if __name__ == "__main__":
+    main()

@@ -1,0 +1,43 @@
+"""Mirrors and their viewers."""
+
+import unittest
+
+import vt100
+
+
+class Viewers(unittest.TestCase):
+    def test_both_kinds_of_update_keep_viewers_equal(self):
+        mirror, shown = vt100.Mirror(3, 8), vt100.Parser(3, 8)
+        viewer, terminal = mirror.join(), vt100.Parser(1, 1)
+        for piece in range(40):
+            text = b"line %d\r\n" % piece
+            mirror.process(text)
+            shown.process(text)
+            update = (mirror.update_scrolling if piece % 4 > 1 else mirror.update)(viewer)
+            self.assertEqual(update.size, (3, 8) if piece == 0 else None)
+            if update.size:
+                terminal.set_size(*update.size)
+            terminal.process(update.text.encode())
+            self.assertEqual(terminal.contents_formatted(), shown.contents_formatted())
+        mirror.set_size(2, 5)
+        self.assertEqual(mirror.update_scrolling(viewer).size, (2, 5))
+        self.assertEqual(mirror.update(viewer), vt100.Update(""))
+        mirror.leave(viewer)
+
+    def test_a_viewer_may_join_late(self):
+        mirror = vt100.Mirror(2, 10)
+        first = mirror.join()
+        mirror.process(b"one")
+        second = mirror.join()
+        self.assertNotEqual(first, second)
+        mirror.process(b" two")
+        for viewer in (first, second):
+            update = mirror.update(viewer)
+            self.assertEqual(update.size, vt100.Size(2, 10))
+            terminal = vt100.Parser(*update.size)
+            terminal.process(update.text.encode())
+            self.assertEqual(terminal.contents(), "one two")
+
+
+if __name__ == "__main__":
+    unittest.main()

@@ -1,0 +1,108 @@
+"""The event log of a parser, as vt100.h describes it under EVENTS."""
+
+from __future__ import annotations
+
+import struct
+from typing import Any, Callable, Dict, Iterator, List, Optional, Tuple
+
+from .callbacks import Callbacks
+
+#: The callback that an event of each kind invokes.
+NAMES = (
+    "audible_bell",
+    "visual_bell",
+    "resize",
+    "set_window_icon_name",
+    "set_window_title",
+    "copy_to_clipboard",
+    "paste_from_clipboard",
+    "unhandled_char",
+    "unhandled_control",
+    "unhandled_escape",
+    "unhandled_csi",
+    "unhandled_osc",
+    "on_scroll",
+)
+_ON_SCROLL = NAMES.index("on_scroll")
+
+_HEAD = struct.Struct("<BIIQ")
+_LENGTH = struct.Struct("<Q")
+_CODE = struct.Struct("<I")
+
+
+def wanted(callbacks: Callbacks) -> int:
+    """Returns the bits of the kinds of events whose callbacks are overridden."""
+    bits = 0
+    for kind, name in enumerate(NAMES):
+        method = getattr(callbacks, name)
+        if getattr(method, "__func__", None) is not getattr(Callbacks, name):
+            bits |= 1 << kind
+    return bits
+
+
+def report(log: bytes, callbacks: Callbacks, screen: Any) -> None:
+    """Invokes the callbacks of the events of a log, in order."""
+    for kind, first, second, text in _records(log):
+        if kind < len(NAMES):
+            arguments = _ARGUMENTS[kind](first, second, text)
+            place = () if kind == _ON_SCROLL else (screen,)
+            getattr(callbacks, NAMES[kind])(*place, *arguments)
+
+
+def _records(log: bytes) -> Iterator[Tuple[int, int, int, bytes]]:
+    at = 0
+    while at < len(log):
+        kind, first, second, length = _HEAD.unpack_from(log, at)
+        at += _HEAD.size
+        yield kind, first, second, log[at : at + length]
+        at += length
+
+
+def _byte(number: int) -> Optional[int]:
+    """Returns an intermediate byte; 256 stands for none."""
+    return None if number > 255 else number
+
+
+def _parts(text: bytes) -> List[bytes]:
+    """Returns byte strings that are stored one after the other, each after its length."""
+    parts, at = [], 0
+    while at < len(text):
+        (length,) = _LENGTH.unpack_from(text, at)
+        at += _LENGTH.size
+        parts.append(text[at : at + length])
+        at += length
+    return parts
+
+
+def _groups(text: bytes) -> List[List[int]]:
+    """Returns groups of numbers that are stored one after the other, each after its count."""
+    groups, at = [], 0
+    while at < len(text):
+        (count,) = _LENGTH.unpack_from(text, at)
+        at += _LENGTH.size
+        groups.append(list(struct.unpack_from(f"<{count}H", text, at)))
+        at += 2 * count
+    return groups
+
+
+def _csi(first: int, second: int, text: bytes) -> Tuple[object, ...]:
+    (final,) = _CODE.unpack_from(text)
+    return _byte(first), _byte(second), _groups(text[_CODE.size :]), chr(final)
+
+
+#: The arguments of the callback of each kind, from the numbers and the text of a record.
+_ARGUMENTS: Dict[int, Callable[[int, int, bytes], Tuple[object, ...]]] = {
+    0: lambda first, second, text: (),
+    1: lambda first, second, text: (),
+    2: lambda first, second, text: (first, second),
+    3: lambda first, second, text: (text,),
+    4: lambda first, second, text: (text,),
+    5: lambda first, second, text: tuple(_parts(text)),
+    6: lambda first, second, text: (text,),
+    7: lambda first, second, text: (chr(first),),
+    8: lambda first, second, text: (first,),
+    9: lambda first, second, text: (_byte(first), _byte(second), text[0]),
+    10: _csi,
+    11: lambda first, second, text: (_parts(text),),
+    12: lambda first, second, text: (text.decode(), second == 1, first == 1),
+}

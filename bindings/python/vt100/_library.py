@@ -1,0 +1,219 @@
+"""The functions of the library, as vt100.h declares them."""
+
+from __future__ import annotations
+
+import ctypes
+import operator
+import os
+from typing import Any, Dict, List, SupportsIndex, Tuple
+
+from ._cells import Color, color_of
+
+#: The name of the shared object, beside this module or where the system finds it, if VT100_LIBRARY
+#: names none.
+SONAME = "libvt100.so.1"
+
+MAX_U16 = 0xFFFF
+MAX_U64 = 0xFFFFFFFFFFFFFFFF
+MAX_SIZE = ctypes.c_size_t(-1).value
+
+OUT_OF_MEMORY = 1
+BAD_ARGUMENT = 3
+_STATUSES = {
+    2: "the parser or mirror ran out of memory before and processes no more bytes",
+    4: "the object is of another kind",
+    5: "the screens have different sizes",
+    6: "the object is closed",
+    7: "the object is initialized already",
+    8: "the mirror has no viewer number left",
+}
+
+
+class Error(Exception):
+    """A failure that is neither a failed allocation (`MemoryError`) nor an invalid argument
+    (`ValueError`)."""
+
+
+class Handle(ctypes.Structure):
+    """`vt100_handle`: one word that refers to an object of the library."""
+
+    _fields_ = [("at", ctypes.c_void_p)]
+
+
+class RawColor(ctypes.Structure):
+    """`vt100_color`."""
+
+    _fields_ = [(name, ctypes.c_uint8) for name in ("kind", "red", "green", "blue")]
+    kind: int
+    red: int
+    green: int
+    blue: int
+
+    def value(self) -> Color:
+        """Returns the color."""
+        return color_of(self.kind, self.red, self.green, self.blue)
+
+
+class State(ctypes.Structure):
+    """`vt100_state`: all of a screen but its cells."""
+
+    _fields_ = (
+        [(name, ctypes.c_uint16) for name in ("rows", "cols", "cursor_row", "cursor_col")]
+        + [
+            (name, ctypes.c_uint8)
+            for name in (
+                "alternate_screen",
+                "application_keypad",
+                "application_cursor",
+                "hide_cursor",
+                "bracketed_paste",
+                "mouse_protocol_mode",
+                "mouse_protocol_encoding",
+                "cursor_style",
+                "flags",
+            )
+        ]
+        + [("reserved", ctypes.c_uint8 * 3), ("fgcolor", RawColor), ("bgcolor", RawColor)]
+        + [
+            (name, ctypes.c_size_t)
+            for name in ("scrollback", "scrollback_len", "scrollback_capacity")
+        ]
+    )
+    rows: int
+    cols: int
+    cursor_row: int
+    cursor_col: int
+    alternate_screen: int
+    application_keypad: int
+    application_cursor: int
+    hide_cursor: int
+    bracketed_paste: int
+    mouse_protocol_mode: int
+    mouse_protocol_encoding: int
+    cursor_style: int
+    flags: int
+    fgcolor: RawColor
+    bgcolor: RawColor
+    scrollback: int
+    scrollback_len: int
+    scrollback_capacity: int
+
+
+def _arguments() -> Dict[str, List[Any]]:
+    """The argument types of each function that returns a status."""
+    handle, size = ctypes.POINTER(Handle), ctypes.c_size_t
+    u8, u16, u64 = ctypes.c_uint8, ctypes.c_uint16, ctypes.c_uint64
+    length, data = ctypes.POINTER(size), ctypes.c_void_p
+    flag, side = ctypes.POINTER(u8), ctypes.POINTER(u16)
+    rows = [u16, u16, length, size, length]
+    arguments: Dict[str, List[Any]] = {
+        "parser_new": [u16, u16, size, u16, handle],
+        "mirror_new": [u16, u16, size, handle],
+        "save": [handle, handle],
+        "swap": [handle, handle],
+        "process": [handle, data, size],
+        "process_until": [handle, data, size, length],
+        "set_size": [handle, u16, u16],
+        "screen_set_size": [handle, u16, u16],
+        "set_scrollback": [handle, size],
+        "clear_scrollback": [handle],
+        "get_state": [handle, ctypes.POINTER(State)],
+        "get_cell": [handle, u16, u16, data],
+        "get_cells": [handle, u16, data, size],
+        "row_wrapped": [handle, u16, flag],
+        "contents_between": [handle, u16, u16, u16, u16, length],
+        "rows": [handle, *rows],
+        "rows_formatted": [handle, *rows],
+        "rows_diff": [handle, handle, *rows],
+        "events": [handle, length, flag],
+        "clear_events": [handle],
+        "join": [handle, ctypes.POINTER(u64)],
+        "leave": [handle, u64],
+    }
+    for name in (
+        "contents",
+        "contents_formatted",
+        "contents_formatted_basic",
+        "contents_formatted_reset",
+        "state_formatted",
+        "cursor_state_formatted",
+        "attributes_formatted",
+        "input_mode_formatted",
+    ):
+        arguments[name] = [handle, length]
+    for name in ("contents_diff", "contents_diff_scrolling", "state_diff", "input_mode_diff"):
+        arguments[name] = [handle, handle, length]
+    for name in ("update", "update_scrolling"):
+        arguments[name] = [handle, u64, side, side, length]
+    return arguments
+
+
+def _default() -> str:
+    """Returns the path of the shared object beside this module, or else its name."""
+    beside = os.path.join(os.path.dirname(os.path.abspath(__file__)), SONAME)
+    return beside if os.path.exists(beside) else SONAME
+
+
+def _open() -> ctypes.CDLL:
+    """Opens the shared object that VT100_LIBRARY names, or else the default one."""
+    named = os.environ.get("VT100_LIBRARY")
+    try:
+        return ctypes.CDLL(named or _default())
+    except OSError as error:
+        if named:
+            raise ImportError(f"VT100_LIBRARY names no library that loads: {error}") from error
+        raise ImportError(
+            f"the library {SONAME} was not found ({error}): install it by bindings/build PREFIX,"
+            " and set VT100_LIBRARY to PREFIX/lib/libvt100.so"
+        ) from error
+
+
+def _load() -> ctypes.CDLL:
+    """Opens the library and declares its functions."""
+    opened = _open()
+    handle, size = ctypes.POINTER(Handle), ctypes.c_size_t
+    try:
+        for name, types in _arguments().items():
+            function = getattr(opened, "vt100_" + name)
+            function.argtypes, function.restype = types, ctypes.c_uint8
+        for name in ("copy", "copy_events"):
+            function = getattr(opened, "vt100_" + name)
+            function.argtypes, function.restype = [handle, ctypes.c_void_p, size], size
+        opened.vt100_free.argtypes, opened.vt100_free.restype = [handle], None
+    except AttributeError as error:
+        raise ImportError(
+            f"the library is of another version than this package ({error}):"
+            " VT100_LIBRARY names the one to load"
+        ) from error
+    return opened
+
+
+library = _load()
+
+
+def check(status: int) -> None:
+    """Raises the exception of a status, unless it is VT100_OK."""
+    if status == 0:
+        return
+    if status == OUT_OF_MEMORY:
+        raise MemoryError
+    if status == BAD_ARGUMENT:
+        raise ValueError("no such size, row, cell, range or viewer")
+    raise Error(_STATUSES.get(status, f"status {status}"))
+
+
+def in_range(name: str, value: SupportsIndex, low: int, high: int) -> int:
+    """Returns `value` as an int, so that ctypes never truncates it.
+
+    Raises `ValueError` if it is less than `low` or more than `high`, and `TypeError` if it is no
+    integer.
+    """
+    number = operator.index(value)
+    if not low <= number <= high:
+        raise ValueError(f"{name} must be from {low} to {high}, not {number}")
+    return number
+
+
+def size_in_range(rows: SupportsIndex, cols: SupportsIndex) -> Tuple[int, int]:
+    """Returns a size as ints; raises `ValueError` if no screen can have it."""
+    return in_range("rows", rows, 1, MAX_U16), in_range("cols", cols, 1, MAX_U16)

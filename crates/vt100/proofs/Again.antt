@@ -1,0 +1,28 @@
+-- A parser that has read a text that leaves it plain.
+use Rattle.std.proofs.Common.{◌≡◌, ℕ, List, false, subst, sym}
+use Rattle.vt_scan.specs.Automaton.{State, start}
+use Rattle.vt_scan.specs.Run.{run}
+use Rattle.vt_scan.specs.Scanner.{StandsFor}
+use Rattle.vt_screen.specs.Again.{KeepsAside, LeavesPlain}
+use Rattle.vt_screen.specs.CallsOfRun.{calls_in, steps_in}
+use Rattle.vt_screen.specs.Run.{CallRelation}
+use Rattle.vt_screen.specs.Shown.{IsPlain}
+use Rattle.vt_screen.proofs.NoCallbacks.{only_reports, reported_events}
+use Rattle.vt100.specs.Parser.{Parsing, Ran, stage}
+use Rattle.vt100.specs.Pieces.{IsPlainAgain}
+
+pub leaves_plain : {S : Type 0} (does : CallRelation S) (p q : Parsing S) (text : List ℕ) → StandsFor p.scanner start →
+    LeavesPlain text p.screen → Ran does p text q → q.is_failed ≡ false → IsPlainAgain does p q
+leaves_plain does p q text stands leaves ran fine =
+    let (scanner, folds) = ran start stands in
+    let told = reported_events does (run start text).events (stage p) (stage q) leaves.steps folds in record {
+      plain = record {
+        is_failed = fine;
+        scanner = subst (λ (s : State). StandsFor q.scanner s) leaves.ground scanner;
+        screen = subst IsPlain (sym told.shown) leaves.plain;
+      };
+      aside = subst (KeepsAside p.screen) (sym told.shown) leaves.aside;
+      calls = calls_in start p.screen text;
+      reports = only_reports (steps_in start p.screen text) p.screen leaves.steps;
+      called = told.called;
+    }

@@ -1,0 +1,55 @@
+//! Sequences that insert and delete rows at the cursor (ECMA-48 and the VT510's manual).
+
+ghost use Rattle.vt_cells.specs.Op.{counted};
+
+use crate::sink::Sink;
+use crate::term::BufWrite;
+use crate::term::decimal::write_decimal;
+
+/// Deletes rows from the cursor's row on; the rows below move up (DL). An empty
+/// text for a count of 0.
+#[derive(Clone, Copy, Debug)]
+pub struct DeleteLines {
+    /// The number of rows.
+    pub count: u16,
+}
+
+impl BufWrite for DeleteLines {
+    ghost bytes = { λ it. counted it.count 0x4D };
+
+    fn write_buf<S: Sink>(&self, sink: &mut S) -> Result<(), S::Error> {
+        match self.count {
+            0 => Ok(()),
+            1 => sink.write_str("\x1b[M"),
+            count => {
+                sink.write_str("\x1b[")?;
+                write_decimal(sink, u32::from(count))?;
+                sink.write_str("M")
+            }
+        }
+    }
+}
+
+/// Inserts blank rows at the cursor's row; that row and the rows below move down
+/// (IL). An empty text for a count of 0.
+#[derive(Clone, Copy, Debug)]
+pub struct InsertLines {
+    /// The number of rows.
+    pub count: u16,
+}
+
+impl BufWrite for InsertLines {
+    ghost bytes = { λ it. counted it.count 0x4C };
+
+    fn write_buf<S: Sink>(&self, sink: &mut S) -> Result<(), S::Error> {
+        match self.count {
+            0 => Ok(()),
+            1 => sink.write_str("\x1b[L"),
+            count => {
+                sink.write_str("\x1b[")?;
+                write_decimal(sink, u32::from(count))?;
+                sink.write_str("L")
+            }
+        }
+    }
+}

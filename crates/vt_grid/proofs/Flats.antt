@@ -1,0 +1,394 @@
+-- Rows in one list of cells: what an edit of a row's cells, a flag and a rotation of the table make of them.
+use Rattle.std.proofs.Common.{◌≡◌, ◌≢◌, ℕ, ◌+◌, ◌*◌, ◌-◌, ◌<◌, ◌≤◌, ◌&&◌, not, Bool, false, List}
+use Rattle.std.proofs.Common.{[], ◌∷◌, ◌++◌, length, take, drop, replicate, map, Vec, Global}
+use Rattle.std.proofs.Common.{get_or, set, inl, inr, sym, ap, subst, ◌∙◌, arith}
+use Rattle.std.proofs.lemmas.Bool.{cases_lt, cases_eq}
+use Rattle.std.proofs.lemmas.Bool.Decides.{nat_tests}
+use Rattle.vt_rows.specs.Internals.{turn_source}
+use Rattle.std.specs.Vec.{with_items}
+use Rattle.std.proofs.lemmas.List.{with_items_is, length-take, length-drop, length-replicate, get_or-take}
+use Rattle.std.proofs.lemmas.List.{get_or-drop, get_or-replicate, get_or_default, ext_get_or, length-map}
+use Rattle.std.proofs.lemmas.List.{length-set, get_or-map, get_or-set_same, get_or-set_other, map-set}
+use Rattle.std.proofs.lemmas.List.FromFn.{length-map-range_with_len, get_or-map-range_with_len, map-range_with_len_more}
+use Rattle.std.proofs.lemmas.Slice.{between_is, take-put_mid_below, drop-put_mid, between-put_mid}
+use borrow.Rule.Slice.PartMut.{put_mid, same_len_mid}
+use Rattle.vt_cells.specs.Cell.{CellValue, blank, default_blank}
+use Rattle.vt_cells.specs.Attrs.{Attrs, default_attrs}
+use Rattle.vt_rows.specs.Cells.{blanks, ends_blank}
+use Rattle.vt_grid.specs.PageRows.{PageRowsValue, blank_page_rows, page_row, with_page_row, with_row_cells}
+use Rattle.vt_rows.proofs.Columns.{blanks_is}
+use Rattle.vt_rows.specs.Row.{RowValue, blank_row}
+use Rattle.vt_grid.specs.Page.{row_or}
+use Rattle.vt_grid.specs.declared.flat.Line.{Line}
+use Rattle.vt_grid.specs.declared.flat.Flat.{Flat}
+use Rattle.vt_grid.specs.Flat.{IsFlat, rows_of, cells_at, row_in, rows_in, no_line, line_at, in_order, IsTable}
+
+-- ---- places
+
+pub place_inside : (p n w : ℕ) → p < n → p * w + w ≤ n * w
+place_inside p n w h = grind arith
+
+-- after a write to the cells of place p those of each other place are as they were
+pub cells_at-put_other : (w n p q : ℕ) (cells new : List CellValue) → length cells ≡ n * w → p < n →
+    q < n → q ≢ p → length new ≡ w → cells_at w (put_mid (p * w) w cells new) q ≡ cells_at w cells q
+cells_at-put_other w n p q cells new e h i other l =
+    let inside = place_inside p n w h in
+    elim (cases_lt q p) [
+      | inl lt ↦
+          let below = place_inside q p w lt in
+          between_is (put_mid (p * w) w cells new) (q * w) (q * w + w)
+          ∙ (ap (λ (xs : List CellValue). drop (q * w) xs)
+          (take-put_mid_below (p * w) w cells new (q * w + w) below (omega (arith, inside, e)))
+          ∙ sym (between_is cells (q * w) (q * w + w)))
+      | inr ge ↦
+          let gt : p < q = grind (arith, other, ge) in
+          let above = place_inside p q w gt in
+          ap (λ (xs : List CellValue). take (q * w + w - q * w) xs)
+          (drop-put_mid (p * w) w cells new (q * w) above (omega (arith, inside, e)) l)
+    ]
+
+pub cells_at-put_same : (w n p : ℕ) (cells new : List CellValue) → length cells ≡ n * w →
+    p < n → length new ≡ w → cells_at w (put_mid (p * w) w cells new) p ≡ new
+cells_at-put_same w n p cells new e h l =
+    let inside = place_inside p n w h in
+    between-put_mid (p * w) w cells new (p * w + w) (omega (arith, inside, e)) (omega (arith, l))
+
+-- a vector of cells after the cells of place p were lent and became `new`
+pub written : (w n p a k : ℕ) (v now : Vec CellValue Global) (xs new : List CellValue) →
+    now ≡ with_items v (put_mid a k xs new) → xs ≡ v.items →
+    length v.items ≡ n * w → p < n → a ≡ p * w → k ≡ w → length new ≡ w →
+    now.items ≡ put_mid (p * w) w v.items new
+written w n p a k v now xs new e was f h i j l =
+    let inside = place_inside p n w h in
+    let size : length (put_mid (p * w) w v.items new) ≡ length v.items =
+    same_len_mid (p * w) w v.items new
+    (omega (arith, l, length-take w (drop (p * w) v.items), length-drop (p * w) v.items, inside, f)) in
+    ap (λ (u : Vec CellValue Global). u.items) (e ∙ (λ t. with_items v (put_mid (i t) (j t) (was t) new)))
+    ∙ with_items_is v (put_mid (p * w) w v.items new) (size ∙ sym v.ok.0)
+
+-- ---- rows
+
+pub rows_counted : (w : ℕ) (cells : List CellValue) (lines : List Line) → length (rows_in w cells lines) ≡ length lines
+unfolding rows_in
+rows_counted w cells lines = length-map lines (row_in w cells)
+
+pub row_found : (w r : ℕ) (cells : List CellValue) (lines : List Line) (d : RowValue) →
+    r < length lines → get_or (rows_in w cells lines) r d ≡ row_in w cells (line_at lines r)
+unfolding rows_in
+row_found w r cells lines d h = get_or-map (row_in w cells) lines r no_line d h
+
+-- the rows of a page whose lines are others, which stand for these rows
+pub rows_in_by : (w : ℕ) (cells : List CellValue) (lines : List Line) (rows : List RowValue) (d : RowValue) →
+    length rows ≡ length lines →
+    ((k : ℕ) → k < length lines → row_in w cells (line_at lines k) ≡ get_or rows k d) → rows_in w cells lines ≡ rows
+rows_in_by w cells lines rows d e f =
+    let l = rows_counted w cells lines in
+    ext_get_or d (rows_in w cells lines) rows (l ∙ sym e)
+    (λ k h. let i : k < length lines = omega (arith, l) in row_found w k cells lines d i ∙ f k i)
+
+-- row r has other cells and another flag, and the cells of each other place are as they were
+pub rows_in-replaced : (w r : ℕ) (cells now new : List CellValue) (flag : Bool) (lines : List Line) →
+    IsTable w cells lines → r < length lines → cells_at w now (line_at lines r).place ≡ new →
+    ((q : ℕ) → q < length lines → q ≢ (line_at lines r).place → cells_at w now q ≡ cells_at w cells q) →
+    rows_in w now (set lines r (record (line_at lines r) { wrapped = flag }))
+    ≡ set (rows_in w cells lines) r (record { cells = new; wrapped = flag })
+rows_in-replaced w r cells now new flag lines t h own others =
+    let line = record (line_at lines r) { wrapped = flag } in
+    let table = set lines r line in
+    let row : RowValue = record { cells = new; wrapped = flag } in
+    let n : length table ≡ length lines = length-set lines r line in
+    let m = rows_counted w cells lines in
+    rows_in_by w now table (set (rows_in w cells lines) r row) row
+    (length-set (rows_in w cells lines) r row ∙ (m ∙ sym n)) (λ k i.
+    let k_in : k < length lines = omega (arith, n) in
+    elim (cases_eq k r) [
+      | inl same ↦
+          rw (
+            same,
+            get_or-set_same lines r line no_line h,
+            get_or-set_same (rows_in w cells lines) r row row (omega (arith, m)),
+          )
+          (ap (λ (xs : List CellValue). record { cells = xs; wrapped = flag }) own)
+      | inr other ↦
+          let apart : (line_at lines k).place ≢ (line_at lines r).place = λ e. other (t.distinct k r k_in h e) in
+          rw (
+            get_or-set_other lines r k line no_line other,
+            get_or-set_other (rows_in w cells lines) r k row row other,
+            row_found w k cells lines row k_in,
+          )
+          (ap (λ (xs : List CellValue). record { cells = xs; wrapped = (line_at lines k).wrapped })
+          (others (line_at lines k).place (t.inside k k_in) apart))
+    ])
+
+pub rows_in-edited : (w r : ℕ) (cells new : List CellValue) (flag : Bool) (lines : List Line) →
+    IsTable w cells lines → r < length lines → length new ≡ w →
+    rows_in w (put_mid ((line_at lines r).place * w) w cells new)
+    (set lines r (record (line_at lines r) { wrapped = flag }))
+    ≡ set (rows_in w cells lines) r (record { cells = new; wrapped = flag })
+rows_in-edited w r cells new flag lines t h l =
+    let p = (line_at lines r).place in
+    rows_in-replaced w r cells (put_mid (p * w) w cells new) new flag lines t h
+    (cells_at-put_same w (length lines) p cells new t.filled (t.inside r h) l)
+    (λ q i other. cells_at-put_other w (length lines) p q cells new t.filled (t.inside r h) i other l)
+
+-- row r has another flag
+pub rows_in-flagged : (w r : ℕ) (cells : List CellValue) (flag : Bool) (lines : List Line) → r < length lines →
+    rows_in w cells (set lines r (record (line_at lines r) { wrapped = flag }))
+    ≡ set (rows_in w cells lines) r
+    (record (get_or (rows_in w cells lines) r (row_in w cells no_line)) { wrapped = flag })
+unfolding rows_in
+rows_in-flagged w r cells flag lines h =
+    map-set (row_in w cells) lines r (record (line_at lines r) { wrapped = flag })
+    ∙ ap (λ (row : RowValue). set (map (row_in w cells) lines) r (record row { wrapped = flag }))
+    (sym (get_or-map (row_in w cells) lines r no_line (row_in w cells no_line) h))
+
+-- ---- tables
+
+pub IsTable-cells : (w : ℕ) (cells now : List CellValue) (lines : List Line) →
+    length now ≡ length cells → IsTable w cells lines → IsTable w now lines
+IsTable-cells w cells now lines e t = record { filled = e ∙ t.filled; inside = t.inside; distinct = t.distinct }
+
+-- each line has a place of an old one, of another one than any other line
+pub IsTable-moved : (w : ℕ) (source : ℕ → ℕ) (cells : List CellValue) (lines now : List Line) →
+    length now ≡ length lines → ((k : ℕ) → k < length lines → source k < length lines) →
+    ((j k : ℕ) → j < length lines → k < length lines → source j ≡ source k → j ≡ k) →
+    ((k : ℕ) → k < length lines → (line_at now k).place ≡ (line_at lines (source k)).place) →
+    IsTable w cells lines → IsTable w cells now
+IsTable-moved w source cells lines now e i once f t = record {
+  filled = t.filled ∙ ap (λ (n : ℕ). n * w) (sym e);
+  inside =
+      λ r h. let r_in : r < length lines =
+      omega (arith, e) in let there = t.inside (source r) (i r r_in) in omega (arith, f r r_in, there, e);
+  distinct = λ r s h k same.
+      let r_in : r < length lines = omega (arith, e) in
+      let s_in : s < length lines = omega (arith, e) in
+      once r s r_in s_in (t.distinct (source r) (source s) (i r r_in) (i s s_in) (sym (f r r_in) ∙ (same ∙ f s s_in)));
+}
+
+-- ---- the table turned
+
+turn_inside : (from to n k len : ℕ) → from + n ≤ to → to ≤ len → k < len → turn_source from to n k < len
+turn_inside from to n k len h t l = grind (arith, nat_tests)
+
+turn_once : (from to n j k : ℕ) → from + n ≤ to → turn_source from to n j ≡ turn_source from to n k → j ≡ k
+turn_once from to n j k h e = grind (arith, nat_tests)
+
+pub IsTable-turned : (w from to n : ℕ) (cells : List CellValue) (lines now : List Line) →
+    from + n ≤ to → to ≤ length lines → length now ≡ length lines →
+    ((k : ℕ) → line_at now k ≡ line_at lines (turn_source from to n k)) → IsTable w cells lines → IsTable w cells now
+IsTable-turned w from to n cells lines now h i e f t =
+    IsTable-moved w (turn_source from to n) cells lines now e (λ k l. turn_inside from to n k (length lines) h i l)
+    (λ j k l m same. turn_once from to n j k h same) (λ k l. ap (λ (x : Line). x.place) (f k)) t
+
+pub rows_in-turned : (w from to n : ℕ) (cells : List CellValue) (lines now : List Line) →
+    from + n ≤ to → to ≤ length lines → length now ≡ length lines →
+    ((k : ℕ) → line_at now k ≡ line_at lines (turn_source from to n k)) → (k : ℕ) (d : RowValue) →
+    k < length lines → get_or (rows_in w cells now) k d ≡ get_or (rows_in w cells lines) (turn_source from to n k) d
+rows_in-turned w from to n cells lines now h i e f k d l =
+    row_found w k cells now d (omega (arith, e))
+    ∙ (ap (row_in w cells) (f k)
+    ∙ sym (row_found w (turn_source from to n k) cells lines d (turn_inside from to n k (length lines) h i l)))
+
+-- ---- rows that lie in their order
+
+pub length-in_order : (n : ℕ) → length (in_order n) ≡ n
+length-in_order n = length-map-range_with_len (λ place. record { place = place; wrapped = false }) 0 n
+
+pub line_in_order : (n r : ℕ) → r < n → line_at (in_order n) r ≡ record { place = r; wrapped = false }
+line_in_order n r h =
+    get_or-map-range_with_len (λ place. record { place = place; wrapped = false }) 0 n r r no_line h (omega arith)
+
+pub in_order_more : (n : ℕ) → in_order (n + 1) ≡ in_order n ++ record { place = n; wrapped = false } ∷ []
+in_order_more n = map-range_with_len_more (λ place. record { place = place; wrapped = false }) 0 n n (omega arith)
+
+-- blank rows, as many as lie in their order
+pub IsTable-in_order : (w n : ℕ) (attrs : Attrs) → IsTable w (blanks attrs (n * w)) (in_order n)
+IsTable-in_order w n attrs =
+    let l = length-in_order n in record {
+      filled = length-replicate (n * w) (blank attrs) ∙ ap (λ (m : ℕ). m * w) (sym l);
+      inside =
+          λ r h. let i : r < n =
+          omega (arith, l) in omega (arith, ap (λ (x : Line). x.place) (line_in_order n r i), l, i);
+      distinct = λ r s h k e.
+          let i : r < n = omega (arith, l) in
+          let j : s < n = omega (arith, l) in
+          sym (ap (λ (x : Line). x.place) (line_in_order n r i))
+          ∙ (e ∙ ap (λ (x : Line). x.place) (line_in_order n s j));
+    }
+
+cells_at-blanks : (w n p : ℕ) (attrs : Attrs) → p < n → cells_at w (blanks attrs (n * w)) p ≡ blanks attrs w
+cells_at-blanks w n p attrs h =
+    let inside = place_inside p n w h in
+    let all = blanks attrs (n * w) in
+    let l : length (cells_at w all p) ≡ w = omega (
+      arith,
+      length-take (p * w + w - p * w) (drop (p * w) all),
+      length-drop (p * w) all,
+      length-replicate (n * w) (blank attrs),
+      inside,
+    ) in
+    blanks_is attrs w (cells_at w all p) l (λ k i.
+    get_or-take (p * w + w - p * w) (drop (p * w) all) k default_blank (omega arith)
+    ∙ (get_or-drop (p * w) all k default_blank
+    ∙ get_or-replicate (n * w) (p * w + k) (blank attrs) default_blank (omega (arith, inside))))
+
+pub rows_in_order : (w n : ℕ) (attrs : Attrs) →
+    rows_in w (blanks attrs (n * w)) (in_order n) ≡ replicate n (blank_row attrs w)
+rows_in_order w n attrs =
+    let l = length-in_order n in
+    let d = blank_row attrs w in
+    rows_in_by w (blanks attrs (n * w)) (in_order n) (replicate n d) d (length-replicate n d ∙ sym l) (λ k h.
+    let i : k < n = omega (arith, l) in
+    ap (row_in w (blanks attrs (n * w))) (line_in_order n k i)
+    ∙ (ap (λ (cells : List CellValue). record { cells = cells; wrapped = false }) (cells_at-blanks w n k attrs i)
+    ∙ sym (get_or-replicate n k d d i)))
+
+pub length-cells_at : (w n p : ℕ) (cells : List CellValue) →
+    length cells ≡ n * w → p < n → length (cells_at w cells p) ≡ w
+length-cells_at w n p cells e h =
+    let inside = place_inside p n w h in
+    omega (arith, length-take (p * w + w - p * w) (drop (p * w) cells), length-drop (p * w) cells, inside, e)
+
+-- ---- edits of a row
+
+abbrev pub page_rows_of : Flat → PageRowsValue
+page_rows_of flat = record { rows = rows_of flat; width = flat.width }
+
+-- each row has the page's width
+pub columns_counted : (flat : Flat) (r : ℕ) → IsFlat flat → r < length (rows_of flat) →
+    length (page_row (page_rows_of flat) r).cells ≡ flat.width
+columns_counted flat r t h =
+    let w = flat.width in
+    let cells = flat.cells.items in
+    let lines = flat.lines.items in
+    let i : r < length lines = omega (arith, h, rows_counted w cells lines) in
+    ap (λ (row : RowValue). length row.cells) (row_found w r cells lines (blank_row default_attrs w) i)
+    ∙ length-cells_at w (length lines) (line_at lines r).place cells t.filled (t.inside r i)
+
+-- the cells of row r were lent and became `new`, and its flag is another
+pub row_changed : (r a b : ℕ) (flat edited : Flat) (xs new : List CellValue) (flag : Bool) →
+    IsFlat flat → r < length flat.lines.items →
+    edited.cells ≡ with_items flat.cells (put_mid a (b - a) xs new) → xs ≡ flat.cells.items →
+    a ≡ (line_at flat.lines.items r).place * flat.width → b ≡ a + flat.width → b ≤ length flat.cells.items →
+    length new ≡ length (take (b - a) (drop a xs)) → edited.width ≡ flat.width →
+    edited.lines.items ≡ set flat.lines.items r (record (line_at flat.lines.items r) { wrapped = flag }) →
+    page_rows_of edited ≡ with_page_row r (record { cells = new; wrapped = flag }) (page_rows_of flat)
+row_changed r a b flat edited xs new flag t inside e was i j m size w f =
+    let lines = flat.lines.items in
+    let l : length new ≡ flat.width =
+    size ∙ omega (arith, length-take (b - a) (drop a xs), length-drop a xs, ap length was, j, m) in
+    let cells = written flat.width (length lines) (line_at lines r).place a (b - a) flat.cells
+    edited.cells xs new e was t.filled (t.inside r inside) i (omega (arith, j)) l in
+    let rows : rows_of edited ≡ set (rows_of flat) r (record { cells = new; wrapped = flag }) =
+    (λ z. rows_in (w z) (cells z) (f z)) ∙ rows_in-edited flat.width r flat.cells.items new flag lines t inside l in
+    λ z. record { rows = rows z; width = w z }
+
+-- by a print or an erase
+pub row_printed : (r a b : ℕ) (flat edited : Flat) (xs new : List CellValue) (was_flag flag : Bool) →
+    IsFlat flat → r < length flat.lines.items →
+    edited.cells ≡ with_items flat.cells (put_mid a (b - a) xs new) → xs ≡ flat.cells.items →
+    a ≡ (line_at flat.lines.items r).place * flat.width → b ≡ a + flat.width → b ≤ length flat.cells.items →
+    length new ≡ length (take (b - a) (drop a xs)) → edited.width ≡ flat.width →
+    edited.lines.items ≡ set flat.lines.items r (record (line_at flat.lines.items r) { wrapped = flag }) →
+    was_flag ≡ (row_or flat.width (rows_of flat) r).wrapped → flag ≡ (was_flag && not (ends_blank new)) →
+    page_rows_of edited ≡ with_row_cells r new (page_rows_of flat)
+row_printed r a b flat edited xs new was_flag flag t inside e was i j m size w f g k =
+    row_changed r a b flat edited xs new flag t inside e was i j m size w f
+    ∙ ap (λ (x : Bool). with_page_row r (record { cells = new; wrapped = x }) (page_rows_of flat))
+    (k ∙ ap (λ (x : Bool). x && not (ends_blank new)) g)
+
+-- row r was made blank
+pub row_blanked : (r : ℕ) (attrs : Attrs) (flat edited : Flat) → IsFlat flat → r < length (rows_of flat) →
+    cells_at flat.width edited.cells.items (line_at flat.lines.items r).place ≡ blanks attrs flat.width →
+    ((q : ℕ) → q < length flat.lines.items → q ≢ (line_at flat.lines.items r).place →
+    cells_at flat.width edited.cells.items q ≡ cells_at flat.width flat.cells.items q) →
+    edited.width ≡ flat.width →
+    edited.lines.items ≡ set flat.lines.items r (record (line_at flat.lines.items r) { wrapped = false }) →
+    page_rows_of edited ≡ with_page_row r (blank_row attrs flat.width) (page_rows_of flat)
+row_blanked r attrs flat edited t h own others w f =
+    let inside : r < length flat.lines.items =
+    omega (arith, h, rows_counted flat.width flat.cells.items flat.lines.items) in
+    let rows : rows_of edited ≡ set (rows_of flat) r (blank_row attrs flat.width) =
+    (λ z. rows_in (w z) edited.cells.items (f z))
+    ∙ rows_in-replaced flat.width r flat.cells.items edited.cells.items
+    (blanks attrs flat.width) false flat.lines.items t inside own others in
+    λ z. record { rows = rows z; width = w z }
+
+-- row r has another flag
+pub row_flagged : (r : ℕ) (flag : Bool) (flat edited : Flat) →
+    r < length flat.lines.items → edited.cells ≡ flat.cells → edited.width ≡ flat.width →
+    edited.lines.items ≡ set flat.lines.items r (record (line_at flat.lines.items r) { wrapped = flag }) →
+    page_rows_of edited ≡ with_page_row r (record (page_row (page_rows_of flat) r) { wrapped = flag }) (page_rows_of flat)
+row_flagged r flag flat edited h c w f =
+    let n = rows_counted flat.width flat.cells.items flat.lines.items in
+    let d = row_in flat.width flat.cells.items no_line in
+    let rows : rows_of edited ≡ set (rows_of flat) r (record (page_row (page_rows_of flat) r) { wrapped = flag }) =
+    (λ z. rows_in (w z) (c z).items (f z)) ∙ (rows_in-flagged flat.width r flat.cells.items flag flat.lines.items h
+    ∙ ap (λ (row : RowValue). set (rows_of flat) r (record row { wrapped = flag }))
+    (get_or_default (rows_of flat) r d (blank_row default_attrs flat.width) (omega (arith, n)))) in
+    λ z. record { rows = rows z; width = w z }
+
+-- ---- the whole table
+
+pub flat_turned : (from to n : ℕ) (flat turned : Flat) → IsFlat flat → from + n ≤ to → to ≤ length (rows_of flat) →
+    turned.cells ≡ flat.cells → turned.width ≡ flat.width → length turned.lines.items ≡ length flat.lines.items →
+    ((k : ℕ) → line_at turned.lines.items k ≡ line_at flat.lines.items (turn_source from to n k)) → IsFlat turned
+flat_turned from to n flat turned t h i c w e f =
+    let all = rows_counted flat.width flat.cells.items flat.lines.items in
+    subst (λ (x : ℕ × List CellValue). IsTable x.0 x.1 turned.lines.items) (λ z. (sym w z, (sym c z).items))
+    (IsTable-turned flat.width from to n flat.cells.items
+    flat.lines.items turned.lines.items h (omega (arith, i, all)) e f t)
+
+pub rows_turned : (from to n : ℕ) (flat turned : Flat) → from + n ≤ to → to ≤ length (rows_of flat) →
+    turned.cells ≡ flat.cells → turned.width ≡ flat.width → length turned.lines.items ≡ length flat.lines.items →
+    ((k : ℕ) → line_at turned.lines.items k ≡ line_at flat.lines.items (turn_source from to n k)) →
+    (k : ℕ) (d : RowValue) → k < length (rows_of flat) →
+    get_or (rows_of turned) k d ≡ get_or (rows_of flat) (turn_source from to n k) d
+rows_turned from to n flat turned h i c w e f k d l =
+    let all = rows_counted flat.width flat.cells.items flat.lines.items in
+    ap (λ (x : ℕ × List CellValue). get_or (rows_in x.0 x.1 turned.lines.items) k d) (λ z. (w z, (c z).items))
+    ∙ rows_in-turned flat.width from to n flat.cells.items flat.lines.items
+    turned.lines.items h (omega (arith, i, all)) e f k d (omega (arith, l, all))
+
+-- ---- a fresh page
+
+pub fresh_flat : (rows width : ℕ) (flat : Flat) → flat.cells.items ≡ blanks default_attrs (rows * width) →
+    flat.lines.items ≡ in_order rows → flat.width ≡ width → (page_rows_of flat ≡ blank_page_rows rows width) × IsFlat flat
+fresh_flat rows width flat c l w = (
+  (λ z. record { rows = rows_in (w z) (c z) (l z); width = w z })
+      ∙ (λ z. record { rows = rows_in_order width rows default_attrs z; width = width }),
+  subst (λ (x : ℕ × (List CellValue × List Line)). IsTable x.0 x.1.0 x.1.1)
+      (λ z. (sym w z, (sym c z, sym l z))) (IsTable-in_order width rows default_attrs),
+)
+
+-- all rows were made blank
+pub all_blanked : (attrs : Attrs) (flat edited : Flat) → IsFlat flat →
+    edited.cells.items ≡ blanks attrs (length flat.cells.items) → edited.width ≡ flat.width →
+    length edited.lines.items ≡ length flat.lines.items →
+    ((k : ℕ) → k < length flat.lines.items →
+    line_at edited.lines.items k ≡ record (line_at flat.lines.items k) { wrapped = false }) →
+    (rows_of edited ≡ replicate (length (rows_of flat)) (blank_row attrs flat.width)) × IsFlat edited
+all_blanked attrs flat edited t cells w l f =
+    let lines = flat.lines.items in
+    let now = edited.lines.items in
+    let n = length lines in
+    let width = flat.width in
+    let d = blank_row attrs width in
+    let made : edited.cells.items ≡ blanks attrs (n * width) = cells ∙ ap (blanks attrs) t.filled in
+    let rows : rows_in width (blanks attrs (n * width)) now ≡ replicate n d =
+    rows_in_by width (blanks attrs (n * width)) now (replicate n d) d (length-replicate n d ∙ sym l) (λ k h.
+    let i : k < n = omega (arith, l) in
+    ap (row_in width (blanks attrs (n * width))) (f k i)
+    ∙ (ap (λ (xs : List CellValue). record { cells = xs; wrapped = false })
+    (cells_at-blanks width n (line_at lines k).place attrs (t.inside k i))
+    ∙ sym (get_or-replicate n k d d i))) in
+    let size : length edited.cells.items ≡ length flat.cells.items =
+    ap length cells ∙ length-replicate (length flat.cells.items) (blank attrs) in
+    let table : IsTable width edited.cells.items now =
+    IsTable-moved width (λ k. k) edited.cells.items lines now l (λ k i. i) (λ j k i m e. e)
+    (λ k i. ap (λ (x : Line). x.place) (f k i))
+    (IsTable-cells width flat.cells.items edited.cells.items lines size t) in (
+      (λ z. rows_in (w z) (made z) now)
+          ∙ (rows ∙ ap (λ (m : ℕ). replicate m d) (sym (rows_counted width flat.cells.items lines))),
+      subst (λ (m : ℕ). IsTable m edited.cells.items now) (sym w) table,
+    )

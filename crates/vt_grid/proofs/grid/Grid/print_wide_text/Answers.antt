@@ -1,0 +1,9 @@
+use Rattle.std.proofs.Common.{◌∙◌}
+use Rattle.vt_grid.proofs.WideTexts.{wide_text_printed}
+use Rattle.vt_grid.proofs.grid.Grid.print_wide_text.Goals as goal
+
+pub returns : goal.returns
+returns c =
+    c.put_wide_text.ensures.value
+    ∙ wide_text_printed c.args.text.now c.args.attrs c.args.self.now
+    c.put_wide_text.ensures.page c.requires.some c.requires.wide c.requires.room

@@ -1,0 +1,187 @@
+//! One vector with the cells of all rows, and a table that says where each row
+//! is.
+
+ghost use Rattle.std.specs.Prelude.{◌≡◌, ◌≢◌, ◌+◌, ◌*◌, ◌<◌, ◌≤◌, ℕ, IfOk};
+ghost use Rattle.std.specs.Prelude.{false, length, slice_set};
+ghost use Rattle.std.specs.List.{slice_range};
+ghost use Rattle.vt_cells.specs.Attrs.{default_attrs};
+ghost use Rattle.vt_cells.specs.Refusals.{OnlyOutOfMemory};
+ghost use Rattle.vt_rows.specs.Cells.{blanks};
+ghost use Rattle.vt_rows.specs.Internals.{turn_source};
+ghost use Rattle.vt_grid.specs.Flat.{line_at};
+
+use crate::size::Size;
+use std::alloc::Global;
+use vt_cells::{Attrs, Cell, Error};
+use vt_rows::cells;
+use vt_rows::copies::{blank_cells, copied};
+use vt_rows::shifts::turn;
+
+/// Where the cells of a row are, and whether its text goes on in the row below.
+#[derive(Clone, Copy, Debug)]
+pub struct Line {
+    pub(crate) place: u16,
+    pub(crate) wrapped: bool,
+}
+
+/// The cells of all rows of a page in one vector, by place, and for each row
+/// its place and its flag.
+#[derive(Debug, Drop)]
+pub struct Flat {
+    pub(crate) cells: Vec<Cell>,
+    pub(crate) lines: Vec<Line>,
+    pub(crate) width: u16,
+}
+
+impl Flat {
+    ghost use Rattle.vt_grid.specs.Flat.{IsFlat, cells_at, in_order, rows_of};
+    ghost use Rattle.vt_grid.specs.Page.{row_or};
+
+    /// Rows of default blanks, each at the place of its number.
+    ///
+    /// Fails where memory for them is refused.
+    pub fn new(alloc: Global, size: Size) -> Result<Flat, Error>
+        ensures cells { IfOk result (λ flat. flat.cells.items ≡ blanks default_attrs (size.rows * size.cols)) }
+        ensures lines { IfOk result (λ flat. flat.lines.items ≡ in_order size.rows) }
+        ensures width { IfOk result (λ flat. flat.width ≡ size.cols) }
+        ensures memory { OnlyOutOfMemory result }
+    {
+        let cells = blank_cells(alloc, usize::from(size.rows) * usize::from(size.cols))?;
+        Ok(Flat {
+            cells,
+            lines: Flat::lines_in_order(alloc, size.rows)?,
+            width: size.cols,
+        })
+    }
+
+    /// A copy, of the same places.
+    ///
+    /// Fails where its memory is refused.
+    pub fn try_clone(&self, alloc: Global) -> Result<Flat, Error>
+        ensures cells { IfOk result (λ flat. flat.cells.items ≡ self.now.cells.items) }
+        ensures lines { IfOk result (λ flat. flat.lines.items ≡ self.now.lines.items) }
+        ensures width { IfOk result (λ flat. flat.width ≡ self.now.width) }
+        ensures memory { OnlyOutOfMemory result }
+    {
+        let cells = copied(alloc, &self.cells)?;
+        let lines = self.lines.to_vec(alloc)?;
+        Ok(Flat {
+            cells,
+            lines,
+            width: self.width,
+        })
+    }
+
+    /// Where the cells of a row begin and end.
+    #[tactic(auto, using(crate::proofs::Flats::rows_counted))]
+    #[inline]
+    pub fn part(&self, row: usize) -> (usize, usize)
+        requires flat { IsFlat self.now }
+        requires inside { row < length (rows_of self.now) }
+        ensures start { result.0 ≡ (line_at self.now.lines.items row).place * self.now.width }
+        ensures end { result.1 ≡ result.0 + self.now.width }
+        ensures inside { result.1 ≤ length self.now.cells.items }
+        ensures line { row < length self.now.lines.items }
+        ensures row { slice_range self.now.cells.items result.0 result.1
+            ≡ (row_or self.now.width (rows_of self.now) row).cells }
+    {
+        let start = usize::from(self.lines[row].place) * usize::from(self.width);
+        (start, start + usize::from(self.width))
+    }
+
+    /// Whether a row's text goes on in the row below.
+    #[tactic(auto, using(crate::proofs::Flats::rows_counted))]
+    #[inline]
+    pub fn wrapped(&self, row: usize) -> bool
+        requires { row < length (rows_of self.now) }
+        ensures { result ≡ (row_or self.now.width (rows_of self.now) row).wrapped }
+    {
+        self.lines[row].wrapped
+    }
+
+    /// Says whether a row's text goes on in the row below. No cell changes.
+    #[inline]
+    pub fn wrap(&mut self, row: usize, wrapped: bool)
+        requires { row < length self.old.lines.items }
+        ensures cells { self.new.cells ≡ self.old.cells }
+        ensures width { self.new.width ≡ self.old.width }
+        ensures lines { self.new.lines.items
+            ≡ slice_set self.old.lines.items row (record (line_at self.old.lines.items row) { wrapped = wrapped }) }
+    {
+        self.lines[row].wrapped = wrapped;
+    }
+
+    /// Rotates the rows from `from` up to `to` up by `count`, with their flags.
+    /// No cell changes.
+    #[tactic(auto, using(crate::proofs::Flats::rows_counted))]
+    pub fn rotate(&mut self, from: usize, to: usize, count: usize)
+        requires in_order { from + count ≤ to }
+        requires inside { to ≤ length (rows_of self.old) }
+        ensures cells { self.new.cells ≡ self.old.cells }
+        ensures width { self.new.width ≡ self.old.width }
+        ensures len { length self.new.lines.items ≡ length self.old.lines.items }
+        ensures lines { (k : ℕ) →
+            line_at self.new.lines.items k ≡ line_at self.old.lines.items (turn_source from to count k) }
+    {
+        turn(&mut self.lines, from, to, count);
+    }
+
+    /// Makes a row blank, so that it goes on no more. The cells of every other
+    /// place stay.
+    #[tactic(auto, using(crate::proofs::Flats::rows_counted))]
+    pub fn blank(&mut self, row: usize, attrs: Attrs)
+        requires flat { IsFlat self.old }
+        requires inside { row < length (rows_of self.old) }
+        ensures own { cells_at self.old.width self.new.cells.items (line_at self.old.lines.items row).place
+            ≡ blanks attrs self.old.width }
+        ensures others { (place : ℕ) → place < length self.old.lines.items →
+            place ≢ (line_at self.old.lines.items row).place →
+            cells_at self.old.width self.new.cells.items place ≡ cells_at self.old.width self.old.cells.items place }
+        ensures len { length self.new.cells.items ≡ length self.old.cells.items }
+        ensures width { self.new.width ≡ self.old.width }
+        ensures lines { self.new.lines.items
+            ≡ slice_set self.old.lines.items row (record (line_at self.old.lines.items row) { wrapped = false }) }
+    {
+        let (start, end) = self.part(row);
+        cells::clear(&mut self.cells[start..end], attrs);
+        self.wrap(row, false);
+    }
+
+    /// Makes all rows blank, so that none goes on.
+    pub fn blank_all(&mut self, attrs: Attrs)
+        ensures cells { self.new.cells.items ≡ blanks attrs (length self.old.cells.items) }
+        ensures width { self.new.width ≡ self.old.width }
+        ensures len { length self.new.lines.items ≡ length self.old.lines.items }
+        ensures lines { (k : ℕ) → k < length self.old.lines.items →
+            line_at self.new.lines.items k ≡ record (line_at self.old.lines.items k) { wrapped = false } }
+    {
+        cells::clear(&mut self.cells, attrs);
+        end_all(&mut self.lines);
+    }
+
+    /// The table of rows that lie in their order.
+    fn lines_in_order(alloc: Global, rows: u16) -> Result<Vec<Line>, Error>
+        ensures ok { IfOk result (λ lines. lines.items ≡ in_order rows) }
+        ensures memory { OnlyOutOfMemory result }
+    {
+        let mut lines = Vec::with_capacity(alloc, usize::from(rows))?;
+        for place in 0..rows {
+            lines.push_reserved(Line {
+                place,
+                wrapped: false,
+            });
+        }
+        Ok(lines)
+    }
+}
+
+/// Says that no row goes on.
+fn end_all(lines: &mut [Line])
+    ensures len { length lines.new ≡ length lines.old }
+    ensures by_index { (k : ℕ) → k < length lines.old →
+        line_at lines.new k ≡ record (line_at lines.old k) { wrapped = false } }
+{
+    for k in 0..lines.len() {
+        lines[k].wrapped = false;
+    }
+}

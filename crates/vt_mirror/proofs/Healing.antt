@@ -1,0 +1,203 @@
+-- A viewer heals: it shows the screen of its last update if that was steady, whatever came before.
+use Rattle.std.proofs.Common.{◌≡◌, ℕ, false, List, [], ◌∷◌, Option, Some, None, refl, sym, ap, subst, ◌∙◌}
+use Rattle.std.specs.Prelude.{Result, Ok, Err, IfSome, string_bytes}
+use Rattle.std.specs.List.{FoldsTo}
+use Rattle.vt_cells.specs.declared.error.Error.{Error}
+use Rattle.vt_redraw.specs.Picture.{SamePictureSize}
+use Rattle.vt_redraw.specs.Steady.{IsSteady}
+use Rattle.vt_scan.specs.Automaton.{State, start}
+use Rattle.vt_scan.specs.Run.{run}
+use Rattle.vt_scan.specs.Scanner.{StandsFor}
+use Rattle.vt_screen.specs.Again.{KeepsPlain, LeavesPlain}
+use Rattle.vt_screen.specs.Run.{CallRelation}
+use Rattle.vt_screen.specs.Screen.{IsScreen, ScreenValue}
+use Rattle.vt_screen.specs.Shown.{IsPlain, IsReader, IsReaderOf, KeepsRest, Redraws, shown}
+use Rattle.vt_screen.proofs.NoCallbacks.{reported_events}
+use Rattle.vt_screen.proofs.Viewing.{same_shown}
+use Rattle.vt100.specs.Parser.{Parsing, Ran, stage}
+use Rattle.vt100.specs.Pieces.{IsPlainParser}
+use Rattle.vt100.proofs.Pieces.{ran_read}
+use Rattle.vt100.proofs.Running.{ran_joined}
+use Rattle.vt_mirror.specs.Calls.{Asks, GivesUpdate, IsFull, IsUpdate, Kind, Scrolling, Scrolls}
+use Rattle.vt_mirror.specs.Healing.{GoesAny, IsTakenFine, ReadsFine, SeesAny, ShowsSteady, TakesFine, WatchesAny}
+use Rattle.vt_mirror.specs.Viewers.{note_of}
+use Rattle.vt_mirror.specs.Watching.{Ask, IsFresh, IsLeft, IsNew, Join, Leave, MirrorCall, MirrorDoes, Process, SetSize}
+use Rattle.vt_mirror.specs.Watching.{TakesSize, Watching}
+use Rattle.vt_mirror.specs.declared.update.Update.{Update}
+use Rattle.vt_mirror.specs.declared.update.Update.TheVariants.{Diff, Full}
+use Rattle.vt_mirror.proofs.Bookkeeping.{by_number, none_some}
+use Rattle.vt_mirror.proofs.Watching.{NotedBefore, before_equal, before_join, before_none, before_resize, before_same}
+use Rattle.vt_mirror.proofs.Watching.{takes_size}
+
+-- ---- a viewer reads
+
+-- it is plain again, and shows a steady screen
+record Heals {S : Type 0} (self : ScreenValue) (viewer : Parsing S) : Type 0 where
+  pub sound : IsScreen viewer.screen
+  pub plain : IsPlainParser viewer
+  pub shows : IsSteady (shown self) → shown viewer.screen ≡ shown self
+
+plain_after : {S : Type 0} (does : CallRelation S) (p q : Parsing S) (text : List ℕ) → StandsFor p.scanner start →
+    LeavesPlain text p.screen → Ran does p text q → q.is_failed ≡ false → IsPlainParser q
+plain_after does p q text stands leaves ran fine =
+    let (scanner, folds) = ran start stands in
+    let told = reported_events does (run start text).events (stage p) (stage q) leaves.steps folds in record {
+      is_failed = fine;
+      scanner = subst (λ (s : State). StandsFor q.scanner s) leaves.ground scanner;
+      screen = subst IsPlain (sym told.shown) leaves.plain;
+    }
+
+heals_by : {S : Type 0} (does : CallRelation S) (self : ScreenValue) (Reader : ScreenValue → Type 0) (text : List ℕ)
+    (p q : Parsing S) → KeepsPlain text → Redraws (shown self) Reader KeepsRest text → IsPlainParser p →
+    Reader p.screen → ReadsFine does text p q → Heals self q
+heals_by {S} does self Reader text p q keeps r plain reader t =
+    let ran : Ran does p text q = subst (λ (b : List ℕ). Ran does p b q) t.whole (ran_joined does p q t.chunks t.ran) in
+    record {
+      sound = t.sound;
+      plain = plain_after does p q text plain.scanner (keeps p.screen plain.screen) ran t.works;
+      shows = λ steady.
+          let reads = r.quiet steady p.screen reader in
+          ap shown (ran_read does p q text start _ plain.scanner reads.1 ran t.works).screen
+          ∙ (r.shows steady p.screen reads.0 reader reads.1).1;
+    }
+
+heals_diff : {S : Type 0} (does : CallRelation S) (self prev : ScreenValue) (text : List ℕ) (p q : Parsing S)
+    → Scrolls self prev text → IsScreen p.screen → IsPlainParser p → shown p.screen ≡ shown prev
+    → ReadsFine does text p q → Heals self q
+heals_diff does self prev text p q is sound plain shows t =
+    heals_by does self (IsReaderOf (shown self) (shown prev)) text p q is.diff.again is.diff.redraws plain (record {
+      is = record {
+        sound = sound;
+        plain = plain.screen;
+        size = subst (SamePictureSize (shown self)) (sym shows) (same_shown self prev is.diff.size);
+      };
+      shows = shows;
+    }) t
+
+heals_full : {S : Type 0} (does : CallRelation S) (self : ScreenValue) (rows cols : ℕ) (text : List ℕ)
+    (p sized q : Parsing S) → IsFull self rows cols text → IsScreen p.screen → IsPlainParser p
+    → TakesSize rows cols p sized → ReadsFine does text sized q → Heals self q
+heals_full does self rows cols text p sized q full sound plain takes t =
+    let s = takes_size self rows cols text p sized full takes sound plain in
+    heals_by does self (IsReader (shown self)) text sized q full.again full.redraws s.plain
+    (record {
+      sound = s.sound;
+      plain = s.plain.screen;
+      size =
+          same_shown self sized.screen (record { width = sym (s.wide ∙ full.wide); height = sym (s.tall ∙ full.tall) });
+    })
+    t
+
+-- by what is noted, which the viewer shows if it is steady
+heals_update : {S : Type 0} (does : CallRelation S) (self : ScreenValue) (noted : Option ScreenValue)
+    (update : Update) (p q : Parsing S)
+    → ((prev : ScreenValue) → noted ≡ Some prev → IsSteady (shown prev) → shown p.screen ≡ shown prev)
+    → IsUpdate Scrolling self noted update → IsScreen p.screen → IsPlainParser p → TakesFine does update p q
+    → Heals self q
+heals_update does self (Some prev) (Diff text) p q shows is sound plain t =
+    heals_diff does self prev (string_bytes text) p q is sound plain (shows prev refl is.from_steady) t
+heals_update does self (Some prev) (Full rows cols text) p q shows is sound plain t =
+    heals_full does self rows cols (string_bytes text) p t.0 q is.1 sound plain t.1 t.2
+heals_update does self None (Full rows cols text) p q shows is sound plain t =
+    heals_full does self rows cols (string_bytes text) p t.0 q is sound plain t.1 t.2
+heals_update does self None (Diff text) p q shows is sound plain t = absurd is
+
+-- ---- one call
+
+record Holds {S : Type 0} (number : ℕ) (w : Watching S) : Type 0 where
+  pub sound : IsScreen w.viewer.screen
+  pub plain : IsPlainParser w.viewer
+  pub noted : (screen : ScreenValue) → note_of w.mirror.viewers number ≡ Some screen → w.seen ≡ Some screen
+  pub shows : IfSome w.seen (λ screen. IsSteady (shown screen) → shown w.viewer.screen ≡ shown screen)
+
+abbrev ShowsIfSteady : {S : Type 0} → Parsing S → Option ScreenValue → Type 0
+ShowsIfSteady {S} p o = IfSome o (λ screen. IsSteady (shown screen) → shown p.screen ≡ shown screen)
+
+holds_left : {S : Type 0} (number : ℕ) (old new : Watching S) →
+    NotedBefore number old.mirror new.mirror → IsLeft old new → Holds number old → Holds number new
+holds_left {S} number old new before l h = record {
+  sound = subst (λ (p : Parsing S). IsScreen p.screen) (sym l.viewer) h.sound;
+  plain = subst IsPlainParser (sym l.viewer) h.plain;
+  noted = λ screen e. l.seen ∙ h.noted screen (before screen e);
+  shows =
+      subst (λ (p : Parsing S). ShowsIfSteady p new.seen) (sym l.viewer)
+      (subst (λ (o : Option ScreenValue). ShowsIfSteady old.viewer o) (sym l.seen) h.shows);
+}
+
+holds_own : {S : Type 0} (does : CallRelation S) (kind : Kind) (number : ℕ) (update : Update) (old new : Watching S) →
+    GivesUpdate kind old.mirror number update new.mirror → SeesAny does kind update old new → Holds number old →
+    Holds number new
+holds_own {S} does kind number update old new t s h =
+    let self = old.mirror.parser.screen in
+    let noted = note_of old.mirror.viewers number in
+    let is : IsUpdate Scrolling self noted update =
+    subst (λ (k : Kind). IsUpdate k self noted update) s.scrolling t.text in
+    let p = heals_update does self noted update old.viewer new.viewer
+    (λ prev e. subst (λ (o : Option ScreenValue). ShowsIfSteady old.viewer o) (h.noted prev e) h.shows)
+    is h.sound h.plain s.takes in
+    record {
+      sound = p.sound;
+      plain = p.plain;
+      noted = λ screen e. s.seen ∙ (sym t.puts.note_here ∙ e);
+      shows = subst (λ (o : Option ScreenValue). ShowsIfSteady new.viewer o) (sym s.seen) p.shows;
+    }
+
+holds_taken : {S : Type 0} (does : CallRelation S) (kind : Kind) (number asked : ℕ) (update : Update)
+    (old new : Watching S) → GivesUpdate kind old.mirror asked update new.mirror →
+    IsTakenFine does number kind asked update old new → Holds number old → Holds number new
+holds_taken {S} does kind number asked update old new t taken h =
+    by_number number asked
+    (λ own. holds_own does kind number update old new
+    (subst (λ (n : ℕ). GivesUpdate kind old.mirror n update new.mirror) own t) (taken.own own) h)
+    (λ other. holds_left number old new
+    (λ screen e. sym (t.puts.other_notes number (λ same. other (sym same))) ∙ e) (taken.others other) h)
+
+holds_ask : {S : Type 0} (does : CallRelation S) (kind : Kind) (number asked : ℕ)
+    (answer : Result (Option Update) Error) (old new : Watching S) → Asks kind old.mirror asked answer new.mirror →
+    WatchesAny does number old (Ask kind asked answer) new → Holds number old → Holds number new
+holds_ask does kind number asked (Ok (Some update)) old new a f h =
+    holds_taken does kind number asked update old new a.answers f h
+holds_ask does kind number asked (Ok None) old new a f h =
+    holds_left number old new (before_equal number old.mirror new.mirror a.answers.1) f h
+holds_ask does kind number asked (Err error) old new a f h =
+    holds_left number old new (before_equal number old.mirror new.mirror a.refused.1) f h
+
+holds_call : {S : Type 0} (does : CallRelation S) (number : ℕ) (call : MirrorCall) (old new : Watching S) →
+    MirrorDoes old.mirror call new.mirror → WatchesAny does number old call new → Holds number old → Holds number new
+holds_call does number (Process bytes answer) old new d f h =
+    holds_left number old new (before_same number old.mirror new.mirror d.viewers) f h
+holds_call does number (SetSize rows cols answer) old new d f h =
+    holds_left number old new (before_resize number old.mirror new.mirror rows cols answer d) f h
+holds_call does number (Join answer) old new d f h =
+    holds_left number old new (before_join number old.mirror new.mirror answer d.1) f h
+holds_call does number (Leave viewer answer) old new d f h =
+    holds_left number old new (before_none number viewer false old.mirror new.mirror d.1.puts) f h
+holds_call does number (Ask kind viewer answer) old new d f h = holds_ask does kind number viewer answer old new d f h
+
+-- ---- all calls
+
+holds_all : {S : Type 0} (does : CallRelation S) (number : ℕ) (calls : List MirrorCall) (old new : Watching S) →
+    FoldsTo (GoesAny does number) old calls new → Holds number old → Holds number new
+holds_all {S} does number [] old new f h = subst (λ (w : Watching S). Holds number w) f h
+holds_all {S} does number (call ∷ calls) old new f h =
+    let mid : Watching S = f.0 in
+    holds_all does number calls mid new f.2 (holds_call does number call old mid f.1.0 f.1.1 h)
+
+fresh_holds : {S : Type 0} (number : ℕ) (w : Watching S) → IsFresh w.mirror → IsNew w → Holds number w
+fresh_holds {S} number w fresh new = record {
+  sound = new.sound;
+  plain = new.plain;
+  noted =
+      λ screen e. absurd
+      (none_some screen (ap
+      (λ (notes : List (ℕ × ScreenValue)). note_of (record (w.mirror.viewers) { notes = notes }) number)
+      (sym fresh.notes)
+      ∙ e));
+  shows = subst (λ (o : Option ScreenValue). ShowsIfSteady w.viewer o) (sym new.seen) tt;
+}
+
+pub viewer_heals : {S : Type 0} (does : CallRelation S) (number : ℕ) (calls : List MirrorCall) (old new : Watching S) →
+    IsFresh old.mirror → IsNew old → FoldsTo (GoesAny does number) old calls new → ShowsSteady new
+viewer_heals does number calls old new fresh is f =
+    let h = holds_all does number calls old new f (fresh_holds number old fresh is) in
+    record { plain = h.plain; shows = h.shows }

@@ -1,0 +1,360 @@
+-- Copies of screens that viewers share.
+use Rattle.std.proofs.Common.{◌≡◌, ◌⊎◌, ℕ, suc, ◌≤◌, true, false, List, [], ◌∷◌, inl, inr}
+use Rattle.std.proofs.Common.{Bool, Option, Some, None, refl, sym, ap, subst, ◌∙◌, arith}
+use Rattle.std.proofs.lemmas.Bool.{false≢true}
+use Rattle.std.specs.BTreeMap as map
+use Rattle.std.specs.BTreeMap.{BTreeMap, is_at}
+use Rattle.std.specs.BTreeSet as set
+use Rattle.std.specs.BTreeSet.{BTreeSet}
+use Rattle.std.specs.List.{list_any}
+use Rattle.std.specs.Map.{lookup}
+use Rattle.std.specs.Ordering.{nat_cmp}
+use Rattle.std.specs.Prelude.{cond, string_bytes}
+use Rattle.vt_screen.specs.Screen.{ScreenValue}
+use Rattle.vt_mirror.specs.Kept.{AreKept, AreOfOneVersion, AreShared, Copies, DiffFrom, IsCurrentNote, IsKept, IsRenewed}
+use Rattle.vt_mirror.specs.Kept.{diff_of, from_of, noted_at, screen_of, screens_of}
+use Rattle.vt_mirror.specs.Viewers.{AreViewers, Puts, ViewersValue, is_viewer, note_of}
+use Rattle.vt_mirror.specs.declared.copies.Note.{Note}
+use Rattle.vt_mirror.specs.declared.texts.DiffCache.{DiffCache}
+use Rattle.vt_mirror.specs.declared.texts.KeptDiff.{KeptDiff}
+use Rattle.vt_mirror.proofs.Bookkeeping.{at_other, by_number, put_viewers}
+
+-- ---- the screens that are noted, and their copies
+
+lookup_here : (b : Bool) (e : ℕ × Note) (there : Option ScreenValue) (noted : Option Note) → there ≡ screen_of noted →
+    cond b (Some e.1.screen) there ≡ screen_of (cond b (Some e.1) noted)
+lookup_here true e there noted same = refl
+lookup_here false e there noted same = same
+
+pub lookup_screens : (test : ℕ → Bool) (notes : List (ℕ × Note)) →
+    lookup test (screens_of notes) ≡ screen_of (lookup test notes)
+lookup_screens test [] = refl
+lookup_screens test (e ∷ es) =
+    lookup_here (test e.0) e (lookup test (screens_of es)) (lookup test es) (lookup_screens test es)
+
+pub note_is : (viewers : ViewersValue) (notes : List (ℕ × Note)) (viewer : ℕ) →
+    viewers.notes ≡ screens_of notes → note_of viewers viewer ≡ screen_of (noted_at notes viewer)
+note_is viewers notes viewer e =
+    ap (λ (entries : List (ℕ × ScreenValue)). lookup (is_at (nat_cmp viewer)) entries) e
+    ∙ lookup_screens (is_at (nat_cmp viewer)) notes
+
+-- ---- which copies are kept
+
+no_version : (note other : Note) → AreOfOneVersion note other → note.version ≡ 0 → ⊥
+no_version note other same none = omega (arith, same.numbered, none)
+
+no_version_too : (note other : Note) → AreOfOneVersion note other → other.version ≡ 0 → ⊥
+no_version_too note other same none = omega (arith, same.numbered, same.equal, none)
+
+-- none but those that were kept before, and some without a version
+pub no_more_kept : (old new : Copies) (version : ℕ)
+    → ((note : Note) → IsKept new note → IsKept old note ⊎ (note.version ≡ 0))
+    → AreShared old version → AreShared new version
+no_more_kept old new version was s = record {
+  below = λ note is. below_one note (was note is);
+  agree = λ one other is is_too same. agree_two one other (was one is) (was other is_too) same;
+} where
+  below_one : (note : Note) → IsKept old note ⊎ (note.version ≡ 0) → note.version ≤ version
+  below_one note (inl is) = s.below note is
+  below_one note (inr none) = omega (arith, none)
+
+  agree_two : (one other : Note) → IsKept old one ⊎ (one.version ≡ 0) → IsKept old other ⊎ (other.version ≡ 0) →
+      AreOfOneVersion one other → one.screen ≡ other.screen
+  agree_two one other (inl is) (inl is_too) same = s.agree one other is is_too same
+  agree_two one other (inr none) is_too same = absurd (no_version one other same none)
+  agree_two one other (inl is) (inr none) same = absurd (no_version_too one other same none)
+
+-- none but those that were kept before
+pub fewer_kept : (old new : Copies) (version : ℕ) → ((note : Note) → IsKept new note → IsKept old note) →
+    AreShared old version → AreShared new version
+fewer_kept old new version was s = no_more_kept old new version (λ note is. inl (was note is)) s
+
+-- and one with the next version
+pub one_more_kept : (old new : Copies) (version after : ℕ) (added : Note)
+    → added.version ≡ after → after ≡ suc version
+    → ((note : Note) → IsKept new note → IsKept old note ⊎ (note ≡ added))
+    → AreShared old version → AreShared new after
+one_more_kept old new version after added is_next next was s = record {
+  below = λ note is. below_one note (was note is);
+  agree = λ one other is is_too same. agree_two one other (was one is) (was other is_too) same;
+} where
+  below_one : (note : Note) → IsKept old note ⊎ (note ≡ added) → note.version ≤ after
+  below_one note (inl is) = omega (arith, next, s.below note is)
+  below_one note (inr same) = omega (arith, is_next, ap (λ (n : Note). n.version) same)
+
+  apart : (note other : Note) → IsKept old note → other ≡ added → note.version ≡ other.version → ⊥
+  apart note other is same e =
+      omega (arith, next, is_next, s.below note is, e, ap (λ (n : Note). n.version) same)
+
+  agree_two : (one other : Note) → IsKept old one ⊎ (one ≡ added) → IsKept old other ⊎ (other ≡ added) →
+      AreOfOneVersion one other → one.screen ≡ other.screen
+  agree_two one other (inl is) (inl is_too) same = s.agree one other is is_too same
+  agree_two one other (inl is) (inr new_too) same = absurd (apart one other is new_too same.equal)
+  agree_two one other (inr is_same) (inl is_too) same = absurd (apart other one is_too is_same (sym same.equal))
+  agree_two one other (inr is_same) (inr new_too) same = ap (λ (n : Note). n.screen) (is_same ∙ sym new_too)
+
+-- ---- changes of the map
+
+same_some : {A : Type 0} (x y : A) → Some x ≡ Some y → x ≡ y
+same_some x y e = cc
+
+none_some : {A : Type 0} (x : A) → None ≡ Some x → ⊥
+none_some x e = cc
+
+-- what is noted after one viewer's note was put, or taken out
+pub noted_after : (viewer : ℕ) (had has : BTreeMap ℕ Note) (put : Option Note) (other : ℕ) (note : Note)
+    → map.UpdatesBy nat_cmp (nat_cmp viewer) had has put → noted_at has.entries other ≡ Some note
+    → (noted_at had.entries other ≡ Some note) ⊎ (put ≡ Some note)
+noted_after viewer had has put other note u e =
+    by_number viewer other
+    (λ here. inr (sym u.1 ∙ (ap (noted_at has.entries) (sym here) ∙ e)))
+    (λ apart. inl (sym (u.2 other (at_other viewer other apart)) ∙ e))
+
+-- a copy of the current screen was put
+pub kept_put : (viewer : ℕ) (screen : ScreenValue) (had has : BTreeMap ℕ Note) (old : Copies) (put note : Note)
+    → old.notes ≡ had.entries → map.UpdatesBy nat_cmp (nat_cmp viewer) had has (Some put)
+    → IsCurrentNote screen old.current put
+    → IsKept (record old { notes = has.entries }) note → IsKept old note ⊎ (note.version ≡ 0)
+kept_put viewer screen had has old put note e u is (inl noted) =
+    by_side (noted_after viewer had has (Some put) noted.0 note u noted.1) where
+      by_copy : Some put ≡ Some note → (old.current ≡ Some put) ⊎ (put.version ≡ 0) →
+          IsKept old note ⊎ (note.version ≡ 0)
+      by_copy here (inl same) = inl (inr (inl (same ∙ here)))
+      by_copy here (inr none) = inr (ap (λ (n : Note). n.version) (sym (same_some put note here)) ∙ none)
+
+      by_side : (noted_at had.entries noted.0 ≡ Some note) ⊎ (Some put ≡ Some note) →
+          IsKept old note ⊎ (note.version ≡ 0)
+      by_side (inl before) =
+          inl (inl (noted.0, ap (λ (es : List (ℕ × Note)). noted_at es noted.0) e ∙ before))
+      by_side (inr here) = by_copy here is.shared
+kept_put viewer screen had has old put note e u is (inr other) = inl (inr other)
+
+-- one was taken out
+pub kept_left : (viewer : ℕ) (had has : BTreeMap ℕ Note) (old : Copies) (note : Note)
+    → old.notes ≡ had.entries → map.UpdatesBy nat_cmp (nat_cmp viewer) had has None
+    → IsKept (record old { notes = has.entries }) note → IsKept old note
+kept_left viewer had has old note e u (inl noted) =
+    by_side (noted_after viewer had has None noted.0 note u noted.1) where
+      by_side : (noted_at had.entries noted.0 ≡ Some note) ⊎ (None ≡ Some note) → IsKept old note
+      by_side (inl before) = inl (noted.0, ap (λ (es : List (ℕ × Note)). noted_at es noted.0) e ∙ before)
+      by_side (inr never) = absurd (none_some note never)
+kept_left viewer had has old note e u (inr other) = inr other
+
+-- the copy of the current screen was made, if there was none
+pub shared_renewed : (screen : ScreenValue) (old : Copies) (version after : ℕ) (renewed : Option Note)
+    → IsRenewed screen version old.current after renewed
+    → AreShared old version → AreShared (record old { current = renewed }) after
+shared_renewed screen old version after renewed (inl same) s =
+    subst (λ (n : ℕ). AreShared (record old { current = renewed }) n) (sym same.1)
+    (subst (λ (o : Option Note). AreShared (record old { current = o }) version) (sym same.0) s)
+shared_renewed screen old version after renewed (inr new) s =
+    one_more_kept old (record old { current = renewed }) version after new.0 new.2 new.3
+    (λ note is. old_or_new note is) s where
+      old_or_new : (note : Note) → IsKept (record old { current = renewed }) note → IsKept old note ⊎ (note ≡ new.0)
+      old_or_new note (inl noted) = inl (inl noted)
+      old_or_new note (inr (inl is)) = inr (same_some note new.0 (sym is ∙ new.1))
+      old_or_new note (inr (inr diff)) = inl (inr (inr diff))
+
+-- the screen changed
+pub shared_changed : (old : Copies) (diff scrolling : Option Note) (version : ℕ) → diff ≡ None → scrolling ≡ None →
+    AreShared old version →
+    AreShared (record { notes = old.notes; current = None; diff = diff; scrolling = scrolling }) version
+shared_changed old diff scrolling version no_diff no_scrolling s =
+    fewer_kept old (record { notes = old.notes; current = None; diff = diff; scrolling = scrolling }) version was s where
+      was : (note : Note) → IsKept (record { notes = old.notes; current = None; diff = diff; scrolling = scrolling }) note
+          → IsKept old note
+      was note (inl noted) = inl noted
+      was note (inr (inl never)) = absurd (none_some note never)
+      was note (inr (inr (inl is))) = absurd (none_some note (sym no_diff ∙ is))
+      was note (inr (inr (inr is))) = absurd (none_some note (sym no_scrolling ∙ is))
+
+-- nothing is noted
+pub shared_cleared : (old : Copies) (notes : List (ℕ × Note)) (version : ℕ) → notes ≡ [] →
+    AreShared old version → AreShared (record old { notes = notes }) version
+shared_cleared old notes version empty s =
+    fewer_kept old (record old { notes = notes }) version was s where
+      was : (note : Note) → IsKept (record old { notes = notes }) note → IsKept old note
+      was note (inl noted) =
+          absurd (none_some note (ap (λ (entries : List (ℕ × Note)). noted_at entries noted.0) (sym empty) ∙ noted.1))
+      was note (inr other) = inr other
+
+-- nothing is kept
+shared_none : (notes : List (ℕ × Note)) → notes ≡ [] →
+    AreShared (record { notes = notes; current = None; diff = None; scrolling = None }) 0
+shared_none notes empty = record {
+  below = λ note is. absurd (never note is);
+  agree = λ one other is is_too same. absurd (never one is);
+} where
+  never : (note : Note) → IsKept (record { notes = notes; current = None; diff = None; scrolling = None }) note → ⊥
+  never note (inl noted) =
+      none_some note (ap (λ (entries : List (ℕ × Note)). noted_at entries noted.0) (sym empty) ∙ noted.1)
+  never note (inr (inl none)) = none_some note none
+  never note (inr (inr (inl none))) = none_some note none
+  never note (inr (inr (inr none))) = none_some note none
+
+pub fresh_kept : (numbers : List ℕ) (notes : List (ℕ × Note)) (diff scrolling : Option Note) →
+    numbers ≡ [] → notes ≡ [] → diff ≡ None → scrolling ≡ None →
+    AreKept (record { last = None; numbers = numbers; notes = screens_of notes })
+    (record { notes = notes; current = None; diff = diff; scrolling = scrolling }) 0
+fresh_kept numbers notes diff scrolling e f no_diff no_scrolling = record {
+  viewers = record {
+    numbers =
+        λ viewer is. absurd
+        (false≢true (ap (λ (ns : List ℕ). list_any (is_at (nat_cmp viewer)) ns) (sym e) ∙ is));
+    notes =
+        λ viewer screen is. absurd (none_some screen
+        (ap (λ (es : List (ℕ × Note)). lookup (is_at (nat_cmp viewer)) (screens_of es)) (sym f) ∙ is));
+  };
+  shared =
+      subst (λ (o : Option Note). AreShared (record { notes = notes; current = None; diff = o; scrolling = scrolling }) 0)
+      (sym no_diff)
+      (subst (λ (o : Option Note). AreShared (record { notes = notes; current = None; diff = None; scrolling = o }) 0)
+      (sym no_scrolling) (shared_none notes f));
+}
+
+-- a difference from the screen noted for a viewer was kept, or nothing changed
+pub shared_diff : (old : Copies) (version viewer : ℕ) (note : Note) (from : Option Note)
+    → noted_at old.notes viewer ≡ Some note → (from ≡ old.diff) ⊎ (from ≡ Some note)
+    → AreShared old version → AreShared (record old { diff = from }) version
+shared_diff old version viewer note from noted kept s =
+    fewer_kept old (record old { diff = from }) version (λ n is. was n is kept) s where
+      was : (n : Note) → IsKept (record old { diff = from }) n → (from ≡ old.diff) ⊎ (from ≡ Some note) → IsKept old n
+      was n (inl it) kept = inl it
+      was n (inr (inl is)) kept = inr (inl is)
+      was n (inr (inr (inl is))) (inl same) = inr (inr (inl (sym same ∙ is)))
+      was n (inr (inr (inl is))) (inr new) = inl (viewer, noted ∙ (sym new ∙ is))
+      was n (inr (inr (inr is))) kept = inr (inr (inr is))
+
+pub shared_scrolling : (old : Copies) (version viewer : ℕ) (note : Note) (from : Option Note)
+    → noted_at old.notes viewer ≡ Some note → (from ≡ old.scrolling) ⊎ (from ≡ Some note)
+    → AreShared old version → AreShared (record old { scrolling = from }) version
+shared_scrolling old version viewer note from noted kept s =
+    fewer_kept old (record old { scrolling = from }) version (λ n is. was n is kept) s where
+      was : (n : Note) → IsKept (record old { scrolling = from }) n → (from ≡ old.scrolling) ⊎ (from ≡ Some note) →
+          IsKept old n
+      was n (inl it) kept = inl it
+      was n (inr (inl is)) kept = inr (inl is)
+      was n (inr (inr (inl is))) kept = inr (inr (inl is))
+      was n (inr (inr (inr is))) (inl same) = inr (inr (inr (sym same ∙ is)))
+      was n (inr (inr (inr is))) (inr new) = inl (viewer, noted ∙ (sym new ∙ is))
+
+-- ---- and what a mirror sees of it
+
+pub note_put : (old : ViewersValue) (viewer : ℕ) (note : Note) (had has : BTreeMap ℕ Note)
+    → old.notes ≡ screens_of had.entries → map.UpdatesBy nat_cmp (nat_cmp viewer) had has (Some note)
+    → is_viewer old viewer ≡ true
+    → Puts old viewer true (Some note.screen) (record old { notes = screens_of has.entries })
+note_put old viewer note had has e u is =
+    let new : ViewersValue = record old { notes = screens_of has.entries } in
+    record {
+      here = is;
+      note_here = note_is new has.entries viewer refl ∙ ap screen_of u.1;
+      others = λ q h. refl;
+      other_notes =
+          λ q h. note_is new has.entries q refl
+          ∙ (ap screen_of (u.2 q (at_other viewer q h)) ∙ sym (note_is old had.entries q e));
+    }
+
+pub note_put_viewers : (old : ViewersValue) (viewer : ℕ) (note : Note) (had has : BTreeMap ℕ Note)
+    → old.notes ≡ screens_of had.entries → map.UpdatesBy nat_cmp (nat_cmp viewer) had has (Some note)
+    → is_viewer old viewer ≡ true → AreViewers old → AreViewers (record old { notes = screens_of has.entries })
+note_put_viewers old viewer note had has e u is a =
+    put_viewers old (record old { notes = screens_of has.entries }) viewer true (Some note.screen)
+    (note_put old viewer note had has e u is) a (λ _. a.numbers viewer is) (omega arith)
+    (λ h. absurd (false≢true (sym h)))
+
+pub note_left : (old : ViewersValue) (viewer : ℕ) (was is : BTreeSet ℕ) (had has : BTreeMap ℕ Note)
+    → old.numbers ≡ was.keys → old.notes ≡ screens_of had.entries
+    → set.UpdatesBy nat_cmp (nat_cmp viewer) was is false → map.UpdatesBy nat_cmp (nat_cmp viewer) had has None
+    → Puts old viewer false None (record old { numbers = is.keys; notes = screens_of has.entries })
+note_left old viewer was is had has e f u w =
+    let new : ViewersValue = record old { numbers = is.keys; notes = screens_of has.entries } in
+    record {
+      here = u.1;
+      note_here = note_is new has.entries viewer refl ∙ ap screen_of w.1;
+      others =
+          λ q h. u.2 q (at_other viewer q h) ∙ ap (λ (keys : List ℕ). is_viewer (record old { numbers = keys }) q) (sym e);
+      other_notes =
+          λ q h. note_is new has.entries q refl
+          ∙ (ap screen_of (w.2 q (at_other viewer q h)) ∙ sym (note_is old had.entries q f));
+    }
+
+pub note_left_viewers : (old : ViewersValue) (viewer : ℕ) (was is : BTreeSet ℕ) (had has : BTreeMap ℕ Note)
+    → old.numbers ≡ was.keys → old.notes ≡ screens_of had.entries
+    → set.UpdatesBy nat_cmp (nat_cmp viewer) was is false → map.UpdatesBy nat_cmp (nat_cmp viewer) had has None
+    → AreViewers old → AreViewers (record old { numbers = is.keys; notes = screens_of has.entries })
+note_left_viewers old viewer was is had has e f u w a =
+    put_viewers old (record old { numbers = is.keys; notes = screens_of has.entries }) viewer false None
+    (note_left old viewer was is had has e f u w)
+    a (λ h. absurd (false≢true h)) (omega arith) (λ _. refl)
+
+-- nothing is noted any more
+pub cleared_viewers : (viewers : ViewersValue) (notes : List (ℕ × Note)) → notes ≡ [] → AreViewers viewers →
+    AreViewers (record viewers { notes = screens_of notes })
+cleared_viewers viewers notes empty a = record {
+  numbers = λ viewer is. a.numbers viewer is;
+  notes =
+      λ viewer screen is. absurd (none_some screen
+      (ap (λ (es : List (ℕ × Note)). lookup (is_at (nat_cmp viewer)) (screens_of es)) (sym empty) ∙ is));
+}
+
+-- ---- what is found for a viewer
+
+pub found_note : (viewers : ViewersValue) (notes : List (ℕ × Note)) (viewer : ℕ) (found : Option Note) →
+    viewers.notes ≡ screens_of notes → found ≡ noted_at notes viewer → screen_of found ≡ note_of viewers viewer
+found_note viewers notes viewer found e is = ap screen_of is ∙ sym (note_is viewers notes viewer e)
+
+-- its copy and one that is kept have one version
+found_same : (viewers : ViewersValue) (copies : Copies) (version viewer : ℕ) (note copy : Note)
+    → viewers.notes ≡ screens_of copies.notes → AreShared copies version → Some note ≡ noted_at copies.notes viewer
+    → IsKept copies copy → AreOfOneVersion note copy → note_of viewers viewer ≡ Some copy.screen
+found_same viewers copies version viewer note copy e s noted is same =
+    sym (found_note viewers copies.notes viewer (Some note) e noted)
+    ∙ ap (λ (screen : ScreenValue). Some screen) (s.agree note copy (inl (viewer, sym noted)) is same)
+
+-- that of the current screen
+pub found_current : (viewers : ViewersValue) (copies : Copies) (version : ℕ) (current : Option ScreenValue)
+    (viewer : ℕ) (note copy : Note)
+    → viewers.notes ≡ screens_of copies.notes → current ≡ screen_of copies.current → AreShared copies version
+    → Some note ≡ noted_at copies.notes viewer → copies.current ≡ Some copy → AreOfOneVersion note copy
+    → (screen : ScreenValue) × (note_of viewers viewer ≡ Some screen) × (current ≡ Some screen)
+found_current viewers copies version current viewer note copy e f s noted is same = (
+  copy.screen,
+  found_same viewers copies version viewer note copy e s noted (inr (inl is)) same,
+  f ∙ ap screen_of is,
+)
+
+-- that of a kept difference
+pub found_diff : (viewers : ViewersValue) (copies : Copies) (version : ℕ) (last : Option KeptDiff)
+    (seen : Option DiffFrom) (viewer : ℕ) (note : Note) (diff : KeptDiff) (text : List ℕ)
+    → viewers.notes ≡ screens_of copies.notes → seen ≡ diff_of last → AreShared copies version
+    → Some note ≡ noted_at copies.notes viewer → last ≡ Some diff → IsKept copies diff.from
+    → AreOfOneVersion note diff.from → text ≡ string_bytes diff.text
+    → (screen : ScreenValue) × (note_of viewers viewer ≡ Some screen) × (seen ≡ Some (screen, text))
+found_diff viewers copies version last seen viewer note diff text e f s noted is kept same bytes = (
+  diff.from.screen,
+  found_same viewers copies version viewer note diff.from e s noted kept same,
+  f ∙ (ap diff_of is ∙ ap (λ (t : List ℕ). Some (diff.from.screen, t)) (sym bytes)),
+)
+
+-- what a cache keeps after it was given a difference
+pub from_kept : (old new : DiffCache) (note : Note) (text : List ℕ)
+    → (new ≡ old) ⊎ ((diff : KeptDiff) × (new.last ≡ Some diff) × (diff.from ≡ note) × (string_bytes diff.text ≡ text))
+    → (from_of new.last ≡ from_of old.last) ⊎ (from_of new.last ≡ Some note)
+from_kept old new note text (inl same) = inl (ap (λ (c : DiffCache). from_of c.last) same)
+from_kept old new note text (inr kept) = inr (ap from_of kept.1 ∙ ap (λ (n : Note). Some n) kept.2)
+
+pub diff_kept : (viewers : ViewersValue) (notes : List (ℕ × Note)) (viewer : ℕ) (old new : DiffCache)
+    (was is : Option DiffFrom) (note : Note) (text : List ℕ)
+    → viewers.notes ≡ screens_of notes → Some note ≡ noted_at notes viewer → was ≡ diff_of old.last → is ≡ diff_of new.last
+    → (new ≡ old) ⊎ ((diff : KeptDiff) × (new.last ≡ Some diff) × (diff.from ≡ note) × (string_bytes diff.text ≡ text))
+    → (is ≡ was) ⊎ ((screen : ScreenValue) × (note_of viewers viewer ≡ Some screen) × (is ≡ Some (screen, text)))
+diff_kept viewers notes viewer old new was is note text e noted f g (inl same) = inl (g ∙ (ap (λ (c : DiffCache). diff_of c.last) same ∙ sym f))
+diff_kept viewers notes viewer old new was is note text e noted f g (inr kept) =
+    inr (
+      note.screen,
+      sym (found_note viewers notes viewer (Some note) e noted),
+      g ∙ (ap diff_of kept.1
+          ∙ (ap (λ (n : Note). Some (n.screen, string_bytes kept.0.text)) kept.2
+          ∙ ap (λ (t : List ℕ). Some (note.screen, t)) kept.3)),
+    )

@@ -1,0 +1,176 @@
+-- What a mirror knows of its copies and its texts, call by call.
+use Rattle.std.proofs.Common.{◌≡◌, ◌⊎◌, ℕ, List, [], Option, Some, None, inl, inr, refl, sym, ap, subst, arith}
+use Rattle.std.specs.Prelude.{IfSome}
+use Rattle.vt_grid.specs.Page.{SameSize}
+use Rattle.vt_redraw.specs.Steady.{IsSteady}
+use Rattle.vt_screen.specs.Again.{KeepsPlain}
+use Rattle.vt_screen.specs.MadeOf.{IsMadeOf, drawing_controls, drawing_finals}
+use Rattle.vt_screen.specs.Screen.{IsColored, IsScreen, ScreenValue}
+use Rattle.vt_screen.specs.Shown.{shown, shown_change}
+use Rattle.vt_screen.proofs.Became.{difference_redraws}
+use Rattle.vt_screen.proofs.EqualTexts.{difference_none}
+use Rattle.vt_screen.proofs.MadeOf.{difference_made, scrolling_made}
+use Rattle.vt_screen.proofs.PlainAgain.{difference_keeps}
+use Rattle.vt_screen.proofs.TouchedTexts.{difference_touches}
+use Rattle.vt_screen.proofs.Viewing.{same_shown}
+use Rattle.vt100.specs.Parser.{Parsing}
+use Rattle.vt_mirror.specs.Calls.{IsDrawn, Scrolls}
+use Rattle.vt_mirror.specs.Kept.{DiffFrom, KeptValue}
+use Rattle.vt_mirror.specs.Mirror.{IsMirror}
+use Rattle.vt_mirror.specs.Sharing.{IsRedraw, IsSharing}
+use Rattle.vt_mirror.specs.Viewers.{note_of}
+use Rattle.vt_mirror.proofs.Noted.{noted_none, noted_parser, own_size}
+
+-- ---- a screen differs from itself by nothing
+
+pub unchanged : (self : ScreenValue) → IsScreen self → IsColored self → IsDrawn self self []
+unchanged self is colored =
+    let none : [] ≡ shown_change self self = sym (difference_none (shown self) (shown self) refl) in
+    let size = same_shown self self (own_size self.page) in
+    record {
+      diff = record {
+        size = own_size self.page;
+        redraws = difference_redraws self self [] none is colored is colored size;
+        none = λ _. refl;
+        empty = λ _ _. refl;
+        again = subst KeepsPlain (sym none) (difference_keeps self self is colored colored);
+      };
+      is = none;
+      controls = subst (IsMadeOf drawing_finals drawing_controls) (sym none) (difference_made self self is colored colored);
+      touches = λ steady. difference_touches self self [] none is colored steady is colored size;
+    }
+
+pub unchanged_scrolling : (self : ScreenValue) → IsScreen self → IsColored self → IsSteady (shown self) →
+    Scrolls self self []
+unchanged_scrolling self is colored steady =
+    let drawn = unchanged self is colored in
+    record {
+      diff = drawn.diff;
+      from_steady = steady;
+      is = inl drawn.is;
+      controls = scrolling_made self self [] is colored colored (inl drawn.is);
+      shorter = omega arith;
+    }
+
+-- ---- what is kept
+
+abbrev pub CopiesScreen : Parsing (Unit {0}) → Option ScreenValue → Type 0
+CopiesScreen parser o = IfSome o (λ screen. screen ≡ parser.screen)
+
+abbrev HasDrawn : Parsing (Unit {0}) → Option DiffFrom → Type 0
+HasDrawn parser o = IfSome o (λ diff. IsDrawn parser.screen diff.0 diff.1)
+
+abbrev HasScrolling : Parsing (Unit {0}) → Option DiffFrom → Type 0
+HasScrolling parser o = IfSome o (λ diff. Scrolls parser.screen diff.0 diff.1)
+
+abbrev HasRedraw : Parsing (Unit {0}) → Option (List ℕ) → Type 0
+HasRedraw parser o = IfSome o (IsRedraw parser.screen)
+
+-- a redraw was kept, or nothing changed
+pub sharing_redrawn : (parser : Parsing (Unit {0})) (old new : KeptValue) (text : List ℕ)
+    → (new ≡ old) ⊎ (new ≡ record old { redraw = Some text }) → IsRedraw parser.screen text
+    → IsSharing parser old → IsSharing parser new
+sharing_redrawn parser old new text (inl same) is s = subst (λ (k : KeptValue). IsSharing parser k) (sym same) s
+sharing_redrawn parser old new text (inr kept) is s =
+    subst (λ (k : KeptValue). IsSharing parser k) (sym kept)
+    (record { sized = s.sized; current = s.current; diff = s.diff; scrolling = s.scrolling; redraw = is })
+
+-- the screen changed, but not its size
+pub sharing_changed : (parser after : Parsing (Unit {0})) (old new : KeptValue)
+    → new ≡ record old { current = None; diff = None; scrolling = None; redraw = None }
+    → SameSize after.screen.page parser.screen.page → IsSharing parser old → IsSharing after new
+sharing_changed parser after old new e size s =
+    subst (λ (k : KeptValue). IsSharing after k) (sym e) (record {
+      sized =
+          noted_parser (record { parser = parser; viewers = old.viewers })
+          (record { parser = after; viewers = old.viewers }) refl size s.sized;
+      current = tt;
+      diff = tt;
+      scrolling = tt;
+      redraw = tt;
+    })
+
+-- its size changed, too
+pub sharing_resized : (after : Parsing (Unit {0})) (old new : KeptValue)
+    → new ≡ record {
+      viewers = record (old.viewers) { notes = [] };
+      current = None;
+      diff = None;
+      scrolling = None;
+      redraw = None;
+    }
+    → IsSharing after new
+sharing_resized after old new e =
+    subst (λ (k : KeptValue). IsSharing after k) (sym e) (record {
+      sized = noted_none (record { parser = after; viewers = record (old.viewers) { notes = [] } }) refl;
+      current = tt;
+      diff = tt;
+      scrolling = tt;
+      redraw = tt;
+    })
+
+-- the parser is the one that it was
+pub sharing_parser : (parser after : Parsing (Unit {0})) (kept : KeptValue) → after ≡ parser →
+    IsSharing parser kept → IsSharing after kept
+sharing_parser parser after kept same s = subst (λ (p : Parsing (Unit {0})). IsSharing p kept) (sym same) s
+
+-- viewers came and went
+pub sharing_viewers : (parser : Parsing (Unit {0})) (old new : KeptValue) → new ≡ record old { viewers = new.viewers }
+    → IsMirror (record { parser = parser; viewers = new.viewers }) → IsSharing parser old → IsSharing parser new
+sharing_viewers parser old new e sized s = record {
+  sized = sized;
+  current = subst (CopiesScreen parser) (sym (ap (λ (k : KeptValue). k.current) e)) s.current;
+  diff = subst (HasDrawn parser) (sym (ap (λ (k : KeptValue). k.diff) e)) s.diff;
+  scrolling = subst (HasScrolling parser) (sym (ap (λ (k : KeptValue). k.scrolling) e)) s.scrolling;
+  redraw = subst (HasRedraw parser) (sym (ap (λ (k : KeptValue). k.redraw) e)) s.redraw;
+}
+
+-- the current screen was noted
+pub sharing_noted : (parser : Parsing (Unit {0})) (old new : KeptValue)
+    → IsMirror (record { parser = parser; viewers = new.viewers }) → CopiesScreen parser new.current
+    → new.diff ≡ old.diff → new.scrolling ≡ old.scrolling → new.redraw ≡ old.redraw
+    → IsSharing parser old → IsSharing parser new
+sharing_noted parser old new sized current e f g s = record {
+  sized = sized;
+  current = current;
+  diff = subst (HasDrawn parser) (sym e) s.diff;
+  scrolling = subst (HasScrolling parser) (sym f) s.scrolling;
+  redraw = subst (HasRedraw parser) (sym g) s.redraw;
+}
+
+-- a difference was kept, or the one that was before
+abbrev Kept : KeptValue → (viewer : ℕ) → (was is : Option DiffFrom) → List ℕ → Type 0
+Kept old viewer was is text =
+    (is ≡ was) ⊎ ((screen : ScreenValue) × (note_of old.viewers viewer ≡ Some screen) × (is ≡ Some (screen, text)))
+
+pub sharing_drawn : (parser : Parsing (Unit {0})) (old new : KeptValue) (viewer : ℕ) (text : List ℕ)
+    → new ≡ record old { diff = new.diff } → Kept old viewer old.diff new.diff text
+    → ((screen : ScreenValue) → note_of old.viewers viewer ≡ Some screen → IsDrawn parser.screen screen text)
+    → IsSharing parser old → IsSharing parser new
+sharing_drawn parser old new viewer text e kept drawn s =
+    subst (λ (k : KeptValue). IsSharing parser k) (sym e) (record {
+      sized = s.sized;
+      current = s.current;
+      diff = by_side kept;
+      scrolling = s.scrolling;
+      redraw = s.redraw;
+    }) where
+      by_side : Kept old viewer old.diff new.diff text → HasDrawn parser new.diff
+      by_side (inl same) = subst (HasDrawn parser) (sym same) s.diff
+      by_side (inr it) = subst (HasDrawn parser) (sym it.2) (drawn it.0 it.1)
+
+pub sharing_scrolled : (parser : Parsing (Unit {0})) (old new : KeptValue) (viewer : ℕ) (text : List ℕ)
+    → new ≡ record old { scrolling = new.scrolling } → Kept old viewer old.scrolling new.scrolling text
+    → ((screen : ScreenValue) → note_of old.viewers viewer ≡ Some screen → Scrolls parser.screen screen text)
+    → IsSharing parser old → IsSharing parser new
+sharing_scrolled parser old new viewer text e kept scrolled s =
+    subst (λ (k : KeptValue). IsSharing parser k) (sym e) (record {
+      sized = s.sized;
+      current = s.current;
+      diff = s.diff;
+      scrolling = by_side kept;
+      redraw = s.redraw;
+    }) where
+      by_side : Kept old viewer old.scrolling new.scrolling text → HasScrolling parser new.scrolling
+      by_side (inl same) = subst (HasScrolling parser) (sym same) s.scrolling
+      by_side (inr it) = subst (HasScrolling parser) (sym it.2) (scrolled it.0 it.1)

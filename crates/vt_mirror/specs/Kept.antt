@@ -1,0 +1,91 @@
+-- What a mirror keeps for its viewers: numbered copies of screens, which viewers share, and texts.
+use Rattle.std.specs.Prelude.{◌≡◌, ◌⊎◌, ℕ, suc, ◌<◌, ◌≤◌, List, map, string_bytes, Option, Some, None}
+use Rattle.std.specs.BTreeMap.{is_at}
+use Rattle.std.specs.Map.{lookup}
+use Rattle.std.specs.Ordering.{nat_cmp}
+use Rattle.vt_screen.specs.Screen.{ScreenValue}
+use Rattle.vt_mirror.specs.Viewers.{AreViewers, ViewersValue}
+use Rattle.vt_mirror.specs.declared.copies.Note.{Note}
+use Rattle.vt_mirror.specs.declared.texts.DiffCache.{DiffCache}
+use Rattle.vt_mirror.specs.declared.texts.KeptDiff.{KeptDiff}
+
+-- ---- what a mirror sees of it
+
+-- a screen, and the text of a difference from it
+abbrev pub DiffFrom : Type 0
+DiffFrom = ScreenValue × List ℕ
+
+pub record KeptValue : Type 0 where
+  pub viewers : ViewersValue
+  -- a copy of the current screen, if there is one
+  pub current : Option ScreenValue
+  -- the differences kept for `Mirror::update` and `Mirror::update_scrolling`
+  pub diff : Option DiffFrom
+  pub scrolling : Option DiffFrom
+  -- the text of the current screen's redraw
+  pub redraw : Option (List ℕ)
+
+-- the noted screens, without the versions of their copies
+abbrev pub screens_of : List (ℕ × Note) → List (ℕ × ScreenValue)
+screens_of notes = map (λ (e : ℕ × Note). (e.0, e.1.screen)) notes
+
+abbrev pub screen_of : Option Note → Option ScreenValue
+screen_of None = None
+screen_of (Some note) = Some note.screen
+
+abbrev pub diff_of : Option KeptDiff → Option DiffFrom
+diff_of None = None
+diff_of (Some diff) = Some (diff.from.screen, string_bytes diff.text)
+
+abbrev pub from_of : Option KeptDiff → Option Note
+from_of None = None
+from_of (Some diff) = Some diff.from
+
+-- ---- copies of one version are of one screen
+
+abbrev pub noted_at : List (ℕ × Note) → ℕ → Option Note
+noted_at notes viewer = lookup (is_at (nat_cmp viewer)) notes
+
+-- all copies that are kept: by viewer, of the current screen, and of the screens that the kept differences start from
+pub record Copies : Type 0 where
+  pub notes : List (ℕ × Note)
+  pub current : Option Note
+  pub diff : Option Note
+  pub scrolling : Option Note
+
+abbrev pub copies_of : List (ℕ × Note) → Option Note → (diff scrolling : DiffCache) → Copies
+copies_of notes current diff scrolling =
+    record { notes = notes; current = current; diff = from_of diff.last; scrolling = from_of scrolling.last }
+
+abbrev pub IsKept : Copies → Note → Type 0
+IsKept copies note =
+    ((viewer : ℕ) × (noted_at copies.notes viewer ≡ Some note))
+    ⊎ ((copies.current ≡ Some note) ⊎ ((copies.diff ≡ Some note) ⊎ (copies.scrolling ≡ Some note)))
+
+-- both have the same version, which is not 0: 0 stands for no version
+pub record AreOfOneVersion (one other : Note) : Type 0 where
+  pub numbered : 0 < one.version
+  pub equal : one.version ≡ other.version
+
+pub record AreShared (copies : Copies) (version : ℕ) : Type 0 where
+  -- `version` is the last one that was given
+  pub below : (note : Note) → IsKept copies note → note.version ≤ version
+  pub agree : (one other : Note) → IsKept copies one → IsKept copies other →
+      AreOfOneVersion one other → one.screen ≡ other.screen
+
+pub record AreKept (value : ViewersValue) (copies : Copies) (version : ℕ) : Type 0 where
+  pub viewers : AreViewers value
+  pub shared : AreShared copies version
+
+-- the copy of the current screen is as before, or a new one with the next version, if there was none
+abbrev pub IsRenewed : (screen : ScreenValue) → (version : ℕ) (current : Option Note)
+    → (after : ℕ) (renewed : Option Note) → Type 0
+IsRenewed screen version current after renewed =
+    ((renewed ≡ current) × (after ≡ version))
+    ⊎ ((note : Note) × (renewed ≡ Some note) × (note.version ≡ after)
+    × (after ≡ suc version) × (note.screen ≡ screen) × (current ≡ None))
+
+-- a copy of the current screen for a viewer: it is the one that is kept, or has no version
+pub record IsCurrentNote (self : ScreenValue) (current : Option Note) (note : Note) : Type 0 where
+  pub screen : note.screen ≡ self
+  pub shared : (current ≡ Some note) ⊎ (note.version ≡ 0)

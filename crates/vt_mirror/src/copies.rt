@@ -1,0 +1,143 @@
+//! Copies of a screen, which viewers share.
+
+ghost use Rattle.std.specs.Prelude.{◌≡◌, ◌↔◌, IfOk, IfSome, true};
+ghost use Rattle.vt_cells.specs.Refusals.{OnlyOutOfMemory};
+ghost use Rattle.vt_mirror.specs.Alike.{ShowsAlike};
+ghost use Rattle.vt_mirror.specs.Kept.{AreOfOneVersion};
+
+use std::alloc::Global;
+use std::marker::Model;
+use std::snapshot::Snapshot;
+use std::sync::Arc;
+use vt100::{Error, Screen};
+
+/// A copy of what a screen displays, without its scrollback and the page that
+/// is not displayed. Its value in clauses is the screen that it was made of,
+/// which no program can read.
+#[derive(Drop)]
+pub(crate) struct DisplayCopy {
+    of: Snapshot<Screen>,
+    copy: Screen,
+}
+
+impl Model for DisplayCopy {
+    ghost use Rattle.vt_mirror.specs.Alike.{ShowsAlike};
+    ghost use Rattle.vt_screen.specs.Screen.{ScreenValue};
+
+    ghost Value = { ScreenValue };
+
+    ghost view = { λ c. c.of.value };
+
+    ghost invariant = { λ c. ShowsAlike c.of.value c.copy };
+}
+
+impl DisplayCopy {
+    /// Copies what `screen` displays.
+    ///
+    /// # Errors
+    ///
+    /// `OutOfMemory` if an allocation fails.
+    fn new(screen: &Screen) -> Result<DisplayCopy, Error>
+        ensures ok { IfOk result (λ copy. copy ≡ screen.now) }
+        ensures memory { OnlyOutOfMemory result }
+    {
+        let copy = screen.shown_copy()?;
+        let of = Snapshot::of(screen);
+        Ok(DisplayCopy { of, copy })
+    }
+
+    /// Returns a screen that displays the same.
+    fn screen(&self) -> &Screen
+        ensures { ShowsAlike self.now result.now }
+    {
+        &self.copy
+    }
+}
+
+/// A copy of what a screen displays, in memory once for all its holders.
+#[derive(Drop)]
+pub(crate) struct SharedCopy {
+    shared: Arc<DisplayCopy, Global>,
+}
+
+impl Model for SharedCopy {
+    ghost use Rattle.std.specs.Arc.{arc_value};
+    ghost use Rattle.vt_screen.specs.Screen.{ScreenValue};
+
+    ghost Value = { ScreenValue };
+
+    ghost view = { λ c. arc_value c.shared };
+}
+
+impl SharedCopy {
+    /// Copies what `screen` displays, for one holder.
+    ///
+    /// # Errors
+    ///
+    /// `OutOfMemory` if an allocation fails.
+    pub(crate) fn new(alloc: Global, screen: &Screen) -> Result<SharedCopy, Error>
+        ensures ok { IfOk result (λ copy. copy ≡ screen.now) }
+        ensures memory { OnlyOutOfMemory result }
+    {
+        let copy = DisplayCopy::new(screen)?;
+        match Arc::new(alloc, copy) {
+            Ok(shared) => Ok(SharedCopy { shared }),
+            Err(_) => Err(Error::OutOfMemory),
+        }
+    }
+
+    /// Returns the copy for one more holder, without an allocation, or `None`
+    /// if it has as many as can be counted.
+    pub(crate) fn share(&self) -> Option<SharedCopy>
+        ensures { IfSome result (λ copy. copy ≡ self.now) }
+    {
+        match Arc::try_clone(&self.shared) {
+            Ok(shared) => Some(SharedCopy { shared }),
+            Err(_) => None,
+        }
+    }
+
+    /// Returns a screen that displays the same.
+    pub(crate) fn screen(&self) -> &Screen
+        ensures { ShowsAlike self.now result.now }
+    {
+        self.shared.screen()
+    }
+
+    /// Returns whether the copy has other holders.
+    pub(crate) fn is_held_by_others(&self) -> bool {
+        Arc::strong_count(&self.shared) > 1
+    }
+}
+
+/// A copy of a screen with a version: copies of one version are of one screen.
+#[derive(Drop)]
+pub(crate) struct Note {
+    /// 0 if the copy has no version.
+    pub(crate) version: u64,
+    pub(crate) screen: SharedCopy,
+}
+
+impl Note {
+    /// Returns the note for one more holder, without an allocation, or `None`
+    /// if its copy has as many as can be counted.
+    pub(crate) fn share(&self) -> Option<Note>
+        ensures { IfSome result (λ note. note ≡ self.now) }
+    {
+        let Some(screen) = self.screen.share() else {
+            return None;
+        };
+        Some(Note {
+            version: self.version,
+            screen,
+        })
+    }
+
+    /// Returns whether both have the same version, so that they are copies of
+    /// one screen.
+    pub(crate) fn is_of_version(&self, other: &Note) -> bool
+        ensures { result ≡ true ↔ AreOfOneVersion self.now other.now }
+    {
+        self.version > 0 && self.version == other.version
+    }
+}

@@ -1,0 +1,57 @@
+//! A viewer that is displayed wrong after an unsteady screen, and then right again.
+
+use crate::numbers::size;
+use std::alloc::Global;
+use std::test::Fail;
+use vt_mirror::{Mirror, Update};
+use vt100::Parser;
+
+/// U+231A made narrow by U+FE0E and U+FE0F in the last column of the last row, where a
+/// viewer that prints it wraps and scrolls.
+const UNSTEADY: &str = "one\x1b[2;2H\u{231a}\u{fe0e}\u{fe0f}\x1b[2;1H\x1b[@";
+
+/// What the screen displays next, which is steady, and its redraw.
+const STEADY: &str = "\x1b[2J\x1b[H\x1b[31mab";
+
+const REDRAW: &str = "\x1b[?25h\x1b[m\x1b[H\x1b[J\x1b[31mab";
+
+/// Has the viewer take the mirror's next scrolling update, and returns whether it was a
+/// full one.
+fn take_update(mirror: &mut Mirror, number: u64, viewer: &mut Parser) -> Result<bool, Fail> {
+    match mirror.update_scrolling(number)? {
+        Some(Update::Full { text, .. }) => {
+            viewer.process(text.as_bytes())?;
+            Ok(true)
+        }
+        Some(Update::Diff(text)) => {
+            viewer.process(text.as_bytes())?;
+            Ok(false)
+        }
+        None => Err(Fail::new("no such viewer")),
+    }
+}
+
+fn expect_healed(alloc: Global) -> Result<(), Fail> {
+    let (rows, cols) = size((2, 3))?;
+    let mut mirror = Mirror::new(alloc, rows, cols, 0)?;
+    let mut viewer = Parser::new(alloc, rows, cols, 0)?;
+    let number = mirror.join()?;
+    let first = take_update(&mut mirror, number, &mut viewer)?;
+    mirror.process(UNSTEADY.as_bytes())?;
+    let unsteady = take_update(&mut mirror, number, &mut viewer)?;
+    mirror.process(STEADY.as_bytes())?;
+    let healing = take_update(&mut mirror, number, &mut viewer)?;
+    if (first, unsteady, healing) != (true, false, true) {
+        return Err(Fail::new(format_args!("full updates: {first}, {unsteady}, {healing}")));
+    }
+    let displayed = viewer.screen().contents_formatted()?;
+    if displayed.as_str() != REDRAW {
+        return Err(Fail::new(format_args!("{displayed:?} and not {REDRAW:?}")));
+    }
+    Ok(())
+}
+
+#[test]
+fn heals_after_an_unsteady_screen(rt: HostRuntime) -> Result<(), Fail> {
+    expect_healed(rt.alloc())
+}

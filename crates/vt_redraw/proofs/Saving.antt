@@ -1,0 +1,262 @@
+-- Scripts restore the cursor only where they have saved it.
+use Rattle.std.proofs.Common.{◌≡◌, ℕ, zero, suc, ◌+◌, ◌-◌, ◌==◌, ◌&&◌, ◌||◌, nat_lt, Bool, true, not, List, []}
+use Rattle.std.proofs.Common.{◌∷◌, ◌++◌, length, drop, replicate, Option, Some, None, refl}
+use Rattle.std.specs.Prelude.{if◌then◌else◌}
+use Rattle.std.proofs.lemmas.Bool.{cond_both}
+use Rattle.vt_cells.specs.Attrs.{default_attrs, same_attrs, same_bool, Attrs}
+use Rattle.vt_cells.specs.Cell.{CellValue, blank, glyph, right_half, attrs_of, text_of, same_cell}
+use Rattle.vt_cells.specs.Op.{Op, Hide, MoveTo, MoveRight, NextRow, LineFeed, Backspace, EraseChars}
+use Rattle.vt_cells.specs.Op.{SaveCursor, RestoreCursor, ChangeAttrs, Print}
+use Rattle.vt_cells.specs.Glyph.{glyph_columns}
+use Rattle.vt_rows.specs.Cells.{at}
+use Rattle.vt_rows.specs.Row.{RowValue}
+use Rattle.vt_grid.specs.Page.{row_or}
+use Rattle.vt_redraw.specs.declared.pen.Pen.{Pen}
+use Rattle.vt_redraw.specs.Picture.{Picture}
+use Rattle.vt_redraw.specs.Script.{pen_at, move_ops, attr_ops, blank_run, erase_run, no_ops, ops_then, placed_op}
+use Rattle.vt_redraw.specs.Script.{cells_written, last_column, last_glyph, is_at, pen_behind, behind_last_glyph}
+use Rattle.vt_redraw.specs.Script.{Scripted, no_link, first_written, starts_other, ops_then_link, row_link}
+use Rattle.vt_redraw.specs.Script.{break_ops, row_break, flag_behind, flag_past}
+use Rattle.vt_redraw.specs.Redraw.{row_written, link_of, rows_below, rows_written, nearest, over_blank, under_last}
+use Rattle.vt_redraw.specs.Redraw.{blank_passed, pending_at, cursor_written, pen_of, script, hiding, difference}
+use Rattle.vt_redraw.specs.Redraw.{blank_like, redraw, pending_alone, cursor_state}
+
+-- whether the cursor was saved, after an operation
+abbrev pub saved_after : Bool → Op → Bool
+saved_after saved SaveCursor = true
+saved_after saved _ = saved
+
+abbrev pub IsAllowed : Bool → Op → Type 0
+IsAllowed saved RestoreCursor = saved ≡ true
+IsAllowed saved _ = Unit {0}
+
+-- each restoration comes after the cursor was saved
+abbrev pub SavesFirst : Bool → List Op → Type 0
+SavesFirst saved [] = Unit {0}
+SavesFirst saved (op ∷ ops) = IsAllowed saved op × SavesFirst (saved_after saved op) ops
+
+abbrev pub IsSafe : List Op → Type 0
+IsSafe ops = (saved : Bool) → SavesFirst saved ops
+
+saves_then : (xs ys : List Op) (saved : Bool) → SavesFirst saved xs → IsSafe ys → SavesFirst saved (xs ++ ys)
+saves_then [] ys saved h k = k saved
+saves_then (x ∷ xs) ys saved h k = (h.0, saves_then xs ys (saved_after saved x) h.1 k)
+
+pub safe_append : (xs ys : List Op) → IsSafe xs → IsSafe ys → IsSafe (xs ++ ys)
+safe_append xs ys h k saved = saves_then xs ys saved (h saved) k
+
+going_safe : (pen : Pen) (r c : ℕ) → IsSafe (move_ops pen r c)
+unfolding move_ops
+going_safe pen r c =
+    cond_both ((r == pen.row + 1) && (c == 0)) (NextRow ∷ []) _ IsSafe (λ _. λ s. (tt, tt))
+    (λ _. cond_both ((r == pen.row) && nat_lt pen.col c) (MoveRight (c - pen.col) ∷ []) _ IsSafe (λ _. λ s. (tt, tt))
+    (λ _. cond_both ((r == pen.row) && (c == pen.col)) [] (MoveTo r c ∷ []) IsSafe (λ _. λ s. tt)
+    (λ _. λ s. (tt, tt))))
+
+pub changing_safe : (was new : Attrs) → IsSafe (attr_ops was new)
+unfolding attr_ops
+changing_safe was new =
+    cond_both (same_attrs was new) [] (ChangeAttrs was new ∷ []) IsSafe (λ _. λ s. tt) (λ _. λ s. (tt, tt))
+
+erase_run_safe : (n : ℕ) (xs : List CellValue) → IsSafe (erase_run n xs ∷ [])
+erase_run_safe n [] s = (tt, tt)
+erase_run_safe n (x ∷ xs) s = (tt, tt)
+
+doing_safe : (pen : Pen) (r c : ℕ) (attrs : Attrs) (op : Op) → IsSafe (op ∷ []) → IsSafe (placed_op pen r c attrs op)
+doing_safe pen r c attrs op h =
+    safe_append (move_ops pen r c) (attr_ops pen.attrs attrs ++ op ∷ []) (going_safe pen r c)
+    (safe_append (attr_ops pen.attrs attrs) (op ∷ []) (changing_safe pen.attrs attrs) h)
+
+feeds_safe : (n : ℕ) → IsSafe (replicate n LineFeed)
+feeds_safe zero s = tt
+feeds_safe (suc n) s = (tt, feeds_safe n s)
+
+-- ---- rows
+
+abbrev SafeWritten : Scripted → Type 0
+SafeWritten w = IsSafe w.ops
+
+cells_safe : (r c : ℕ) (pen : Pen) (flag : Bool) (k : ℕ) (xs ys : List CellValue) →
+    SafeWritten (cells_written r c pen flag k xs ys)
+unfolding cells_written
+cells_safe r c pen flag k [] ys = λ s. tt
+cells_safe r c pen flag k (x ∷ xs) [] = λ s. tt
+cells_safe r c pen flag (suc k) (x ∷ xs) (y ∷ ys) = cells_safe r (c + 1) pen flag k xs ys
+cells_safe r c pen flag zero (right_half ∷ xs) (y ∷ ys) = cells_safe r (c + 1) pen flag zero xs ys
+cells_safe r c pen flag zero (blank a ∷ xs) (y ∷ ys) =
+    let n = blank_run a xs in
+    let op = erase_run (suc n) (drop n ys) in
+    let rest = cells_written r (c + 1) (pen_at r c a) (flag_past flag (drop n ys)) n xs ys in
+    cond_both (same_cell (blank a) y) (cells_written r (c + 1) pen flag zero xs ys)
+    (ops_then (placed_op pen r c a op) rest) SafeWritten
+    (λ _. cells_safe r (c + 1) pen flag zero xs ys)
+    (λ _. safe_append (placed_op pen r c a op) rest.ops (doing_safe pen r c a op (erase_run_safe (suc n) (drop n ys)))
+    (cells_safe r (c + 1) (pen_at r c a) (flag_past flag (drop n ys)) n xs ys))
+cells_safe r c pen flag zero (glyph text wide a ∷ xs) (y ∷ ys) =
+    let k = glyph_columns wide - 1 in
+    let next = pen_at r (c + glyph_columns wide) a in
+    let now = flag_behind flag wide (drop 1 ys) in
+    let rest = cells_written r (c + 1) next now k xs ys in
+    cond_both (same_cell (glyph text wide a) y) (cells_written r (c + 1) pen flag k xs ys)
+    (ops_then (placed_op pen r c a (Print text)) rest) SafeWritten
+    (λ _. cells_safe r (c + 1) pen flag k xs ys)
+    (λ _. safe_append (placed_op pen r c a (Print text)) rest.ops (doing_safe pen r c a (Print text) (λ s. (tt, tt)))
+    (cells_safe r (c + 1) next now k xs ys))
+
+behind_safe : (r : ℕ) (pen : Pen) (cells : List CellValue) → SafeWritten (behind_last_glyph r pen cells)
+behind_safe r pen cells =
+    let again : Scripted = record {
+      ops = placed_op pen r (last_column cells) (attrs_of (last_glyph cells)) (Print (text_of (last_glyph cells)));
+      pen = pen_behind r cells;
+      flag = true;
+    } in
+    cond_both (is_at pen r (length cells)) (no_ops pen true) again SafeWritten (λ _. λ s. tt)
+    (λ _. doing_safe pen r (last_column cells) (attrs_of (last_glyph cells)) (Print (text_of (last_glyph cells)))
+    (λ s. (tt, tt)))
+
+first_safe : (r : ℕ) (pen : Pen) (flag : Bool) (xs ys : List CellValue) → IsSafe (first_written r pen flag xs ys).ops
+first_safe r pen flag [] ys = λ s. tt
+first_safe r pen flag (x ∷ xs) [] = λ s. tt
+first_safe r pen flag (right_half ∷ xs) (y ∷ ys) = λ s. tt
+first_safe r pen flag (blank a ∷ xs) (y ∷ ys) =
+    safe_append (attr_ops pen.attrs a) (Print (0x20 ∷ []) ∷ Backspace ∷ EraseChars 1 ∷ []) (changing_safe pen.attrs a)
+    (λ s. (tt, (tt, (tt, tt))))
+first_safe r pen flag (glyph text wide a ∷ xs) (y ∷ ys) =
+    safe_append (attr_ops pen.attrs a) (Print text ∷ []) (changing_safe pen.attrs a) (λ s. (tt, tt))
+
+linked_safe : (r : ℕ) (pen : Pen) (above : List CellValue) (on flag : Bool) (xs ys : List CellValue) →
+    IsSafe (row_link r pen above on flag xs ys).ops
+unfolding row_link
+linked_safe r pen above on flag xs ys =
+    let w = behind_last_glyph r pen above in
+    cond_both (not on || (is_at pen r (length above) && starts_other xs ys))
+    (ops_then_link w.ops (first_written (r + 1) w.pen flag xs ys)) (no_link pen flag) (λ link. IsSafe link.ops)
+    (λ _. safe_append w.ops (first_written (r + 1) w.pen flag xs ys).ops (behind_safe r pen above)
+    (first_safe (r + 1) w.pen flag xs ys))
+    (λ _. λ s. tt)
+
+broken_safe : (r : ℕ) (pen : Pen) (flag wanted : Bool) (cells : List CellValue) →
+    SafeWritten (row_break r pen flag wanted cells)
+unfolding row_break
+broken_safe r pen flag wanted cells =
+    let a = attrs_of (last_glyph cells) in
+    let text = text_of (last_glyph cells) in
+    let again : List Op = attr_ops pen.attrs a ++ Print text ∷ [] in
+    cond_both (flag && not wanted) (break_ops r pen cells) (no_ops pen flag) SafeWritten
+    (λ _. safe_append (move_ops pen r (last_column cells)) (EraseChars 1 ∷ again)
+    (going_safe pen r (last_column cells))
+    (λ s. (tt, safe_append (attr_ops pen.attrs a) (Print text ∷ []) (changing_safe pen.attrs a) (λ t. (tt, tt)) s)))
+    (λ _. λ s. tt)
+
+row_safe : (r k : ℕ) (pen : Pen) (flag : Bool) (x : RowValue) (ys : List CellValue) →
+    SafeWritten (row_written r k pen flag x ys)
+unfolding row_written
+row_safe r k pen flag x ys =
+    let w = cells_written r 0 pen flag k x.cells ys in
+    safe_append w.ops (row_break r w.pen w.flag x.wrapped x.cells).ops (cells_safe r 0 pen flag k x.cells ys)
+    (broken_safe r w.pen w.flag x.wrapped x.cells)
+
+below_safe : (r : ℕ) (pen : Pen) (above : RowValue) (on : Bool) (xs ys : List RowValue) →
+    SafeWritten (rows_below r pen above on xs ys)
+unfolding rows_below
+below_safe r pen above on [] ys = λ s. tt
+below_safe r pen above on (x ∷ xs) [] = λ s. tt
+below_safe r pen above on (x ∷ xs) (y ∷ ys) =
+    let link = link_of r pen above on x y in
+    let row = row_written (r + 1) link.settled link.pen link.flag x y.cells in
+    let one : IsSafe link.ops =
+    cond_both above.wrapped (row_link r pen above.cells on y.wrapped x.cells y.cells) (no_link pen y.wrapped)
+    (λ l. IsSafe l.ops) (λ _. linked_safe r pen above.cells on y.wrapped x.cells y.cells) (λ _. λ s. tt) in
+    safe_append (link.ops ++ row.ops) (rows_below (r + 1) row.pen x row.flag xs ys).ops
+    (safe_append link.ops row.ops one (row_safe (r + 1) link.settled link.pen link.flag x y.cells))
+    (below_safe (r + 1) row.pen x row.flag xs ys)
+
+rows_safe : (pen : Pen) (xs ys : List RowValue) → SafeWritten (rows_written pen xs ys)
+unfolding rows_written
+rows_safe pen [] ys = λ s. tt
+rows_safe pen (x ∷ xs) [] = λ s. tt
+rows_safe pen (x ∷ xs) (y ∷ ys) =
+    let row = row_written 0 0 pen y.wrapped x y.cells in
+    safe_append row.ops (rows_below 0 row.pen x row.flag xs ys).ops (row_safe 0 0 pen y.wrapped x y.cells)
+    (below_safe 0 row.pen x row.flag xs ys)
+
+-- ---- the cursor
+
+passed_safe : (was attrs : Attrs) → IsSafe (blank_passed was attrs)
+passed_safe was attrs s = (
+  tt,
+  safe_append (attr_ops was attrs)
+      (SaveCursor ∷ Backspace ∷ EraseChars 1 ∷ RestoreCursor ∷ attr_ops attrs was) (changing_safe was attrs)
+      (λ t. (tt, (tt, (tt, (refl, changing_safe attrs was true))))) s,
+)
+
+pending_safe : (found : Option ℕ) (pen : Pen) (width : ℕ) (rows : List RowValue) (r : ℕ) →
+    IsSafe (pending_at found pen width rows r)
+unfolding over_blank under_last
+pending_safe None pen width rows r =
+    let b = attrs_of (at (row_or width rows r).cells (width - 1)) in
+    safe_append (move_ops pen r (width - 1)) (blank_passed pen.attrs b) (going_safe pen r (width - 1))
+    (passed_safe pen.attrs b)
+pending_safe (Some i) pen width rows r =
+    let w = behind_last_glyph i pen (row_or width rows i).cells in
+    safe_append w.ops (attr_ops w.pen.attrs pen.attrs ++ replicate (r - i) LineFeed)
+    (behind_safe i pen (row_or width rows i).cells)
+    (safe_append (attr_ops w.pen.attrs pen.attrs) (replicate (r - i) LineFeed) (changing_safe w.pen.attrs pen.attrs)
+    (feeds_safe (r - i)))
+
+cursor_safe : (pen : Pen) (width : ℕ) (rows : List RowValue) (r c : ℕ) → IsSafe (cursor_written pen width rows r c)
+unfolding cursor_written
+cursor_safe pen width rows r c =
+    cond_both (is_at pen r c) []
+    (if nat_lt c width then move_ops pen r c else pending_at (nearest width rows r) pen width rows r) IsSafe
+    (λ _. λ s. tt)
+    (λ _. cond_both (nat_lt c width) (move_ops pen r c) (pending_at (nearest width rows r) pen width rows r) IsSafe
+    (λ _. going_safe pen r c) (λ _. pending_safe (nearest width rows r) pen width rows r))
+
+-- ---- the whole
+
+script_safe : (self prev : Picture) → IsSafe (script self prev)
+unfolding script
+script_safe self prev =
+    let w = rows_written (pen_of prev) self.rows prev.rows in
+    safe_append w.ops
+    (cursor_written w.pen self.width self.rows self.row self.column ++ attr_ops w.pen.attrs self.attrs)
+    (rows_safe (pen_of prev) self.rows prev.rows)
+    (safe_append (cursor_written w.pen self.width self.rows self.row self.column) (attr_ops w.pen.attrs self.attrs)
+    (cursor_safe w.pen self.width self.rows self.row self.column) (changing_safe w.pen.attrs self.attrs))
+
+pub difference_safe : (self prev : Picture) → IsSafe (difference self prev)
+unfolding difference
+difference_safe self prev =
+    safe_append (hiding self prev) (script self prev)
+    (cond_both (same_bool self.hidden prev.hidden) [] (Hide self.hidden ∷ []) IsSafe (λ _. λ s. tt) (λ _. λ s. (tt, tt)))
+    (script_safe self prev)
+
+pub redraw_safe : (self : Picture) → IsSafe (redraw self)
+unfolding redraw
+redraw_safe self s = (tt, (tt, (tt, (tt, script_safe self (blank_like self) s))))
+
+alone_safe : (found : Option ℕ) (width : ℕ) (rows : List RowValue) (r : ℕ) → IsSafe (pending_alone found width rows r)
+alone_safe None width rows r s = (tt, passed_safe default_attrs (attrs_of (at (row_or width rows r).cells (width - 1))) s)
+alone_safe (Some i) width rows r s =
+    let cells = (row_or width rows i).cells in
+    let a = attrs_of (last_glyph cells) in (
+      tt,
+      safe_append (attr_ops default_attrs a)
+          (Print (text_of (last_glyph cells)) ∷ (attr_ops a default_attrs ++ replicate (r - i) LineFeed))
+          (changing_safe default_attrs a)
+          (λ t. (
+            tt,
+            safe_append (attr_ops a default_attrs) (replicate (r - i) LineFeed) (changing_safe a default_attrs)
+                (feeds_safe (r - i)) t,
+          )) s,
+    )
+
+pub cursor_state_safe : (self : Picture) → IsSafe (cursor_state self)
+unfolding cursor_state
+cursor_state_safe self s =
+    let alone = pending_alone (nearest self.width self.rows self.row) self.width self.rows self.row in (
+      tt,
+      cond_both (nat_lt self.column self.width) (MoveTo self.row self.column ∷ []) alone IsSafe
+          (λ _. λ t. (tt, tt)) (λ _. alone_safe (nearest self.width self.rows self.row) self.width self.rows self.row) s,
+    )

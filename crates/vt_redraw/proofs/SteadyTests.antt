@@ -1,0 +1,363 @@
+-- What tells a steady glyph: its width after each of its characters.
+use Rattle.std.proofs.Common.{◌≡◌, ◌↔◌, ℕ, zero, suc, ◌+◌, ◌<◌, ◌≤◌, ◌||◌, nat_lt, Bool, true, false, List, []}
+use Rattle.std.proofs.Common.{◌∷◌, ◌++◌, drop, length, take, Some, None, Option, refl, sym, ap, subst, ◌∙◌, arith}
+use Rattle.std.proofs.Common.{eqb-true, get_or, length-append, ◌≢◌, ◌&&◌}
+use Rattle.std.specs.Prelude.{All, IsTrue, chars, if◌then◌else◌, nat_eq}
+use Rattle.std.specs.Option.{option_eq}
+use mathlib.Core.Bool.{beq}
+use Rattle.std.specs.Char.{encode_utf8}
+use Rattle.std.specs.Int.RustNames.{bit_or}
+use Rattle.std.specs.List.{list_any, AllByRecursion}
+use Rattle.std.proofs.lemmas.List.Elements.{All-nil, All-cons, All-append, All-take, All-weaker}
+use Rattle.std.proofs.lemmas.List.{take-append-drop}
+use Rattle.std.proofs.lemmas.Str.{chars-nil, length-encode}
+use lib.Bits.{and_le_l, and_le_r, or_add_and}
+use Rattle.vt_cells.specs.Attrs.{Attrs}
+use Rattle.vt_cells.specs.Cell.{CellValue, blank, glyph, right_half, is_blank, is_glyph, is_right_half, is_wide, text_of}
+use Rattle.vt_cells.specs.Cell.{marked, IsCell}
+use Rattle.vt_cells.specs.Glyph.{columns_of, glyph_columns, has_room, is_selector, is_wide_text, IsGlyphText}
+use Rattle.vt_cells.specs.Glyph.{IsMark, Joins}
+use Rattle.vt_cells.proofs.Widths.{columns_of-le}
+use Rattle.vt_cells.proofs.Glyphs.{IsGlyphText-chars, IsGlyphText-length, encode_bounds}
+use Rattle.vt_cells.proofs.Glyphs.{selector_columns}
+use Rattle.vt_rows.specs.Row.{RowValue}
+use Rattle.vt_redraw.specs.Internals.{FitsColumns}
+use Rattle.vt_redraw.specs.Steady.{has_selector, IsSteadyCell, IsSteadyGlyph}
+use Rattle.vt_redraw.proofs.Halves.{Paired}
+use Rattle.vt_redraw.proofs.Steady.{steady_prints}
+use Rattle.vt_redraw.proofs.SteadyWithout.{prints_steady, without_cell}
+use Rattle.vt_redraw.proofs.Texts.{next, Grows, Prints}
+
+-- ---- lengths, gathered bit by bit
+
+pub or_le_left : (a b : ℕ) → a ≤ bit_or a b
+or_le_left a b = omega (arith, or_add_and a b, and_le_r a b)
+
+pub or_le_right : (a b : ℕ) → b ≤ bit_or a b
+or_le_right a b = omega (arith, or_add_and a b, and_le_l a b)
+
+-- ---- short texts
+
+selector_length : length (encode_utf8 0xFE0F) ≡ 3
+selector_length = length-encode 0xFE0F
+
+joined_length : (text marks whole : List ℕ) → Joins text marks whole → length text ≤ length whole
+joined_length text [] whole e = omega (arith, ap length e)
+joined_length text (m ∷ ms) whole joins =
+    omega (arith, length-append text (encode_utf8 m), joined_length (text ++ encode_utf8 m) ms whole joins.1)
+
+selected_length : (text marks whole : List ℕ) → Joins text marks whole → list_any is_selector marks ≡ true →
+    length text + 3 ≤ length whole
+selected_length text [] whole joins e = absurd (cc)
+selected_length text (m ∷ ms) whole joins e =
+    by_first (is_selector m) refl (selected_length (text ++ encode_utf8 m) ms whole joins.1)
+  where
+    by_first : (b : Bool) → is_selector m ≡ b →
+        (list_any is_selector ms ≡ true → length (text ++ encode_utf8 m) + 3 ≤ length whole) →
+        length text + 3 ≤ length whole
+    by_first true t later = omega (
+      arith,
+      length-append text (encode_utf8 m),
+      joined_length (text ++ encode_utf8 m) ms whole joins.1,
+      ap (λ (c : ℕ). length (encode_utf8 c)) (eqb-true m 0xFE0F t) ∙ selector_length,
+    )
+    by_first false t later = omega (
+      arith,
+      length-append text (encode_utf8 m),
+      later (sym (ap (λ (b : Bool). b || list_any is_selector ms) t) ∙ e),
+    )
+
+pub none_of : (b : Bool) → (b ≡ true → ⊥) → b ≡ false
+none_of true h = absurd (h refl)
+none_of false h = refl
+
+-- U+FE0F is no first character, and a mark takes three bytes after one
+pub short_has_none : (cell : CellValue) → IsCell cell → length (text_of cell) < 4 → has_selector cell ≡ false
+short_has_none (blank attrs) is short = refl
+short_has_none right_half is short = refl
+short_has_none (glyph text wide attrs) g short =
+    ap (list_any is_selector) (IsGlyphText-chars text wide g)
+    ∙ (ap (λ (b : Bool). b || list_any is_selector g.marks)
+    (none_of (is_selector g.first) (λ t. g.drawn (ap columns_of (eqb-true g.first 0xFE0F t) ∙ selector_columns)))
+    ∙ none_of (list_any is_selector g.marks) (λ t.
+    omega (arith, short, selected_length (encode_utf8 g.first) g.marks text g.spelled t, encode_some g.first)))
+  where
+    encode_some : (c : ℕ) → 1 ≤ length (encode_utf8 c)
+    encode_some c = (encode_bounds c).0
+
+-- ---- a glyph by its characters
+
+same_start : (a b : Bool) → Some (glyph_columns a) ≡ Some (glyph_columns b) → a ≡ b
+same_start true true e = refl
+same_start false false e = refl
+same_start true false e = absurd (cc)
+same_start false true e = absurd (cc)
+
+-- a glyph is steady exactly if its text grows to it from its first character
+pub steady_grows_so : (width : ℕ) (text : List ℕ) (wide : Bool) (attrs : Attrs) (first : ℕ) (marks : List ℕ)
+    (start : Bool) → IsGlyphText text wide → glyph_columns wide ≤ width → chars text ≡ first ∷ marks →
+    columns_of first ≡ Some (glyph_columns start) →
+    IsSteadyGlyph width text wide attrs ↔ Grows width start (encode_utf8 first) marks wide text
+steady_grows_so zero text wide attrs first marks start g le is columns = absurd (some wide le)
+  where
+    some : (wide : Bool) → glyph_columns wide ≤ 0 → ⊥
+    some true h = omega arith
+    some false h = omega arith
+steady_grows_so (suc n) text wide attrs first marks start g le is columns = (
+  λ steady. moved (steady_prints n text wide attrs g le steady),
+  λ grows. prints_steady n text wide attrs (record {
+    first = first;
+    marks = marks;
+    start = start;
+    is = is;
+    columns = columns;
+    fits = le;
+    grows = grows;
+  }),
+)
+  where
+    moved : Prints (suc n) text wide → Grows (suc n) start (encode_utf8 first) marks wide text
+    moved p =
+        let same : p.first ∷ p.marks ≡ first ∷ marks = sym p.is ∙ is in
+        let head : p.first ≡ first = ap (λ (l : List ℕ). get_or l 0 0) same in
+        let tail : p.marks ≡ marks = ap (drop 1) same in
+        let begins : p.start ≡ start =
+        same_start p.start start (sym p.columns ∙ (ap columns_of head ∙ columns)) in
+        subst (λ (s : Bool). Grows (suc n) s (encode_utf8 first) marks wide text) begins
+        (subst (λ (ms : List ℕ). Grows (suc n) p.start (encode_utf8 first) ms wide text) tail
+        (subst (λ (f : ℕ). Grows (suc n) p.start (encode_utf8 f) p.marks wide text) head p.grows))
+
+-- ---- rows
+
+-- in a row each glyph has its columns
+pub row_fits : (width : ℕ) (cells : List CellValue) → Paired cells → length cells ≤ width → All (FitsColumns width) cells
+row_fits width [] p le = All-nil (FitsColumns width)
+row_fits width (blank a ∷ cells) p le =
+    All-cons (FitsColumns width) (blank a) cells (omega arith) (row_fits width cells p (omega arith))
+row_fits width (glyph text false a ∷ cells) p le =
+    All-cons (FitsColumns width) (glyph text false a) cells (omega arith) (row_fits width cells p (omega arith))
+row_fits width (glyph text true a ∷ []) p le = absurd p
+row_fits width (glyph text true a ∷ blank b ∷ cells) p le = absurd p
+row_fits width (glyph text true a ∷ glyph more wide b ∷ cells) p le = absurd p
+row_fits width (glyph text true a ∷ right_half ∷ cells) p le =
+    All-cons (FitsColumns width) (glyph text true a) (right_half ∷ cells) (omega arith)
+    (All-cons (FitsColumns width) right_half cells (omega arith) (row_fits width cells p (omega arith)))
+row_fits width (right_half ∷ cells) p le = absurd p
+
+blank_steady : (width : ℕ) (cell : CellValue) → is_blank cell ≡ true → IsSteadyCell width cell
+blank_steady width (blank a) e = tt
+blank_steady width (glyph text wide a) e = absurd (cc)
+blank_steady width right_half e = absurd (cc)
+
+blank_none : (cell : CellValue) → is_blank cell ≡ true → has_selector cell ≡ false
+blank_none (blank a) e = refl
+blank_none (glyph text wide a) e = absurd (cc)
+blank_none right_half e = absurd (cc)
+
+-- with blanks after them, cells are steady exactly if they are without
+pub steady_so : (width n : ℕ) (own cells : List CellValue) → own ≡ take n cells →
+    All (λ (cell : CellValue). is_blank cell ≡ true) (drop n cells) →
+    All (IsSteadyCell width) own ↔ All (IsSteadyCell width) cells
+steady_so width n own cells is rest = (
+  λ all. subst (All (IsSteadyCell width)) (take-append-drop n cells)
+      (All-append (IsSteadyCell width) (take n cells) (drop n cells) (subst (All (IsSteadyCell width)) is all)
+      (All-weaker (λ (cell : CellValue). is_blank cell ≡ true) (IsSteadyCell width) (blank_steady width) (drop n cells)
+      rest)),
+  λ all. subst (All (IsSteadyCell width)) (sym is) (All-take (IsSteadyCell width) n cells all),
+)
+
+-- and have no U+FE0F
+pub none_so : (n : ℕ) (own cells : List CellValue) → own ≡ take n cells →
+    All (λ (cell : CellValue). is_blank cell ≡ true) (drop n cells) →
+    All (λ (cell : CellValue). has_selector cell ≡ false) own → All (λ (cell : CellValue). has_selector cell ≡ false) cells
+none_so n own cells is rest all =
+    let None = λ (cell : CellValue). has_selector cell ≡ false in
+    subst (All None) (take-append-drop n cells)
+    (All-append None (take n cells) (drop n cells) (subst (All None) is all)
+    (All-weaker (λ (cell : CellValue). is_blank cell ≡ true) None blank_none (drop n cells) rest))
+
+-- ---- a glyph printed character by character
+
+-- of a glyph's text all but these characters were printed, and gave a text of this width: the glyph is steady exactly
+-- if they make it grow to the glyph
+pub record IsPrintedTo (width : ℕ) (cell printed : CellValue) (wide : Bool) (rest : List ℕ) : Type 0 where
+  pub glyph : is_glyph printed ≡ true
+  pub marks : AllByRecursion IsMark rest
+  pub joins : Joins (text_of printed) rest (text_of cell)
+  pub so : IsSteadyCell width cell ↔ Grows width wide (text_of printed) rest (is_wide cell) (text_of cell)
+
+-- a glyph's first character, and its marks
+pub record IsSpelled (cell : CellValue) (first : ℕ) (marks : List ℕ) : Type 0 where
+  pub drawn : columns_of first ≢ Some 0
+  pub shown : columns_of first ≢ None
+  pub reported : first ≢ 0xFFFD
+  pub are_marks : AllByRecursion IsMark marks
+  pub joins : Joins (encode_utf8 first) marks (text_of cell)
+
+spelled_by : (cell : CellValue) (first other : ℕ) (marks others : List ℕ) → other ∷ others ≡ first ∷ marks →
+    IsSpelled cell other others → IsSpelled cell first marks
+spelled_by cell first other marks others e h =
+    subst (λ (ms : List ℕ). IsSpelled cell first ms) (ap (drop 1) e)
+    (subst (λ (c : ℕ). IsSpelled cell c others) (ap (λ (l : List ℕ). get_or l 0 0) e) h)
+
+pub spelled : (cell : CellValue) (first : ℕ) (marks : List ℕ) → is_glyph cell ≡ true → IsCell cell →
+    chars (text_of cell) ≡ first ∷ marks → IsSpelled cell first marks
+spelled (blank a) first marks t is e = absurd (cc)
+spelled right_half first marks t is e = absurd (cc)
+spelled (glyph text wide a) first marks t g e =
+    spelled_by (glyph text wide a) first g.first marks g.marks (sym (IsGlyphText-chars text wide g) ∙ e)
+    (record {
+      drawn = g.drawn;
+      shown = g.shown;
+      reported = g.reported;
+      are_marks = g.are_marks;
+      joins = g.spelled;
+    })
+
+-- a character that is drawn takes two columns or one
+pub two_or_one : (c : ℕ) → columns_of c ≢ Some 0 → columns_of c ≢ None →
+    columns_of c ≡ Some (glyph_columns (option_eq nat_eq (columns_of c) (Some 2)))
+two_or_one c drawn shown = by_columns (columns_of c) refl
+  where
+    by_columns : (w : Option ℕ) → columns_of c ≡ w → w ≡ Some (glyph_columns (option_eq nat_eq w (Some 2)))
+    by_columns None e = absurd (shown e)
+    by_columns (Some zero) e = absurd (drawn e)
+    by_columns (Some (suc zero)) e = refl
+    by_columns (Some (suc (suc zero))) e = refl
+    by_columns (Some (suc (suc (suc k)))) e = absurd (omega (arith, columns_of-le c (suc (suc (suc k))) e))
+
+pub printed_first : (width : ℕ) (cell : CellValue) (first : ℕ) (marks : List ℕ) (start : Bool) (attrs : Attrs) →
+    is_glyph cell ≡ true → IsCell cell → FitsColumns width cell → chars (text_of cell) ≡ first ∷ marks →
+    columns_of first ≡ Some (glyph_columns start) →
+    IsPrintedTo width cell (glyph (encode_utf8 first) start attrs) start marks
+printed_first width (blank a) first marks start attrs t is le e columns = absurd (cc)
+printed_first width right_half first marks start attrs t is le e columns = absurd (cc)
+printed_first width (glyph text wide a) first marks start attrs t g le e columns =
+    let h = spelled (glyph text wide a) first marks t g e in record {
+      glyph = refl;
+      marks = h.are_marks;
+      joins = h.joins;
+      so = steady_grows_so width text wide a first marks start g le e columns;
+    }
+
+-- the width after one character more
+abbrev pub width_then : ℕ → Bool → CellValue → ℕ → Bool
+width_then width wide printed mark =
+    if is_selector mark then is_wide_text (text_of printed) && nat_lt 1 width else wide
+
+marked_longer : (printed : CellValue) (mark : ℕ) → is_glyph printed ≡ true → has_room (text_of printed) ≡ true →
+    text_of (marked mark printed) ≡ text_of printed ++ encode_utf8 mark
+marked_longer (blank a) mark t room = absurd (cc)
+marked_longer right_half mark t room = absurd (cc)
+marked_longer (glyph text wide a) mark t room = rw room refl
+
+marked_glyph : (printed : CellValue) (mark : ℕ) → is_glyph printed ≡ true → is_glyph (marked mark printed) ≡ true
+marked_glyph (blank a) mark t = absurd (cc)
+marked_glyph right_half mark t = absurd (cc)
+marked_glyph (glyph text wide a) mark t = refl
+
+pub printed_mark : (width : ℕ) (cell printed after : CellValue) (wide follows : Bool) (mark : ℕ) (rest : List ℕ) →
+    IsPrintedTo width cell printed wide (mark ∷ rest) → after ≡ marked mark printed →
+    follows ≡ width_then width wide after mark → (wide ≡ true → follows ≡ true) →
+    IsPrintedTo width cell after follows rest
+printed_mark width cell printed after wide follows mark rest h is by kept =
+    let longer : text_of after ≡ text_of printed ++ encode_utf8 mark =
+    ap text_of is ∙ marked_longer printed mark h.glyph h.joins.0 in
+    let new : follows ≡ next width wide (text_of printed) mark =
+    by ∙ ap (λ (t : List ℕ). if is_selector mark then is_wide_text t && nat_lt 1 width else wide) longer in
+    let Ends = λ (v : Bool) (t : List ℕ). Grows width v t rest (is_wide cell) (text_of cell) in record {
+      glyph = ap is_glyph is ∙ marked_glyph printed mark h.glyph;
+      marks = h.marks.1;
+      joins = subst (λ (t : List ℕ). Joins t rest (text_of cell)) (sym longer) h.joins.1;
+      so = (
+        λ steady. subst (λ (v : Bool). Ends v (text_of after)) (sym new)
+            (subst (Ends (next width wide (text_of printed) mark)) (sym longer) (h.so.0 steady).1.1),
+        λ grows. h.so.1 (
+          (h.marks.0, h.joins.0),
+          (
+            (λ w. sym new ∙ kept w),
+            subst (Ends (next width wide (text_of printed) mark)) longer
+                (subst (λ (v : Bool). Ends v (text_of after)) new grows),
+          ),
+        ),
+      );
+    }
+
+-- a glyph made narrow on the way isn't steady
+pub printed_narrowed : (width : ℕ) (cell printed after : CellValue) (wide follows : Bool) (mark : ℕ)
+    (rest : List ℕ) → IsPrintedTo width cell printed wide (mark ∷ rest) → after ≡ marked mark printed →
+    follows ≡ width_then width wide after mark → wide ≡ true → follows ≡ false → IsSteadyCell width cell → ⊥
+printed_narrowed width cell printed after wide follows mark rest h is by was not_now steady =
+    let longer : text_of after ≡ text_of printed ++ encode_utf8 mark =
+    ap text_of is ∙ marked_longer printed mark h.glyph h.joins.0 in
+    let new : follows ≡ next width wide (text_of printed) mark =
+    by ∙ ap (λ (t : List ℕ). if is_selector mark then is_wide_text t && nat_lt 1 width else wide) longer in
+    let still : follows ≡ true = new ∙ (h.so.0 steady).1.0 was in
+    absurd (cc)
+
+-- at the end its width tells
+pub printed_all : (width : ℕ) (cell printed : CellValue) (wide : Bool) → IsPrintedTo width cell printed wide [] →
+    (same : Bool) → same ≡ beq wide (is_wide cell) → IsTrue same ↔ IsSteadyCell width cell
+printed_all width cell printed wide h same is = (
+  λ t. h.so.1 (beq_same wide (is_wide cell) (sym is ∙ t), h.joins),
+  λ steady. is ∙ same_beq wide (is_wide cell) (h.so.0 steady).0,
+)
+  where
+    beq_same : (a b : Bool) → beq a b ≡ true → a ≡ b
+    beq_same true true e = refl
+    beq_same false false e = refl
+    beq_same true false e = absurd (cc)
+    beq_same false true e = absurd (cc)
+
+    same_beq : (a b : Bool) → a ≡ b → beq a b ≡ true
+    same_beq true true e = refl
+    same_beq false false e = refl
+    same_beq true false e = absurd (cc)
+    same_beq false true e = absurd (cc)
+
+-- ---- glyphs
+
+pub glyph_not_half : (cell : CellValue) → is_glyph cell ≡ true → is_right_half cell ≡ false
+glyph_not_half (blank a) t = refl
+glyph_not_half right_half t = absurd (cc)
+glyph_not_half (glyph text wide a) t = refl
+
+pub no_empty_glyph : (cell : CellValue) → is_glyph cell ≡ true → IsCell cell → length (text_of cell) ≡ 0 → ⊥
+no_empty_glyph (blank a) t is e = absurd (cc)
+no_empty_glyph right_half t is e = absurd (cc)
+no_empty_glyph (glyph text wide a) t g e = omega (arith, e, (IsGlyphText-length text wide g).0)
+
+pub selector_in_text : (cell : CellValue) → list_any is_selector (chars (text_of cell)) ≡ has_selector cell
+selector_in_text (glyph text wide a) = refl
+selector_in_text (blank a) = ap (list_any is_selector) chars-nil
+selector_in_text right_half = ap (list_any is_selector) chars-nil
+
+-- a cell without U+FE0F is steady
+pub cell_without : (width : ℕ) (cell : CellValue) → IsCell cell → FitsColumns width cell → has_selector cell ≡ false →
+    IsSteadyCell width cell
+cell_without width (blank a) is le none = tt
+cell_without width right_half is le none = tt
+cell_without zero (glyph text true a) g le none = absurd (omega arith)
+cell_without zero (glyph text false a) g le none = absurd (omega arith)
+cell_without (suc n) (glyph text wide a) g le none = without_cell n text wide a g none le
+
+-- a cell whose text has at most this many bytes
+pub record IsWithin (bound : ℕ) (cell : CellValue) : Type 0 where
+  pub sound : IsCell cell
+  pub bytes : length (text_of cell) ≤ bound
+
+pub within_or : (bound other : ℕ) (cell : CellValue) → IsWithin bound cell → IsWithin (bit_or bound other) cell
+within_or bound other cell h = record { sound = h.sound; bytes = omega (arith, h.bytes, or_le_left bound other) }
+
+pub within_short : (bound : ℕ) → bound < 4 → (cell : CellValue) → IsWithin bound cell → has_selector cell ≡ false
+within_short bound short cell h = short_has_none cell h.sound (omega (arith, h.bytes, short))
+
+abbrev pub IsSteadyRow : ℕ → RowValue → Type 0
+IsSteadyRow width row = All (IsSteadyCell width) row.cells
+
+-- what a test tells of a row, it tells of what the row is
+pub row_tells : (width : ℕ) (row other : RowValue) (test : Bool) → row ≡ other → length row.cells ≡ width →
+    (IsTrue test ↔ All (IsSteadyCell (length row.cells)) row.cells) → IsTrue test ↔ IsSteadyRow width other
+row_tells width row other test same columns tells =
+    subst (λ (r : RowValue). IsTrue test ↔ IsSteadyRow width r) same
+    (subst (λ (n : ℕ). IsTrue test ↔ All (IsSteadyCell n) row.cells) columns tells)

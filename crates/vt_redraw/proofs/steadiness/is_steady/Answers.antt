@@ -1,0 +1,34 @@
+use Rattle.std.proofs.Common.{◌∙◌, All, arith, refl, subst, sym, take_all}
+use Rattle.std.proofs.lemmas.List.Elements.{All-more, All-nil}
+use Rattle.vt_cells.specs.Attrs.{default_attrs}
+use Rattle.vt_rows.specs.Row.{blank_row}
+use Rattle.vt_redraw.proofs.SteadyTests.{IsSteadyRow, row_tells}
+use Rattle.vt_redraw.proofs.steadiness.is_steady.Goals as goal
+
+pub loop-row-init : goal.loop-row-init
+loop-row-init c = All-nil (IsSteadyRow c.args.view.now.width)
+
+pub returns-then-not-is_steady_row : goal.returns-then-not-is_steady_row
+returns-then-not-is_steady_row c = (
+  λ t. absurd (cc),
+  λ all. sym c.if-not-is_steady_row.true
+      ∙ (row_tells c.args.view.now.width c.row.result _ c.is_steady_row.result c.row.ensures.value
+      c.row.ensures.sound.columns c.is_steady_row.ensures).1
+      (all c.loop-row.row (blank_row default_attrs c.args.view.now.width)
+      (omega (arith, c.rows-rows.ensures.value, c.loop-row-test.true))),
+)
+
+pub loop-row-preserved : goal.loop-row-preserved
+loop-row-preserved c =
+    All-more (IsSteadyRow c.args.view.now.width) c.args.view.now.rows c.loop-row.row
+    (blank_row default_attrs c.args.view.now.width) (omega (arith, c.rows-rows.ensures.value, c.loop-row-test.true))
+    c.loop-row.invariant
+    ((row_tells c.args.view.now.width c.row.result _ c.is_steady_row.result c.row.ensures.value
+    c.row.ensures.sound.columns c.is_steady_row.ensures).0 c.if-not-is_steady_row.false)
+
+pub returns : goal.returns
+returns c = (
+  λ t. subst (All (IsSteadyRow c.args.view.now.width)) (take_all c.loop-row.row c.args.view.now.rows
+      (omega (arith, c.rows-rows.ensures.value, c.loop-row-test.false))) c.loop-row.invariant,
+  λ all. refl,
+)

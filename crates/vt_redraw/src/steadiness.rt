@@ -1,0 +1,148 @@
+//! Whether a picture is steady: whether each of its glyphs, printed character by
+//! character on a blank row, gives just itself.
+//!
+//! Only U+FE0F changes the width of a glyph after its first character, so a glyph
+//! without it is steady. One with it is printed here on a cell of its own.
+
+ghost use Rattle.std.specs.Prelude.{◌≡◌, ◌↔◌, ◌&&◌, ◌<◌, All, IsTrue, false, length, nat_lt, true};
+ghost use Rattle.std.specs.Prelude.{if◌then◌else◌};
+ghost use Rattle.vt_cells.specs.Cell.{is_glyph, text_of, IsCell};
+ghost use Rattle.vt_cells.specs.Glyph.{is_selector, is_wide_text};
+ghost use Rattle.vt_rows.specs.Row.{IsRow};
+ghost use Rattle.vt_redraw.specs.Internals.{FitsColumns};
+ghost use Rattle.vt_redraw.specs.Steady.{IsSteady, IsSteadyCell, has_selector};
+
+use crate::picture_row::PictureRow;
+use crate::view::View;
+use vt_cells::{Attrs, Cell, cell, columns};
+
+/// U+FE0F, variation selector 16, which asks for the look of an emoji.
+const SELECTOR: char = '\u{FE0F}';
+
+/// The fewest bytes of a text with [`SELECTOR`] after its first character.
+const SELECTED_LEN: usize = 4;
+
+/// Whether each glyph of the picture, printed on a blank row, gives just itself.
+///
+/// Of a row whose texts all have fewer than four bytes only their lengths are read.
+pub fn is_steady(view: &View<'_>) -> bool
+    ensures { IsTrue result ↔ IsSteady view.now }
+{
+    let rows = view.rows();
+    for row in 0..rows {
+        if !is_steady_row(&view.row(row)) {
+            return false;
+        }
+    }
+    true
+}
+
+/// Whether each glyph of the row, printed on a blank row, gives just itself.
+fn is_steady_row(row: &PictureRow<'_>) -> bool
+    requires sound { IsRow (length row.now.cells) row.now }
+    requires some { 0 < length row.now.cells }
+    ensures { IsTrue result ↔ All (IsSteadyCell (length row.now.cells)) row.now.cells }
+{
+    let cells = row.own_cells();
+    if are_short(cells) {
+        return true;
+    }
+    are_steady(cells, row.cols())
+}
+
+/// Whether all texts are too short to hold [`SELECTOR`] after a first character.
+///
+/// The lengths are gathered in one number without a branch, so a cell takes some
+/// five instructions.
+fn are_short(cells: &[Cell]) -> bool
+    ensures { IsTrue result → All (λ cell. has_selector cell ≡ false) cells.now }
+{
+    let mut lens = 0;
+    for cell in cells {
+        lens |= cell.contents().len();
+    }
+    lens < SELECTED_LEN
+}
+
+/// Whether each glyph, printed on a blank row of `cols` columns, gives just itself.
+fn are_steady(cells: &[Cell], cols: u16) -> bool
+    requires { All (FitsColumns cols) cells.now }
+    ensures { IsTrue result ↔ All (IsSteadyCell cols) cells.now }
+{
+    for cell in cells {
+        if !is_steady_cell(cell, cols) {
+            return false;
+        }
+    }
+    true
+}
+
+/// Whether a cell is no glyph, or one that, printed on a blank row of `cols`
+/// columns, gives just itself.
+#[inline]
+fn is_steady_cell(cell: &Cell, cols: u16) -> bool
+    requires { FitsColumns cols cell.now }
+    ensures { IsTrue result ↔ IsSteadyCell cols cell.now }
+{
+    if !has_selector(cell) {
+        return true;
+    }
+    prints_itself(cell, cols)
+}
+
+/// Whether the cell's text contains [`SELECTOR`].
+#[inline]
+fn has_selector(cell: &Cell) -> bool
+    ensures value { result ≡ has_selector cell.now }
+    ensures sound { IsCell cell.now }
+{
+    let text = cell.contents();
+    if text.len() < SELECTED_LEN {
+        return false;
+    }
+    for c in text.chars() {
+        if c == SELECTOR {
+            return true;
+        }
+    }
+    false
+}
+
+/// Whether the characters of a glyph's text, printed on a blank row of `cols`
+/// columns, give the glyph.
+///
+/// Its width starts as that of the first character and follows the whole text at
+/// each [`SELECTOR`]. A glyph that is made narrow leaves a blank after it.
+fn prints_itself(cell: &Cell, cols: u16) -> bool
+    requires glyph { is_glyph cell.now ≡ true }
+    requires fits { FitsColumns cols cell.now }
+    ensures { IsTrue result ↔ IsSteadyCell cols cell.now }
+{
+    let mut chars = cell.contents().chars();
+    let Some(first) = chars.next() else {
+        return true;
+    };
+    let mut wide = columns(first) == Some(2);
+    let mut printed = cell::glyph(first, wide, Attrs::new());
+    for mark in chars {
+        cell::append(&mut printed, mark);
+        let follows = width_after(&printed, mark, wide, cols);
+        if wide && !follows {
+            return false;
+        }
+        wide = follows;
+    }
+    wide == cell.is_wide()
+}
+
+/// Whether a glyph that was `wide` is wide after `mark`, which is the last
+/// character of `printed`.
+fn width_after(printed: &Cell, mark: char, wide: bool, cols: u16) -> bool
+    ensures { result ≡ (if is_selector mark then is_wide_text (text_of printed.now) && nat_lt 1 cols else wide) }
+{
+    if mark == SELECTOR {
+        cell::is_wide_text(printed) && cols > 1
+    } else {
+        wide
+    }
+}

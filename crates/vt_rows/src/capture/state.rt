@@ -1,0 +1,46 @@
+//! What the basic text of rows carries from one row to the next.
+
+ghost use Rattle.std.specs.Prelude.{◌≡◌};
+ghost use Rattle.vt_rows.specs.Basic.{unwritten};
+
+use std::marker::Model;
+use vt_cells::Attrs;
+
+/// What the basic text of rows says before the next row: the attributes that
+/// were written last, and whether a line end is due.
+#[derive(Clone, Debug, Drop)]
+pub struct BasicFormattedCaptureState {
+    pub(crate) attrs: Attrs,
+    pub(crate) is_due: bool,
+}
+
+impl Model for BasicFormattedCaptureState {
+    ghost use Rattle.vt_rows.specs.Basic.{Written};
+
+    ghost Value = { Written };
+
+    ghost view = { λ s. record { attrs = s.attrs; is_due = s.is_due } };
+}
+
+impl BasicFormattedCaptureState {
+    /// The state before the first row: default attributes, no line end due.
+    pub fn new() -> Self
+        ensures { result ≡ unwritten }
+    {
+        BasicFormattedCaptureState {
+            attrs: Attrs::new(),
+            is_due: false,
+        }
+    }
+}
+
+impl Default for BasicFormattedCaptureState {
+    ghost use Rattle.std.specs.Prelude.{◌≡◌};
+    ghost use Rattle.vt_rows.specs.Basic.{unwritten};
+
+    fn default() -> Self
+        ensures { result ≡ unwritten }
+    {
+        BasicFormattedCaptureState::new()
+    }
+}

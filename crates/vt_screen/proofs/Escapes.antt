@@ -1,0 +1,280 @@
+-- A text made of pieces has only the bytes that it may have, and ESC only before those that it may stand before.
+use Rattle.std.proofs.Common.{◌≡◌, ◌⊎◌, inl, inr, ℕ, zero, suc, ◌+◌, ◌/◌, ◌%◌, ◌<◌, ◌≤◌, ◌==◌, ◌&&◌, nat_le, nat_lt, Bool, true, false}
+use Rattle.std.proofs.Common.{List, [], ◌∷◌, ◌++◌, decimal, codes, refl, sym, ap, ap₂, subst, ◌∙◌, arith, true≢false}
+use Rattle.std.proofs.lemmas.Bool.Decides.{nat_tests}
+use Rattle.std.specs.Prelude.{encode_utf8_all}
+use Rattle.std.specs.Char.{encode_utf8}
+use Rattle.std.specs.Fmt.{digit_glyph, digits, digits_onto}
+use Rattle.std.specs.List.{AllByRecursion, flat_map, list_all}
+use Rattle.std.proofs.lemmas.Bool.{cond_both}
+use Rattle.std.proofs.lemmas.Str.{encode_ascii, encodes-append}
+use Rattle.vt_cells.specs.Op.{csi, joined}
+use Rattle.vt_screen.specs.MadeOf.{Piece, IsCharacter, Characters, Numbered, Control, piece_text, IsOneOf, IsPiece}
+use Rattle.vt_screen.specs.MadeOf.{IsMadeOf, drawing_controls, drawing_finals, escapes, input_controls}
+use Rattle.vt_screen.specs.MadeOf.{plain_controls, reset_controls, scrolling_finals, state_controls}
+use Rattle.vt_screen.specs.Escapes.{BeginsWith, EscapesOnly, HasOnlyEscapes, is_graphic}
+
+abbrev is_low : ℕ → Bool
+is_low b = nat_le 0x20 b && nat_lt b 0x7F
+
+visible_low : (b : ℕ) → 0x20 ≤ b → b < 0x7F → is_low b ≡ true
+visible_low b h k = grind (arith, nat_tests, h, k)
+
+abbrev AllLow : List ℕ → Type 0
+AllLow bs = AllByRecursion (λ b. is_low b ≡ true) bs
+
+visible_append : (xs ys : List ℕ) → AllLow xs → AllLow ys → AllLow (xs ++ ys)
+visible_append [] ys h k = k
+visible_append (x ∷ xs) ys h k = (h.0, visible_append xs ys h.1 k)
+
+-- ---- numbers
+
+glyph_visible : (n : ℕ) → is_low (digit_glyph false (n % 10)) ≡ true
+glyph_visible n =
+    cond_both (nat_lt (n % 10) 10) (48 + n % 10) (87 + n % 10) (λ (b : ℕ). is_low b ≡ true)
+    (λ _. visible_low (48 + n % 10) (omega arith) (omega arith))
+    (λ _. visible_low (87 + n % 10) (omega arith) (omega arith))
+
+digits_visible : (k n : ℕ) (acc : List ℕ) → AllLow acc → AllLow (digits_onto k 10 false n acc)
+digits_visible zero n acc h = h
+digits_visible (suc k) n acc h =
+    cond_both (n / 10 == 0) (digit_glyph false (n % 10) ∷ acc)
+    (digits_onto k 10 false (n / 10) (digit_glyph false (n % 10) ∷ acc)) AllLow
+    (λ _. (glyph_visible n, h)) (λ _. digits_visible k (n / 10) (digit_glyph false (n % 10) ∷ acc) (glyph_visible n, h))
+
+decimal_visible : (n : ℕ) → AllLow (decimal n)
+unfolding digits
+decimal_visible n = digits_visible 64 n [] tt
+
+joined_visible : (ns : List ℕ) → AllLow (joined ns)
+joined_visible [] = tt
+joined_visible (n ∷ []) = decimal_visible n
+joined_visible (n ∷ m ∷ ns) =
+    visible_append (decimal n) (0x3B ∷ joined (m ∷ ns)) (decimal_visible n) (refl, joined_visible (m ∷ ns))
+
+-- ---- pieces
+
+begins_append : (nexts xs ys : List ℕ) → BeginsWith nexts xs → BeginsWith nexts (xs ++ ys)
+begins_append nexts [] ys is = absurd is
+begins_append nexts (x ∷ xs) ys is = is
+
+only_append : (nexts xs ys : List ℕ) → EscapesOnly nexts xs → EscapesOnly nexts ys → EscapesOnly nexts (xs ++ ys)
+only_append nexts [] ys h k = k
+only_append nexts (x ∷ xs) ys h k =
+    (h.0, ((λ e. begins_append nexts xs ys (h.1.0 e)), only_append nexts xs ys h.1.1 k))
+
+graphic_apart : (c : ℕ) → is_graphic c ≡ true → c ≡ 0x1B → ⊥
+graphic_apart c h e = true≢false (sym h ∙ ap is_graphic e)
+
+low_graphic : (c : ℕ) → is_low c ≡ true → is_graphic c ≡ true
+low_graphic c h = rw h refl
+
+only_graphic : (nexts cs : List ℕ) → AllByRecursion (λ c. is_graphic c ≡ true) cs → EscapesOnly nexts cs
+only_graphic nexts [] h = tt
+only_graphic nexts (c ∷ cs) h = (inl h.0, ((λ e. absurd (graphic_apart c h.0 e)), only_graphic nexts cs h.1))
+
+all_graphic : (cs : List ℕ) → AllLow cs → AllByRecursion (λ c. is_graphic c ≡ true) cs
+all_graphic [] h = tt
+all_graphic (c ∷ cs) h = (low_graphic c h.0, all_graphic cs h.1)
+
+characters_graphic : (cs : List ℕ) → AllByRecursion IsCharacter cs → AllByRecursion (λ c. is_graphic c ≡ true) cs
+characters_graphic [] h = tt
+characters_graphic (c ∷ cs) h = (graphic_is c h.0.1, characters_graphic cs h.1) where
+  graphic_is : (c : ℕ) → ((0x20 ≤ c) × (c < 0x7F)) ⊎ (0xA0 ≤ c) → is_graphic c ≡ true
+  graphic_is c (inl h) = low_graphic c (visible_low c h.0 h.1)
+  graphic_is c (inr h) = grind (arith, nat_tests, h)
+
+low_ascii : (b : ℕ) → is_low b ≡ true → b < 128
+low_ascii b h = grind (arith, nat_tests, h)
+
+encodes_low : (bs : List ℕ) → AllLow bs → bs ≡ encode_utf8_all bs
+encodes_low [] h = refl
+encodes_low (b ∷ bs) h =
+    ap (λ (rest : List ℕ). b ∷ rest) (encodes_low bs h.1)
+    ∙ ap (λ (xs : List ℕ). xs ++ encode_utf8_all bs) (sym (encode_ascii b (low_ascii b h.0)))
+
+escapes_escape : (nexts bs : List ℕ) → BeginsWith nexts bs → AllLow bs → HasOnlyEscapes nexts (0x1B ∷ bs)
+unfolding encode_utf8
+escapes_escape nexts bs is h = record {
+  characters = 0x1B ∷ bs;
+  spelled = ap (λ (rest : List ℕ). 0x1B ∷ rest) (encodes_low bs h);
+  only = (inr (inr (inr (inr (inl refl)))), ((λ e. is), only_graphic nexts bs (all_graphic bs h)));
+}
+
+escapes_append : (nexts xs ys : List ℕ) → HasOnlyEscapes nexts xs → HasOnlyEscapes nexts ys → HasOnlyEscapes nexts (xs ++ ys)
+escapes_append nexts xs ys p q = record {
+  characters = p.characters ++ q.characters;
+  spelled = ap₂ (λ (a b : List ℕ). a ++ b) p.spelled q.spelled ∙ sym (encodes-append p.characters q.characters);
+  only = only_append nexts p.characters q.characters p.only q.only;
+}
+
+-- what follows ESC in a control of the list
+abbrev IsTail : List ℕ → List ℕ → Type 0
+IsTail nexts tail = BeginsWith nexts tail × (list_all is_low tail ≡ true)
+
+all_visible : (bs : List ℕ) → list_all is_low bs ≡ true → AllLow bs
+all_visible [] e = tt
+all_visible (b ∷ bs) e = let both = parts (is_low b) (list_all is_low bs) e in (both.0, all_visible bs both.1)
+  where
+    parts : (v w : Bool) → (v && w) ≡ true → (v ≡ true) × (w ≡ true)
+    parts true w rest = (refl, rest)
+    parts false w rest = absurd (true≢false (sym rest))
+
+tails_only : (nexts : List ℕ) (tails : List (List ℕ)) → AllByRecursion (IsTail nexts) tails →
+    (bytes : List ℕ) → IsOneOf bytes (escapes tails) → HasOnlyEscapes nexts bytes
+tails_only nexts [] are bytes is = absurd is
+tails_only nexts (tail ∷ tails) are bytes (inl e) =
+    subst (HasOnlyEscapes nexts) (sym e) (escapes_escape nexts tail are.0.0 (all_visible tail are.0.1))
+tails_only nexts (tail ∷ tails) are bytes (inr is) = tails_only nexts tails are.1 bytes is
+
+either : (x : List ℕ) (xs ys : List (List ℕ)) → IsOneOf x (xs ++ ys) → IsOneOf x xs ⊎ IsOneOf x ys
+either x [] ys is = inr is
+either x (z ∷ xs) ys (inl e) = inl (inl e)
+either x (z ∷ xs) ys (inr is) = further (either x xs ys is) where
+  further : IsOneOf x xs ⊎ IsOneOf x ys → IsOneOf x (z ∷ xs) ⊎ IsOneOf x ys
+  further (inl one) = inl (inr one)
+  further (inr one) = inr one
+
+pieces_only : (nexts finals : List ℕ) (controls : List (List ℕ)) →
+    ((f : ℕ) → IsOneOf f finals → (is_low f ≡ true) × IsOneOf 0x5B nexts) →
+    ((bytes : List ℕ) → IsOneOf bytes controls → HasOnlyEscapes nexts bytes) →
+    (pieces : List Piece) → AllByRecursion (IsPiece finals controls) pieces →
+    HasOnlyEscapes nexts (flat_map piece_text pieces)
+pieces_only nexts finals controls f c [] are = record { characters = []; spelled = refl; only = tt }
+pieces_only nexts finals controls f c (Characters cs ∷ pieces) are =
+    escapes_append nexts (encode_utf8_all cs) (flat_map piece_text pieces)
+    (record { characters = cs; spelled = refl; only = only_graphic nexts cs (characters_graphic cs are.0) })
+    (pieces_only nexts finals controls f c pieces are.1)
+pieces_only nexts finals controls f c (Numbered numbers final ∷ pieces) are =
+    escapes_append nexts (csi (joined numbers) final) (flat_map piece_text pieces)
+    (escapes_escape nexts (0x5B ∷ (joined numbers ++ final ∷ [])) (f final are.0).1
+    (refl, visible_append (joined numbers) (final ∷ []) (joined_visible numbers) ((f final are.0).0, tt)))
+    (pieces_only nexts finals controls f c pieces are.1)
+pieces_only nexts finals controls f c (Control bytes ∷ pieces) are =
+    escapes_append nexts bytes (flat_map piece_text pieces) (c bytes are.0)
+    (pieces_only nexts finals controls f c pieces are.1)
+
+pub made_only : (nexts finals : List ℕ) (controls : List (List ℕ)) →
+    ((f : ℕ) → IsOneOf f finals → (is_low f ≡ true) × IsOneOf 0x5B nexts) →
+    ((bytes : List ℕ) → IsOneOf bytes controls → HasOnlyEscapes nexts bytes) →
+    (text : List ℕ) → IsMadeOf finals controls text → HasOnlyEscapes nexts text
+made_only nexts finals controls f c text made =
+    subst (HasOnlyEscapes nexts) (sym made.spelled)
+    (pieces_only nexts finals controls f c made.pieces made.are_pieces)
+
+-- ---- the texts of screens
+
+one_visible : (finals : List ℕ) → AllLow finals → (nexts : List ℕ) →
+    IsOneOf 0x5B nexts → (f : ℕ) → IsOneOf f finals → (is_low f ≡ true) × IsOneOf 0x5B nexts
+one_visible [] are nexts bracket f is = absurd is
+one_visible (g ∷ finals) are nexts bracket f (inl e) = (ap is_low e ∙ are.0, bracket)
+one_visible (g ∷ finals) are nexts bracket f (inr is) = one_visible finals are.1 nexts bracket f is
+
+abbrev drawing_tails : List (List ℕ)
+drawing_tails = codes "7" ∷ codes "8" ∷ codes "[?25h" ∷ codes "[?25l" ∷ []
+
+abbrev input_tails : List (List ℕ)
+input_tails =
+    codes "=" ∷ codes ">" ∷ codes "[?1h" ∷ codes "[?1l" ∷ codes "[?2004h" ∷ codes "[?2004l"
+    ∷ codes "[?9h" ∷ codes "[?9l" ∷ codes "[?1000h" ∷ codes "[?1000l" ∷ codes "[?1002h" ∷ codes "[?1002l"
+    ∷ codes "[?1003h" ∷ codes "[?1003l" ∷ codes "[?1005h" ∷ codes "[?1005l" ∷ codes "[?1006h" ∷ codes "[?1006l"
+    ∷ codes "[0 q" ∷ codes "[1 q" ∷ codes "[2 q" ∷ codes "[3 q" ∷ codes "[4 q" ∷ codes "[5 q" ∷ codes "[6 q" ∷ []
+
+abbrev reset_tails : List (List ℕ)
+reset_tails = codes "[?6l" ∷ codes "[r" ∷ []
+
+apart : (b : ℕ) → (b == 0x1B) ≡ false → b ≡ 0x1B → ⊥
+apart b e k = true≢false (sym (ap (λ (x : ℕ). x == 0x1B) k) ∙ e)
+
+drawing_only : (nexts : List ℕ) → AllByRecursion (IsTail nexts) drawing_tails →
+    (bytes : List ℕ) → IsOneOf bytes drawing_controls → HasOnlyEscapes nexts bytes
+unfolding encode_utf8
+drawing_only nexts tails bytes (inl e) =
+    subst (HasOnlyEscapes nexts) (sym e) (record {
+      characters = 0x0D ∷ 0x0A ∷ [];
+      spelled = refl;
+      only = (
+        inr (inr (inr (inl refl))),
+        (
+          (λ k. absurd (apart 0x0D refl k)),
+          (inr (inr (inl refl)), ((λ k. absurd (apart 0x0A refl k)), tt)),
+        ),
+      );
+    })
+drawing_only nexts tails bytes (inr (inl e)) =
+    subst (HasOnlyEscapes nexts) (sym e) (record {
+      characters = 0x0A ∷ [];
+      spelled = refl;
+      only = (inr (inr (inl refl)), ((λ k. absurd (apart 0x0A refl k)), tt));
+    })
+drawing_only nexts tails bytes (inr (inr (inl e))) =
+    subst (HasOnlyEscapes nexts) (sym e) (record {
+      characters = 0x08 ∷ [];
+      spelled = refl;
+      only = (inr (inl refl), ((λ k. absurd (apart 0x08 refl k)), tt));
+    })
+drawing_only nexts tails bytes (inr (inr (inr is))) = tails_only nexts drawing_tails tails bytes is
+
+abbrev pub drawing_nexts : List ℕ
+drawing_nexts = codes "[78"
+
+abbrev pub state_nexts : List ℕ
+state_nexts = codes "[78=>"
+
+scrolling_low : AllLow scrolling_finals
+scrolling_low = (refl, (refl, (refl, (refl, (refl, (refl, (refl, (refl, tt))))))))
+
+-- texts that draw and move rows: ESC stands only before [, 7 and 8
+pub scrolling_only : (text : List ℕ) → IsMadeOf scrolling_finals drawing_controls text → HasOnlyEscapes drawing_nexts text
+scrolling_only text made =
+    made_only drawing_nexts scrolling_finals drawing_controls
+    (one_visible scrolling_finals scrolling_low drawing_nexts (inl refl)) (drawing_only drawing_nexts ((inr (inl refl), refl), ((inr (inr (inl refl)), refl), ((inl refl, refl), ((inl refl, refl), tt))))) text made
+
+pub drawn_only : (text : List ℕ) → IsMadeOf drawing_finals drawing_controls text → HasOnlyEscapes drawing_nexts text
+drawn_only text made =
+    made_only drawing_nexts drawing_finals drawing_controls
+    (one_visible drawing_finals scrolling_low.1.1 drawing_nexts (inl refl)) (drawing_only drawing_nexts ((inr (inl refl), refl), ((inr (inr (inl refl)), refl), ((inl refl, refl), ((inl refl, refl), tt))))) text made
+
+pub reset_only : (text : List ℕ) → IsMadeOf drawing_finals reset_controls text → HasOnlyEscapes drawing_nexts text
+reset_only text made =
+    made_only drawing_nexts drawing_finals reset_controls
+    (one_visible drawing_finals scrolling_low.1.1 drawing_nexts (inl refl))
+    (λ bytes is. by_kind bytes (either bytes (escapes reset_tails) drawing_controls is)) text made
+  where
+    by_kind : (bytes : List ℕ) → IsOneOf bytes (escapes reset_tails) ⊎ IsOneOf bytes drawing_controls →
+        HasOnlyEscapes drawing_nexts bytes
+    by_kind bytes (inl is) =
+        tails_only drawing_nexts reset_tails ((inl refl, refl), ((inl refl, refl), tt)) bytes is
+    by_kind bytes (inr is) = drawing_only drawing_nexts ((inr (inl refl), refl), ((inr (inr (inl refl)), refl), ((inl refl, refl), ((inl refl, refl), tt)))) bytes is
+
+-- texts of states: before = and > too
+pub state_only : (text : List ℕ) → IsMadeOf drawing_finals state_controls text → HasOnlyEscapes state_nexts text
+state_only text made =
+    made_only state_nexts drawing_finals state_controls
+    (one_visible drawing_finals scrolling_low.1.1 state_nexts (inl refl))
+    (λ bytes is. by_kind bytes (either bytes input_controls drawing_controls is)) text made
+  where
+    by_kind : (bytes : List ℕ) → IsOneOf bytes input_controls ⊎ IsOneOf bytes drawing_controls →
+        HasOnlyEscapes state_nexts bytes
+    by_kind bytes (inl is) =
+        tails_only state_nexts input_tails ((inr (inr (inr (inl refl))), refl), ((inr (inr (inr (inr (inl refl)))), refl), ((inl refl, refl), ((inl refl, refl), ((inl refl, refl), ((inl refl, refl), ((inl refl, refl), ((inl refl, refl), ((inl refl, refl), ((inl refl, refl), ((inl refl, refl), ((inl refl, refl), ((inl refl, refl), ((inl refl, refl), ((inl refl, refl), ((inl refl, refl), ((inl refl, refl), ((inl refl, refl), ((inl refl, refl), ((inl refl, refl), ((inl refl, refl), ((inl refl, refl), ((inl refl, refl), ((inl refl, refl), ((inl refl, refl), tt))))))))))))))))))))))))) bytes is
+    by_kind bytes (inr is) = drawing_only state_nexts ((inr (inl refl), refl), ((inr (inr (inl refl)), refl), ((inl refl, refl), ((inl refl, refl), tt)))) bytes is
+
+-- captures: before [ alone; and none in texts without attributes
+line_only : (nexts bytes : List ℕ) → IsOneOf bytes plain_controls → HasOnlyEscapes nexts bytes
+unfolding encode_utf8
+line_only nexts bytes (inl e) =
+    subst (HasOnlyEscapes nexts) (sym e) (record {
+      characters = 0x0A ∷ [];
+      spelled = refl;
+      only = (inr (inr (inl refl)), ((λ k. absurd (apart 0x0A refl k)), tt));
+    })
+line_only nexts bytes (inr is) = absurd is
+
+pub capture_only : (text : List ℕ) → IsMadeOf (codes "m") plain_controls text → HasOnlyEscapes (codes "[") text
+capture_only text made =
+    made_only (codes "[") (codes "m") plain_controls
+    (one_visible (codes "m") (refl, tt) (codes "[") (inl refl)) (line_only (codes "[")) text made
+
+pub plain_only : (text : List ℕ) → IsMadeOf [] plain_controls text → HasOnlyEscapes [] text
+plain_only text made = made_only [] [] plain_controls (λ f is. absurd is) (line_only []) text made

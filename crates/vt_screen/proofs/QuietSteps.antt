@@ -1,0 +1,178 @@
+-- What is read quietly is what a run does, and invokes no callback.
+use Rattle.std.proofs.Common.{◌≡◌, ℕ, ◌+◌, ◌==◌, Bool, true, false, List, [], ◌∷◌, ◌++◌, Option, Some, None, min}
+use Rattle.std.proofs.Common.{length, refl, sym, subst, ap, ◌∙◌, take}
+use Rattle.std.specs.Prelude.{if◌then◌else◌, is_some}
+use Rattle.std.specs.List.{AllByRecursion}
+use Rattle.vt_cells.specs.Glyph.{columns_of}
+use Rattle.vt_grid.specs.Moves.{feeds_out}
+use Rattle.vt_grid.specs.Outgoing.{left_by}
+use Rattle.vt_grid.specs.Printing.{pushes}
+use Rattle.vt_grid.specs.Scrollback.{pushed}
+use Rattle.vt_rows.specs.Row.{RowValue}
+use Rattle.vt_scan.specs.Automaton.{State, Event, step_in}
+use Rattle.vt_scan.specs.Run.{run}
+use Rattle.vt_scan.specs.Table.{class_of, turn_of}
+use Rattle.vt_screen.specs.Again.{IsNoCallback}
+use Rattle.vt_screen.specs.CallsOfRun.{screen_after_all, steps_in, steps_of_all}
+use Rattle.vt_screen.specs.Controls.{seen_of, steps_of}
+use Rattle.vt_screen.specs.Reading.{Terminal, terminal, grows, quiet_step, quiet_steps, quiet_events, read, read_byte}
+use Rattle.vt_screen.specs.Screen.{ScreenValue}
+use Rattle.vt_screen.specs.Steps.{Step, Print, LineFeed, ScrollUp, OnPage, SaveCursor, RestoreCursor, EnterAlternate}
+use Rattle.vt_screen.specs.Steps.{EnterFresh, LeaveAlternate, LeaveRestoring, Reset, EraseScrollback, Render}
+use Rattle.vt_screen.specs.Steps.{HideCursor, SetMode, CallBack, outgoing, display_after, screen_after}
+use Rattle.vt_screen.proofs.Readback.{and_then-some}
+use Rattle.vt_screen.proofs.StepLists.{stepped_then, steps_then}
+
+same_some : {A : Type 0} (x y : A) → Some x ≡ Some y → x ≡ y
+same_some x y e = cc
+
+some_unless : {A : Type 0} (b : Bool) (o : Option A) (y : A) → (if b then None else o) ≡ Some y →
+    (b ≡ false) × (o ≡ Some y)
+some_unless true o y e = absurd (cc)
+some_unless false o y e = (refl, e)
+
+some_where : {A B : Type 0} (p : Option B) (o : Option A) (y : A) → (if is_some p then o else None) ≡ Some y →
+    o ≡ Some y
+some_where None o y e = absurd (cc)
+some_where (Some x) o y e = e
+
+-- ---- steps
+
+-- no row left the page
+unsent : (alternate : Bool) (gone : List RowValue) (screen after : ScreenValue) → gone ≡ [] →
+    after.scrollback ≡ screen.scrollback →
+    (if alternate then after
+    else record after { scrollback = pushed (length screen.page.rows) screen.page.width gone screen.scrollback })
+    ≡ after
+unsent true gone screen after none same = refl
+unsent false gone screen after none same =
+    ap (λ (rows : List RowValue). record after {
+      scrollback = pushed (length screen.page.rows) screen.page.width rows screen.scrollback;
+    }) none
+    ∙ ap (λ s. record after { scrollback = s }) (sym same)
+
+-- what a quiet step makes of the screen, and that it is no callback
+abbrev IsTaken : Step → ScreenValue → ScreenValue → Type 0
+IsTaken step screen after = (screen_after step screen ≡ after) × IsNoCallback step
+
+taken : (step : Step) (screen after : ScreenValue) → quiet_step step screen ≡ Some after → IsTaken step screen after
+taken (Print c) screen after e =
+    let (stays, is) = some_unless (pushes c screen.page) (Some (display_after (Print c) screen)) after e in (
+      unsent screen.is_alternate (outgoing (Print c) screen) screen (display_after (Print c) screen)
+          (ap (λ (b : Bool). if b then take 1 (left_by (columns_of c) screen.attrs screen.page).rows else []) stays) refl
+          ∙ same_some _ after is,
+      tt,
+    )
+taken LineFeed screen after e =
+    let (stays, is) = some_unless (feeds_out screen.page) (Some (display_after LineFeed screen)) after e in (
+      unsent screen.is_alternate (outgoing LineFeed screen) screen (display_after LineFeed screen)
+          (ap (λ (b : Bool). if b then take 1 screen.page.rows else []) stays) refl
+          ∙ same_some _ after is,
+      tt,
+    )
+taken (ScrollUp count) screen after e =
+    let (stays, is) = some_unless (screen.page.top == 0) (Some (display_after (ScrollUp count) screen)) after e in (
+      unsent screen.is_alternate (outgoing (ScrollUp count) screen) screen (display_after (ScrollUp count) screen)
+          (ap (λ (b : Bool). if b then take (min count (screen.page.bottom + 1)) screen.page.rows else []) stays) refl
+          ∙ same_some _ after is,
+      tt,
+    )
+taken EraseScrollback screen after e = absurd (cc)
+taken (CallBack call) screen after e = absurd (cc)
+taken (OnPage x) screen after e = (same_some _ after e, tt)
+taken (Render setting) screen after e = (same_some _ after e, tt)
+taken (HideCursor hidden) screen after e = (same_some _ after e, tt)
+taken (SetMode x) screen after e = (same_some _ after e, tt)
+taken SaveCursor screen after e = (same_some _ after e, tt)
+taken RestoreCursor screen after e = (same_some _ after e, tt)
+taken LeaveAlternate screen after e = (same_some _ after e, tt)
+taken LeaveRestoring screen after e = (same_some _ after e, tt)
+taken Reset screen after e = (same_some _ after e, tt)
+taken EnterAlternate screen after e = (same_some _ after (some_where screen.other _ after e), tt)
+taken EnterFresh screen after e = (same_some _ after (some_where screen.other _ after e), tt)
+
+-- what steps make of a screen, none of them a callback
+pub record AreTaken (steps : List Step) (screen after : ScreenValue) : Type 0 where
+  pub becomes : screen_after_all steps screen ≡ after
+  pub none : AllByRecursion IsNoCallback steps
+
+pub none_then : (xs ys : List Step) → AllByRecursion IsNoCallback xs → AllByRecursion IsNoCallback ys →
+    AllByRecursion IsNoCallback (xs ++ ys)
+none_then [] ys h k = k
+none_then (x ∷ xs) ys h k = (h.0, none_then xs ys h.1 k)
+
+taken_all : (steps : List Step) (screen after : ScreenValue) → quiet_steps steps screen ≡ Some after →
+    AreTaken steps screen after
+taken_all [] screen after e = record { becomes = same_some screen after e; none = tt }
+taken_all (x ∷ steps) screen after e =
+    let (middle, first, more) = and_then-some (quiet_steps steps) (quiet_step x screen) after e in
+    let one = taken x screen middle first in
+    let rest = taken_all steps middle after more in
+    record { becomes = ap (screen_after_all steps) one.0 ∙ rest.becomes; none = (one.1, rest.none) }
+
+pub taken_then : (xs ys : List Step) (screen middle after : ScreenValue) → AreTaken xs screen middle →
+    AreTaken ys middle after → AreTaken (xs ++ ys) screen after
+taken_then xs ys screen middle after one two = record {
+  becomes = stepped_then xs ys screen ∙ (ap (screen_after_all ys) one.becomes ∙ two.becomes);
+  none = none_then xs ys one.none two.none;
+}
+
+taken_events : (events : List Event) (screen after : ScreenValue) → quiet_events events screen ≡ Some after →
+    AreTaken (steps_of_all events screen) screen after
+taken_events [] screen after e = record { becomes = same_some screen after e; none = tt }
+taken_events (event ∷ events) screen after e =
+    let steps = steps_of event (seen_of screen) in
+    let (middle, first, more) = and_then-some (quiet_events events) (quiet_steps steps screen) after e in
+    let one = taken_all steps screen middle first in
+    let rest = taken_events events middle after more in
+    taken_then steps (steps_of_all events (screen_after_all steps screen)) screen middle after one
+    (subst (λ (s : ScreenValue). AreTaken (steps_of_all events s) middle after) (sym one.becomes) rest)
+
+-- ---- bytes
+
+-- a run over bytes from a terminal to another
+pub record Runs (t : Terminal) (bytes : List ℕ) (u : Terminal) : Type 0 where
+  pub state : (run t.scan bytes).state ≡ u.scan
+  pub steps : AreTaken (steps_in t.scan t.screen bytes) t.screen u.screen
+
+record RunsByte (t : Terminal) (b : ℕ) (u : Terminal) : Type 0 where
+  scan : (step_in t.scan.kind t.scan.collected b).state ≡ u.scan
+  events : quiet_events (step_in t.scan.kind t.scan.collected b).events t.screen ≡ Some u.screen
+
+runs_byte : (t : Terminal) (b : ℕ) (u : Terminal) → read_byte t b ≡ Some u → RunsByte t b u
+unfolding read_byte
+runs_byte t b u e =
+    let step = step_in t.scan.kind t.scan.collected b in
+    let (stays, is) = some_unless (grows (turn_of t.scan.kind (class_of b))) _ u e in
+    let (screen, first, more) =
+    and_then-some (λ screen. Some (terminal step.state screen)) (quiet_events step.events t.screen) u is in
+    let there : terminal step.state screen ≡ u = same_some (terminal step.state screen) u more in
+    record {
+      scan = ap (λ (v : Terminal). v.scan) there;
+      events = first ∙ ap (λ (v : Terminal). Some v.screen) there;
+    }
+
+pub read_run : (bytes : List ℕ) (t u : Terminal) → read t bytes ≡ Some u → Runs t bytes u
+read_run [] t u e =
+    let same = same_some t u e in record {
+      state = ap (λ (v : Terminal). v.scan) same;
+      steps = record { becomes = ap (λ (v : Terminal). v.screen) same; none = tt };
+    }
+read_run (b ∷ bytes) t u e =
+    let step = step_in t.scan.kind t.scan.collected b in
+    let (middle, first, more) = and_then-some (λ v. read v bytes) (read_byte t b) u e in
+    let one = runs_byte t b middle first in
+    let rest = read_run bytes middle u more in
+    let here = taken_events step.events t.screen middle.screen one.events in
+    let later = (run step.state bytes).events in
+    let behind = subst (λ (s : State). AreTaken (steps_of_all (run s bytes).events middle.screen) middle.screen u.screen)
+    (sym one.scan) rest.steps in
+    record {
+      state = ap (λ (s : State). (run s bytes).state) one.scan ∙ rest.state;
+      steps =
+          subst (λ (steps : List Step). AreTaken steps t.screen u.screen) (sym (steps_then step.events later t.screen))
+          (taken_then (steps_of_all step.events t.screen)
+          (steps_of_all later (screen_after_all (steps_of_all step.events t.screen) t.screen)) t.screen middle.screen
+          u.screen here
+          (subst (λ (s : ScreenValue). AreTaken (steps_of_all later s) middle.screen u.screen) (sym here.becomes) behind));
+    }

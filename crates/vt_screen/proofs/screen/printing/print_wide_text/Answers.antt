@@ -1,0 +1,35 @@
+-- The text is printed, and its last character is the last one.
+use Rattle.std.proofs.Common.{◌≡◌, ◌-◌, ◌<◌, ◌≤◌, length, get_or, sym, subst, ap, ◌∙◌, arith, rules}
+use Rattle.std.specs.Prelude.{Some}
+use Rattle.std.proofs.lemmas.List.{get_or_default}
+use Rattle.vt_cells.proofs.Packing.{attrs_fit}
+use Rattle.vt_screen.specs.Screen.{IsPrintable}
+use Rattle.vt_screen.specs.Texts.{screen_after_text}
+use Rattle.vt_screen.specs.contracts.screen.Screen.{the_view}
+use Rattle.vt_screen.proofs.WideSteps.{kept_wide_text, wide_text_stepped_is}
+use Rattle.vt_screen.proofs.screen.printing.print_wide_text.Goals as goal
+
+pub invariant_of-screen : goal.invariant_of-screen
+invariant_of-screen c =
+    let text = c.args.text.now in
+    let last = c.index-text-text.result in
+    let inside : length text - 1 < length text = omega arith in
+    let b = c.requires.wide (length text - 1) last inside in
+    let shown : IsPrintable last = subst IsPrintable (sym c.index-text-text.is) (b.0, b.1.0) in
+    rw c.print_wide_text.ensures
+    (kept_wide_text text c.screen.inside.attrs c.screen.inside.grid c.screen.inside.last
+    last _ c.requires.wide shown (search (rules, attrs_fit)) c.screen.invariant)
+
+pub returns : goal.returns
+returns c =
+    let s = the_view c.screen.inside in
+    let text = c.args.text.now in
+    let last = c.index-text-text.result in
+    let inside : length text - 1 < length text = omega arith in
+    let is : last ≡ get_or text (length text - 1) 0 =
+    c.index-text-text.is ∙ get_or_default text (length text - 1) last 0 inside in
+    let room = rw (← c.screen.view_is) at c.requires.room in
+    let width : 2 ≤ s.page.width = omega (arith, room, c.requires.some) in
+    (λ z. record s { page = c.print_wide_text.ensures z; last = Some (is z) })
+    ∙ (sym (wide_text_stepped_is text s c.requires.some c.requires.wide width)
+    ∙ ap (screen_after_text text) c.screen.view_is)

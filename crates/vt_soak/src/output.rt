@@ -1,0 +1,72 @@
+//! What texts for a terminal may contain.
+
+use std::str::Chars;
+
+/// The last bytes of control sequences in these texts: CUP, CUF, ECH, EL, ED, SGR,
+/// and IL and DL of differences that move rows.
+const FINALS: &str = "HCXKJmLM";
+
+/// Whether a text has no controls but line ends, backspaces, and the escape
+/// sequences that draw.
+pub fn is_drawn(text: &str) -> bool {
+    let mut chars = text.chars();
+    for _ in 0..text.len() {
+        let Some(c) = chars.next() else {
+            break;
+        };
+        let is_right = match c {
+            '\u{1b}' => is_sequence(&mut chars),
+            '\r' | '\n' | '\u{8}' => true,
+            _ => !is_control(c),
+        };
+        if !is_right {
+            return false;
+        }
+    }
+    true
+}
+
+/// Whether what follows an escape is one of the sequences that draw.
+fn is_sequence(chars: &mut Chars<'_>) -> bool {
+    match chars.next() {
+        Some('7' | '8') => true,
+        Some('[') => is_control_sequence(chars),
+        _ => false,
+    }
+}
+
+/// Whether what follows CSI are decimal numbers and a listed last byte, or shows or
+/// hides the cursor.
+fn is_control_sequence(chars: &mut Chars<'_>) -> bool {
+    match chars.next() {
+        Some('?') => is_cursor_mode(chars),
+        Some(c) if is_parameter(c) => ends_listed(chars),
+        Some(c) => FINALS.contains(c),
+        None => false,
+    }
+}
+
+/// Whether what follows `CSI ?` is mode 25, set or reset.
+fn is_cursor_mode(chars: &mut Chars<'_>) -> bool {
+    let mode = (chars.next(), chars.next(), chars.next());
+    matches!(mode, (Some('2'), Some('5'), Some('h' | 'l')))
+}
+
+/// Whether the rest of a control sequence are decimal numbers and a listed last byte.
+fn ends_listed(chars: &mut Chars<'_>) -> bool {
+    for c in chars {
+        if !is_parameter(c) {
+            return FINALS.contains(c);
+        }
+    }
+    false
+}
+
+fn is_parameter(c: char) -> bool {
+    c.is_ascii_digit() || c == ';'
+}
+
+/// Whether a character is a control of C0 or C1, or DEL.
+fn is_control(c: char) -> bool {
+    c < ' ' || matches!(c, '\u{7f}'..='\u{9f}')
+}

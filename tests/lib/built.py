@@ -1,0 +1,67 @@
+"""Takes libraries that `rt ci` has just proved to a copy of the repository: see tests/take-built."""
+import os
+import shutil
+import subprocess
+import sys
+
+
+class NoWay(Exception):
+    """The kit has another form than the one that is known here."""
+
+
+def newest(folder):
+    """When the newest file of a crate was written, those in out/ left aside."""
+    times = []
+    for at, folders, names in os.walk(folder):
+        folders[:] = [it for it in folders if it != "out"]
+        times += [os.stat(f"{at}/{name}").st_mtime for name in names]
+    return max(times)
+
+
+def libraries(root, name):
+    """The libraries of the repository below a crate, lowest first, each with its folder and its stamp."""
+    kit = os.path.dirname(os.path.realpath(shutil.which("rt") or "rt"))
+    sys.path.insert(0, kit)
+    try:
+        import rtlib
+
+        folder = f"{root}/crates/{name}"
+        os.chdir(folder)
+        return [(it.name, it.folder, it.stamp()) for it in rtlib.Crate(folder, root, {}, name=None).below()]
+    except (ImportError, AttributeError, TypeError) as error:
+        raise NoWay(f"the kit's rtlib has another form: {error}") from error
+
+
+def copy_files(root, to):
+    """Copies the repository's files, without its history and what was built."""
+    os.makedirs(to, exist_ok=True)
+    words = ["tar", "-c", "--exclude=./.git", "--exclude=./crates/*/out", "."]
+    with subprocess.Popen(words, cwd=root, stdout=subprocess.PIPE) as packed:
+        subprocess.run(["tar", "-x", "-C", to], stdin=packed.stdout, check=True)
+    if packed.returncode:
+        raise subprocess.CalledProcessError(packed.returncode, words)
+
+
+def take(name, folder, stamp, to):
+    """Copies a library with its stamp, and returns why it could not, or nothing."""
+    made = f"{folder}/out/rlib/{name}.rlib"
+    if not os.path.isdir(made):
+        return f"{name} is not built"
+    if os.stat(made).st_mtime < newest(folder):
+        return f"{name} has changed since it was built"
+    target = f"{to}/crates/{name}/out/rlib"
+    shutil.copytree(made, f"{target}/{name}.rlib")
+    with open(f"{target}/stamp", "w", encoding="utf-8") as file:
+        file.write(stamp)
+    return ""
+
+
+def take_built(root, name, to):
+    """Copies the files and the libraries below a crate, up to the first that cannot be taken, and returns a line."""
+    copy_files(root, to)
+    below = libraries(root, name)
+    for count, (library, folder, stamp) in enumerate(below):
+        why = take(library, folder, stamp, to)
+        if why:
+            return f"take-built: took {count} of {len(below)} libraries below {name}: {why}; rt proves the others anew"
+    return f"take-built: took all {len(below)} libraries below {name}"

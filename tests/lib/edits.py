@@ -1,0 +1,151 @@
+"""Wrong edits of crates, and what the prover says of them: see tests/wrong-edits."""
+import glob
+import os
+import re
+import subprocess
+
+from sources import read
+
+FUNCTION = re.compile(r"^( *)(?:pub(?:\([\w ]+\))? )?(?:const |unsafe |extern \"C\" )*fn (\w+)")
+BLOCK = re.compile(r"(?:unsafe )?(impl|pub trait|trait)(?:<.*?>)? (\w+)(.*)")
+
+
+def write(path, text):
+    with open(path, "w", encoding="utf-8") as file:
+        file.write(text)
+
+
+def function_at(lines, at):
+    """The numbers, from 1 on, of the first and the last line of the function that has a line, or None."""
+    for first in range(at, -1, -1):
+        head = FUNCTION.match(lines[first])
+        if head:
+            ends = (head[1] + "}", head[1] + "{}")
+            last = next(it for it in range(first, len(lines)) if lines[it] in ends)
+            while lines[first - 1].startswith(head[1] + "#["):
+                first -= 1
+            return (first + 1, last + 1) if last >= at else None
+    return None
+
+
+class Edit:
+    """One wrong edit: its pairs of texts, and the first and last lines of the functions that it changes."""
+
+    def __init__(self, path):
+        self.path = path
+        text = read(path)
+        self.file = re.search(r"^file: (\S+)$", text, re.M)[1]
+        olds = re.findall(r"^old: (.*)$", text, re.M)
+        news = re.findall(r"^new: ?(.*)$", text, re.M)
+        self.pairs = list(zip(olds, news))
+        has_pairs = len(olds) == len(news) > 0 and self.applied(self.source()) is not None
+        self.functions = self.ranges() if has_pairs else []
+
+    def name(self):
+        return os.path.basename(self.path)
+
+    def source(self):
+        return read(f"{os.path.dirname(self.path)}/../{self.file}")
+
+    def applied(self, text):
+        """The text with the edit, or None if one of its texts does not stand there once."""
+        for old, new in self.pairs:
+            if text.count(old) != 1:
+                return None
+            text = text.replace(old, new)
+        return text
+
+    def ranges(self):
+        """The lines of each function, its attributes included; none if a text is outside of functions."""
+        source = self.source()
+        starts = [source.find(old) for old, _ in self.pairs]
+        found = [function_at(source.split("\n"), source[:it].count("\n")) for it in starts if it >= 0]
+        return found if all(found) else []
+
+    def heads(self):
+        """The line of each `fn` in the changed functions, with its match."""
+        lines = self.source().split("\n")
+        for first, last in self.functions:
+            at = next(it for it in range(first - 1, last) if FUNCTION.match(lines[it]))
+            yield at, FUNCTION.match(lines[at])
+
+    def paths(self):
+        """What --only takes for each function that is changed: the end of its name as a check prints it, or the
+        module if it is a method of a trait."""
+        lines = self.source().split("\n")
+        module = re.sub(r"^src/|\.rt$", "", self.file).replace("/", "::")
+        for at, head in self.heads():
+            blocks = (BLOCK.match(lines[it]) for it in range(at, -1, -1))
+            block = next((it for it in blocks if it), None) if head[1] else None
+            if block and block[1] == "impl" and " for " in block[3]:
+                yield module
+            elif block:
+                yield f"{block[2]}::{head[2]}"
+            else:
+                yield head[2] if module in ("lib", "main") else f"{module.split('::')[-1]}::{head[2]}"
+
+    def has(self, file, line):
+        return file == self.file and any(first <= line <= last for first, last in self.functions)
+
+    def meets(self, other):
+        return self.file == other.file and any(other.has(self.file, first) for first, _ in self.functions)
+
+    def changes(self, function):
+        """Whether a function of a check is one that the edit changes: by the places that were named, or by its name
+        and the first module of its path (a method is named in the module of its type)."""
+        if function.places:
+            return any(self.has(*it) for it in function.places)
+        module = re.sub(r"^src/|\.rt$", "", self.file).split("/")[0]
+        parts = function.name.split("::")[1:]
+        own = [head[2] for _, head in self.heads()]
+        return parts[-1] in own and (module in ("lib", "main") or parts[0] == module)
+
+
+def groups_of(edits):
+    """Edits in groups: no two of a group in one function, or such that one hinders the other."""
+    groups = []
+    for edit in edits:
+        for group in groups:
+            beside = [it for it in group if it.file == edit.file]
+            text = edit.source()
+            for it in [*beside, edit]:
+                text = text and it.applied(text)
+            if text and not any(it.meets(edit) for it in beside):
+                group.append(edit)
+                break
+        else:
+            groups.append([edit])
+    return groups
+
+
+def renamed(text, old, new):
+    """The text of a proof file with another name for a goal or a step."""
+    return re.sub(rf"(?<![\w-]){re.escape(old)}(?![\w-])", new, text)
+
+
+def run_check(folder, group, paths, jobs, renames=()):
+    """Runs `rt check` of a crate with some edits, for the functions at these paths, or for all if there is none.
+
+    A rename is the path of a function's proof files below proofs/, a name that stands there, and another.
+    """
+    whole = {}
+
+    def change(path, text):
+        whole.setdefault(path, read(path))
+        write(path, text)
+
+    try:
+        for edit in group:
+            path = f"{folder}/{edit.file}"
+            change(path, edit.applied(read(path)))
+        for proof, old, new in renames:
+            for path in glob.glob(f"{folder}/proofs/{proof}/*.antt"):
+                change(path, renamed(read(path), old, new))
+        words = ["rt", "check", "--jobs", str(jobs), *[it for path in paths for it in ("--only", path)]]
+        return subprocess.run(
+            words, cwd=folder, stdin=subprocess.DEVNULL, stdout=subprocess.PIPE,
+            stderr=subprocess.STDOUT, universal_newlines=True, errors="replace", check=False,
+        )
+    finally:
+        for path, text in whole.items():
+            write(path, text)

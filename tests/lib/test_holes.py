@@ -1,0 +1,197 @@
+"""Ways to fool the checks: each is tried in a copy of the repository, and the check in question must report it."""
+import os
+import re
+import shutil
+import subprocess
+import tempfile
+import unittest
+
+from built import copy_files
+from sources import read
+
+ROOT = os.path.dirname(os.path.dirname(os.path.dirname(os.path.abspath(__file__))))
+
+
+def write(path, text):
+    with open(path, "w", encoding="utf-8") as file:
+        file.write(text)
+
+
+class Holes(unittest.TestCase):
+    @classmethod
+    def setUpClass(cls):
+        cls.room = tempfile.mkdtemp(prefix="holes-")
+        copy_files(ROOT, cls.room)
+        cls.before = {}
+
+    @classmethod
+    def tearDownClass(cls):
+        shutil.rmtree(cls.room)
+
+    def said(self, *words):
+        """The status and the output of a command in the copy."""
+        ran = subprocess.run(
+            words, cwd=self.room, stdin=subprocess.DEVNULL, stdout=subprocess.PIPE,
+            stderr=subprocess.STDOUT, universal_newlines=True, check=False,
+        )
+        return ran.returncode, ran.stdout
+
+    def assert_reported(self, file, old, new, command, says):
+        """Replaces the first match of a pattern in a file, and looks for these words in what the command reports."""
+        path = f"{self.room}/{file}"
+        whole = read(path)
+        edited = re.sub(old, new, whole, count=1, flags=re.M)
+        self.assertNotEqual(edited, whole, f"nothing in {file} is like {old}")
+        words = tuple(command)
+        if words not in self.before:
+            self.before[words] = self.said(*words)[1].split("\n")
+        try:
+            write(path, edited)
+            status, after = self.said(*words)
+        finally:
+            write(path, whole)
+        self.assertEqual(status, 1, after)
+        new_lines = set(after.split("\n")) - set(self.before[words])
+        self.assertTrue(any(says in it for it in new_lines), after)
+
+    def test_an_edit_that_does_not_fit(self):
+        edit = "crates/vt_cells/must-fail-in-groups/dim-is-bold.edit"
+        self.assert_reported(edit, "^old: ", "old: no such text ", ["tests/wrong-edits", "--fit"], "dim-is-bold")
+
+    def test_a_clause_quoted_without_its_premise(self):
+        quoted = r"^shows : IsSteady picture → "
+        self.assert_reported("docs/TRUST.md", quoted, "shows : ", ["tests/trust"], "no such clause")
+
+    def test_a_quoted_clause_that_is_another(self):
+        quoted = r"^ensures (\w+) \{"
+        self.assert_reported("docs/TRUST.md", quoted, r"ensures \1 { OnOk", ["tests/trust"], "no such clause")
+
+    def test_a_dropped_clause(self):
+        line = r"^(Clauses of .*: `\w+`), `\w+`"
+        self.assert_reported("docs/TRUST.md", line, r"\1", ["tests/trust"], "that is not named")
+
+    def test_a_dropped_function(self):
+        line = r"^Clauses of `Screen::contents_diff`.*\n"
+        self.assert_reported("docs/TRUST.md", line, "", ["tests/trust"], "too much")
+
+    def test_a_clause_that_does_not_exist(self):
+        command = ["python3", "-B", "tests/lib/theorems.py", "."]
+        line = r"`vt100::laws::one_text`, `\w+`"
+        path = "docs/THEOREMS.md"
+        whole = read(f"{self.room}/{path}")
+        try:
+            write(f"{self.room}/{path}", re.sub(line, "`vt100::laws::one_text`, `heard`", whole))
+            self.assertIn("no such clause: heard", self.said(*command)[1])
+        finally:
+            write(f"{self.room}/{path}", whole)
+
+    def test_a_mark_that_is_removed(self):
+        row = r"^(\| `contents_formatted\(\)`) \*\*M\*\*"
+        self.assert_reported("docs/INTERFACE.md", row, r"\1", ["tests/surface"], "has no mark")
+
+    def test_a_swapped_argument(self):
+        row = r"^\| `set_size\(rows, cols\)`"
+        swapped = "| `set_size(cols, rows)`"
+        self.assert_reported("docs/INTERFACE.md", row, swapped, ["tests/surface"], "takes (rows, cols)")
+
+    def test_a_function_at_the_root(self):
+        root = "crates/vt100/src/lib.rt"
+        self.assert_reported(root, r"\Z", "\npub fn stray() {}\n", ["tests/surface"], "not listed: fn stray()")
+
+    def test_a_variant(self):
+        file = "crates/vt_cells/src/color.rt"
+        self.assert_reported(file, r"^    Idx\(u8\),", "    Idx(u16),", ["tests/surface"], "Color::Idx(u16)")
+
+    def test_a_changed_expectation(self):
+        path = "tests/surface.expected"
+        self.assert_reported(path, r"^fn Cell::bold\(&self\) -> bool\n", "", ["tests/surface"], "fn Cell::bold")
+
+    def test_an_unused_import(self):
+        file = "crates/vt_cells/src/color.rt"
+        line = r"\A(.*\n)"
+        added = r"\1\nghost use Rattle.vt_cells.specs.Attrs.{same_color};\n"
+        self.assert_reported(file, line, added, ["tests/imports"], "same_color")
+
+
+class AlwaysRefused(unittest.TestCase):
+    def judged(self, change):
+        """The status of a judgement of a program that prints other sections than it should, and ends, with a change."""
+        heads = re.findall(r"^-- .*$", read(f"{ROOT}/crates/vt_refusals/stdout"), re.M)
+        text = change("".join(f"{it}\nrefused\n" for it in heads) + "case=none run=ended status=0 \n")
+        with tempfile.NamedTemporaryFile("w", encoding="utf-8") as file:
+            file.write(text)
+            file.flush()
+            words = [f"{ROOT}/tests/always-refused", "--judge", file.name]
+            return subprocess.run(words, stdout=subprocess.PIPE, check=False).returncode
+
+    def test_judgements(self):
+        self.assertEqual(self.judged(lambda text: text), 0)
+        self.assertEqual(self.judged(lambda text: re.sub(r"-- .*\nrefused\n(?=case)", "", text)), 1)
+        self.assertEqual(self.judged(lambda text: text.replace("status=0", "status=101")), 1)
+        self.assertEqual(self.judged(lambda text: ""), 1)
+
+
+FAKE_RT = """#!/bin/sh
+echo 'rt: low proved'
+echo "$LAST"
+exit "$STATUS"
+"""
+
+
+class All(unittest.TestCase):
+    """tests/all with tests that do nothing, and an `rt ci` that says what it is told to."""
+
+    def setUp(self):
+        self.room = tempfile.mkdtemp(prefix="all-")
+        os.makedirs(f"{self.room}/crates/low/must-fail-in-groups")
+        shutil.copytree(f"{ROOT}/tests/lib", f"{self.room}/tests/lib")
+        shutil.copy(f"{ROOT}/tests/all", f"{self.room}/tests")
+        write(f"{self.room}/crates.txt", "low:\n")
+        write(f"{self.room}/crates/low/must-fail-in-groups/a.edit", "file: src/lib.rt\n")
+        names = "documents surface trust imports self refusals programs pictures scarce".split()
+        for name in ["bench/table", "bin/rt", "tests/wrong-edits", *[f"tests/{it}" for it in names]]:
+            self.script(name, "exit 0")
+        self.script("bin/rt", FAKE_RT)
+        self.script("tests/wrong-edits", "echo 'low: 1 of 1 wrong edits in 1 checks, 0 wrong'")
+
+    def tearDown(self):
+        shutil.rmtree(self.room)
+
+    def script(self, name, text):
+        os.makedirs(os.path.dirname(f"{self.room}/{name}"), exist_ok=True)
+        write(f"{self.room}/{name}", text if text.startswith("#!") else f"#!/bin/sh\n{text}\n")
+        os.chmod(f"{self.room}/{name}", 0o755)
+
+    def ran(self, last="7 passed, 0 failed", status="0"):
+        """The status and the last line of tests/all."""
+        path = f"{self.room}/bin:{os.environ['PATH']}"
+        ran = subprocess.run(
+            [f"{self.room}/tests/all"], env={**os.environ, "PATH": path, "LAST": last, "STATUS": status},
+            stdin=subprocess.DEVNULL, stdout=subprocess.PIPE, stderr=subprocess.STDOUT, universal_newlines=True,
+            check=False,
+        )
+        return ran.returncode, ran.stdout.rstrip("\n").rpartition("\n")[2]
+
+    def test_all_is_counted(self):
+        self.assertEqual(self.ran(), (0, "21 passed, 0 failed"))
+
+    def test_a_failed_program_test(self):
+        self.script("tests/pictures", "exit 1")
+        self.assertEqual(self.ran(), (1, "20 passed, 1 failed"))
+
+    def test_a_failed_first_test(self):
+        self.script("tests/trust", "exit 1")
+        self.assertEqual(self.ran(), (1, "6 passed, 1 failed"))
+
+    def test_a_failed_gate(self):
+        status, last = self.ran("6 passed, 1 failed", "1")
+        self.assertEqual(status, 1)
+        # (the edits are not tried if the gate ends first)
+        self.assertRegex(last, r"^\d+ passed, [1-3] failed$")
+        status, last = self.ran("", "2")
+        self.assertEqual(status, 2)
+        self.assertRegex(last, r"^\d+ passed, [1-3] failed$")
+
+    def test_a_crate_that_was_not_tried(self):
+        self.script("tests/wrong-edits", "exit 0")
+        self.assertEqual(self.ran(), (1, "20 passed, 1 failed"))

@@ -1,0 +1,171 @@
+"""Tests of how sources, imports, lanes and verdicts are read."""
+import os
+import tempfile
+import unittest
+
+import imports
+import lanes
+import surface
+import verdicts
+from edits import Edit, groups_of, renamed
+from sources import functions_in
+
+SOURCE = """//! A crate.
+
+ghost use Rattle.std.specs.Prelude.{◌≡◌, ◌<◌, length, IfOk};
+
+impl<'a, CB: Callbacks> Parser<CB> {
+    /// Returns a row.
+    pub fn row(&self, at: u16) -> Option<&'a Row>
+        requires inside { at < length self.now }
+        ensures value { result ≡ row_of
+            self.now }
+        ensures* kept { self.new ≡ self.old }
+    {
+        self.rows.get(at)
+    }
+}
+
+pub fn root() {
+    one() == 1
+}
+"""
+PROVED = "fn low::a: proved\n"
+OPEN = "note: src/a.rt:4:1: it is not proved that it holds (`returns`)\n"
+ANSWER = "./proofs/a/Answers.antt:3:1: error: `returns`: the two types first differ\n"
+RENAMED = (
+    "./proofs/a/Answers.antt:3:1: error: `r`: `goal.r`: module `Rattle.low.proofs.a.Goals` "
+    "has no `returns-then-a-clause-r` that can be named from here\n"
+)
+FIELD = "./proofs/a/Answers.antt:3:1: error: `r`: record `Rattle.low.After` has no field `if-a` (nearest: .if-b)\n"
+FALSE = OPEN.replace("\n", "; the facts known there allow values at which this goal is false\n")
+LIMIT = "note: src/a.rt:4:1: it is not proved that it holds (`returns`); `search` gave up at one of its limits\n"
+
+
+class Sources(unittest.TestCase):
+    def test_functions(self):
+        row, root = functions_in("low/src/lib.rt", SOURCE)
+        self.assertEqual(row.path(), "low::Parser::row")
+        self.assertEqual(row.labels(), ["value", "kept"])
+        self.assertEqual(row.clauses[1][2], "ensures value { result ≡ row_of self.now }")
+        self.assertEqual(row.signature, "pub fn row(&self, at: u16) -> Option<&'a Row>")
+        self.assertEqual((root.path(), root.signature), ("low::root", "pub fn root()"))
+
+    def test_parameters(self):
+        row, root = functions_in("low/src/lib.rt", SOURCE)
+        self.assertEqual(surface.parameters(row), [("at", "u16")])
+        self.assertEqual(surface.parameters(root), [])
+
+
+class Imports(unittest.TestCase):
+    def unused(self, text):
+        with tempfile.TemporaryDirectory() as room:
+            path = f"{room}/lib.rt"
+            with open(path, "w", encoding="utf-8") as file:
+                file.write(text)
+            return [name for _, name in imports.unused(path)]
+
+    def test_a_name_in_code_alone_is_unused(self):
+        self.assertEqual(self.unused(SOURCE), ["IfOk"])
+        self.assertEqual(self.unused(SOURCE.replace("◌<◌", "◌==◌")), ["◌==◌", "IfOk"])
+
+    def test_an_import_serves_its_block(self):
+        text = SOURCE.replace("{\n    /// R", "{\n    ghost use Rattle.low.specs.A.{row_of, other};\n\n    /// R")
+        self.assertEqual(self.unused(text), ["IfOk", "other"])
+
+
+class Verdicts(unittest.TestCase):
+    def why(self, text):
+        return verdicts.Verdict(1, text).functions[-1].why()
+
+    def test_reasons(self):
+        self.assertEqual(self.why(PROVED), verdicts.PROVED)
+        self.assertEqual(self.why(OPEN + "fn low::a: no proof: expected answers"), verdicts.REFUSED)
+        self.assertEqual(self.why(ANSWER + "fn low::a: not proved"), verdicts.REFUSED)
+        self.assertEqual(self.why(FIELD + "fn low::a: not proved"), verdicts.NAMES_ONLY)
+        self.assertEqual(self.why(RENAMED + OPEN + "fn low::a: not proved"), verdicts.NAMES_ONLY)
+        self.assertEqual(self.why(RENAMED + OPEN + OPEN + "fn low::a: not proved"), verdicts.REFUSED)
+        self.assertEqual(self.why(RENAMED + FALSE + "fn low::a: not proved"), verdicts.REFUSED)
+        loop = "fn low::a: no proof: expected a measure in ./proofs/a/Invariants.antt"
+        self.assertEqual(self.why(loop), verdicts.NO_INVARIANT)
+        self.assertEqual(self.why("fn low::a: not proved"), verdicts.NO_GOAL)
+        self.assertEqual(self.why(FIELD + OPEN + "fn low::a: not proved"), verdicts.REFUSED)
+        self.assertEqual(self.why("fn low::a: could not tell: a limit was met"), verdicts.NOT_TOLD)
+
+    def test_a_callee(self):
+        words = "fn low::a: not proved; it calls `low::b`, which is not proved"
+        self.assertEqual(self.why(words), verdicts.CALLEE_ONLY)
+        self.assertEqual(self.why(ANSWER + words), verdicts.REFUSED)
+        words = "fn low::a: no proof: the borrow checker's part in its proof is not made yet: a call of `low::b`"
+        self.assertEqual(self.why(words), verdicts.CALLEE_ONLY)
+
+    def test_renames(self):
+        goals = "returns-then-a-clause-r", "returns-then-b-clause-r"
+        proposal = "help: `Goals` has no `{}`; rattle asks for `{}`, `t`\n".format(*goals)
+        verdict = verdicts.Verdict(1, RENAMED + FIELD + "fn low::a: not proved\n" + proposal)
+        found = [*verdict.renames(verdict.functions[0])]
+        self.assertEqual(found, [("a", *goals), ("a", "if-a", "if-b")])
+        self.assertFalse(verdicts.is_renamed("blank_left", "blank_right"))
+        self.assertFalse(verdicts.is_renamed("returns-then-a-clause-r", "returns-then-b-clause-s"))
+        self.assertFalse(verdicts.is_renamed("returns-then-a", "returns"))
+        self.assertEqual(renamed("c.if-a.true if-a-1 (if-a)", "if-a", "if-b"), "c.if-b.true if-a-1 (if-b)")
+
+    def test_answers_count_only_with_their_own_names(self):
+        text = ANSWER + "fn low::a: not proved"
+        self.assertEqual(verdicts.Verdict(1, text, True).functions[0].why(), verdicts.NAMES_ONLY)
+        text = OPEN + text
+        self.assertEqual(verdicts.Verdict(1, text, True).functions[0].why(), verdicts.REFUSED)
+
+    def test_a_limit(self):
+        self.assertTrue(verdicts.Verdict(1, LIMIT + "fn low::a: not proved").functions[0].is_at_limit)
+
+
+class Edits(unittest.TestCase):
+    def setUp(self):
+        self.room = tempfile.TemporaryDirectory()
+        os.makedirs(f"{self.room.name}/src")
+        os.makedirs(f"{self.room.name}/edits")
+        with open(f"{self.room.name}/src/lib.rt", "w", encoding="utf-8") as file:
+            file.write(SOURCE)
+
+    def tearDown(self):
+        self.room.cleanup()
+
+    def edit(self, name, old):
+        path = f"{self.room.name}/edits/{name}.edit"
+        with open(path, "w", encoding="utf-8") as file:
+            file.write(f"file: src/lib.rt\nold: {old}\nnew: x\n")
+        return Edit(path)
+
+    def test_fit(self):
+        self.assertEqual(self.edit("in", "self.rows.get(at)").functions, [(7, 14)])
+        self.assertEqual(self.edit("twice", "self.now").functions, [])
+        self.assertEqual(self.edit("outside", "A crate").functions, [])
+
+    def test_groups(self):
+        edits = [self.edit("a", "self.rows"), self.edit("b", ".get(at)"), self.edit("c", "one() == 1")]
+        groups = [[it.name() for it in group] for group in groups_of(edits)]
+        self.assertEqual(groups, [["a.edit", "c.edit"], ["b.edit"]])
+        self.assertEqual([*edits[0].paths(), *edits[2].paths()], ["Parser::row", "root"])
+
+
+class Lanes(unittest.TestCase):
+    def repository(self, room, crates):
+        with open(f"{room}/crates.txt", "w", encoding="utf-8") as file:
+            file.write("low:\nhigh: low\nforeign staticlib: high\n")
+        for name in crates:
+            os.makedirs(f"{room}/crates/{name}/must-fail-in-groups")
+            with open(f"{room}/crates/{name}/must-fail-in-groups/a.edit", "w", encoding="utf-8") as file:
+                file.write("file: src/lib.rt\n")
+
+    def test_each_crate_has_a_lane(self):
+        with tempfile.TemporaryDirectory() as room:
+            self.repository(room, ["low", "high", "foreign"])
+            self.assertEqual(lanes.lanes(room), ([(1, ["low"]), (1, ["high"])], ["foreign"]))
+
+    def test_a_crate_that_no_lane_tries(self):
+        with tempfile.TemporaryDirectory() as room:
+            self.repository(room, ["low", "stray"])
+            self.assertRaises(SystemExit, lanes.lanes, room)
+            texts = ["low: 2 of 3 wrong edits in 1 checks, 0 wrong\nstray: 0 of 3 wrong edits in 0 checks, 0 wrong\n"]
+            self.assertEqual(lanes.untried(room, texts), ["stray"])

@@ -1,0 +1,184 @@
+"""Looks up what docs/THEOREMS.md names as the contract of each promise.
+
+A promise is a line of a list or table. Its contract is what stands between backquotes after the dash, or in the last
+column. Names are read from left to right: a function, or several, and then clauses, each of which must be one of
+those functions' or a field of the definitions that their clauses name. After a semicolon, and in a line that names no
+function, clauses may be those of all functions before in the section. A name alone is looked up beside the function
+before it. If a name can be read in several ways, one of them must make the whole line come out. The clauses of traits
+of the kit are not looked up.
+"""
+import re
+import sys
+
+from definitions import Walk
+from sources import read
+
+PROMISE = re.compile(r"^- (?P<said>.*?) — (?P<by>.*)$|^\|.*\|(?P<part>[^|]*)\|$")
+PATH = re.compile(r"^[A-Za-z_]\w*(::[A-Za-z_]\w*)*$")
+DEPTH = 3
+
+
+def ends_with(path, parts):
+    """Whether a path ends in these parts, where some before the last one may be left out."""
+    rest = iter(path[:-1])
+    return path[-1:] == parts[-1:] and all(any(it == part for it in rest) for part in parts[:-1])
+
+
+def crate_of(function):
+    return function.file.partition("/")[0]
+
+
+class Names:
+    """Finds functions and places (crates, modules, types, traits) by the names that documents use."""
+
+    def __init__(self, root):
+        self.walk = Walk(root)
+        self.functions = self.walk.sources.all_functions()
+        self.ghosts = self.walk.sources.ghosts()
+        self.fields_of, self.places, self.named = {}, {}, {}
+        for it in self.functions:
+            self.named.setdefault(it.name, []).append(it)
+
+    def functions_at(self, path):
+        parts = path.split("::")
+        return [it for it in self.named.get(parts[-1], []) if ends_with(it.path().split("::"), parts)]
+
+    def at_place(self, name):
+        """All functions of a place."""
+        if name not in self.places:
+            parts = name.split("::")
+            found = [it for it in self.functions if name in (it.owner, crate_of(it), it.block and it.block.trait)]
+            self.places[name] = found or [it for it in self.functions if ends_with(it.module().split("::"), parts)]
+        return self.places[name]
+
+    def fields(self, function, label):
+        """The names of the fields of the definitions that a clause names, and of what those name."""
+        key = function.path(), label
+        if key not in self.fields_of:
+            walk = Walk(self.walk.root, self.walk)
+            walk.walk_clauses(function, [label], DEPTH)
+            self.fields_of[key] = {it.split(" ")[0] for it in walk.quotable([]) if " : " in it}
+        return self.fields_of[key]
+
+    def is_label_in_crate(self, near, name):
+        crates = {crate_of(it) for it in near}
+        return any(crate_of(it) in crates and name in it.labels() for it in self.functions)
+
+    def subject(self, state, said):
+        """The state at the dash of a line, after the functions that the promise itself names by their paths."""
+        named = [it for path in words_of(said) if "::" in path for it in self.functions_at(path)]
+        return state.after_semicolon().with_functions(named) if named else state.after_semicolon()
+
+    def has_field(self, functions, labels, name):
+        """Whether a name is a field in one of these clauses of the functions, or in one without a label."""
+        return any(name in self.fields(it, label) for it in functions for label in ("", *labels))
+
+
+class State:
+    """What a reading has come to: the functions whose clauses follow, with the clauses that were named, the functions
+    before, the functions beside them, and whether the section has named a function and not only types or modules."""
+
+    is_at_kits, labels = False, ()
+
+    def __init__(self, functions=(), earlier=(), near=(), is_named=False):
+        self.functions, self.earlier, self.near, self.is_named = functions, earlier, near, is_named
+
+    def after_semicolon(self):
+        return State((), (*self.earlier, *self.functions), self.near, self.is_named)
+
+    def with_functions(self, found):
+        return State((*self.functions, *found), self.earlier, tuple(found), True)
+
+    def with_label(self, label):
+        found = State(self.functions, self.earlier, self.near, self.is_named)
+        found.labels = (*self.labels, label)
+        return found
+
+    def at_kits_trait(self):
+        found = self.after_semicolon()
+        found.is_at_kits = True
+        return found
+
+    def at_place(self, found, earlier):
+        return State((), earlier, tuple(found), self.is_named)
+
+
+def beside(found, near):
+    """Those functions that are in the type, module or at least the crate of the functions before."""
+    owners = {(crate_of(it), it.owner) for it in near if it.owner}
+    modules = {it.module() for it in near if not it.owner}
+    inside = [it for it in found if (crate_of(it), it.owner) in owners or (it.module() in modules and not it.owner)]
+    crates = {crate_of(it) for it in near}
+    return inside or [it for it in found if it.is_public and crate_of(it) in crates]
+
+
+def readings(names, state, name):
+    """All states after one more name."""
+    labels = {label for it in state.functions or state.earlier for label in it.labels()}
+    if name in labels:
+        yield state.with_label(name)
+    elif any((crate_of(it), name) in names.ghosts for it in state.near):
+        yield state
+    elif names.has_field(state.functions or state.earlier, state.labels if state.functions else labels, name):
+        yield state
+    elif state.is_at_kits or not state.functions and not state.is_named and names.is_label_in_crate(state.near, name):
+        yield state
+    found = names.functions_at(name)
+    if "::" not in name and state.near:
+        close = beside(found, state.near)
+        found = close or ([] if state.functions else found)
+    if found:
+        yield state.with_functions(found)
+        if state.functions:
+            yield state.after_semicolon().with_functions(found)
+    place = names.at_place(name)
+    if any(it.block and it.block.trait == name for it in place):
+        yield state.at_kits_trait()
+    if place:
+        yield state.at_place(place, state.earlier)
+        yield state.at_place(place, tuple(place))
+    if name[0].isupper() and not found and not place:
+        yield state
+
+
+def read_line(names, state, words):
+    """The state after all words, or None with the first word that no reading gets past."""
+    best, stack = 0, [(0, state)]
+    while stack:
+        at, state = stack.pop()
+        best = max(best, at)
+        if at == len(words):
+            return state, None
+        if words[at] == ";":
+            stack.append((at + 1, state.after_semicolon()))
+        else:
+            stack += [(at + 1, it) for it in reversed([*readings(names, state, words[at])])]
+    return None, words[best]
+
+
+def words_of(text):
+    """The names of a line, and its semicolons."""
+    words = [it[1] or it[0] for it in re.findall(r"(;|`([^`]*)`)", text)]
+    words = [re.sub(r"<[^>]*>|\(.*\)$", "", it) for it in words]
+    return [it for it in words if it == ";" or PATH.match(it)]
+
+
+def check(root, text=None):
+    """The faults of the document, or of another text in its place, and how many names were looked up."""
+    names, faults, count, state = Names(root), [], 0, State()
+    for number, line in enumerate((text or read(f"{root}/docs/THEOREMS.md")).split("\n"), 1):
+        found = PROMISE.match(line)
+        state = State() if line.startswith("## ") else state
+        if found:
+            words = words_of(found["by"] or found["part"])
+            count += len(words) - words.count(";")
+            after, fault = read_line(names, names.subject(state, found["said"] or ""), words)
+            if fault:
+                faults.append(f"docs/THEOREMS.md:{number}: no such clause: {fault}")
+            state = after or state
+    return faults, count
+
+
+if __name__ == "__main__":
+    found = check(sys.argv[1])
+    print(*found[0], found[1], sep="\n")

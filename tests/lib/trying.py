@@ -1,0 +1,69 @@
+"""Tries wrong edits of a crate, group by group: see tests/wrong-edits."""
+import verdicts
+from edits import run_check
+from verdicts import CALLEE_ONLY, NAMES_ONLY, REFUSED, Verdict, judge
+
+NO_PROGRAM = "NO PROGRAM"
+ROUNDS = 3
+
+
+class Trial:
+    """The edits of one crate in a folder, how each fared, and the functions that were refused beside them."""
+
+    def __init__(self, folder, jobs, check=run_check):
+        self.folder, self.jobs, self.check = folder, jobs, check
+        self.found, self.strays, self.checks, self.at_limit = {}, [], 0, 0
+
+    def run(self, group, paths, renames):
+        self.checks += 1
+        ran = self.check(self.folder, group, paths, self.jobs, renames)
+        return Verdict(ran.returncode, ran.stdout, bool(renames))
+
+    def verdict(self, group, renames):
+        """What a check of these edits says, of all functions if none has the path that was asked for."""
+        verdict = self.run(group, sorted({path for it in group for path in it.paths()}), renames)
+        if not verdict.has_no_path or verdict.no_program():
+            return verdict
+        print("\n".join(verdict.said[-3:]), flush=True)
+        return self.run(group, [], renames)
+
+    def try_group(self, group, renames=(), rounds=ROUNDS):
+        """Tries edits together. Those that say nothing beside the others are tried alone, and those that only change
+        names in proof files once more, with the new names there."""
+        verdict = self.verdict(group, renames)
+        if not verdict.has_verdict:
+            self.without_verdict(group, verdict)
+            return
+        found, strays = judge(verdict, group)
+        self.strays += strays
+        self.at_limit += sum(it.is_at_limit and it.why() == REFUSED for it in verdict.functions)
+        self.found.update(found)
+        if len(group) > 1:
+            for edit in [it for it in group if found[it.path] == CALLEE_ONLY]:
+                self.try_group([edit], renames)
+        again = [it for it in group if found[it.path] == NAMES_ONLY]
+        functions = [it for it in verdict.functions if any(edit.changes(it) for edit in again)]
+        new = [it for function in functions for it in verdict.renames(function)]
+        if new and rounds:
+            self.try_group(again, (*renames, *new), rounds - 1)
+
+    def without_verdict(self, group, verdict):
+        """Tries edits one by one if a check of them together ended without a verdict."""
+        places = verdict.no_program()
+        bad = [it for it in group if any(it.has(*at) for at in places)]
+        rest = [it for it in group if it not in bad]
+        self.found.update((it.path, NO_PROGRAM) for it in bad)
+        if bad and rest:
+            self.try_group(rest)
+        elif len(rest) > 1:
+            for it in rest:
+                self.try_group([it])
+        elif rest:
+            said = "\n".join(it[:300] for it in verdict.said[-8:])
+            self.found[rest[0].path] = NO_PROGRAM if places else f"no verdict:\n{said}"
+
+    def wrong(self):
+        """What is wrong, by the path of the edit or the name of the function."""
+        found = {path: why for path, why in self.found.items() if why != verdicts.REFUSED}
+        found.update((name, "REFUSED with no edit of its own") for name in self.strays)
+        return found

@@ -1,0 +1,120 @@
+"""Reads what `rt check` says of each function, and tells why it is refused.
+
+A function is refused for its meaning if a goal stays open, or if an answer in its proof files does not prove its goal.
+It is not if only names in its proof files no longer fit: a field that the edit renamed, or a goal that has another
+name. The goal of such an answer comes out open under its new name, so one open goal is passed over for each, but none
+that values make false. If the names were changed to try it again, answers count no longer, but only goals that stay
+open. Nor is it refused for its meaning if a loop of the edit has no measure or invariant: its goals were not tried.
+"""
+import re
+
+FUNCTION = re.compile(r"fn (\S+): (.*)")
+OPEN_GOAL = re.compile(r"note: src/(\S+?):(\d+):\d+: it is not proved.*?\(`([^`]*)`\)(.*)")
+PROOF_ERROR = re.compile(r"(?:\./)?proofs/(\S+)/\w+\.antt:\d+:\d+: error: (.*)")
+SOURCE_ERROR = re.compile(r"(?:\./)?(src/\S+?):(\d+):\d+: error")
+RENAMED_GOAL = re.compile(r"module `[^`]*\.(?:Goals|Given)` has no `([^`]*)`")
+RENAMED_FIELD = re.compile(r"has no field `([^`]*)` \(nearest: \.([\w-]+)")
+ASKS_FOR = re.compile(r"help: `\w+` has no `([^`]*)`; rattle asks for `([^`]*)`")
+NAMES = re.compile(r"has no field|is not in scope|has no `|was not admitted|was rejected, were? not checked")
+
+REFUSED = "refused"
+PROVED = "NOT REFUSED"
+NAMES_ONLY = "SHOWS NOTHING: only names in its proof files no longer fit, so change a value and keep the names"
+NO_INVARIANT = "SHOWS NOTHING: its proof files have no measure or invariant for a loop"
+NO_GOAL = "SHOWS NOTHING: no goal stays open"
+CALLEE_ONLY = "NOT TRIED: a function that it calls is refused"
+NOT_TOLD = "COULD NOT TELL"
+
+
+def is_renamed(old, new):
+    """Whether two names of steps or goals differ in a condition alone: `if-a-lt7` and `if-a-lt8`, for example, or
+    `returns-then-a-lt7-clause-value` and `returns-then-a-lt8-clause-value`."""
+    condition = re.compile(r"(^if|-then|-else|-in)-(?:(?!-clause-).)*")
+    return condition.search(old) is not None and condition.sub(r"\1", old) == condition.sub(r"\1", new)
+
+
+class Function:
+    """What a check said of one function."""
+
+    def __init__(self, name, words, notes, errors, has_renames):
+        self.name, self.words, self.errors = name, words, errors
+        goals = [it for it in map(OPEN_GOAL.match, notes) if it]
+        self.places = [(f"src/{it[1]}", int(it[2])) for it in goals]
+        renamed = [it for it in errors if RENAMED_GOAL.search(it)]
+        is_false = [it for it in goals if "values at which this goal is false" in it[4]]
+        self.open = is_false + [it for it in goals if it not in is_false][len(renamed) :]
+        # (an answer to a goal about a condition that changed may not fit, though the goal holds)
+        answers = [] if has_renames else errors
+        self.wrong_answers = [it for it in answers if not NAMES.search(re.sub(r"`[^`]*`", "``", it))]
+        self.is_at_limit = bool(goals) and all("gave up" in it[4] for it in goals)
+
+    def why(self):
+        """Why it is refused, or that it is not."""
+        if self.words.startswith("proved"):
+            return PROVED
+        if self.words.startswith("could not tell"):
+            return NOT_TOLD
+        if self.open or self.wrong_answers:
+            return REFUSED
+        if re.search(r"it calls|it passes|a call of|it waits", self.words):
+            return CALLEE_ONLY
+        if "Invariants.antt" in self.words:
+            return NO_INVARIANT
+        return NAMES_ONLY if self.errors else NO_GOAL
+
+
+class Verdict:
+    """What a check said, which may have been made with other names in proof files."""
+
+    def __init__(self, status, said, has_renames=False):
+        self.said = said.split("\n")
+        lines = [FUNCTION.match(it) for it in self.said]
+        self.has_verdict = status in (0, 1, 3) and any(lines)
+        self.has_no_path = status == 2
+        self.functions = []
+        errors = {}
+        for it in map(PROOF_ERROR.match, self.said):
+            if it:
+                errors.setdefault(it[1].replace("/", "::"), []).append(it[2])
+        start = 0
+        for at, line in enumerate(lines):
+            if line:
+                own = errors.get(line[1].partition("::")[2], [])
+                self.functions.append(Function(line[1], line[2], self.said[start:at], own, has_renames))
+                start = at + 1
+
+    def proposals(self):
+        """The goal that the check names for each that is gone, if it is the same one wherever that is said."""
+        found = {}
+        for it in map(ASKS_FOR.match, self.said):
+            if it:
+                found.setdefault(it[1], set()).add(it[2])
+        return {old: min(new) for old, new in found.items() if len(new) == 1}
+
+    def renames(self, function):
+        """New names for those in a function's proof files that no longer fit, as the check proposes them, if a
+        condition is all that changed: the path of the files, the name and the new one."""
+        goals, path = self.proposals(), "/".join(function.name.split("::")[1:])
+        for error in function.errors:
+            goal, field = RENAMED_GOAL.search(error), RENAMED_FIELD.search(error)
+            old, new = (goal[1], goals.get(goal[1], "")) if goal else (field[1], field[2]) if field else ("", "")
+            if is_renamed(old, new):
+                yield path, old, new
+
+    def no_program(self):
+        """The places at which the edited text is no program."""
+        places = [SOURCE_ERROR.match(it) for it in self.said]
+        return [(it[1], int(it[2])) for it in places if it]
+
+
+def judge(verdict, edits):
+    """Why each edit is refused or not, by its path, and the functions that are refused with no edit of their own."""
+    found, strays = {}, []
+    for edit in edits:
+        reasons = [it.why() for it in verdict.functions if edit.changes(it)]
+        order = (REFUSED, NOT_TOLD, NAMES_ONLY, NO_INVARIANT, NO_GOAL, CALLEE_ONLY, PROVED)
+        found[edit.path] = min(reasons, key=order.index) if reasons else PROVED
+    for it in verdict.functions:
+        if it.why() not in (PROVED, CALLEE_ONLY) and not any(edit.changes(it) for edit in edits):
+            strays.append(it.name)
+    return found, strays
